@@ -1,0 +1,13 @@
+pub mod Tests
+pub mod States
+pub mod Logs
+pub mod Entries
+pub mod Turns
+pub mod Orders
+pub mod Folds
+pub mod Phases
+pub mod Steps
+pub mod Decisions
+pub mod SerialEnds
+pub mod Checkpoints
+pub mod Headlines

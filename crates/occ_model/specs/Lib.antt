@@ -1,0 +1,11 @@
+pub mod State
+pub mod Overlay
+pub mod Log
+pub mod Validity
+pub mod Operations
+pub mod World
+pub mod Event
+pub mod Refusal
+pub mod Step
+pub mod Invariant
+pub mod Laws

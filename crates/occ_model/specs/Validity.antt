@@ -1,0 +1,55 @@
+-- Validation: who the opponents of a transaction are, and when it is valid (Kung and Robinson, sections 3 and 5).
+use Rattle.std.specs.Prelude.{ℕ, ◌-◌, Bool, false, cond, ◌&&◌, ◌||◌, nat_lt, nat_le, List, map, filter}
+use Rattle.std.specs.List.{list_any}
+use Rattle.occ_types.specs.Question.{Question}
+use Rattle.occ_model.specs.State.{Write, meets_reads, meets_writes}
+use Rattle.occ_model.specs.Log.{LogRow, Standing, Open, Writing, Done, Back, Case, is_active}
+use Rattle.occ_model.specs.declared.verdict.Verdict.{Verdict}
+use Rattle.occ_model.specs.declared.verdict.Verdict.TheVariants.{Commit, BackUp}
+use Rattle.occ_model.specs.declared.verdict.Cause.TheVariants.{Conflict, TooOld}
+
+-- whether a transaction finished after the counter stood at one value, and at the latest as it stood at the other: start < tn <= finish (section 4)
+abbrev pub finished_within : ℕ → ℕ → Standing → Bool
+finished_within start finish (Open index case) = false
+finished_within start finish (Writing done) = false
+finished_within start finish (Done number) = nat_lt start number && nat_le number finish
+finished_within start finish (Back cause) = false
+
+-- the lower end of the window: of the write sets, those numbered above it are kept for testing (section 3)
+abbrev pub window_low : ℕ → ℕ → ℕ
+window_low counter keep = counter - keep
+
+-- Whether an opponent stands in the way. One that finished within (start, finish] may not write what was read (the second of the three conditions of section 3); one that is active at the entry may write neither what was read nor what is written (the third).
+abbrev pub is_in_the_way : ℕ → ℕ → List Question → List Write → LogRow → Bool
+is_in_the_way start finish reads writes row =
+    (finished_within start finish row.standing && meets_reads row.writes reads)
+    || (is_active row.standing && (meets_reads row.writes reads || meets_writes row.writes writes))
+
+-- Validity at an entry: the log and the counter (finish) as they stand then, the lower end of the window, and what the transaction says. One that began before the window is too old; else none of all its opponents may stand in the way (sections 3 and 5).
+abbrev pub validity : List LogRow → ℕ → ℕ → ℕ → List Question → List Write → Verdict
+validity log finish low start reads writes =
+    cond (nat_lt start low) (BackUp TooOld)
+    (cond (list_any (is_in_the_way start finish reads writes) log) (BackUp Conflict) Commit)
+
+-- the writes of some rows
+abbrev pub writes_of : List LogRow → List (List Write)
+writes_of rows = map (λ row. row.writes) rows
+
+-- the case that an entry fixes: of the finished opponents those in the window, and all that are active
+abbrev pub case_at : List LogRow → ℕ → ℕ → ℕ → List Question → List Write → Case
+case_at log finish low start reads writes = record {
+  start = start;
+  low = low;
+  reads = reads;
+  writes = writes;
+  finished = writes_of (filter (λ row. finished_within low finish row.standing && finished_within start finish row.standing) log);
+  active = writes_of (filter (λ row. is_active row.standing) log);
+}
+
+-- The verdict on a case, which needs nothing but the case.
+abbrev pub verdict : Case → Verdict
+verdict case =
+    cond (nat_lt case.start case.low) (BackUp TooOld)
+    (cond (list_any (λ theirs. meets_reads theirs case.reads) case.finished
+    || list_any (λ theirs. meets_reads theirs case.reads || meets_writes theirs case.writes) case.active)
+    (BackUp Conflict) Commit)

@@ -1,0 +1,5 @@
+pub mod Key
+pub mod Object
+pub mod Question
+pub mod Row
+pub mod Schema

@@ -1,0 +1,30 @@
+//! How large things may be. Every limit is our own choice.
+
+/// Sessions, numbered from 1.
+pub const MAX_SESSIONS: usize = 64;
+/// Tables of a schema; it has at least one.
+pub const MAX_TABLES: usize = 32;
+/// Columns of a table; it has at least one.
+pub const MAX_COLUMNS: usize = 8;
+/// Letters of a table's name; it has at least one.
+pub const MAX_NAME_LETTERS: usize = 16;
+/// Bytes of a text key.
+pub const MAX_KEY_BYTES: usize = 64;
+/// Bytes of a text cell.
+pub const MAX_CELL_BYTES: usize = 256;
+/// Keys of a write set.
+pub const MAX_WRITES: usize = 256;
+/// Questions of a read set; a repeated one counts again.
+pub const MAX_QUESTIONS: usize = 256;
+/// Operations of a run alone.
+pub const MAX_OPERATIONS: usize = 256;
+/// Rows in the table's answer to one range.
+pub const MAX_ANSWER_ROWS: usize = 1024;
+/// Rows that stand in the log.
+pub const MAX_LOG_ROWS: usize = 1048576;
+/// The transaction counter.
+pub const MAX_COUNTER: u64 = 4294967295;
+/// Session numbers; the last one is for a closing mark alone.
+pub const MAX_NUMBER: u64 = 1073741823;
+/// How far above the due number a number may be that has a read phase.
+pub const READ_AHEAD: u64 = 1025;
