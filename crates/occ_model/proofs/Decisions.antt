@@ -13,7 +13,7 @@ use Rattle.occ_model.specs.World.{World, resumed, low, next_place, latest, turn,
 use Rattle.occ_model.specs.Event.{Request, Alone, Close, Event, Read, Forget, Enter, Decide, WriteOne, Finish, BackUp, SerialEnd, RunAlone, Checkpoint, Reply}
 use Rattle.occ_model.specs.Refusal as refusals
 use Rattle.occ_model.specs.Refusal.{refusal, refusal_of_alone}
-use Rattle.occ_model.specs.Step.{Step, refused, starved, taken, Taken, Run, entering, case_of, decided, EndsSerially, RunsAlone, foldable_part, shortened}
+use Rattle.occ_model.specs.Step.{Step, refused, starved, taken, Taken, Run, entering, validity_of, decided, EndsSerially, RunsAlone, foldable_part, shortened}
 use Rattle.occ_model.specs.Invariant.{Invariant}
 use Rattle.occ_model.specs.Laws.{StandsAs, Decisions}
 use Rattle.occ_model.specs.declared.verdict.Verdict.{Verdict}
@@ -21,7 +21,7 @@ use Rattle.occ_model.specs.declared.verdict.Verdict.TheVariants as verdicts
 use Rattle.occ_model.specs.declared.verdict.Cause.TheVariants.{Conflict, TooOld}
 use Rattle.occ_model.proofs.Tests as tests
 use Rattle.occ_model.proofs.Logs.{standing_at}
-use Rattle.occ_model.proofs.Entries.{validity-verdict}
+use Rattle.occ_model.proofs.Entries.{verdict-validity}
 use Rattle.occ_model.proofs.Turns.{around}
 use Rattle.occ_model.proofs.Folds.{part_rest}
 use Rattle.occ_model.proofs.Phases.{not_refused}
@@ -96,8 +96,8 @@ module _ (place : ℕ) (valid : LogRow → Verdict) (fixed : (row : LogRow) (sta
   pub stands_on : (old new : World) (event : Event) (reply : Reply) → Taken old event reply new → Holds old → Holds new
   stands_on old new (Read session number start question) reply t h = subst Holds (sym t.1) h
   stands_on old new (Forget session number) reply t h = subst Holds (sym t.1) h
-  stands_on old new (Enter session (Request number start writes)) reply t h = subst Holds (sym t.2)
-      (let row : LogRow = entering old session number start (reads_under old session number) writes (Open t.0 (case_of old session number start writes)) in
+  stands_on old new (Enter session (Request number start writes)) reply t h = subst Holds (sym t.4)
+      (let row : LogRow = entering old session number start (reads_under old session number) writes (Open t.0 t.1) in
       (places_grow old row h.0, AllStand-push old.log row h.1 (elsewhere old row h.0 refl)))
   stands_on old new (Enter session (Alone number operations)) reply t h = subst Holds (sym t.1)
       (let done : Progress = perform_all old.table operations nothing_yet in
@@ -123,7 +123,7 @@ module _ (place : ℕ) (valid : LogRow → Verdict) (fixed : (row : LogRow) (sta
     turned session old.log t.0 (Done (old.counter + 1)) t.2 (subst (StandsAs (valid t.0)) t.3) h.1,
   )
   stands_on old new (BackUp session) reply t h = subst Holds (sym t.1) h
-  stands_on old new (SerialEnd session (Request number start writes)) reply t h = go (verdict (case_of old session number start writes)) t
+  stands_on old new (SerialEnd session (Request number start writes)) reply t h = go (validity_of old session number start writes) t
     where
       row : Standing → LogRow
       row standing = entering old session number start (reads_under old session number) writes standing
@@ -226,13 +226,13 @@ module _ (old : World) (inv : Invariant old) where
       let row : LogRow = entering old session number old.counter done.reads done.writes (Done (old.counter + 1)) in
       comes new row (ap (λ w. w.log) runs.1) grows (valid_alone (questions row) row.writes (not_refused _ faults.StoreBusy f.0))
 
-  serially : (session number start : ℕ) (writes : List Write) (reply : Reply) (new : World) → (v : Verdict) → verdict (case_of old session number start writes) ≡ v → EndsSerially old session number start writes v reply new → next_place new ≡ suc (next_place old) → HoldsThen new
+  serially : (session number start : ℕ) (writes : List Write) (reply : Reply) (new : World) → (v : Verdict) → validity_of old session number start writes ≡ v → EndsSerially old session number start writes v reply new → next_place new ≡ suc (next_place old) → HoldsThen new
   serially session number start writes reply new verdicts.Commit e ends grows =
       let row : LogRow = entering old session number start (reads_under old session number) writes (Done (old.counter + 1)) in
-      comes new row (ap (λ w. w.log) ends.1) grows (validity-verdict old.log old.counter (low old) start (questions row) writes ∙ e)
+      comes new row (ap (λ w. w.log) ends.1) grows e
   serially session number start writes reply new (verdicts.BackUp cause) e ends grows =
       let row : LogRow = entering old session number start (reads_under old session number) writes (Back cause) in
-      comes new row (ap (λ w. w.log) ends.1) grows (validity-verdict old.log old.counter (low old) start (questions row) writes ∙ e)
+      comes new row (ap (λ w. w.log) ends.1) grows e
 
   turned_place : (session : ℕ) (standing : Standing) → old.base.place + length (turn session standing old.log) ≡ next_place old
   turned_place session standing = ap (λ n. old.base.place + n) (length-turn (next_place old) valid_then fixed_then session standing old.log)
@@ -241,8 +241,8 @@ module _ (old : World) (inv : Invariant old) where
   enters_taken new (Read session number start question) reply none t grows = stays new (ap next_place t.1) grows
   enters_taken new (Forget session number) reply none t grows = stays new (ap next_place t.1) grows
   enters_taken new (Enter session (Request number start writes)) reply none t grows =
-      let row : LogRow = entering old session number start (reads_under old session number) writes (Open t.0 (case_of old session number start writes)) in
-      comes new row (ap (λ w. w.log) t.2) grows (sym (validity-verdict old.log old.counter (low old) start (questions row) writes))
+      let row : LogRow = entering old session number start (reads_under old session number) writes (Open t.0 t.1) in
+      comes new row (ap (λ w. w.log) t.4) grows (verdict-validity old.log old.counter (low old) start (questions row) writes t.1 t.2)
   enters_taken new (Enter session (Alone number operations)) reply none t grows = alone session number operations reply new none t grows
   enters_taken new (Enter session (Close number)) reply none t grows = stays new (ap next_place t.1) grows
   enters_taken new (Decide session) reply none t grows = stays new (ap next_place t.6 ∙ turned_place session (decided (verdict t.2))) grows
@@ -256,7 +256,7 @@ module _ (old : World) (inv : Invariant old) where
   enters_taken new (Finish session) reply none t grows = stays new (ap next_place t.5 ∙ turned_place session (Done (old.counter + 1))) grows
   enters_taken new (BackUp session) reply none t grows = stays new (ap next_place t.1) grows
   enters_taken new (SerialEnd session (Request number start writes)) reply none t grows =
-      serially session number start writes reply new (verdict (case_of old session number start writes)) refl t grows
+      serially session number start writes reply new (validity_of old session number start writes) refl t grows
   enters_taken new (SerialEnd session (Alone number operations)) reply none t grows = alone session number operations reply new none t grows
   enters_taken new (SerialEnd session (Close number)) reply none t grows = stays new (ap next_place t.1) grows
   enters_taken new (RunAlone session number operations) reply none t grows = alone session number operations reply new none t grows

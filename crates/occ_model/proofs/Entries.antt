@@ -6,7 +6,7 @@ use Rattle.std.proofs.lemmas.Bool.{ltb-true, ltb-false, lt-ltb, le-leb}
 use Rattle.occ_types.specs.Question.{Question}
 use Rattle.occ_model.specs.State.{State, Write, Observation, apply, meets_question, meets_reads, meets_writes}
 use Rattle.occ_model.specs.Log.{LogRow, Standing, Open, Writing, Done, Back, Case, questions, is_writing, is_active, remaining, rest, settled, AreAnswers}
-use Rattle.occ_model.specs.Validity.{finished_within, is_in_the_way, validity, writes_of, case_at, verdict}
+use Rattle.occ_model.specs.Validity.{finished_within, is_in_the_way, validity, writes_of, finished_opponents, active_opponents, IsCaseAt, verdict}
 use Rattle.occ_model.specs.Invariant.{commits, finished_after, is_touched, AreFresh, NumberIsBelow, NumbersAreBelow}
 use Rattle.occ_model.specs.declared.verdict.Verdict.{Verdict}
 use Rattle.occ_model.specs.declared.verdict.Verdict.TheVariants.{Commit, BackUp}
@@ -69,18 +69,28 @@ module _ (low start finish : ℕ) (reads : List Question) (writes : List Write) 
       ∙ sym (λ i. any-cond by_finished (in_window row) row (filter in_window rows) i
       || any-cond by_active (is_active row.standing) row (filter (λ row. is_active row.standing) rows) i)
 
--- the verdict on a case that is not too old
-abbrev verdict_in_window : Case → Verdict
-verdict_in_window case = cond (list_any (λ theirs. meets_reads theirs case.reads) case.finished
-    || list_any (λ theirs. meets_reads theirs case.reads || meets_writes theirs case.writes) case.active) (BackUp Conflict) Commit
+-- a verdict by its three tests
+abbrev verdict_by : Bool → Bool → Bool → Verdict
+verdict_by old finished active = cond old (BackUp TooOld) (cond (finished || active) (BackUp Conflict) Commit)
 
 -- the verdict on the case that an entry fixes is validity at that entry
-pub validity-verdict : (log : List LogRow) (finish low start : ℕ) (reads : List Question) (writes : List Write) → validity log finish low start reads writes ≡ verdict (case_at log finish low start reads writes)
-validity-verdict log finish low start reads writes = decided (nat_lt start low)
-    (λ old. ap (λ b. cond b (BackUp TooOld) (cond (list_any (is_in_the_way start finish reads writes) log) (BackUp Conflict) Commit)) old
-    ∙ ap (λ b. cond b (BackUp TooOld) (verdict_in_window (case_at log finish low start reads writes))) (sym old))
+pub verdict-validity : (log : List LogRow) (finish low start : ℕ) (reads : List Question) (writes : List Write) (case : Case) → IsCaseAt log finish low start reads writes case → verdict case ≡ validity log finish low start reads writes
+verdict-validity log finish low start reads writes case is =
+    (λ i. verdict_by (nat_lt (is.start_is i) (is.low_is i))
+    (list_any (λ theirs. meets_reads theirs (is.reads_are i)) case.finished)
+    (list_any (λ theirs. meets_reads theirs (is.reads_are i) || meets_writes theirs (is.writes_are i)) case.active))
+    ∙ (λ i. verdict_by (nat_lt start low) (is.finished (λ theirs. meets_reads theirs reads) i) (is.active (λ theirs. meets_reads theirs reads || meets_writes theirs writes) i))
+    ∙ decided (nat_lt start low)
+    (λ old. ap (λ b. cond b (BackUp TooOld) (verdict_by false by_finished by_active)) old
+    ∙ ap (λ b. cond b (BackUp TooOld) (cond (list_any (is_in_the_way start finish reads writes) log) (BackUp Conflict) Commit)) (sym old))
     (λ young. ap (λ b. cond (nat_lt start low) (BackUp TooOld) (cond b (BackUp Conflict) Commit))
-    (opponents_agree low start finish reads writes (ltb-false start low young) log))
+    (sym (opponents_agree low start finish reads writes (ltb-false start low young) log)))
+  where
+    by_finished : Bool
+    by_finished = list_any (λ theirs. meets_reads theirs reads) (finished_opponents log finish low start)
+
+    by_active : Bool
+    by_active = list_any (λ theirs. meets_reads theirs reads || meets_writes theirs writes) (active_opponents log)
 
 -- What a valid entry knows.
 

@@ -5,13 +5,12 @@ use Rattle.occ_model.specs.Log.{serial}
 use Rattle.occ_model.specs.World.{World, resumed}
 use Rattle.occ_model.specs.Event.{Request, Alone, Close, Event, Read, Forget, Enter, Decide, WriteOne, Finish, BackUp, SerialEnd, RunAlone, Checkpoint, Reply, Refused}
 use Rattle.occ_model.specs.State.{Write}
-use Rattle.occ_model.specs.Validity.{verdict}
-use Rattle.occ_model.specs.Step.{refused, starved, taken, Taken, EndsSerially, case_of}
+use Rattle.occ_model.specs.Step.{refused, starved, taken, Taken, EndsSerially, validity_of}
 use Rattle.occ_model.specs.Laws.{Headline, VerdictIsValidity, RefusalsLeave}
 use Rattle.occ_model.specs.declared.verdict.Verdict.{Verdict}
 use Rattle.occ_model.specs.declared.verdict.Verdict.TheVariants as verdicts
 use Rattle.std.specs.Prelude.{Option, None, Some, slice_get, MatchOption}
-use Rattle.occ_model.proofs.Entries.{validity-verdict}
+use Rattle.occ_model.proofs.Entries.{verdict-validity}
 use Rattle.occ_model.proofs.Steps.{keeps_run, invariant_resumed, audited, settled_quiet}
 
 pub headline : Headline
@@ -20,13 +19,13 @@ headline settings base counter events world run =
     (audited world inv, λ quiet. sym (settled_quiet world.table world.log quiet) ∙ inv.replayed)
 
 pub verdict_is_validity : VerdictIsValidity
-verdict_is_validity log finish low start reads writes = sym (validity-verdict log finish low start reads writes)
+verdict_is_validity = verdict-validity
 
 -- no event that is taken is replied to as a refusal
 not_told : (old new : World) (event : Event) (fault : Fault) → Taken old event (Refused fault) new → ⊥
 not_told old new (Read session number start question) fault t = let e = t.0 in cc e
 not_told old new (Forget session number) fault t = let e = t.0 in cc e
-not_told old new (Enter session (Request number start writes)) fault t = let e = t.1 in cc e
+not_told old new (Enter session (Request number start writes)) fault t = let e = t.3 in cc e
 not_told old new (Enter session (Alone number operations)) fault t = let e = t.0 in cc e
 not_told old new (Enter session (Close number)) fault t = let e = t.0 in cc e
 not_told old new (Decide session) fault t = let e = t.5 in cc e
@@ -41,7 +40,7 @@ not_told old new (WriteOne session) fault t = go (slice_get t.0.writes t.1) t.4
     go (Some write) w = let e = w.0 in cc e
 not_told old new (Finish session) fault t = let e = t.4 in cc e
 not_told old new (BackUp session) fault t = let e = t.0 in cc e
-not_told old new (SerialEnd session (Request number start writes)) fault t = go (verdict (case_of old session number start writes)) t
+not_told old new (SerialEnd session (Request number start writes)) fault t = go (validity_of old session number start writes) t
   where
     go : (v : Verdict) → EndsSerially old session number start writes v (Refused fault) new → ⊥
     go verdicts.Commit w = let e = w.0 in cc e

@@ -11,12 +11,13 @@ use Rattle.occ_types.specs.declared.fault.Fault.{Fault}
 use Rattle.occ_types.specs.declared.fault.Fault.TheVariants as faults
 use Rattle.occ_model.specs.State.{State, Write, put, apply}
 use Rattle.occ_model.specs.Log.{LogRow, Standing, Open, Writing, Done, Back, Case, is_open, is_back, rest, remaining}
-use Rattle.occ_model.specs.Validity.{verdict}
-use Rattle.occ_model.specs.World.{World, latest, turn, reads_under, is_held, has_session}
+use Rattle.occ_model.specs.Validity.{verdict, finished_opponents, active_opponents}
+use Rattle.occ_model.proofs.Entries.{verdict-validity}
+use Rattle.occ_model.specs.World.{World, low, questions_under, latest, turn, reads_under, is_held, has_session}
 use Rattle.occ_model.specs.Event.{Decide, WriteOne, Finish, BackUp, Reply, Decided, Wrote, Finished, BackedUp}
 use Rattle.occ_model.specs.Refusal as refusals
 use Rattle.occ_model.specs.Refusal.{refusal, refusal_of_request}
-use Rattle.occ_model.specs.Step.{Step, taken, Run, entering, case_of, decided, EndsSerially}
+use Rattle.occ_model.specs.Step.{Step, taken, Run, entering, IsCaseOf, validity_of, decided, EndsSerially}
 use Rattle.occ_model.specs.Laws.{SerialEndIsItsParts, parts, each_written}
 use Rattle.occ_model.specs.declared.verdict.Verdict.{Verdict}
 use Rattle.occ_model.specs.declared.verdict.Verdict.TheVariants as verdicts
@@ -59,9 +60,6 @@ drop-all [] = refl
 drop-all (w ∷ ws) = drop-all ws
 
 module _ (old : World) (session number start : ℕ) (writes : List Write) (exists : has_session old session ≡ true) (free : is_held old session ≡ false) where
-  case : Case
-  case = case_of old session number start writes
-
   abbrev row_as : Standing → LogRow
   row_as standing = entering old session number start (reads_under old session number) writes standing
 
@@ -90,20 +88,33 @@ module _ (old : World) (session number start : ℕ) (writes : List Write) (exist
   turned : (standing to : Standing) (table : State) → record (under_way standing table) { log = turn session to (old.log ++ row_as standing ∷ []) } ≡ under_way to table
   turned standing to table = ap (λ l. record (under_way standing table) { log = l }) (turn-last session to (row_as standing) refl old.log)
 
-  open_row : ℕ → Standing
-  open_row index = Open index (case_of old session number start writes)
+  -- the case that the entry fixes, its opponents in the order of the log
+  abbrev pub first_case : Case
+  first_case = record {
+    start = start;
+    low = low old;
+    reads = questions_under old session number;
+    writes = writes;
+    finished = finished_opponents old.log old.counter (low old) start;
+    active = active_opponents old.log;
+  }
 
-  decides : (v : Verdict) → verdict (case_of old session number start writes) ≡ v → Step (under_way (Open 0 (case_of old session number start writes)) old.table) (Decide session) (Decided v) (under_way (decided v) old.table)
-  decides v is = taken
-      (guards (Open 0 (case_of old session number start writes)) old.table _
-      (ap (λ o. first_fault (o ∷ [])) (unmet _ faults.AlreadyDecided (ap not (seen false (λ row. is_open row.standing) (Open 0 (case_of old session number start writes))))))) (
-        row_as (Open 0 (case_of old session number start writes)),
+  pub is_case : IsCaseOf old session number start writes first_case
+  is_case = record { start_is = refl; low_is = refl; reads_are = refl; writes_are = refl; finished = λ test. refl; active = λ test. refl }
+
+  decides : (v : Verdict) → validity_of old session number start writes ≡ v → Step (under_way (Open 0 first_case) old.table) (Decide session) (Decided v) (under_way (decided v) old.table)
+  decides v valid =
+      let is : verdict first_case ≡ v = verdict-validity old.log old.counter (low old) start (questions_under old session number) writes first_case is_case ∙ valid in
+      taken
+      (guards (Open 0 first_case) old.table _
+      (ap (λ o. first_fault (o ∷ [])) (unmet _ faults.AlreadyDecided (ap not (seen false (λ row. is_open row.standing) (Open 0 first_case)))))) (
+        row_as (Open 0 first_case),
         0,
-        case_of old session number start writes,
+        first_case,
         last_row _,
         refl,
         ap Decided (sym is),
-        sym (turned (Open 0 (case_of old session number start writes)) (decided v) old.table) ∙ ap (λ w. record (under_way (Open 0 (case_of old session number start writes)) old.table) { log = turn session (decided w) (old.log ++ row_as (Open 0 (case_of old session number start writes)) ∷ []) }) (sym is),
+        sym (turned (Open 0 first_case) (decided v) old.table) ∙ ap (λ w. record (under_way (Open 0 first_case) old.table) { log = turn session (decided w) (old.log ++ row_as (Open 0 first_case) ∷ []) }) (sym is),
       )
 
   -- a row in its write phase is neither Open nor backed up
@@ -181,10 +192,10 @@ module _ (old : World) (session number start : ℕ) (writes : List Write) (exist
 
 -- The parts of a serial end, one after another.
 parts_run : (old new : World) (session number start : ℕ) (writes : List Write) (reply : Reply) → refusal_of_request old None session number start writes ≡ None → has_session old session ≡ true → is_held old session ≡ false
-    → (v : Verdict) → verdict (case_of old session number start writes) ≡ v → EndsSerially old session number start writes v reply new → Run old (parts old session number start writes v) new
+    → (v : Verdict) → validity_of old session number start writes ≡ v → EndsSerially old session number start writes v reply new → Run old (parts old session number start writes v) new
 parts_run old new session number start writes reply none exists free verdicts.Commit e ends = (
-  under_way old session number start writes exists free (Open 0 (case_of old session number start writes)) old.table,
-  taken none (0, refl, refl),
+  under_way old session number start writes exists free (Open 0 (first_case old session number start writes exists free)) old.table,
+  taken none (0, first_case old session number start writes exists free, is_case old session number start writes exists free, refl, refl),
   (
     under_way old session number start writes exists free (Writing 0) old.table,
     decides old session number start writes exists free verdicts.Commit e,
@@ -193,8 +204,8 @@ parts_run old new session number start writes reply none exists free verdicts.Co
   ),
 )
 parts_run old new session number start writes reply none exists free (verdicts.BackUp cause) e ends = (
-  under_way old session number start writes exists free (Open 0 (case_of old session number start writes)) old.table,
-  taken none (0, refl, refl),
+  under_way old session number start writes exists free (Open 0 (first_case old session number start writes exists free)) old.table,
+  taken none (0, first_case old session number start writes exists free, is_case old session number start writes exists free, refl, refl),
   (
     under_way old session number start writes exists free (Back cause) old.table,
     decides old session number start writes exists free (verdicts.BackUp cause) e,
@@ -206,4 +217,4 @@ pub serial_end : SerialEndIsItsParts
 serial_end old new session number start writes reply none t =
     let may = admitted old (refusals.store_busy old) session number start writes none in
     parts_run old new session number start writes reply (subst (λ busy. refusal_of_request old busy session number start writes ≡ None) may.1 none) may.0.exists may.0.free
-    (verdict (case_of old session number start writes)) refl t
+    (validity_of old session number start writes) refl t

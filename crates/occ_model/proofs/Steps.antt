@@ -25,7 +25,7 @@ use Rattle.occ_model.specs.World.{Settings, World, ReadPhase, resumed, low, next
 use Rattle.occ_model.specs.Event.{Request, Alone, Close, Event, Read, Forget, Enter, Decide, WriteOne, Finish, BackUp, SerialEnd, RunAlone, Checkpoint, Reply}
 use Rattle.occ_model.specs.Refusal as refusals
 use Rattle.occ_model.specs.Refusal.{refusal, refusal_of_request, refusal_of_close, refusal_of_alone, wrong_start}
-use Rattle.occ_model.specs.Step.{Step, refused, starved, taken, Taken, Run, entering, case_of, read_more, entered, closed, decided, WritesOne, finished, EndsSerially, RunsAlone, foldable_part, shortened}
+use Rattle.occ_model.specs.Step.{Step, refused, starved, taken, Taken, Run, entering, IsCaseOf, validity_of, read_more, entered, closed, decided, WritesOne, finished, EndsSerially, RunsAlone, foldable_part, shortened}
 use Rattle.occ_model.specs.Invariant.{commits, is_sound, Chained, finished_after, is_touched, IsFresh, NumberIsBelow, NumbersAreBelow, OneUnderWay, ActiveAreHeld, Invariant}
 use Rattle.occ_model.specs.declared.verdict.Verdict.{Verdict}
 use Rattle.occ_model.specs.declared.verdict.Verdict.TheVariants as verdicts
@@ -33,7 +33,7 @@ use Rattle.occ_model.specs.declared.verdict.Cause.{Cause}
 use Rattle.occ_model.proofs.Tests as tests
 use Rattle.occ_model.proofs.States.{answer-put, answer-apply}
 use Rattle.occ_model.proofs.Logs.{committed_sound, standing_at, serial-append, settled-append, ActiveAreApart, Chained-push, settled-apply, serial-apply, Chained-apply, Chained-turn, Chained-at, active_before, settled-put}
-use Rattle.occ_model.proofs.Entries.{validity-verdict, commit_means, NoneInTheWay, none_active, valid_reads}
+use Rattle.occ_model.proofs.Entries.{verdict-validity, commit_means, NoneInTheWay, none_active, valid_reads}
 use Rattle.occ_model.proofs.Turns
 use Rattle.occ_model.proofs.Turns.{Around, around, latest-at, latest-push}
 use Rattle.occ_model.proofs.Orders.{Counts-push, numbers-append, numbers-own, numbers-other, places-append, length-places, latest_number, get-own, get-other, tied, apart}
@@ -196,19 +196,18 @@ keeps_close old session number inv none =
     }
 
 -- A request that enters.
-keeps_enter : (old : World) (session number start : ℕ) (writes : List Write) (index : ℕ) → Invariant old → Admitted old session number start → Invariant (entered old session number start writes index)
-keeps_enter old session number start writes index inv may =
-    let case : Case = case_of old session number start writes in
+keeps_enter : (old : World) (session number start : ℕ) (writes : List Write) (index : ℕ) (case : Case) → IsCaseOf old session number start writes case → Invariant old → Admitted old session number start → Invariant (entered old session number start writes index case)
+keeps_enter old session number start writes index case is inv may =
     let row : LogRow = entering old session number start (reads_under old session number) writes (Open index case) in
     let known = known_reads old session number start (inv.fresh session number) may.start_is in
     let means : commits (verdict case) ≡ true → (low old ≤ start) × NoneInTheWay start old.counter (questions row) writes old.log =
-    λ sound. commit_means old.log old.counter (low old) start (questions row) writes (ap commits (validity-verdict old.log old.counter (low old) start (questions row) writes) ∙ sound) in
+    λ sound. commit_means old.log old.counter (low old) start (questions row) writes (ap commits (sym (verdict-validity old.log old.counter (low old) start (questions row) writes case is)) ∙ sound) in
     record {
       replayed = settled-append old.table old.log (row ∷ []) ∙ inv.replayed ∙ sym (serial-append old.base.state old.log (row ∷ []));
       chained = Chained-push old.base.state old.log row inv.chained
           (λ sound. let m = means sound in subst (λ s. AreAnswers s row.reads) inv.replayed (valid_reads old.log old.table row start old.counter inv.below m.1 (known.1 m.0)))
           (λ sound. let m = means sound in none_active old.log row start old.counter m.1);
-      fresh = λ s n phase is. IsFresh-step old (entered old session number start writes index) (omega arith) (omega arith)
+      fresh = λ s n phase is. IsFresh-step old (entered old session number start writes index case) (omega arith) (omega arith)
           (λ from question begun inside touched. Turns.is_touched-push from question row old.log touched) (λ from question begun. inl refl)
           phase (inv.fresh s n phase (get-remove-from old.phases (session, number) (s, n) phase is));
       below = Turns.NumbersAreBelow-push old.counter row old.log inv.below tt;
@@ -591,12 +590,12 @@ module _ (old : World) (inv : Invariant old) (session number start : ℕ) (reads
 
 keeps_serial : (old : World) (session number start : ℕ) (writes : List Write) (reply : Reply) (new : World) → Invariant old
     → refusal_of_request old (refusals.store_busy old) session number start writes ≡ None
-    → EndsSerially old session number start writes (verdict (case_of old session number start writes)) reply new → Invariant new
+    → EndsSerially old session number start writes (validity_of old session number start writes) reply new → Invariant new
 keeps_serial old session number start writes reply new inv none ends =
-    go (verdict case) refl ends
+    go valid refl ends
   where
-    case : Case
-    case = case_of old session number start writes
+    valid : Verdict
+    valid = validity_of old session number start writes
 
     reads : List Observation
     reads = reads_under old session number
@@ -613,13 +612,13 @@ keeps_serial old session number start writes reply new inv none ends =
     fewer : (k : ℕ × ℕ) (phase : ReadPhase) → finite.get (finite.remove old.phases (session, number)) k ≡ Some phase → finite.get old.phases k ≡ Some phase
     fewer k phase is = get-remove-from old.phases (session, number) k phase is
 
-    answers : commits (verdict case) ≡ true → AreAnswers old.table reads
+    answers : commits valid ≡ true → AreAnswers old.table reads
     answers sound =
-        let m = commit_means old.log old.counter (low old) start (questions row) writes (ap commits (validity-verdict old.log old.counter (low old) start (questions row) writes) ∙ sound) in
+        let m = commit_means old.log old.counter (low old) start (questions row) writes sound in
         let known = known_reads old session number start (inv.fresh session number) may.0.start_is in
         subst (λ s. AreAnswers s reads) (idle_settled old.table old.log idle) (valid_reads old.log old.table row start old.counter inv.below m.1 (known.1 m.0))
 
-    go : (v : Verdict) → verdict case ≡ v → EndsSerially old session number start writes v reply new → Invariant new
+    go : (v : Verdict) → valid ≡ v → EndsSerially old session number start writes v reply new → Invariant new
     go verdicts.Commit e ends = subst Invariant (sym ends.1) (comes_done old inv session number start reads writes (finite.remove old.phases (session, number)) fewer idle may.0.free may.0.unmarked may.0.turn (answers (ap commits e)))
     go (verdicts.BackUp cause) e ends = subst Invariant (sym ends.1) (comes_back old inv session number start reads writes (finite.remove old.phases (session, number)) fewer idle may.0.free may.0.unmarked may.0.turn cause)
 
@@ -684,7 +683,7 @@ keeps_taken : (old : World) (event : Event) (reply : Reply) (new : World) → In
 keeps_taken old (Read session number start question) reply new inv none t = subst Invariant (sym t.1) (keeps_read old session number start question inv none)
 keeps_taken old (Forget session number) reply new inv none t = subst Invariant (sym t.1) (keeps_forget old session number inv)
 keeps_taken old (Enter session (Request number start writes)) reply new inv none t =
-    subst Invariant (sym t.2) (keeps_enter old session number start writes t.0 inv (admitted old None session number start writes none).0)
+    subst Invariant (sym t.4) (keeps_enter old session number start writes t.0 t.1 t.2 inv (admitted old None session number start writes none).0)
 keeps_taken old (Enter session (Alone number operations)) reply new inv none t = keeps_alone old session number operations reply new inv none t
 keeps_taken old (Enter session (Close number)) reply new inv none t = subst Invariant (sym t.1) (keeps_close old session number inv none)
 keeps_taken old (Decide session) reply new inv none t = subst Invariant (sym t.6) (keeps_decide old inv session t.1 t.2 t.0 t.3 t.4)

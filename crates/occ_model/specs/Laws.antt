@@ -4,12 +4,12 @@ use Rattle.std.specs.List.{AllByRecursion}
 use Rattle.occ_types.specs.Question.{Question}
 use Rattle.occ_types.specs.declared.fault.Fault.{Fault}
 use Rattle.occ_model.specs.State.{Write}
-use Rattle.occ_model.specs.Log.{LogRow, Standing, Open, Writing, Done, Back, Base, questions, Audited, Quiet, serial}
-use Rattle.occ_model.specs.Validity.{validity, case_at, verdict}
+use Rattle.occ_model.specs.Log.{LogRow, Standing, Open, Writing, Done, Back, Case, Base, questions, Audited, Quiet, serial}
+use Rattle.occ_model.specs.Validity.{validity, IsCaseAt, verdict}
 use Rattle.occ_model.specs.World.{Settings, World, resumed, low, next_place}
 use Rattle.occ_model.specs.Event.{Request, Event, Enter, Decide, WriteOne, Finish, SerialEnd, Checkpoint, Reply, Refused, Entered, Decided, Wrote, Finished, BackedUp, Folded}
 use Rattle.occ_model.specs.Refusal.{refusal}
-use Rattle.occ_model.specs.Step.{Step, Run, Taken, case_of, foldable_part}
+use Rattle.occ_model.specs.Step.{Step, Run, Taken, validity_of, foldable_part}
 use Rattle.occ_model.specs.Invariant.{Invariant}
 use Rattle.occ_model.specs.declared.verdict.Verdict.{Verdict}
 use Rattle.occ_model.specs.declared.verdict.Verdict.TheVariants as verdicts
@@ -23,8 +23,8 @@ Headline = (settings : Settings) (base : Base) (counter : ℕ) (events : List (E
 
 -- The verdict on the case that an entry fixes is validity at that entry, cause included.
 abbrev pub VerdictIsValidity : Type 0
-VerdictIsValidity = (log : List LogRow) (finish low start : ℕ) (reads : List Question) (writes : List Write)
-    → verdict (case_at log finish low start reads writes) ≡ validity log finish low start reads writes
+VerdictIsValidity = (log : List LogRow) (finish low start : ℕ) (reads : List Question) (writes : List Write) (case : Case)
+    → IsCaseAt log finish low start reads writes case → verdict case ≡ validity log finish low start reads writes
 
 -- how a row stands that was valid, or not, at its entry
 abbrev pub StandsAs : Verdict → Standing → Type 0
@@ -73,7 +73,7 @@ abbrev pub SerialEndIsItsParts : Type 0
 SerialEndIsItsParts = (old new : World) (session number start : ℕ) (writes : List Write) (reply : Reply)
     → refusal old (SerialEnd session (Request number start writes)) ≡ None
     → Taken old (SerialEnd session (Request number start writes)) reply new
-    → Run old (parts old session number start writes (verdict (case_of old session number start writes))) new
+    → Run old (parts old session number start writes (validity_of old session number start writes)) new
 
 -- A checkpoint folds the longest beginning of the log that can be folded: the base's state is played on by its committed rows, what the log and the base say together stays, and so does the whole claim.
 abbrev pub CheckpointFolds : Type 0

@@ -9,7 +9,7 @@ use Rattle.occ_types.specs.declared.fault.Fault.{Fault}
 use Rattle.occ_types.specs.declared.fault.Fault.TheVariants as faults
 use Rattle.occ_model.specs.State.{Write, Observation, answer, put, apply}
 use Rattle.occ_model.specs.Log.{LogRow, Standing, Open, Writing, Done, Back, Case, Base, serial}
-use Rattle.occ_model.specs.Validity.{case_at, verdict}
+use Rattle.occ_model.specs.Validity.{IsCaseAt, validity, verdict}
 use Rattle.occ_model.specs.Operations.{Operation, perform_all, nothing_yet}
 use Rattle.occ_model.specs.World.{World, low, next_place, latest, turn, last_entered, reads_under, questions_under}
 use Rattle.occ_model.specs.Event.{Request, Alone, Close, Event, Read, Forget, Enter, Decide, WriteOne, Finish, BackUp, SerialEnd, RunAlone, Checkpoint, Reply, Refused, Answered, Forgotten, Entered, Closed, Decided, Wrote, NoMore, Finished, BackedUp, EndedBack, RanAlone, Folded}
@@ -30,10 +30,15 @@ entering world session number start reads writes standing = record {
   standing = standing;
 }
 
--- the case that the entry of a request fixes
-abbrev pub case_of : World → ℕ → ℕ → ℕ → List Write → Case
-case_of world session number start writes =
-    case_at world.log world.counter (low world) start (questions_under world session number) writes
+-- whether a case is the one that the entry of a request fixes
+abbrev pub IsCaseOf : World → ℕ → ℕ → ℕ → List Write → Case → Type 0
+IsCaseOf world session number start writes case =
+    IsCaseAt world.log world.counter (low world) start (questions_under world session number) writes case
+
+-- the validity of a request at its entry
+abbrev pub validity_of : World → ℕ → ℕ → ℕ → List Write → Verdict
+validity_of world session number start writes =
+    validity world.log world.counter (low world) start (questions_under world session number) writes
 
 -- The read phase gets the question with the table's answer, and begins with it where there is none.
 abbrev pub read_more : World → ℕ → ℕ → ℕ → Question → World
@@ -52,9 +57,9 @@ appended world session number start writes standing = record world {
 }
 
 -- the first critical section (Kung and Robinson, section 5)
-abbrev pub entered : World → ℕ → ℕ → ℕ → List Write → ℕ → World
-entered world session number start writes index =
-    let next = appended world session number start writes (Open index (case_of world session number start writes)) in
+abbrev pub entered : World → ℕ → ℕ → ℕ → List Write → ℕ → Case → World
+entered world session number start writes index case =
+    let next = appended world session number start writes (Open index case) in
     record next { held = sets.insert world.held session }
 
 abbrev pub closed : World → ℕ → ℕ → World
@@ -83,7 +88,7 @@ finished world session = record world {
   held = sets.remove world.held session;
 }
 
--- Serial validation: entry, verdict, all writes and the end in one step (section 4).
+-- Serial validation: entry, test, all writes and the end in one step (section 4).
 abbrev pub EndsSerially : World → ℕ → ℕ → ℕ → List Write → Verdict → Reply → World → Type 0
 EndsSerially old session number start writes verdicts.Commit reply new =
     let next = appended old session number start writes (Done (old.counter + 1)) in
@@ -133,7 +138,8 @@ Taken old (Forget session number) reply new =
     (reply ≡ Forgotten (finite.contains_key old.phases (session, number)))
     × (new ≡ record old { phases = finite.remove old.phases (session, number) })
 Taken old (Enter session (Request number start writes)) reply new =
-    (index : ℕ) × (reply ≡ Entered (next_place old) index) × (new ≡ entered old session number start writes index)
+    (index : ℕ) × (case : Case) × IsCaseOf old session number start writes case
+    × (reply ≡ Entered (next_place old) index) × (new ≡ entered old session number start writes index case)
 Taken old (Enter session (Alone number operations)) reply new = RunsAlone old session number operations reply new
 Taken old (Enter session (Close number)) reply new = (reply ≡ Closed) × (new ≡ closed old session number)
 Taken old (Decide session) reply new =
@@ -148,7 +154,7 @@ Taken old (Finish session) reply new =
 Taken old (BackUp session) reply new =
     (reply ≡ BackedUp (last_entered old session)) × (new ≡ record old { held = sets.remove old.held session })
 Taken old (SerialEnd session (Request number start writes)) reply new =
-    EndsSerially old session number start writes (verdict (case_of old session number start writes)) reply new
+    EndsSerially old session number start writes (validity_of old session number start writes) reply new
 Taken old (SerialEnd session (Alone number operations)) reply new = RunsAlone old session number operations reply new
 Taken old (SerialEnd session (Close number)) reply new = (reply ≡ Closed) × (new ≡ closed old session number)
 Taken old (RunAlone session number operations) reply new = RunsAlone old session number operations reply new

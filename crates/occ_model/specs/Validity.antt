@@ -1,5 +1,5 @@
 -- Validation: who the opponents of a transaction are, and when it is valid (Kung and Robinson, sections 3 and 5).
-use Rattle.std.specs.Prelude.{ℕ, ◌-◌, Bool, false, cond, ◌&&◌, ◌||◌, nat_lt, nat_le, List, map, filter}
+use Rattle.std.specs.Prelude.{◌≡◌, ℕ, ◌-◌, Bool, false, cond, ◌&&◌, ◌||◌, nat_lt, nat_le, List, map, filter}
 use Rattle.std.specs.List.{list_any}
 use Rattle.occ_types.specs.Question.{Question}
 use Rattle.occ_model.specs.State.{Write, meets_reads, meets_writes}
@@ -35,16 +35,26 @@ validity log finish low start reads writes =
 abbrev pub writes_of : List LogRow → List (List Write)
 writes_of rows = map (λ row. row.writes) rows
 
--- the case that an entry fixes: of the finished opponents those in the window, and all that are active
-abbrev pub case_at : List LogRow → ℕ → ℕ → ℕ → List Question → List Write → Case
-case_at log finish low start reads writes = record {
-  start = start;
-  low = low;
-  reads = reads;
-  writes = writes;
-  finished = writes_of (filter (λ row. finished_within low finish row.standing && finished_within start finish row.standing) log);
-  active = writes_of (filter (λ row. is_active row.standing) log);
-}
+-- of the opponents that finished within (start, finish], those in the window
+abbrev pub finished_opponents : List LogRow → ℕ → ℕ → ℕ → List (List Write)
+finished_opponents log finish low start =
+    writes_of (filter (λ row. finished_within low finish row.standing && finished_within start finish row.standing) log)
+
+abbrev pub active_opponents : List LogRow → List (List Write)
+active_opponents log = writes_of (filter (λ row. is_active row.standing) log)
+
+-- the same write sets, in whatever order: each test that one of these passes, one of those passes
+abbrev pub AreSame : List (List Write) → List (List Write) → Type 0
+AreSame these those = (test : List Write → Bool) → list_any test these ≡ list_any test those
+
+-- the case that an entry fixes: its own start, reads and writes, the lower end of the window, the finished opponents in the window, and those that are active
+pub record IsCaseAt (log : List LogRow) (finish low start : ℕ) (reads : List Question) (writes : List Write) (case : Case) : Type 0 where
+  pub start_is : case.start ≡ start
+  pub low_is : case.low ≡ low
+  pub reads_are : case.reads ≡ reads
+  pub writes_are : case.writes ≡ writes
+  pub finished : AreSame case.finished (finished_opponents log finish low start)
+  pub active : AreSame case.active (active_opponents log)
 
 -- The verdict on a case, which needs nothing but the case.
 abbrev pub verdict : Case → Verdict
