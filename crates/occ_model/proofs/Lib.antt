@@ -11,3 +11,5 @@ pub mod Decisions
 pub mod SerialEnds
 pub mod Checkpoints
 pub mod Headlines
+pub mod RangeLaws
+pub mod WorkedExamples

@@ -11,7 +11,7 @@ use Rattle.occ_types.specs.declared.fault.Fault.{Fault}
 use Rattle.occ_types.specs.declared.fault.Fault.TheVariants as faults
 use Rattle.occ_model.specs.State.{State, Write, put, apply}
 use Rattle.occ_model.specs.Log.{LogRow, Standing, Open, Writing, Done, Back, Case, is_open, is_back, rest, remaining}
-use Rattle.occ_model.specs.Validity.{verdict, finished_opponents, active_opponents}
+use Rattle.occ_model.specs.Validity.{verdict, case_at}
 use Rattle.occ_model.proofs.Entries.{verdict-validity}
 use Rattle.occ_model.specs.World.{World, low, questions_under, latest, turn, reads_under, is_held, has_session}
 use Rattle.occ_model.specs.Event.{Decide, WriteOne, Finish, BackUp, Reply, Decided, Wrote, Finished, BackedUp}
@@ -88,16 +88,9 @@ module _ (old : World) (session number start : ℕ) (writes : List Write) (exist
   turned : (standing to : Standing) (table : State) → record (under_way standing table) { log = turn session to (old.log ++ row_as standing ∷ []) } ≡ under_way to table
   turned standing to table = ap (λ l. record (under_way standing table) { log = l }) (turn-last session to (row_as standing) refl old.log)
 
-  -- the case that the entry fixes, its opponents in the order of the log
+  -- the case that the entry fixes
   abbrev pub first_case : Case
-  first_case = record {
-    start = start;
-    low = low old;
-    reads = questions_under old session number;
-    writes = writes;
-    finished = finished_opponents old.log old.counter (low old) start;
-    active = active_opponents old.log;
-  }
+  first_case = case_at old.log old.counter (low old) start (questions_under old session number) writes
 
   pub is_case : IsCaseOf old session number start writes first_case
   is_case = record { start_is = refl; low_is = refl; reads_are = refl; writes_are = refl; finished = λ test. refl; active = λ test. refl }

@@ -9,3 +9,5 @@ pub mod Refusal
 pub mod Step
 pub mod Invariant
 pub mod Laws
+pub mod RangeLaws
+pub mod Examples

@@ -56,6 +56,17 @@ pub record IsCaseAt (log : List LogRow) (finish low start : ℕ) (reads : List Q
   pub finished : AreSame case.finished (finished_opponents log finish low start)
   pub active : AreSame case.active (active_opponents log)
 
+-- that case with its opponents in the order of the log
+abbrev pub case_at : List LogRow → ℕ → ℕ → ℕ → List Question → List Write → Case
+case_at log finish low start reads writes = record {
+  start = start;
+  low = low;
+  reads = reads;
+  writes = writes;
+  finished = finished_opponents log finish low start;
+  active = active_opponents log;
+}
+
 -- The verdict on a case, which needs nothing but the case.
 abbrev pub verdict : Case → Verdict
 verdict case =

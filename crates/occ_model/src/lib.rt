@@ -4,5 +4,7 @@
 //! function with an empty body.
 #![tactic(auto)]
 
+pub mod examples;
 pub mod laws;
+pub mod ranges;
 pub mod verdict;

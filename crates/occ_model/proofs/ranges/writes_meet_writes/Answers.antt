@@ -1,0 +1,5 @@
+use Rattle.occ_model.proofs.RangeLaws as laws
+use Rattle.occ_model.proofs.ranges.writes_meet_writes.Goals as goal
+
+pub returns : goal.returns
+returns c = laws.meets_writes_is

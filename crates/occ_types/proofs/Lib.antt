@@ -1,0 +1,3 @@
+pub mod Alike
+pub mod Asked
+pub mod Walks

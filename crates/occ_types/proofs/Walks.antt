@@ -1,0 +1,66 @@
+-- The steps of the loops that check cells and tables.
+use Rattle.std.proofs.Common.{◌≡◌, ℕ, suc, ◌+◌, ◌<◌, ◌≤◌, Bool, true, ◌||◌, cond, List, [], ◌∷◌, Option, None, Some, length, get_or, drop, refl, sym, ap, ◌∙◌, add-one, drop-cons}
+use Rattle.std.proofs.lemmas.Iterator.Adapters.{position_from-zero}
+use Rattle.std.proofs.lemmas.List.{drop_all}
+use Rattle.std.specs.Prelude.{map}
+use Rattle.std.specs.List.{list_any, position, position_from}
+use Rattle.occ_types.specs.declared.cells.Cell.{Cell}
+use Rattle.occ_types.specs.declared.fault.Fault.{Fault}
+use Rattle.occ_types.specs.declared.kind.Kind.{Kind}
+use Rattle.occ_types.specs.Schema.{first_fault, check_cells}
+use Rattle.occ_types.specs.Fits.{check_cell}
+use Rattle.occ_types.specs.Seen.{cell_of, row_of}
+
+-- what is left from a place on begins with the element there
+pub drop_at : {X : Type 0} (xs : List X) (i : ℕ) (d x : X) → i < length xs → x ≡ get_or xs i d → drop i xs ≡ x ∷ drop (i + 1) xs
+drop_at xs i d x h e = rw add-one (drop-cons xs i d h ∙ ap (λ y. y ∷ drop (suc i) xs) (sym e))
+
+-- a fault of the first two tests is the answer
+pub first_fault-early : (a b rest : Option Fault) (fault : Fault) → first_fault (a ∷ b ∷ []) ≡ Some fault → first_fault (a ∷ b ∷ rest ∷ []) ≡ Some fault
+first_fault-early None None rest fault e = cc
+first_fault-early None (Some f) rest fault e = e
+first_fault-early (Some f) b rest fault e = e
+
+-- without one it is that of the rest
+pub first_fault-late : (a b rest : Option Fault) → first_fault (a ∷ b ∷ []) ≡ None → first_fault (a ∷ b ∷ rest ∷ []) ≡ rest
+first_fault-late None None None e = refl
+first_fault-late None None (Some f) e = refl
+first_fault-late None (Some f) rest e = cc
+first_fault-late (Some f) b rest e = cc
+
+-- a test through a function
+pub list_any-map : {X Y : Type 0} (p : Y → Bool) (f : X → Y) (xs : List X) → list_any p (map f xs) ≡ list_any (λ x. p (f x)) xs
+list_any-map p f [] = refl
+list_any-map p f (x ∷ xs) = ap (λ b. p (f x) || b) (list_any-map p f xs)
+
+module _ {Z : Type 0} where
+  -- the check of the cells from a place on is that of the cell there and then that of the rest
+  cells_at : (kinds : List Kind) (cells : List (Cell Z)) (i : ℕ) (d : Kind) (c : Cell Z) → i < length kinds → i < length cells → c ≡ get_or cells i c → check_cells (drop i kinds) (row_of (drop i cells)) ≡ check_cells (get_or kinds i d ∷ drop (i + 1) kinds) (row_of (c ∷ drop (i + 1) cells))
+  cells_at kinds cells i d c g h e = λ j. check_cells (drop_at kinds i d (get_or kinds i d) g refl j) (row_of (drop_at cells i c c h e j))
+
+  -- a cell that fits leaves the check of the rest
+  pub check_cells-fit : (kinds : List Kind) (cells : List (Cell Z)) (i : ℕ) (d : Kind) (c : Cell Z) → i < length kinds → i < length cells → c ≡ get_or cells i c → None ≡ check_cell (get_or kinds i d) (cell_of c) → check_cells (drop (i + 1) kinds) (row_of (drop (i + 1) cells)) ≡ check_cells (drop i kinds) (row_of (drop i cells))
+  check_cells-fit kinds cells i d c g h e fits = sym (cells_at kinds cells i d c g h e ∙ first_fault-late _ _ (check_cells (drop (i + 1) kinds) (row_of (drop (i + 1) cells))) (sym fits))
+
+  -- a cell that does not fit is the answer
+  pub check_cells-fault : (kinds : List Kind) (cells : List (Cell Z)) (i : ℕ) (d : Kind) (c : Cell Z) (fault : Fault) → i < length kinds → i < length cells → c ≡ get_or cells i c → Some fault ≡ check_cell (get_or kinds i d) (cell_of c) → check_cells (drop i kinds) (row_of (drop i cells)) ≡ Some fault
+  check_cells-fault kinds cells i d c fault g h e fits = cells_at kinds cells i d c g h e ∙ first_fault-early _ _ (check_cells (drop (i + 1) kinds) (row_of (drop (i + 1) cells))) fault (sym fits)
+
+-- the search of a place ends where the test passes
+position_from-hit : {X Y : Type 0} (p : Y → Bool) (f : X → Y) (xs : List X) (i : ℕ) (x : X) → i < length xs → x ≡ get_or xs i x → p (f x) ≡ true → position_from p i (map f (drop i xs)) ≡ Some i
+position_from-hit p f xs i x h e hit =
+    let rest = position_from p (i + 1) (map f (drop (i + 1) xs)) in
+    ap (λ ys. position_from p i (map f ys)) (drop_at xs i x x h e) ∙ ap (λ b. cond b (Some i) rest) hit
+
+-- the first place whose element passes is found
+pub position-hit : {X Y : Type 0} (p : Y → Bool) (f : X → Y) (xs : List X) (ys : List Y) (i : ℕ) (x : X) → map f xs ≡ ys → position_from p i (map f (drop i xs)) ≡ position_from p 0 (map f xs) → i < length xs → x ≡ get_or xs i x → p (f x) ≡ true → Some i ≡ position p ys
+position-hit p f xs ys i x seen walked h e hit =
+    sym (position_from-hit p f xs i x h e hit) ∙ walked ∙ sym (position_from-zero p (map f xs)) ∙ ap (position p) seen
+
+-- and none where no element is left
+pub position-none : {X Y : Type 0} (p : Y → Bool) (f : X → Y) (xs : List X) (ys : List Y) (i : ℕ) → map f xs ≡ ys → position_from p i (map f (drop i xs)) ≡ position_from p 0 (map f xs) → length xs ≤ i → None ≡ position p ys
+position-none p f xs ys i seen walked h =
+    sym (ap (λ zs. position_from p i (map f zs)) (drop_all i xs h)) ∙ walked ∙ sym (position_from-zero p (map f xs)) ∙ ap (position p) seen
+
+-- the lemma on a test through a function
+pub ruleset through = (list_any-map)

@@ -1,0 +1,9 @@
+use Rattle.std.proofs.Common.{◌≡◌, drop}
+use Rattle.std.specs.List.{position_from}
+use Rattle.occ_types.specs.Fits.{has_name}
+use Rattle.occ_types.specs.Seen.{tables_of}
+use Rattle.occ_types.proofs.schemas.Schema.table_named.Given as goal
+
+-- the search among the tables that are left answers for all of them
+abbrev pub invariant-loop-place : goal.invariant-loop-place
+invariant-loop-place g l = position_from (has_name l.name) l.place (tables_of (drop l.place l.tables)) ≡ position_from (has_name l.name) 0 (tables_of l.tables)

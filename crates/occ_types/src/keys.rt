@@ -1,0 +1,99 @@
+//! Keys of a row, and their one total order.
+ghost use Rattle.std.specs.Prelude.{◌≡◌, List, ◌++◌, refl};
+ghost use Rattle.std.specs.Ordering.{on, eq_by_cmp, as_partial_cmp};
+ghost use Rattle.std.specs.Cmp.{on_per, on_equiv, on_total, on_po, po, eq_by_cmp_equiv, partial_equiv_from_equiv};
+ghost use Rattle.occ_types.specs.Key.{key_cmp, key_cmp_total};
+ghost use Rattle.occ_types.specs.Same.{key_same, key_same_equiv, key_po, key_fed, key_fed_alike};
+ghost use Rattle.occ_types.specs.Seen.{key_of};
+
+use crate::texts::Text;
+use std::alloc::{AllocError, Allocator};
+use std::cmp::Ordering;
+use std::hash::{Hash, Hasher};
+
+/// The key of a row. Numbers come by size, texts by their bytes, and every number comes before every text.
+#[derive(Drop)]
+#[derive_where(Debug)]
+pub enum Key<A: Allocator> {
+    /// A number of 64 bits, without a sign.
+    Num(u64),
+    /// A text.
+    Text(Text<A>),
+}
+
+impl<A: Allocator + Clone> Clone for Key<A> {
+    ghost is_clone = { λ source copy. copy ≡ source };
+
+    fn clone(&self) -> Result<Key<A>, AllocError> {
+        match self {
+            Key::Num(number) => Ok(Key::Num(*number)),
+            Key::Text(text) => Ok(Key::Text(text.clone()?)),
+        }
+    }
+}
+
+impl<A: Allocator> PartialEq for Key<A> {
+    ghost eq = { on key_of key_same };
+
+    ghost laws = { on_per key_of (partial_equiv_from_equiv key_same_equiv) };
+
+    fn eq(&self, other: &Key<A>) -> bool {
+        match (self, other) {
+            (Key::Num(number), Key::Num(another)) => number == another,
+            (Key::Text(text), Key::Text(another)) => text == another,
+            _ => false,
+        }
+    }
+}
+
+impl<A: Allocator> Eq for Key<A> {
+    ghost laws = { on_equiv key_of key_same_equiv };
+}
+
+impl<A: Allocator> PartialOrd for Key<A> {
+    ghost partial_cmp = { as_partial_cmp (on key_of key_cmp) };
+
+    ghost laws = { on_po key_of key_po };
+
+    fn partial_cmp(&self, other: &Key<A>) -> Option<Ordering> {
+        Some(self.cmp(other))
+    }
+}
+
+impl<A: Allocator> Ord for Key<A> {
+    ghost cmp = { on key_of key_cmp };
+
+    ghost total = { on_total key_of key_cmp_total };
+
+    ghost matches_partial_cmp = { λ a b. refl };
+
+    ghost matches_eq = { λ a b. refl };
+
+    fn cmp(&self, other: &Key<A>) -> Ordering {
+        match (self, other) {
+            (Key::Num(number), Key::Num(another)) => number.cmp(another),
+            (Key::Num(_), Key::Text(_)) => Ordering::Less,
+            (Key::Text(_), Key::Num(_)) => Ordering::Greater,
+            (Key::Text(text), Key::Text(another)) => text.cmp(another),
+        }
+    }
+}
+
+impl<A: Allocator> Hash for Key<A> {
+    ghost hash_input = { λ key. key_fed (key_of key) };
+
+    ghost respects_eq = { λ a b. key_fed_alike (key_of a) (key_of b) };
+
+    fn hash<H: Hasher>(&self, state: &mut H) {
+        match self {
+            Key::Num(number) => {
+                0u8.hash(state);
+                number.hash(state);
+            }
+            Key::Text(text) => {
+                1u8.hash(state);
+                text.hash(state);
+            }
+        }
+    }
+}

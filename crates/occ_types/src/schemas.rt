@@ -1,0 +1,160 @@
+//! The tables of a store, and the checks of keys, rows and questions against them.
+ghost use Rattle.std.specs.Prelude.{◌≡◌, ℕ, length, Option, None, Some, IfSome, MatchResult, slice_get};
+ghost use Rattle.std.specs.List.{position};
+ghost use Rattle.std.specs.Result.{result_err};
+ghost use Rattle.occ_types.specs.Schema.{check_tables, are_tables, check_key, check_row, check_question, is_empty_range};
+ghost use Rattle.occ_types.specs.Fits.{check_range, has_name};
+ghost use Rattle.occ_types.specs.declared.fault.Fault.TheVariants.{NoTable};
+ghost use Rattle.occ_types.specs.Seen.{key_of, end_of, question_of, table_of, tables_of};
+
+use crate::fault::Fault;
+use crate::keys::Key;
+use crate::limits::MAX_TABLES;
+use crate::questions::Question;
+use crate::rows::Row;
+use crate::tables::TableDef;
+use std::alloc::Allocator;
+use std::marker::Model;
+
+/// The tables of a store, 1 to 32 with names of their own, which are named by their places. Clauses see the list of the plain tables.
+#[derive(Drop)]
+#[derive_where(Debug)]
+pub struct Schema<A: Allocator> {
+    tables: Vec<TableDef<A>, A>,
+}
+
+impl<A: Allocator> Model for Schema<A> {
+    ghost use Rattle.std.specs.Prelude.{◌≡◌, None};
+    ghost use Rattle.occ_types.specs.Schema.{Schema as Tables, check_tables};
+
+    ghost Value = { Tables };
+
+    ghost use Rattle.occ_types.specs.Seen.{tables_of};
+
+    ghost view = { λ schema. tables_of schema.tables.items };
+
+    ghost invariant = { λ schema. check_tables (tables_of schema.tables.items) ≡ None };
+}
+
+/// Tables that make no schema, handed back.
+#[derive(Drop)]
+#[derive_where(Debug)]
+pub struct RefusedTables<A: Allocator> {
+    /// The tables.
+    pub tables: Vec<TableDef<A>, A>,
+    /// `BadSchema`.
+    pub fault: Fault,
+}
+
+impl<A: Allocator> Schema<A> {
+    /// The schema of some tables, which takes no memory. Refused with `BadSchema`, and the tables handed back, where there are not 1 to 32 of them, a name is not 1 to 16 letters a to z or stands twice, or a table has not 1 to 8 columns.
+    pub fn new(tables: Vec<TableDef<A>, A>) -> Result<Schema<A>, RefusedTables<A>>
+        ensures { MatchResult result
+            (λ schema. (check_tables (tables_of tables.items) ≡ None) × (schema ≡ tables_of tables.items))
+            (λ refused. (check_tables (tables_of tables.items) ≡ Some refused.fault) × (refused.tables ≡ tables)) }
+    {
+        if tables.is_empty() || tables.len() > MAX_TABLES || !are_tables(tables.as_slice()) {
+            return Err(RefusedTables {
+                tables,
+                fault: Fault::BadSchema,
+            });
+        }
+        Ok(Schema { tables })
+    }
+
+    /// The tables, each at its place.
+    pub fn tables(&self) -> &[TableDef<A>]
+        ensures value { tables_of result.now ≡ self.now }
+        ensures fits { check_tables self.now ≡ None }
+    {
+        self.tables.as_slice()
+    }
+
+    /// The place of the table with this name.
+    pub fn table_named(&self, name: &str) -> Option<usize>
+        ensures { result ≡ position (has_name name.now) self.now }
+    {
+        let tables = self.tables.as_slice();
+        for (place, table) in tables.iter().enumerate() {
+            if table.name.as_str() == name {
+                return Some(place);
+            }
+        }
+        None
+    }
+
+    // The table at a place; `NoTable` where there is none.
+    fn table_at(&self, place: usize) -> Result<&TableDef<A>, Fault>
+        ensures { MatchResult result
+            (λ table. slice_get self.now place ≡ Some (table_of table.now))
+            (λ fault. (slice_get self.now place ≡ None) × (fault ≡ NoTable)) }
+    {
+        self.tables.as_slice().get(place).ok_or(Fault::NoTable)
+    }
+
+    /// Whether a key fits the table at a place: `NoTable`, `WrongKind` or `TooLong`, the first of these that holds.
+    pub fn check_key(&self, table: usize, key: &Key<A>) -> Result<(), Fault>
+        ensures { result_err result ≡ check_key self.now table (key_of key.now) }
+    {
+        self.table_at(table)?.check_key(key)
+    }
+
+    /// Whether a row fits the table at a place: `NoTable`, `WrongColumns`, or the first fault of a cell, `WrongKind` or `TooLong`.
+    pub fn check_row(&self, table: usize, row: &Row<A>) -> Result<(), Fault>
+        ensures { result_err result ≡ check_row self.now table row.now }
+    {
+        self.table_at(table)?.check_row(row)
+    }
+
+    /// Whether a question fits the schema: `NoTable`, the first fault of a key or an end, or `EmptyRange` where the lower end is not below the upper one.
+    pub fn check_question(&self, question: &Question<A>) -> Result<(), Fault>
+        ensures { result_err result ≡ check_question self.now (question_of question.now) }
+    {
+        match question {
+            Question::One { table, key } => self.check_key(*table, key),
+            Question::Span {
+                table,
+                lower,
+                upper,
+            } => check_range(self.table_at(*table)?, lower, upper),
+        }
+    }
+}
+
+// Whether a range fits its table.
+fn check_range<A: Allocator>(
+    table: &TableDef<A>,
+    lower: &Option<Key<A>>,
+    upper: &Option<Key<A>>,
+) -> Result<(), Fault>
+    ensures { result_err result ≡ check_range (table_of table.now) (end_of lower.now) (end_of upper.now) }
+{
+    table.check_end(lower)?;
+    table.check_end(upper)?;
+    if is_empty_range(lower, upper) {
+        return Err(Fault::EmptyRange);
+    }
+    Ok(())
+}
+
+// Whether both ends are there, and the lower one is not below the upper one.
+fn is_empty_range<A: Allocator>(lower: &Option<Key<A>>, upper: &Option<Key<A>>) -> bool
+    ensures { result ≡ is_empty_range (end_of lower.now) (end_of upper.now) }
+{
+    match (lower, upper) {
+        (Some(lower), Some(upper)) => !(lower < upper),
+        _ => false,
+    }
+}
+
+// Whether each table has a good name of its own, and 1 to 8 columns.
+fn are_tables<A: Allocator>(tables: &[TableDef<A>]) -> bool
+    ensures { result ≡ are_tables (tables_of tables.now) }
+{
+    for (place, table) in tables.iter().enumerate() {
+        if !table.fits_before(&tables[place + 1..]) {
+            return false;
+        }
+    }
+    true
+}

@@ -1,0 +1,125 @@
+//! The definition of a table, and what fits it.
+ghost use Rattle.std.specs.Prelude.{◌≡◌, nat_eq, length};
+ghost use Rattle.std.specs.List.{list_any, list_all};
+ghost use Rattle.std.specs.Result.{result_err};
+ghost use Rattle.std.specs.Cmp.Lexicographic.{pointwise};
+ghost use Rattle.occ_types.specs.Schema.{check_key_in, check_row_in, check_cells, check_end, is_name, is_letter};
+ghost use Rattle.occ_types.specs.Fits.{check_cell, fits_before};
+ghost use Rattle.occ_types.specs.Seen.{cell_of, key_of, end_of, row_of, table_of, tables_of};
+
+use crate::cells::Cell;
+use crate::fault::Fault;
+use crate::keys::Key;
+use crate::kind::{KeyKind, Kind};
+use crate::limits::{MAX_CELL_BYTES, MAX_COLUMNS, MAX_KEY_BYTES, MAX_NAME_LETTERS};
+use crate::rows::Row;
+use crate::texts::Text;
+use std::alloc::Allocator;
+
+/// A table: its name, the kind of its keys, and the kinds of its columns.
+#[derive(Drop)]
+#[derive_where(Debug)]
+pub struct TableDef<A: Allocator> {
+    /// The name, 1 to 16 letters a to z in a schema.
+    pub name: Text<A>,
+    /// The kind of the keys.
+    pub key: KeyKind,
+    /// The kinds of the columns in their order, 1 to 8 in a schema.
+    pub columns: Vec<Kind, A>,
+}
+
+impl<A: Allocator> TableDef<A> {
+    /// Whether a key fits the table: `WrongKind`, or else `TooLong`.
+    pub fn check_key(&self, key: &Key<A>) -> Result<(), Fault>
+        ensures { result_err result ≡ check_key_in (table_of self.now) (key_of key.now) }
+    {
+        match (self.key, key) {
+            (KeyKind::Num, Key::Num(_)) => Ok(()),
+            (KeyKind::Text, Key::Text(text)) if text.len() <= MAX_KEY_BYTES => Ok(()),
+            (KeyKind::Text, Key::Text(_)) => Err(Fault::TooLong),
+            _ => Err(Fault::WrongKind),
+        }
+    }
+
+    /// Whether an end of a range fits the table, where there is one.
+    pub fn check_end(&self, end: &Option<Key<A>>) -> Result<(), Fault>
+        ensures { result_err result ≡ check_end (table_of self.now) (end_of end.now) }
+    {
+        match end {
+            None => Ok(()),
+            Some(key) => self.check_key(key),
+        }
+    }
+
+    /// Whether a row fits the table: `WrongColumns`, or else the first fault of a cell, `WrongKind` or `TooLong`.
+    pub fn check_row(&self, row: &Row<A>) -> Result<(), Fault>
+        ensures { result_err result ≡ check_row_in (table_of self.now) row.now }
+    {
+        if row.len() != self.columns.len() {
+            return Err(Fault::WrongColumns);
+        }
+        check_cells(self.columns.as_slice(), row.cells())
+    }
+
+    /// Whether the table may stand before `later` in a schema: it has a good name that none of them has, and 1 to 8 columns.
+    #[tactic(auto, using(crate::proofs::Walks::through))]
+    pub(crate) fn fits_before(&self, later: &[TableDef<A>]) -> bool
+        ensures { result ≡ fits_before (table_of self.now) (tables_of later.now) }
+    {
+        is_name(&self.name)
+            && !self.shares_name(later)
+            && !self.columns.is_empty()
+            && self.columns.len() <= MAX_COLUMNS
+    }
+
+    // Whether one of `others` has the table's name.
+    fn shares_name(&self, others: &[TableDef<A>]) -> bool
+        ensures { result ≡ list_any (λ other. pointwise nat_eq self.now.name other.name) others.now }
+    {
+        others.iter().any(|other| self.name == other.name)
+    }
+}
+
+// 1 to 16 letters.
+fn is_name<A: Allocator>(name: &Text<A>) -> bool
+    ensures { result ≡ is_name name.now }
+{
+    !name.is_empty() && name.len() <= MAX_NAME_LETTERS && has_only_letters(name.as_bytes())
+}
+
+// Letters a to z alone.
+fn has_only_letters(name: &[u8]) -> bool
+    ensures { result ≡ list_all is_letter name.now }
+{
+    name.iter().all(|byte| is_letter(*byte))
+}
+
+// A letter a to z.
+fn is_letter(byte: u8) -> bool
+    ensures { result ≡ is_letter byte }
+{
+    b'a' <= byte && byte <= b'z'
+}
+
+// Whether a cell fits its column.
+fn check_cell<A: Allocator>(kind: Kind, cell: &Cell<A>) -> Result<(), Fault>
+    ensures { result_err result ≡ check_cell kind (cell_of cell.now) }
+{
+    match (kind, cell) {
+        (Kind::Int, Cell::Int(_)) => Ok(()),
+        (Kind::Text, Cell::Text(text)) if text.len() <= MAX_CELL_BYTES => Ok(()),
+        (Kind::Text, Cell::Text(_)) => Err(Fault::TooLong),
+        _ => Err(Fault::WrongKind),
+    }
+}
+
+// Whether each cell fits its column.
+fn check_cells<A: Allocator>(kinds: &[Kind], cells: &[Cell<A>]) -> Result<(), Fault>
+    requires { length cells.now ≡ length kinds.now }
+    ensures { result_err result ≡ check_cells kinds.now (row_of cells.now) }
+{
+    for (place, kind) in kinds.iter().enumerate() {
+        check_cell(*kind, &cells[place])?;
+    }
+    Ok(())
+}
