@@ -1,15 +1,16 @@
 -- The steps of the loops that check cells and tables.
-use Rattle.std.proofs.Common.{◌≡◌, ℕ, suc, ◌+◌, ◌<◌, ◌≤◌, Bool, true, ◌||◌, cond, List, [], ◌∷◌, Option, None, Some, length, get_or, drop, refl, sym, ap, ◌∙◌, add-one, drop-cons}
+use Rattle.std.proofs.Common.{◌≡◌, ℕ, suc, ◌+◌, ◌<◌, ◌≤◌, Bool, true, false, ◌&&◌, ◌||◌, cond, List, [], ◌∷◌, Option, None, Some, length, get_or, drop, refl, sym, ap, ◌∙◌, add-one, drop-cons}
 use Rattle.std.proofs.lemmas.Iterator.Adapters.{position_from-zero}
 use Rattle.std.proofs.lemmas.List.{drop_all}
 use Rattle.std.specs.Prelude.{map}
 use Rattle.std.specs.List.{list_any, position, position_from}
 use Rattle.occ_types.specs.declared.cells.Cell.{Cell}
+use Rattle.occ_types.specs.declared.tables.TableDef.{TableDef}
 use Rattle.occ_types.specs.declared.fault.Fault.{Fault}
 use Rattle.occ_types.specs.declared.kind.Kind.{Kind}
-use Rattle.occ_types.specs.Schema.{first_fault, check_cells}
-use Rattle.occ_types.specs.Fits.{check_cell}
-use Rattle.occ_types.specs.Seen.{cell_of, row_of}
+use Rattle.occ_types.specs.Schema.{first_fault, check_cells, are_tables}
+use Rattle.occ_types.specs.Fits.{check_cell, fits_before}
+use Rattle.occ_types.specs.Seen.{cell_of, row_of, table_of, tables_of}
 
 -- what is left from a place on begins with the element there
 pub drop_at : {X : Type 0} (xs : List X) (i : ℕ) (d x : X) → i < length xs → x ≡ get_or xs i d → drop i xs ≡ x ∷ drop (i + 1) xs
@@ -46,7 +47,17 @@ module _ {Z : Type 0} where
   pub check_cells-fault : (kinds : List Kind) (cells : List (Cell Z)) (i : ℕ) (d : Kind) (c : Cell Z) (fault : Fault) → i < length kinds → i < length cells → c ≡ get_or cells i c → Some fault ≡ check_cell (get_or kinds i d) (cell_of c) → check_cells (drop i kinds) (row_of (drop i cells)) ≡ Some fault
   check_cells-fault kinds cells i d c fault g h e fits = cells_at kinds cells i d c g h e ∙ first_fault-early _ _ (check_cells (drop (i + 1) kinds) (row_of (drop (i + 1) cells))) fault (sym fits)
 
--- the search of a place ends where the test passes
+  -- the test of the tables from a place on is that of the table there and then that of the rest
+  pub are_tables-at : (tables : List (TableDef Z)) (i : ℕ) (t : TableDef Z) → i < length tables → t ≡ get_or tables i t → are_tables (tables_of (drop i tables)) ≡ (fits_before (table_of t) (tables_of (drop (i + 1) tables)) && are_tables (tables_of (drop (i + 1) tables)))
+  are_tables-at tables i t h e = ap (λ ts. are_tables (tables_of ts)) (drop_at tables i t t h e)
+
+-- the search of the place goes on where the test fails
+pub position_from-miss : {X Y : Type 0} (p : Y → Bool) (f : X → Y) (xs : List X) (i : ℕ) (x : X) → i < length xs → x ≡ get_or xs i x → p (f x) ≡ false → position_from p (i + 1) (map f (drop (i + 1) xs)) ≡ position_from p i (map f (drop i xs))
+position_from-miss p f xs i x h e miss =
+    let rest = position_from p (i + 1) (map f (drop (i + 1) xs)) in
+    sym (ap (λ ys. position_from p i (map f ys)) (drop_at xs i x x h e) ∙ ap (λ b. cond b (Some i) rest) miss)
+
+-- and ends where it passes
 position_from-hit : {X Y : Type 0} (p : Y → Bool) (f : X → Y) (xs : List X) (i : ℕ) (x : X) → i < length xs → x ≡ get_or xs i x → p (f x) ≡ true → position_from p i (map f (drop i xs)) ≡ Some i
 position_from-hit p f xs i x h e hit =
     let rest = position_from p (i + 1) (map f (drop (i + 1) xs)) in

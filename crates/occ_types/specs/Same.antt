@@ -10,6 +10,7 @@ use Rattle.std.specs.Hash.{HashWrites}
 use Rattle.occ_types.specs.Key.{Key, Num, Text as KeyText, key_cmp, key_cmp_total, key_cmp-IsAntisymmetric}
 use Rattle.std.specs.Option.{option_eq}
 use Rattle.occ_types.specs.Row.{Cell, Int, Text as CellText, Row}
+use Rattle.occ_types.specs.Object.{Object, object_cmp, object_cmp_total, object_cmp-IsAntisymmetric}
 use Rattle.occ_types.specs.Question.{Question, One, Span}
 
 -- whether two keys are equal
@@ -37,6 +38,17 @@ key_fed (KeyText t) = fed.u8 1 ++ fed.str t
 -- equal keys feed alike
 pub key_fed_alike : (a b : Key) → key_same a b ≡ true → key_fed a ≡ key_fed b
 key_fed_alike a b e = ap key_fed ((key_same-decides a b).0 e)
+
+pub object_same_equiv : IsEquivalence (eq_by_cmp object_cmp)
+object_same_equiv = eq_by_cmp_equiv object_cmp_total
+
+-- what an object feeds a hasher: its table, and then its key
+abbrev pub object_fed : Object → HashWrites
+object_fed object = fed.usize object.0 ++ key_fed object.1
+
+-- equal objects feed alike
+pub object_fed_alike : (a b : Object) → eq_by_cmp object_cmp a b ≡ true → object_fed a ≡ object_fed b
+object_fed_alike a b e = ap object_fed (object_cmp-IsAntisymmetric a b ((Equal-is (object_cmp a b)).0 e))
 
 -- whether two cells are equal
 abbrev pub cell_same : Cell → Cell → Bool

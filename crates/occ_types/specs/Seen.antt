@@ -6,11 +6,13 @@ use Rattle.occ_types.specs.declared.cells.Cell as code_cell
 use Rattle.occ_types.specs.declared.cells.Cell.TheVariants as cells
 use Rattle.occ_types.specs.declared.keys.Key as code_key
 use Rattle.occ_types.specs.declared.keys.Key.TheVariants as keys
+use Rattle.occ_types.specs.declared.objects.Object as code_object
 use Rattle.occ_types.specs.declared.questions.Question as code_question
 use Rattle.occ_types.specs.declared.questions.Question.TheVariants as questions
 use Rattle.occ_types.specs.declared.tables.TableDef as code_table
 use Rattle.occ_types.specs.Key.{Key, Num, Text as KeyText}
 use Rattle.occ_types.specs.Row.{Cell, Int, Text as CellText, Row}
+use Rattle.occ_types.specs.Object.{Object}
 use Rattle.occ_types.specs.Question.{Question, One, Span}
 use Rattle.occ_types.specs.Schema.{Table, Schema}
 
@@ -30,6 +32,10 @@ module _ {Z : Type 0} where
   key_of (keys.Num n) = Num n
   key_of (keys.Text t) = KeyText t
 
+  -- the plain object
+  abbrev pub object_of : code_object.Object Z → Object
+  object_of o = (o.table, key_of o.key)
+
   -- the plain cells, in their order
   abbrev pub row_of : List (code_cell.Cell Z) → Row
   row_of = map cell_of
@@ -40,7 +46,7 @@ module _ {Z : Type 0} where
 
   -- the plain question
   abbrev pub question_of : code_question.Question Z → Question
-  question_of (questions.One table key) = One table (key_of key)
+  question_of (questions.One object) = One object.table (key_of object.key)
   question_of (questions.Span table lower upper) = Span table (end_of lower) (end_of upper)
 
   -- the plain table
@@ -65,6 +71,12 @@ module _ {Z : Type 0} where
   key_of-injective (keys.Text s) (keys.Num n) e = cc
   key_of-injective (keys.Text s) (keys.Text t) e = cc
 
+  -- objects that are seen alike are equal
+  pub object_of-injective : (a b : code_object.Object Z) → object_of a ≡ object_of b → a ≡ b
+  object_of-injective a b e =
+      let key = key_of-injective a.key b.key (ap (λ o. o.1) e) in
+      λ i. record { table = (e i).0; key = key i }
+
   -- ends of ranges that are seen alike are equal
   pub end_of-injective : (a b : Option (code_key.Key Z)) → end_of a ≡ end_of b → a ≡ b
   end_of-injective None None e = refl
@@ -74,12 +86,12 @@ module _ {Z : Type 0} where
 
   -- questions that are seen alike are equal
   pub question_of-injective : (a b : code_question.Question Z) → question_of a ≡ question_of b → a ≡ b
-  question_of-injective (questions.One t k) (questions.One u l) e =
-      let table : t ≡ u = cc in
-      let key = key_of-injective k l (cc) in
-      λ i. questions.One (table i) (key i)
-  question_of-injective (questions.One t k) (questions.Span u c d) e = cc
-  question_of-injective (questions.Span t a b) (questions.One u l) e = cc
+  question_of-injective (questions.One o) (questions.One p) e =
+      let table : o.table ≡ p.table = cc in
+      let key : key_of o.key ≡ key_of p.key = cc in
+      ap questions.One (object_of-injective o p (λ i. (table i, key i)))
+  question_of-injective (questions.One o) (questions.Span u c d) e = cc
+  question_of-injective (questions.Span t a b) (questions.One p) e = cc
   question_of-injective (questions.Span t a b) (questions.Span u c d) e =
       let table : t ≡ u = cc in
       let lower = end_of-injective a c (cc) in

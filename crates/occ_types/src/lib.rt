@@ -6,6 +6,7 @@ pub mod fault;
 pub mod keys;
 pub mod kind;
 pub mod limits;
+pub mod objects;
 pub mod questions;
 pub mod rows;
 pub mod schemas;
@@ -16,6 +17,7 @@ pub mod texts;
 
 pub use cells::Cell;
 pub use keys::Key;
+pub use objects::Object;
 pub use questions::Question;
 pub use rows::Row;
 pub use schemas::{RefusedTables, Schema};

@@ -7,6 +7,7 @@ ghost use Rattle.occ_types.specs.Same.{question_same, question_same_equiv};
 ghost use Rattle.occ_types.specs.Seen.{key_of, end_of, question_of, table_asked};
 
 use crate::keys::Key;
+use crate::objects::Object;
 use std::alloc::{AllocError, Allocator};
 
 /// What a transaction asks of the table. Tables are named by their places in the schema.
@@ -14,12 +15,7 @@ use std::alloc::{AllocError, Allocator};
 #[derive_where(Debug)]
 pub enum Question<A: Allocator> {
     /// The row of one key of a table.
-    One {
-        /// The place of the table.
-        table: usize,
-        /// The key.
-        key: Key<A>,
-    },
+    One(Object<A>),
     /// The rows of a table from the lower end on and below the upper end; either end may be missing.
     Span {
         /// The place of the table.
@@ -37,7 +33,7 @@ impl<A: Allocator> Question<A> {
         ensures { result ≡ table_asked (question_of self.now) }
     {
         match self {
-            Question::One { table, .. } => *table,
+            Question::One(object) => object.table,
             Question::Span { table, .. } => *table,
         }
     }
@@ -48,10 +44,7 @@ impl<A: Allocator> Question<A> {
         ensures { result ≡ asks (question_of self.now) (table, key_of key.now) }
     {
         match self {
-            Question::One {
-                table: asked,
-                key: wanted,
-            } => *asked == table && wanted == key,
+            Question::One(object) => object.table == table && &object.key == key,
             Question::Span {
                 table: asked,
                 lower,
@@ -93,10 +86,7 @@ impl<A: Allocator + Clone> Clone for Question<A> {
 
     fn clone(&self) -> Result<Question<A>, AllocError> {
         match self {
-            Question::One { table, key } => Ok(Question::One {
-                table: *table,
-                key: key.clone()?,
-            }),
+            Question::One(object) => Ok(Question::One(object.clone()?)),
             Question::Span {
                 table,
                 lower,
@@ -117,13 +107,7 @@ impl<A: Allocator> PartialEq for Question<A> {
 
     fn eq(&self, other: &Question<A>) -> bool {
         match (self, other) {
-            (
-                Question::One { table, key },
-                Question::One {
-                    table: other_table,
-                    key: other_key,
-                },
-            ) => table == other_table && key == other_key,
+            (Question::One(object), Question::One(another)) => object == another,
             (
                 Question::Span {
                     table,

@@ -111,7 +111,7 @@ impl<A: Allocator> Schema<A> {
         ensures { result_err result ≡ check_question self.now (question_of question.now) }
     {
         match question {
-            Question::One { table, key } => self.check_key(*table, key),
+            Question::One(object) => self.check_key(object.table, &object.key),
             Question::Span {
                 table,
                 lower,

@@ -1,7 +1,7 @@
 //! Each public function once, on its happy path.
 use crate::fault::Fault;
 use crate::kind::{KeyKind, Kind};
-use crate::{Cell, Key, Question, Row, Schema, TableDef, Text};
+use crate::{Cell, Key, Object, Question, Row, Schema, TableDef, Text};
 use std::alloc::{AllocError, Global};
 use std::cmp::Ordering;
 use std::test::Fail;
@@ -84,10 +84,10 @@ fn rows(rt: HostRuntime) -> Result<(), Fail> {
 #[test]
 fn questions(rt: HostRuntime) -> Result<(), Fail> {
     let alloc = rt.alloc();
-    let one = Question::<Global>::One {
+    let one = Question::<Global>::One(Object {
         table: 1,
         key: Key::Num(5),
-    };
+    });
     assert_eq!(rt; one.table(), 1);
     assert!(rt; one.asks(1, &Key::Num(5)));
     assert!(rt; !one.asks(0, &Key::Num(5)));
@@ -171,10 +171,10 @@ fn checks(rt: HostRuntime) -> Result<(), Fail> {
         };
         assert_eq!(rt; schema.check_question(&question), answer);
     }
-    let question = Question::One {
+    let question = Question::One(Object {
         table: 1,
         key: pear,
-    };
+    });
     assert_eq!(rt; schema.check_question(&question), Err(Fault::WrongKind));
     Ok(())
 }

@@ -1,0 +1,55 @@
+//! The verdict on a case.
+ghost use Rattle.std.specs.Prelude.{◌≡◌, ◌||◌, map};
+ghost use Rattle.std.specs.List.{list_any};
+ghost use Rattle.occ_model.specs.State.{meets_reads, meets_writes};
+ghost use Rattle.occ_model.specs.Validity.{verdict};
+
+use crate::cases::Case;
+use occ_model::verdict::{Cause, Verdict};
+use occ_sets::meets::{meets_reads, meets_writes};
+use occ_sets::shared::{SharedReads, SharedWrites};
+use std::alloc::Allocator;
+
+/// Whether the transaction of a case commits, and else why it is backed up (Kung and Robinson, sections 3 to 5). It needs nothing
+/// but the case, takes no memory and always answers.
+pub fn verdict<A: Allocator>(case: &Case<A>) -> Verdict
+    ensures { result ≡ verdict case.now }
+{
+    let Case {
+        start,
+        low,
+        reads,
+        writes,
+        finished,
+        active,
+    } = case;
+    if *start < *low {
+        return Verdict::BackUp(Cause::TooOld);
+    }
+    if some_wrote(finished, reads) || some_may_write(active, reads, writes) {
+        return Verdict::BackUp(Cause::Conflict);
+    }
+    Verdict::Commit
+}
+
+// Whether some of the finished opponents wrote what was read.
+fn some_wrote<A: Allocator>(finished: &Vec<SharedWrites<A>, A>, reads: &SharedReads<A>) -> bool
+    ensures { result ≡ list_any (λ theirs. meets_reads theirs (map (λ o. o.0) reads.now)) finished.now.items }
+{
+    finished
+        .iter()
+        .any(|theirs| meets_reads(theirs.get(), reads.get()))
+}
+
+// Whether some of the active opponents writes what was read, or what is written.
+fn some_may_write<A: Allocator>(
+    active: &Vec<SharedWrites<A>, A>,
+    reads: &SharedReads<A>,
+    writes: &SharedWrites<A>,
+) -> bool
+    ensures { result ≡ list_any (λ theirs. meets_reads theirs (map (λ o. o.0) reads.now) || meets_writes theirs writes.now) active.now.items }
+{
+    active.iter().any(|theirs| {
+        meets_reads(theirs.get(), reads.get()) || meets_writes(theirs.get(), writes.get())
+    })
+}

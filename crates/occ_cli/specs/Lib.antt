@@ -1,0 +1,7 @@
+pub mod Escapes
+pub mod Line
+pub mod Parts
+pub mod Reading
+pub mod Sending
+pub mod Spelling
+pub mod Status

@@ -1,0 +1,82 @@
+-- The one spelling of each thing that a line may have (our own choice). These functions are the grammar.
+use Rattle.std.specs.Prelude.{◌<◌, ◌≤◌, ◌+◌, ◌/◌, ◌%◌, ◌^◌, ◌==◌, ◌||◌, ℕ, zero, suc, Bool, nat_lt, List, [], ◌∷◌, if◌then◌else◌, map, length, All, IsUtf8, FitsSigned}
+use Rattle.std.specs.Int.{w64}
+use Rattle.std.specs.List.{flat_map, join_with_byte, AllPass}
+use Rattle.std.specs.Char.{is_ascii_alphanumeric, is_ascii_graphic, is_ascii_lowercase}
+use Rattle.std.specs.Fmt.{decimal, signed_decimal}
+use Rattle.occ_types.specs.Key.{Key}
+use Rattle.occ_types.specs.Key as keys
+use Rattle.occ_types.specs.Row.{Cell, Row}
+use Rattle.occ_types.specs.Row as rows
+
+-- a line is its tokens, with one space between two of them
+abbrev pub line_text : List (List ℕ) → List ℕ
+line_text tokens = join_with_byte 32 tokens
+
+-- at least one byte, and only bytes 33 to 126
+pub record IsToken (token : List ℕ) : Type 0 where
+  pub some : 0 < length token
+  pub graphic : AllPass is_ascii_graphic token
+
+pub record AreTokens (tokens : List (List ℕ)) : Type 0 where
+  pub some : 0 < length tokens
+  pub each : All IsToken tokens
+
+-- 1 to 16 letters a to z
+pub record IsName (name : List ℕ) : Type 0 where
+  pub some : 0 < length name
+  pub short : length name ≤ 16
+  pub letters : AllPass is_ascii_lowercase name
+
+-- a byte that stands for itself in a text: a letter, a digit, `_`, `-` or `.`
+abbrev pub is_plain : ℕ → Bool
+is_plain byte = is_ascii_alphanumeric byte || (byte == 95) || (byte == 45) || (byte == 46)
+
+-- 0 to 9, a to f
+abbrev pub hex_digit : ℕ → ℕ
+hex_digit n = if nat_lt n 10 then 48 + n else 87 + n
+
+-- a plain byte is itself, and every other one is `%` and two digits
+abbrev pub escaped_byte : ℕ → List ℕ
+escaped_byte byte = if is_plain byte then byte ∷ [] else 37 ∷ hex_digit (byte / 16) ∷ hex_digit (byte % 16) ∷ []
+
+abbrev pub escaped : List ℕ → List ℕ
+escaped bytes = flat_map escaped_byte bytes
+
+-- `'` and the text's bytes
+abbrev pub text_text : List ℕ → List ℕ
+text_text bytes = 39 ∷ escaped bytes
+
+abbrev pub key_text : Key → List ℕ
+key_text (keys.Num n) = decimal n
+key_text (keys.Text bytes) = text_text bytes
+
+abbrev pub cell_text : Cell → List ℕ
+cell_text (rows.Int z) = signed_decimal z
+cell_text (rows.Text bytes) = text_text bytes
+
+-- a row is its cells, with one comma between two of them
+abbrev pub row_text : Row → List ℕ
+row_text cells = join_with_byte 44 (map cell_text cells)
+
+-- what stands before the cell at a place
+abbrev pub comma : ℕ → List ℕ
+comma zero = []
+comma (suc place) = 44 ∷ []
+
+-- what has a spelling: texts of UTF-8, numbers of 64 bits, rows of at least one cell
+pub record IsText (bytes : List ℕ) : Type 0 where
+  pub utf8 : IsUtf8 bytes
+  pub small : All (λ byte. byte < 256) bytes
+
+abbrev pub KeyFits : Key → Type 0
+KeyFits (keys.Num n) = n < 2 ^ 64
+KeyFits (keys.Text bytes) = IsText bytes
+
+abbrev pub CellFits : Cell → Type 0
+CellFits (rows.Int z) = FitsSigned w64 z
+CellFits (rows.Text bytes) = IsText bytes
+
+pub record RowFits (cells : Row) : Type 0 where
+  pub some : 0 < length cells
+  pub each : All CellFits cells

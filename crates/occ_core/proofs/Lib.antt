@@ -1,0 +1,9 @@
+pub mod Views
+pub mod Held
+pub mod Places
+pub mod Opponents
+pub mod Windows
+pub mod Moves
+pub mod Changes
+pub mod PhaseViews
+pub mod WindowMoves

@@ -1,0 +1,10 @@
+use Rattle.std.proofs.Common.{[], ◌∷◌, ◌++◌, None, ap, ◌∙◌}
+use Rattle.occ_core.specs.Rows.{slot_of, slots_of}
+use Rattle.occ_core.proofs.Places.{map-append}
+use Rattle.occ_core.proofs.Changes.{idle-push}
+use Rattle.occ_core.proofs.sessions.Sessions.new.Goals as goal
+
+pub loop-preserved : goal.loop-preserved
+loop-preserved g c =
+    ap slots_of c.in_ok-push.ensures.items ∙ map-append slot_of _ _
+    ∙ ap (λ l. l ++ record { last = 0; hold = None } ∷ []) c.loop.invariant ∙ idle-push _

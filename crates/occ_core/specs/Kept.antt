@@ -1,0 +1,114 @@
+-- What clauses see of the tables: how many they are, and the rows of all.
+use Rattle.std.specs.Prelude.{◌≡◌, ℕ, ℤ, suc, length, Bool, false, ◌&&◌, cond, ◌⊎◌, List, [], ◌∷◌, ◌++◌, map, Option, None, Some, refl}
+use Rattle.std.proofs.Common.{inl, inr}
+use Rattle.std.specs.Coded.{Coded, code_by, coded×, coded⊎, coded_ℕ, coded_ℤ, coded_list}
+use Rattle.std.specs.declared.ops.Bound.{Bound}
+use Rattle.std.specs.declared.ops.Bound.TheVariants.{Included, Excluded, Unbounded}
+use Rattle.std.specs.Ordering.{on, is_eq, is_gt}
+use Rattle.std.specs.List.{filter}
+use Rattle.std.specs.BTreeMap.{BTreeMap, get}
+use Rattle.std.specs.FinMap as finite
+use Rattle.occ_types.specs.Key.{Key, Num, Text as KeyText, key_cmp}
+use Rattle.occ_types.specs.Object.{Object}
+use Rattle.occ_types.specs.Row.{Cell, Int, Text as CellText, Row}
+use Rattle.occ_types.specs.Question.{is_from, is_below}
+use Rattle.occ_types.specs.Seen.{key_of}
+use Rattle.occ_types.specs.declared.keys.Key as code_key
+use Rattle.occ_model.specs.State.{State}
+
+-- how many tables there are, and the rows of all
+pub record Content : Type 0 where
+  pub tables : ℕ
+  pub state : State
+
+abbrev key_parts : Key → ℕ ⊎ List ℕ
+key_parts (Num n) = inl n
+key_parts (KeyText t) = inr t
+
+abbrev key_whole : ℕ ⊎ List ℕ → Key
+key_whole (inl n) = Num n
+key_whole (inr t) = KeyText t
+
+pub key_whole-parts : (k : Key) → key_whole (key_parts k) ≡ k
+key_whole-parts (Num n) = refl
+key_whole-parts (KeyText t) = refl
+
+-- a key is stored as its number or its bytes
+abbrev pub key_code : Coded Key
+key_code = code_by (ℕ ⊎ List ℕ) (coded⊎ coded_ℕ (coded_list coded_ℕ)) key_parts key_whole key_whole-parts
+
+abbrev cell_parts : Cell → ℤ ⊎ List ℕ
+cell_parts (Int z) = inl z
+cell_parts (CellText t) = inr t
+
+abbrev cell_whole : ℤ ⊎ List ℕ → Cell
+cell_whole (inl z) = Int z
+cell_whole (inr t) = CellText t
+
+pub cell_whole-parts : (c : Cell) → cell_whole (cell_parts c) ≡ c
+cell_whole-parts (Int z) = refl
+cell_whole-parts (CellText t) = refl
+
+-- a cell is stored as its number or its bytes
+abbrev pub cell_code : Coded Cell
+cell_code = code_by (ℤ ⊎ List ℕ) (coded⊎ coded_ℤ (coded_list coded_ℕ)) cell_parts cell_whole cell_whole-parts
+
+-- the code of a state
+abbrev pub state_code : Coded State
+state_code = finite.code (coded× coded_ℕ key_code) (coded_list cell_code)
+
+-- the code of what the tables hold
+abbrev pub content_code : Coded Content
+content_code =
+    code_by (ℕ × State) (coded× coded_ℕ state_code) (λ c. (c.tables, c.state)) (λ p. record { tables = p.0; state = p.1 }) (λ _. refl)
+
+-- whether a key lies from a lower end on and below an upper one; either may be missing
+abbrev pub is_within : Option Key → Option Key → Key → Bool
+is_within lower upper key = is_from lower key && is_below upper key
+
+-- whether both ends are there, and the lower one is above the upper one
+abbrev pub is_backward : Option Key → Option Key → Bool
+is_backward None upper = false
+is_backward (Some lower) None = false
+is_backward (Some lower) (Some upper) = is_gt (key_cmp lower upper)
+
+-- a lower end as a bound, which lies within
+abbrev pub lower_bound : {K : Type 0} → Option K → Bound K
+lower_bound None = Unbounded
+lower_bound (Some end) = Included end
+
+-- an upper end as a bound, which lies outside
+abbrev pub upper_bound : {K : Type 0} → Option K → Bound K
+upper_bound None = Unbounded
+upper_bound (Some end) = Excluded end
+
+module _ {Z : Type 0} where
+  -- the key and the row of an entry
+  abbrev pub seen : code_key.Key Z × Row → Key × Row
+  seen e = (key_of e.0, e.1)
+
+  -- the entries whose keys lie between two ends
+  abbrev pub entries_within : Option Key → Option Key → List (code_key.Key Z × Row) → List (code_key.Key Z × Row)
+  entries_within lower upper = filter (λ e. is_within lower upper (key_of e.0))
+
+  -- the rows of the table at a place, under their objects
+  abbrev pub placed : ℕ → List (code_key.Key Z × Row) → List (Object × Row)
+  placed place = map (λ e. ((place, key_of e.0), e.1))
+
+  -- the rows of all tables, of which the first one stands at a place
+  abbrev pub placed_from : ℕ → List (BTreeMap (code_key.Key Z) Row) → List (Object × Row)
+  placed_from place [] = []
+  placed_from place (m ∷ ms) = placed place m.entries ++ placed_from (suc place) ms
+
+  -- the state of some tables
+  unfoldable pub state_of : List (BTreeMap (code_key.Key Z) Row) → State
+  state_of maps = finite.from_entries (placed_from 0 maps)
+
+  -- what some tables hold
+  abbrev pub content_of : List (BTreeMap (code_key.Key Z) Row) → Content
+  content_of maps = record { tables = length maps; state = state_of maps }
+
+  -- n has the row, or none, at the key, and elsewhere what m has
+  abbrev pub IsPut : BTreeMap (code_key.Key Z) Row → code_key.Key Z → Option Row → BTreeMap (code_key.Key Z) Row → Type 0
+  IsPut m key row n = (q : code_key.Key Z)
+      → get (on key_of key_cmp) n q ≡ cond (is_eq (on key_of key_cmp key q)) row (get (on key_of key_cmp) m q)

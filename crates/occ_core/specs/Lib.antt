@@ -1,0 +1,6 @@
+pub mod Slots
+pub mod Parts
+pub mod Kept
+pub mod Rows
+pub mod Phases
+pub mod Window

@@ -1,0 +1,147 @@
+//! The read phases under way.
+ghost use Rattle.std.specs.Prelude.{◌≡◌, ◌==◌, ◌<◌, ◌++◌, [], ◌∷◌, not, length, OnOk, OnErr, IfOk};
+ghost use Rattle.std.specs.Option.{option_map};
+ghost use Rattle.std.specs.FinMap as finite;
+ghost use Rattle.occ_types.specs.declared.limits.TheConstants as limit;
+ghost use Rattle.occ_types.specs.Seen.{question_of};
+ghost use Rattle.occ_sets.specs.Seen.{answer_of};
+ghost use Rattle.occ_core.specs.Phases.{phase_of, reads_of};
+
+use occ_sets::{Answer, ReadSet};
+use occ_types::Question;
+use std::alloc::{AllocError, Allocator};
+use std::collections::BTreeMap;
+use std::marker::Model;
+
+/// A read phase under way.
+#[derive(Drop)]
+pub struct Phase<A: Allocator> {
+    /// What the transaction counter was when the phase began.
+    pub start: u64,
+    /// What was read so far.
+    pub reads: ReadSet<A>,
+}
+
+impl<A: Allocator> Phase<A> {
+    // A phase with its first read.
+    fn first(
+        alloc: A,
+        start: u64,
+        question: Question<A>,
+        answer: Answer<A>,
+    ) -> Result<Phase<A>, AllocError>
+        ensures { IfOk result (λ phase. (phase.start ≡ start) × (phase.reads ≡ (question_of question, answer_of answer) ∷ [])) }
+    {
+        let mut reads = ReadSet::new(alloc);
+        note_read(&mut reads, question, answer)?;
+        Ok(Phase { start, reads })
+    }
+}
+
+/// The read phases under way, by session and then by the number of their transaction.
+#[derive(Drop)]
+pub struct ReadPhases<A: Allocator> {
+    phases: BTreeMap<(usize, u64), Phase<A>, A>,
+}
+
+impl<A: Allocator> Model for ReadPhases<A> {
+    ghost use Rattle.std.specs.FinMap.{FinMap};
+    ghost use Rattle.occ_model.specs.World.{ReadPhase, phase_cmp};
+    ghost use Rattle.occ_core.specs.Phases.{read_phases_code, phases_of};
+
+    ghost Value = { FinMap phase_cmp ReadPhase };
+
+    ghost coded = { read_phases_code };
+
+    ghost view = { λ phases. phases_of phases.phases };
+}
+
+impl<A: Allocator> ReadPhases<A> {
+    /// No phases, which take no memory.
+    pub fn new(alloc: A) -> ReadPhases<A>
+        ensures { result ≡ finite.empty }
+    {
+        ReadPhases {
+            phases: BTreeMap::new(alloc),
+        }
+    }
+
+    /// The start of a phase, or none where it is not under way.
+    pub fn start(&self, session: usize, number: u64) -> Option<u64>
+        ensures { result ≡ option_map (λ phase. phase.start) (finite.get self.now (session, number)) }
+    {
+        match self.phases.get(&(session, number)) {
+            Some(phase) => Some(phase.start),
+            None => None,
+        }
+    }
+
+    /// How many questions were asked in a phase, or 0 where it is not under way.
+    pub fn questions(&self, session: usize, number: u64) -> usize
+        ensures { result ≡ length (reads_of (finite.get self.now (session, number))) }
+    {
+        match self.phases.get(&(session, number)) {
+            Some(phase) => phase.reads.len(),
+            None => 0,
+        }
+    }
+
+    /// Ends a phase and hands it out, or none where it is not under way. It takes no memory.
+    pub fn take(&mut self, session: usize, number: u64) -> Option<Phase<A>>
+        ensures phase { option_map phase_of result ≡ finite.get self.old (session, number) }
+        ensures gone { self.new ≡ finite.remove self.old (session, number) }
+    {
+        self.phases.remove(&(session, number))
+    }
+
+    /// Ends all phases of a session. It takes no memory.
+    pub fn drop_session(&mut self, session: usize)
+        ensures { self.new ≡ finite.retain_keys self.old (λ key. not (key.0 == session)) }
+    {
+        self.phases.retain(|key, _phase| key.0 != session);
+    }
+}
+
+impl<A: Allocator + Copy> ReadPhases<A> {
+    /// Notes a question and the table's answer after the others of a phase, which begins with it where it is not under way, and has this start.
+    ///
+    /// An error, where there is no memory, leaves the phases as they were.
+    pub fn note(
+        &mut self,
+        alloc: A,
+        session: usize,
+        number: u64,
+        start: u64,
+        question: Question<A>,
+        answer: Answer<A>,
+    ) -> Result<(), AllocError>
+        requires few { length (reads_of (finite.get self.old (session, number))) < limit.MAX_QUESTIONS }
+        ensures ok { OnOk result (self.new ≡ finite.insert self.old (session, number) (record { start = start; reads = reads_of (finite.get self.old (session, number)) ++ (question_of question, answer_of answer) ∷ [] })) }
+        ensures err { OnErr result (self.new ≡ self.old) }
+    {
+        let key = (session, number);
+        if let Some(phase) = self.phases.get_mut(&key) {
+            note_read(&mut phase.reads, question, answer)?;
+            phase.start = start;
+            return Ok(());
+        }
+        let phase = Phase::first(alloc, start, question, answer)?;
+        self.phases.insert(key, phase)?;
+        Ok(())
+    }
+}
+
+// Notes a read in a set that has room for it, where memory alone can be wanting.
+fn note_read<A: Allocator>(
+    reads: &mut ReadSet<A>,
+    question: Question<A>,
+    answer: Answer<A>,
+) -> Result<(), AllocError>
+    ensures ok { OnOk result (reads.new ≡ reads.old ++ (question_of question, answer_of answer) ∷ []) }
+    ensures err { OnErr result (reads.new ≡ reads.old) }
+{
+    match reads.note(question, answer) {
+        Ok(()) => Ok(()),
+        Err(_refused) => Err(AllocError),
+    }
+}

@@ -1,0 +1,95 @@
+//! What the core keeps of each session.
+ghost use Rattle.std.specs.Prelude.{◌≡◌, ◌<◌, ℕ, length, IfOk, None, Some, slice_get, slice_set};
+ghost use Rattle.std.specs.Option.{option_map};
+ghost use Rattle.occ_core.specs.Slots.{Slot, idle_slots, last_of};
+ghost use Rattle.occ_core.specs.Rows.{slot_of, hold_of};
+
+use occ_sets::SharedWrites;
+use std::alloc::{AllocError, Allocator};
+use std::marker::Model;
+
+/// The row of a session that has entered and is neither finished nor backed up.
+#[derive(Drop)]
+pub struct Held<A: Allocator> {
+    /// Its place in the log.
+    pub place: usize,
+    /// Its writes once more, for the window, so that a finish takes no memory.
+    pub writes: SharedWrites<A>,
+}
+
+/// What the core keeps of one session.
+#[derive(Drop)]
+pub struct SessionState<A: Allocator> {
+    /// The number of the last transaction that entered, or 0.
+    pub last: u64,
+    /// The row that is under way.
+    pub held: Option<Held<A>>,
+}
+
+/// The sessions, in order. Clauses see the list of their plain slots.
+#[derive(Drop)]
+pub struct Sessions<A: Allocator> {
+    states: Vec<SessionState<A>, A>,
+}
+
+impl<A: Allocator> Model for Sessions<A> {
+    ghost use Rattle.std.specs.Prelude.{List};
+    ghost use Rattle.occ_core.specs.Slots.{Slot};
+
+    ghost Value = { List Slot };
+
+    ghost use Rattle.occ_core.specs.Rows.{slots_of};
+
+    ghost view = { λ s. slots_of s.states.items };
+}
+
+impl<A: Allocator> Sessions<A> {
+    /// So many sessions, of which nothing has entered.
+    pub fn new(alloc: A, count: usize) -> Result<Sessions<A>, AllocError>
+        ensures { IfOk result (λ sessions. sessions ≡ idle_slots count) }
+    {
+        let mut states = Vec::with_capacity(alloc, count)?;
+        for _ in 0..count {
+            states.push(SessionState {
+                last: 0,
+                held: None,
+            })?;
+        }
+        Ok(Sessions { states })
+    }
+
+    /// How many sessions there are.
+    pub fn len(&self) -> usize
+        ensures { result ≡ length self.now }
+    {
+        self.states.len()
+    }
+
+    /// What is kept of the session at a place.
+    pub fn get(&self, place: usize) -> Option<&SessionState<A>>
+        ensures { option_map (λ s. slot_of s.now) result ≡ slice_get self.now place }
+    {
+        self.states.get(place)
+    }
+
+    /// The session at a place has a row that entered under this number.
+    pub fn hold(&mut self, place: usize, number: u64, held: Held<A>)
+        requires { place < length self.old }
+        ensures { self.new ≡ slice_set self.old place (record { last = number; hold = Some (hold_of held) }) }
+    {
+        self.states[place] = SessionState {
+            last: number,
+            held: Some(held),
+        };
+    }
+
+    /// The session at a place is let go, and gives up its row.
+    pub fn release(&mut self, place: usize) -> Option<Held<A>>
+        requires { place < length self.old }
+        ensures held { slice_get self.old place ≡ Some (record { last = last_of self.old place; hold = option_map hold_of result }) }
+        ensures released { self.new ≡ slice_set self.old place (record { last = last_of self.old place; hold = None }) }
+    {
+        let state = &mut self.states[place];
+        state.held.take()
+    }
+}

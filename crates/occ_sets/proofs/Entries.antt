@@ -1,0 +1,83 @@
+-- The entries of a map, seen as plain writes.
+use Rattle.std.proofs.Common.{◌≡◌, ◌≤◌, ◌<◌, Bool, true, false, cond, ◌&&◌, not, nat_le, List, [], ◌∷◌, Option, None, Some, is_some, length, refl, sym, ap, ◌∙◌, arith}
+use Rattle.std.proofs.lemmas.List.{length-map}
+use Rattle.std.proofs.lemmas.Bool.Decides.{nat_tests}
+use Rattle.std.specs.List.{IsDistinct, AllByRecursion}
+use Rattle.std.specs.Map.{keys_of, lookup}
+use Rattle.std.specs.Ordering.{on, eq_by_cmp}
+use Rattle.indexmap.specs.IndexMap.{insert_entry}
+use Rattle.occ_types.specs.declared.objects.Object as code
+use Rattle.occ_types.specs.declared.limits.TheConstants.{MAX_WRITES}
+use Rattle.occ_types.specs.Object.{Object, object_cmp}
+use Rattle.occ_types.specs.Row.{Row}
+use Rattle.occ_types.specs.Seen.{object_of}
+use Rattle.occ_model.specs.State.{Write}
+use Rattle.occ_model.specs.Overlay.{set, own}
+use Rattle.occ_sets.specs.Seen.{write_of, writes_of}
+use Rattle.occ_sets.specs.Sets.{objects, is_full_for}
+
+-- no value is none
+some_absent : {X : Type 0} (r : Option X) → false ≡ is_some r → r ≡ None
+some_absent None e = refl
+some_absent (Some x) e = cc
+
+-- a full set is full for a new object
+pub is_full_for-full : (writes : List Write) (object : Object) → 256 ≤ length writes → own writes object ≡ None → is_full_for writes object ≡ true
+is_full_for-full writes object full none = rw none (grind (arith, nat_tests))
+
+-- no set is full for an object that it has
+pub is_full_for-present : (writes : List Write) (object : Object) → is_some (own writes object) ≡ true → is_full_for writes object ≡ false
+is_full_for-present writes object there = rw there (by (nat_le MAX_WRITES (length writes)))
+  where
+    by : (b : Bool) → (b && false) ≡ false
+    by true = refl
+    by false = refl
+
+-- a set with fewer writes is full for none
+pub is_full_for-room : (writes : List Write) (object : Object) → length writes < 256 → is_full_for writes object ≡ false
+is_full_for-room writes object room =
+    let few : nat_le MAX_WRITES (length writes) ≡ false = grind (arith, nat_tests) in
+    ap (λ b. b && not (is_some (own writes object))) few
+
+module _ {Z : Type 0} where
+  -- whether two objects are equal
+  abbrev pub tied : code.Object Z → code.Object Z → Bool
+  tied = on object_of (eq_by_cmp object_cmp)
+
+  -- a look-up answers the own write
+  pub own-writes_of : (o : code.Object Z) (es : List (code.Object Z × Option Row)) → own (writes_of es) (object_of o) ≡ lookup (tied o) es
+  own-writes_of o [] = refl
+  own-writes_of o (e ∷ es) = ap (cond (tied o e.0) (Some e.1)) (own-writes_of o es)
+
+  -- the own write, where the entries are seen as some writes
+  pub own_seen : (o : code.Object Z) (es : List (code.Object Z × Option Row)) (writes : List Write) → writes_of es ≡ writes → lookup (tied o) es ≡ own writes (object_of o)
+  own_seen o es writes seen = sym (own-writes_of o es) ∙ ap (λ ws. own ws (object_of o)) seen
+
+  -- and none where the look-up finds none
+  pub own_absent : (o : code.Object Z) (es : List (code.Object Z × Option Row)) (writes : List Write) → writes_of es ≡ writes → false ≡ is_some (lookup (tied o) es) → own writes (object_of o) ≡ None
+  own_absent o es writes seen none = sym (own_seen o es writes seen) ∙ some_absent (lookup (tied o) es) none
+
+  cases : (b : Bool) (e : code.Object Z × Option Row) (row : Option Row) (es rest : List (code.Object Z × Option Row)) → cond b ((object_of e.0, row) ∷ writes_of es) (write_of e ∷ writes_of rest) ≡ writes_of (cond b ((e.0, row) ∷ es) (e ∷ rest))
+  cases true e row es rest = refl
+  cases false e row es rest = refl
+
+  -- an insert is one more write
+  pub set-writes_of : (o : code.Object Z) (row : Option Row) (es : List (code.Object Z × Option Row)) → writes_of (insert_entry tied es o row) ≡ set (writes_of es) (object_of o) row
+  set-writes_of o row [] = refl
+  set-writes_of o row (e ∷ es) =
+      sym (cases (tied o e.0) e row es (insert_entry tied es o row))
+      ∙ ap (λ rest. cond (tied o e.0) ((object_of e.0, row) ∷ writes_of es) (write_of e ∷ rest)) (set-writes_of o row es)
+
+  apart : (o : code.Object Z) (es : List (code.Object Z × Option Row)) → AllByRecursion (λ k. tied o k ≡ false) (keys_of es) → AllByRecursion (λ p. eq_by_cmp object_cmp (object_of o) p ≡ false) (objects (writes_of es))
+  apart o [] h = h
+  apart o (e ∷ es) h = (h.0, apart o es h.1)
+
+  -- keys that are distinct are so as objects
+  pub objects-IsDistinct : (es : List (code.Object Z × Option Row)) → IsDistinct tied (keys_of es) → IsDistinct (eq_by_cmp object_cmp) (objects (writes_of es))
+  unfolding IsDistinct
+  objects-IsDistinct [] h = h
+  objects-IsDistinct (e ∷ es) h = (apart e.0 es h.0, objects-IsDistinct es h.1)
+
+  -- as many writes as entries
+  pub length-writes_of : (es : List (code.Object Z × Option Row)) → length (writes_of es) ≡ length es
+  length-writes_of es = length-map es write_of

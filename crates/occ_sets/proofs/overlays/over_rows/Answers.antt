@@ -1,0 +1,15 @@
+use Rattle.std.proofs.Common.{sym, ap, ◌∙◌}
+use Rattle.occ_types.specs.Seen.{question_of, table_asked}
+use Rattle.occ_model.specs.State.{apply}
+use Rattle.occ_model.specs.Overlay as model
+use Rattle.occ_sets.specs.Seen.{rows_of}
+use Rattle.occ_sets.proofs.Agreement.{answer_of_entries}
+use Rattle.occ_sets.proofs.overlays.over_rows.Goals as goal
+
+-- the entries agree with the state after the writes
+pub returns : goal.returns
+returns g c =
+    let q = question_of c.args.question.now in
+    let given = model.rows_of (table_asked q) (rows_of c.args.rows.items) in
+    ap rows_of c.in_ok-rows.ensures.rows
+    ∙ sym (answer_of_entries q _ (apply given c.args.writes.now) (c.in_ok-write_all.ensures given c.in_ok-seen.ensures) c.in_ok-rows.ensures.sorted)

@@ -1,0 +1,31 @@
+-- What the sets of a transaction keep, and when they are full.
+use Rattle.std.specs.Prelude.{ℕ, ◌≤◌, Bool, ◌&&◌, not, nat_le, List, map, length, is_some}
+use Rattle.std.specs.List.{IsDistinct}
+use Rattle.std.specs.Ordering.{eq_by_cmp}
+use Rattle.occ_types.specs.declared.limits.TheConstants.{MAX_WRITES, MAX_QUESTIONS}
+use Rattle.occ_types.specs.Object.{Object, object_cmp}
+use Rattle.occ_model.specs.State.{Write, Observation}
+use Rattle.occ_model.specs.Overlay.{own}
+
+-- the objects that are written
+abbrev pub objects : List Write → List Object
+objects = map (λ write. write.0)
+
+-- the writes of one transaction: not too many, and no object twice
+pub record IsWriteSet (writes : List Write) : Type 0 where
+  pub few : length writes ≤ MAX_WRITES
+  pub distinct : IsDistinct (eq_by_cmp object_cmp) (objects writes)
+
+-- whether a write of the object would be one too many: it is new, and there are as many as there may be
+abbrev pub is_full_for : List Write → Object → Bool
+is_full_for writes object = nat_le MAX_WRITES (length writes) && not (is_some (own writes object))
+
+-- whether one more observation would be one too many
+abbrev pub is_full : List Observation → Bool
+is_full reads = nat_le MAX_QUESTIONS (length reads)
+
+-- what a transaction keeps to itself in its read phase: its number, the counter as it began, and its writes so far
+pub record Copied : Type 0 where
+  pub number : ℕ
+  pub start : ℕ
+  pub writes : List Write

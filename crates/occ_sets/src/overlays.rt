@@ -1,0 +1,130 @@
+//! What a private copy answers: the table's answer with the own writes over it.
+ghost use Rattle.std.specs.Prelude.{◌≡◌, Some, slice_get, OnOk, IfOk};
+ghost use Rattle.std.specs.Map.{keys_of};
+ghost use Rattle.std.specs.List.Sorted.{IsStrictlySortedBy};
+ghost use Rattle.std.specs.Ordering.{on};
+ghost use Rattle.occ_types.specs.Key.{key_cmp};
+ghost use Rattle.occ_types.specs.Seen.{key_of, object_of, question_of, table_asked};
+ghost use Rattle.occ_model.specs.Overlay as model;
+ghost use Rattle.occ_model.specs.Overlay.{own};
+ghost use Rattle.occ_model.specs.State.{Write};
+ghost use Rattle.occ_sets.specs.Overlays.{Agrees, FollowsWrite, FollowsWrites, over_row, rows_over};
+ghost use Rattle.occ_sets.specs.Seen.{answer_of, rows_of};
+
+use crate::reads::Answer;
+use crate::writes::WriteSet;
+use occ_types::{Key, Object, Question, Row};
+use std::alloc::{AllocError, Allocator};
+use std::collections::BTreeMap;
+
+// The answer for a single key, from the own write where there is one.
+pub(crate) fn over_row<A: Allocator + Clone>(
+    writes: &WriteSet<A>,
+    object: &Object<A>,
+    given: Answer<A>,
+) -> Result<Answer<A>, AllocError>
+    ensures { IfOk result (λ seen. answer_of seen ≡ over_row (own writes.now (object_of object.now)) (answer_of given)) }
+{
+    match writes.own(object) {
+        None => Ok(given),
+        Some(None) => Ok(Answer::Found(None)),
+        Some(Some(row)) => Ok(Answer::Found(Some(row.clone()?))),
+    }
+}
+
+// The rows of a range with the own writes over them.
+pub(crate) fn over_rows<A: Allocator + Copy>(
+    writes: &WriteSet<A>,
+    question: &Question<A>,
+    rows: Vec<(Key<A>, Row<A>), A>,
+) -> Result<Vec<(Key<A>, Row<A>), A>, AllocError>
+    ensures { IfOk result (λ seen. rows_of seen.items ≡ rows_over (question_of question.now) writes.now (rows_of rows.items)) }
+{
+    let alloc = *writes.entries.allocator();
+    let mut seen = rows_asked(alloc, question, rows)?;
+    write_all(&mut seen, question, writes)?;
+    let rows = in_order(alloc, seen)?;
+    Ok(rows)
+}
+
+// Of the given rows, those that are asked for, by their keys. The first of a key stands, so they come from the last on.
+fn rows_asked<A: Allocator + Copy>(
+    alloc: A,
+    question: &Question<A>,
+    mut rows: Vec<(Key<A>, Row<A>), A>,
+) -> Result<BTreeMap<Key<A>, Row<A>, A>, AllocError>
+    ensures { IfOk result (λ seen. Agrees (question_of question.now) seen.entries (model.rows_of (table_asked (question_of question.now)) (rows_of rows.items))) }
+{
+    let mut seen = BTreeMap::new(alloc);
+    while let Some((key, row)) = rows.pop() {
+        put(&mut seen, question, key, row)?;
+    }
+    Ok(seen)
+}
+
+// Puts a row of the table that is asked, where its key is asked for.
+fn put<A: Allocator + Copy>(
+    seen: &mut BTreeMap<Key<A>, Row<A>, A>,
+    question: &Question<A>,
+    key: Key<A>,
+    row: Row<A>,
+) -> Result<(), AllocError>
+    ensures { OnOk result (FollowsWrite (question_of question.now) seen.old.entries seen.new.entries ((table_asked (question_of question.now), key_of key), Some row)) }
+{
+    if question.asks(question.table(), &key) {
+        seen.insert(key, row)?;
+    }
+    Ok(())
+}
+
+// Does the own writes that are asked for.
+fn write_all<A: Allocator + Copy>(
+    seen: &mut BTreeMap<Key<A>, Row<A>, A>,
+    question: &Question<A>,
+    writes: &WriteSet<A>,
+) -> Result<(), AllocError>
+    ensures { OnOk result (FollowsWrites (question_of question.now) seen.old.entries seen.new.entries writes.now) }
+{
+    for place in 0..writes.len() {
+        write(seen, question, writes, place)?;
+    }
+    Ok(())
+}
+
+// Does the write at a place, where it is asked for.
+fn write<A: Allocator + Copy>(
+    seen: &mut BTreeMap<Key<A>, Row<A>, A>,
+    question: &Question<A>,
+    writes: &WriteSet<A>,
+    place: usize,
+) -> Result<(), AllocError>
+    ensures { OnOk result ((write : Write) → slice_get writes.now place ≡ Some write → FollowsWrite (question_of question.now) seen.old.entries seen.new.entries write) }
+{
+    let Some((object, row)) = writes.write_at(place) else {
+        return Ok(());
+    };
+    if !question.asks(object.table, &object.key) {
+        return Ok(());
+    }
+    match row {
+        Some(row) => {
+            seen.insert(object.key.clone()?, row.clone()?)?;
+        }
+        None => {
+            seen.remove(&object.key);
+        }
+    }
+    Ok(())
+}
+
+// The rows in the order of their keys.
+fn in_order<A: Allocator + Copy>(
+    alloc: A,
+    seen: BTreeMap<Key<A>, Row<A>, A>,
+) -> Result<Vec<(Key<A>, Row<A>), A>, AllocError>
+    ensures rows { IfOk result (λ rows. rows.items ≡ seen.entries) }
+    ensures sorted { OnOk result (IsStrictlySortedBy (on key_of key_cmp) (keys_of seen.entries)) }
+{
+    let _len = seen.len();
+    seen.into_iter().collect(alloc)
+}
