@@ -1,10 +1,12 @@
 -- What a change of a vector is, to those who see it as plain data.
-use Rattle.std.proofs.Common.{◌≡◌, ℕ, zero, suc, ◌+◌, ◌<◌, List, [], ◌∷◌, ◌++◌, get_or, length, None, Some, refl, sym, ap, subst, ◌∙◌, arith}
+use Rattle.std.proofs.Common.{◌≡◌, ℕ, zero, suc, ◌+◌, ◌<◌, false, List, [], ◌∷◌, ◌++◌, get_or, length, map, None, Some, refl, sym, ap, subst, ◌∙◌, arith}
 use Rattle.std.specs.Prelude.{slice_get, slice_set}
-use Rattle.occ_model.specs.Log.{LogRow}
+use Rattle.occ_model.specs.Log.{LogRow, is_open}
 use Rattle.occ_core.specs.Slots.{Slot, idle_slots, last_of}
 use Rattle.occ_core.specs.Rows.{standing_of, log_row_of, log_of, slot_of, slots_of}
 use Rattle.occ_core.specs.declared.rows.Standing as code_standing
+use Rattle.occ_core.specs.declared.rows.Standing.TheVariants as standings
+use Rattle.occ_core.specs.declared.rows.OpenCase as code_open
 use Rattle.occ_core.specs.declared.rows.LogRow as code_row
 use Rattle.occ_core.specs.declared.sessions.SessionState as code_session
 
@@ -38,3 +40,14 @@ let_go {Z} states place old slots view less is =
 pub idle-push : (count : ℕ) → idle_slots count ++ record { last = 0; hold = None } ∷ [] ≡ idle_slots (count + 1)
 idle-push zero = refl
 idle-push (suc count) = ap (λ l. record { last = 0; hold = None } ∷ l) (idle-push count) ∙ ap idle_slots (sym (let e : suc count + 1 ≡ suc (count + 1) = omega arith in e))
+
+-- a standing that no case opens
+pub not_open : {Z : Type 0} (s : code_standing.Standing Z) → ((open_case : code_open.OpenCase Z) → s ≡ standings.Open open_case → ⊥) → is_open (standing_of s) ≡ false
+not_open (standings.Open open_case) not = absurd (not open_case refl)
+not_open (standings.Writing done) not = refl
+not_open (standings.Done number) not = refl
+not_open (standings.Back cause) not = refl
+
+pub length-map : {X Y : Type 0} (f : X → Y) (xs : List X) → length (map f xs) ≡ length xs
+length-map f [] = refl
+length-map f (x ∷ xs) = ap suc (length-map f xs)

@@ -7,3 +7,5 @@ pub mod Moves
 pub mod Changes
 pub mod PhaseViews
 pub mod WindowMoves
+pub mod Calls
+pub mod Openings

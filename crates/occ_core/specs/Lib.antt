@@ -4,3 +4,5 @@ pub mod Kept
 pub mod Rows
 pub mod Phases
 pub mod Window
+pub mod Core
+pub mod Replies

@@ -1,7 +1,9 @@
 -- What the core keeps of each session, and how its rows are found without a scan of the log.
-use Rattle.std.specs.Prelude.{◌≡◌, ℕ, zero, suc, cond, List, [], ◌∷◌, ◌++◌, Option, None, Some, is_some, slice_get}
+use Rattle.std.specs.Prelude.{◌≡◌, ℕ, zero, suc, cond, List, [], ◌∷◌, ◌++◌, Option, None, Some, Result, Ok, Err, is_some, slice_get}
 use Rattle.std.specs.Ordering.{nat_cmp}
 use Rattle.std.specs.FinSet.{FinSet, empty, insert}
+use Rattle.occ_types.specs.declared.fault.Fault.{Fault}
+use Rattle.occ_types.specs.declared.fault.Fault.TheVariants.{NoSession, NothingEntered}
 use Rattle.occ_model.specs.State.{Write}
 use Rattle.occ_model.specs.Log.{LogRow, is_active}
 use Rattle.occ_model.specs.World.{latest}
@@ -47,3 +49,11 @@ idle_slots (suc count) = record { last = 0; hold = None } ∷ idle_slots count
 -- the last number of the session at a place, or 0 where there is none
 abbrev pub last_of : List Slot → ℕ → ℕ
 last_of slots place = elim (slice_get slots place) [ None ↦ 0 | Some slot ↦ slot.last ]
+
+-- the place in the log of a session's row that is under way: there may be no such session, or nothing may have entered
+abbrev pub row_under_way : List Slot → ℕ → Result ℕ Fault
+row_under_way slots zero = Err NoSession
+row_under_way slots (suc place) = elim (slice_get slots place) [
+  | None ↦ Err NoSession
+  | Some slot ↦ elim slot.hold [ None ↦ Err NothingEntered | Some hold ↦ Ok hold.place ]
+]

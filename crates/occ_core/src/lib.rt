@@ -1,6 +1,7 @@
 //! The core of the store: what it keeps, in parts. Each part is seen as plain data of the model.
 #![tactic(auto)]
 
+pub mod core_state;
 pub mod log;
 pub mod phases;
 pub mod rows;

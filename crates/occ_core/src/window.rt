@@ -38,6 +38,13 @@ impl<A: Allocator> Window<A> {
         Ok(Window { sets, keep })
     }
 
+    /// How many write sets are kept at most.
+    pub fn keep(&self) -> usize
+        ensures { result ≡ self.now.keep }
+    {
+        self.keep
+    }
+
     /// One more owner of each write set but the oldest `skip`, in their order; an error where there is no memory for the list, or a set has too many owners to be counted.
     pub fn shared_from(&self, alloc: A, skip: usize) -> Result<Vec<SharedWrites<A>, A>, AllocError>
         ensures { IfOk result (λ shared. shared.items ≡ drop skip self.now.sets) }

@@ -15,7 +15,7 @@ pub record Case : Type 0 where
   pub finished : List (List Write)
   pub active : List (List Write)
 
--- how far a transaction has come since its entry (section 5; single writes are our own choice)
+-- how far a transaction has come since its entry (Kung and Robinson, section 5; single writes are our own choice)
 pub data Standing : Type 0 where
   -- entered and not decided: the index of its case in the file of cases, and the case
   Open : ℕ → Case → Standing
@@ -26,7 +26,7 @@ pub data Standing : Type 0 where
   -- decided to be backed up
   Back : Cause → Standing
 
--- A transaction that entered: its place in the order of entry, the counter at its begin (start) and at its entry (finish), what it read and what it writes (section 5).
+-- A transaction that entered: its place in the order of entry, the counter at its begin (start) and at its entry (finish), what it read and what it writes (Kung and Robinson, section 5).
 pub record LogRow : Type 0 where
   pub place : ℕ
   pub session : ℕ
@@ -71,7 +71,7 @@ is_committed (Writing done) = true
 is_committed (Done number) = true
 is_committed (Back cause) = false
 
--- Open and Writing transactions are active: the set of that name in section 5
+-- Open and Writing transactions are active: the set of that name in Kung and Robinson, section 5
 abbrev pub is_active : Standing → Bool
 is_active (Open index case) = true
 is_active (Writing done) = true
@@ -88,11 +88,11 @@ remaining writes (Back cause) = []
 abbrev pub rest : LogRow → List Write
 rest row = remaining row.writes row.standing
 
--- the state after a transaction of the serial order: a committed one is played whole (section 3)
+-- the state after a transaction of the serial order: a committed one is played whole (Kung and Robinson, section 3)
 abbrev pub after : State → LogRow → State
 after state row = cond (is_committed row.standing) (apply state row.writes) state
 
--- serial replay: the committed transactions, whole, one after another, in the order of entry (section 3)
+-- serial replay: the committed transactions, whole, one after another, in the order of entry (Kung and Robinson, section 3)
 abbrev pub serial : State → List LogRow → State
 serial state [] = state
 serial state (row ∷ rows) = serial (after state row) rows
@@ -107,7 +107,7 @@ abbrev pub AreAnswers : State → List Observation → Type 0
 AreAnswers state [] = Unit {0}
 AreAnswers state (seen ∷ others) = (seen.1 ≡ answer seen.0 state) × AreAnswers state others
 
--- what each committed transaction read is what serial replay of the transactions before it answers (section 3)
+-- what each committed transaction read is what serial replay of the transactions before it answers (Kung and Robinson, section 3)
 abbrev pub Explained : State → List LogRow → Type 0
 Explained state [] = Unit {0}
 Explained state (row ∷ rows) = (is_committed row.standing ≡ true → AreAnswers state row.reads) × Explained (after state row) rows
@@ -142,7 +142,7 @@ pub record InOrder (base : Base) (marks : FinMap nat_cmp ℕ) (log : List LogRow
   pub numbered : (session : ℕ) → Counts (suc (last_folded base session)) (numbers session log)
   pub closed : (session mark : ℕ) → get marks session ≡ Some mark → mark ≡ last_folded base session + length (numbers session log) + 1
 
--- The whole claim on a log and a table: the log is in order, serial replay explains each committed transaction, and the table with the rest of each open write phase is the replay of the whole log (section 3).
+-- The whole claim on a log and a table: the log is in order, serial replay explains each committed transaction, and the table with the rest of each open write phase is the replay of the whole log (Kung and Robinson, section 3).
 pub record Audited (base : Base) (marks : FinMap nat_cmp ℕ) (table : State) (log : List LogRow) : Type 0 where
   pub in_order : InOrder base marks log
   pub explained : Explained base.state log

@@ -10,7 +10,7 @@ use Rattle.occ_types.specs.Row.{Row}
 abbrev pub State : Type 0
 State = FinMap object_cmp Row
 
--- an object with its new row, or with none where it is deleted (section 2; deletion is our own choice)
+-- an object with its new row, or with none where it is deleted (Kung and Robinson, section 2; deletion is our own choice)
 abbrev pub Write : Type 0
 Write = Object × Option Row
 
@@ -38,7 +38,7 @@ unfoldable pub put : State → Write → State
 put state (object, None) = remove state object
 put state (object, Some row) = insert state object row
 
--- the state after some writes, done in their order (section 2)
+-- the state after some writes, done in their order (Kung and Robinson, section 2)
 abbrev pub apply : State → List Write → State
 apply state [] = state
 apply state (write ∷ writes) = apply (put state write) writes
@@ -48,7 +48,7 @@ abbrev pub meets_question : List Write → Question → Bool
 meets_question [] question = false
 meets_question (write ∷ writes) question = asks question write.0 || meets_question writes question
 
--- whether writes meet reads: some object written is asked for by some question (section 3, "the write set intersects the read set"; ranges are our own choice)
+-- whether writes meet reads: some object written is asked for by some question (Kung and Robinson, section 3, "the write set intersects the read set"; ranges are our own choice)
 abbrev pub meets_reads : List Write → List Question → Bool
 meets_reads writes [] = false
 meets_reads writes (question ∷ questions) = meets_question writes question || meets_reads writes questions
@@ -57,6 +57,6 @@ meets_reads writes (question ∷ questions) = meets_question writes question || 
 abbrev pub target : Write → Question
 target write = One write.0.0 write.0.1
 
--- whether writes meet writes: some object is in both (section 3)
+-- whether writes meet writes: some object is in both (Kung and Robinson, section 3)
 abbrev pub meets_writes : List Write → List Write → Bool
 meets_writes writes others = meets_reads writes (map target others)

@@ -80,7 +80,7 @@ WritesOne old session row done reply new = MatchOption (slice_get row.writes don
     (λ write. (reply ≡ Wrote write.0)
     × (new ≡ record old { table = put old.table write; log = turn session (Writing (done + 1)) old.log }))
 
--- the second critical section (section 5)
+-- the second critical section (Kung and Robinson, section 5)
 abbrev pub finished : World → ℕ → World
 finished world session = record world {
   log = turn session (Done (world.counter + 1)) world.log;
@@ -88,7 +88,7 @@ finished world session = record world {
   held = sets.remove world.held session;
 }
 
--- Serial validation: entry, test, all writes and the end in one step (section 4).
+-- Serial validation: entry, test, all writes and the end in one step (Kung and Robinson, section 4).
 abbrev pub EndsSerially : World → ℕ → ℕ → ℕ → List Write → Verdict → Reply → World → Type 0
 EndsSerially old session number start writes verdicts.Commit reply new =
     let next = appended old session number start writes (Done (old.counter + 1)) in

@@ -8,24 +8,24 @@ use Rattle.occ_model.specs.declared.verdict.Verdict.{Verdict}
 use Rattle.occ_model.specs.declared.verdict.Verdict.TheVariants.{Commit, BackUp}
 use Rattle.occ_model.specs.declared.verdict.Cause.TheVariants.{Conflict, TooOld}
 
--- whether a transaction finished after the counter stood at one value, and at the latest as it stood at the other: start < tn <= finish (section 4)
+-- whether a transaction finished after the counter stood at one value, and at the latest as it stood at the other: start < tn <= finish (Kung and Robinson, section 4)
 abbrev pub finished_within : ℕ → ℕ → Standing → Bool
 finished_within start finish (Open index case) = false
 finished_within start finish (Writing done) = false
 finished_within start finish (Done number) = nat_lt start number && nat_le number finish
 finished_within start finish (Back cause) = false
 
--- the lower end of the window: of the write sets, those numbered above it are kept for testing (section 3)
+-- the lower end of the window: of the write sets, those numbered above it are kept for testing (Kung and Robinson, section 3)
 abbrev pub window_low : ℕ → ℕ → ℕ
 window_low counter keep = counter - keep
 
--- Whether an opponent stands in the way. One that finished within (start, finish] may not write what was read (the second of the three conditions of section 3); one that is active at the entry may write neither what was read nor what is written (the third).
+-- Whether an opponent stands in the way. One that finished within (start, finish] may not write what was read (the second of the three conditions of Kung and Robinson, section 3); one that is active at the entry may write neither what was read nor what is written (the third).
 abbrev pub is_in_the_way : ℕ → ℕ → List Question → List Write → LogRow → Bool
 is_in_the_way start finish reads writes row =
     (finished_within start finish row.standing && meets_reads row.writes reads)
     || (is_active row.standing && (meets_reads row.writes reads || meets_writes row.writes writes))
 
--- Validity at an entry: the log and the counter (finish) as they stand then, the lower end of the window, and what the transaction says. One that began before the window is too old; else none of all its opponents may stand in the way (sections 3 and 5).
+-- Validity at an entry: the log and the counter (finish) as they stand then, the lower end of the window, and what the transaction says. One that began before the window is too old; else none of all its opponents may stand in the way (Kung and Robinson, sections 3 and 5).
 abbrev pub validity : List LogRow → ℕ → ℕ → ℕ → List Question → List Write → Verdict
 validity log finish low start reads writes =
     cond (nat_lt start low) (BackUp TooOld)

@@ -27,7 +27,7 @@ pub record ReadPhase : Type 0 where
 abbrev pub phase_cmp : ℕ × ℕ → ℕ × ℕ → Ordering
 phase_cmp = then_cmp (on (λ p. p.0) nat_cmp) (on (λ p. p.1) nat_cmp)
 
--- `counter` is the transaction counter (section 4). `held` has the sessions whose transaction has entered and is neither finished nor backed up.
+-- `counter` is the transaction counter (Kung and Robinson, section 4). `held` has the sessions whose transaction has entered and is neither finished nor backed up.
 pub record World : Type 0 where
   pub settings : Settings
   pub base : Base

@@ -1,0 +1,180 @@
+-- What each call of the core has to show, over plain parts.
+use Rattle.std.proofs.Common.{◌≡◌, ℕ, zero, suc, ◌+◌, ◌≤◌, Bool, true, false, not, ◌&&◌, List, [], ◌∷◌, length, Option, None, Some, Result, Ok, Err, refl, sym, ap, subst, ◌∙◌, arith}
+use Rattle.std.specs.Prelude.{is_some, slice_get, slice_set, nat_le}
+use Rattle.std.proofs.lemmas.Bool.{le-leb, leb-true}
+use Rattle.occ_types.specs.Schema.{fault_if, first_fault}
+use Rattle.occ_types.specs.declared.fault.Fault.{Fault}
+use Rattle.occ_types.specs.declared.fault.Fault.TheVariants as faults
+use Rattle.occ_model.specs.Log.{LogRow, Open, Case, is_open}
+use Rattle.occ_model.specs.Validity.{verdict}
+use Rattle.occ_model.specs.World.{World, latest, is_held, has_session}
+use Rattle.occ_model.specs.Event.{Decide, Refused, Decided}
+use Rattle.occ_model.specs.Refusal as refusals
+use Rattle.occ_model.specs.Refusal.{refusal}
+use Rattle.occ_model.specs.Step.{Step, refused, decided}
+use Rattle.occ_model.specs.declared.verdict.Verdict.{Verdict}
+use Rattle.occ_model.proofs.Tests as tests
+use Rattle.occ_core.specs.Replies.{decision}
+use Rattle.occ_core.specs.Slots.{Slot, Hold, IsHeldAt, row_under_way}
+use Rattle.occ_core.specs.Parts.{Parts, world_of, AreSound}
+use Rattle.occ_core.proofs.Held.{is_held_at, contains-held}
+use Rattle.occ_core.proofs.Opponents.{held-get}
+use Rattle.occ_core.proofs.Places.{held_latest, slice_get-below}
+use Rattle.occ_core.proofs.Moves as moves
+
+-- the row that a session has under way
+pub record UnderWay (parts : Parts) (session place : ℕ) : Type 0 where
+  pub slot_at : ℕ
+  pub session_is : session ≡ suc slot_at
+  pub slot : Slot
+  pub there : slice_get parts.slots slot_at ≡ Some slot
+  pub hold : Hold
+  pub holds : slot.hold ≡ Some hold
+  pub place_is : place ≡ hold.place
+  pub row : LogRow
+  pub row_there : IsHeldAt (suc slot_at) hold.place parts.log row
+  pub writes_are : hold.writes ≡ row.writes
+
+pub found_row : (parts : Parts) (session place : ℕ) → AreSound parts → row_under_way parts.slots session ≡ Ok place → UnderWay parts session place
+found_row parts zero place sound found = cc
+found_row parts (suc k) place sound found = at_slot (slice_get parts.slots k) refl found
+  where
+    at_hold : (slot : Slot) → slice_get parts.slots k ≡ Some slot → (h : Option Hold) → slot.hold ≡ h → (elim h as (λ _. Result ℕ Fault) [ None ↦ Err faults.NothingEntered | Some hold ↦ Ok hold.place ]) ≡ Ok place → UnderWay parts (suc k) place
+    at_hold slot there None e found = cc
+    at_hold slot there (Some hold) e found =
+        let r = (sound.slots_true k slot there).row_is hold e in
+        record { slot_at = k; session_is = refl; slot = slot; there = there; hold = hold; holds = e; place_is = cc; row = r.0; row_there = r.1; writes_are = r.2 }
+
+    at_slot : (o : Option Slot) → slice_get parts.slots k ≡ o → (elim o as (λ _. Result ℕ Fault) [ None ↦ Err faults.NoSession | Some slot ↦ elim slot.hold [ None ↦ Err faults.NothingEntered | Some hold ↦ Ok hold.place ] ]) ≡ Ok place → UnderWay parts (suc k) place
+    at_slot None e found = cc
+    at_slot (Some slot) e found = at_hold slot e slot.hold refl found
+
+past_end : {X : Type 0} (xs : List X) (k : ℕ) → slice_get xs k ≡ None → length xs ≤ k
+past_end [] k e = omega arith
+past_end (x ∷ xs) zero e = cc
+past_end (x ∷ xs) (suc k) e = let h = past_end xs k e in omega arith
+
+held_is : (slots : List Slot) (k : ℕ) (slot : Slot) → slice_get slots k ≡ Some slot → is_held_at slots k ≡ is_some slot.hold
+held_is [] k slot at = cc
+held_is (x ∷ xs) zero slot at = let e : x ≡ slot = cc in ap (λ s. is_some s.hold) e
+held_is (x ∷ xs) (suc k) slot at = held_is xs k slot at
+
+held_world : (parts : Parts) (k : ℕ) (slot : Slot) → slice_get parts.slots k ≡ Some slot → is_held (world_of parts) (suc k) ≡ is_some slot.hold
+held_world parts k slot at =
+    let e : suc k ≡ 1 + k = omega arith in
+    ap (is_held (world_of parts)) e ∙ contains-held 1 parts.slots k ∙ held_is parts.slots k slot at
+
+exists : (parts : Parts) (k : ℕ) (slot : Slot) → AreSound parts → slice_get parts.slots k ≡ Some slot → has_session (world_of parts) (suc k) ≡ true
+exists parts k slot sound at =
+    let less = slice_get-below parts.slots k slot at in
+    let count = sound.each_session in
+    tests.both_true _ _ (le-leb 1 (suc k) (omega arith)) (le-leb (suc k) parts.settings.sessions (omega arith))
+
+-- a session that isn't there, or has nothing under way, is told so
+pub told : (parts : Parts) (session : ℕ) (fault : Fault) (others : List (Option Fault)) → AreSound parts → row_under_way parts.slots session ≡ Err fault
+    → first_fault (refusals.no_session (world_of parts) session ∷ refusals.nothing_entered (world_of parts) session ∷ others) ≡ Some fault
+told parts zero fault others sound found =
+    let e : faults.NoSession ≡ fault = cc in
+    ap (λ b. first_fault (fault_if (not (b && nat_le zero parts.settings.sessions)) faults.NoSession ∷ refusals.nothing_entered (world_of parts) zero ∷ others)) none ∙ ap Some e
+  where
+    none : nat_le 1 zero ≡ false
+    none = tests.decided (nat_le 1 zero) (λ e. let h = leb-true 1 zero e in absurd (omega arith)) (λ e. e)
+told parts (suc k) fault others sound found = at_slot (slice_get parts.slots k) refl found
+  where
+    at_hold : (slot : Slot) → slice_get parts.slots k ≡ Some slot → (h : Option Hold) → slot.hold ≡ h → (elim h as (λ _. Result ℕ Fault) [ None ↦ Err faults.NothingEntered | Some hold ↦ Ok hold.place ]) ≡ Err fault
+        → first_fault (refusals.no_session (world_of parts) (suc k) ∷ refusals.nothing_entered (world_of parts) (suc k) ∷ others) ≡ Some fault
+    at_hold slot there None e found =
+        let f : faults.NothingEntered ≡ fault = cc in
+        ap (λ b. first_fault (fault_if (not b) faults.NoSession ∷ refusals.nothing_entered (world_of parts) (suc k) ∷ others)) (exists parts k slot sound there)
+        ∙ ap (λ b. first_fault (fault_if (not b) faults.NothingEntered ∷ others)) (held_world parts k slot there ∙ ap is_some e) ∙ ap Some f
+    at_hold slot there (Some hold) e found = cc
+
+    at_slot : (o : Option Slot) → slice_get parts.slots k ≡ o → (elim o as (λ _. Result ℕ Fault) [ None ↦ Err faults.NoSession | Some slot ↦ elim slot.hold [ None ↦ Err faults.NothingEntered | Some hold ↦ Ok hold.place ] ]) ≡ Err fault
+        → first_fault (refusals.no_session (world_of parts) (suc k) ∷ refusals.nothing_entered (world_of parts) (suc k) ∷ others) ≡ Some fault
+    at_slot None e found =
+        let f : faults.NoSession ≡ fault = cc in
+        let past = past_end parts.slots k e in
+        let count = sound.each_session in
+        ap (λ b. first_fault (fault_if (not (nat_le 1 (suc k) && b)) faults.NoSession ∷ refusals.nothing_entered (world_of parts) (suc k) ∷ others))
+        (tests.decided (nat_le (suc k) parts.settings.sessions) (λ t. let h = leb-true (suc k) parts.settings.sessions t in absurd (omega arith)) (λ t. t))
+        ∙ ap (λ b. first_fault (fault_if (not (b && false)) faults.NoSession ∷ refusals.nothing_entered (world_of parts) (suc k) ∷ others)) (le-leb 1 (suc k) (omega arith)) ∙ ap Some f
+    at_slot (Some slot) e found = at_hold slot e slot.hold refl found
+
+-- the first two guards pass where a row is under way
+pub let_through : (parts : Parts) (k : ℕ) (slot : Slot) (hold : Hold) (others : List (Option Fault)) → AreSound parts → slice_get parts.slots k ≡ Some slot → slot.hold ≡ Some hold
+    → first_fault (refusals.no_session (world_of parts) (suc k) ∷ refusals.nothing_entered (world_of parts) (suc k) ∷ others) ≡ first_fault others
+let_through parts k slot hold others sound at holds =
+    ap (λ b. first_fault (fault_if (not b) faults.NoSession ∷ refusals.nothing_entered (world_of parts) (suc k) ∷ others)) (exists parts k slot sound at)
+    ∙ ap (λ b. first_fault (fault_if (not b) faults.NothingEntered ∷ others)) (held_world parts k slot at ∙ ap is_some holds)
+
+-- what a guard on the latest row reads
+latest_reads : (log : List LogRow) (session : ℕ) (row : LogRow) (none : Bool) (of : LogRow → Bool) → latest session log ≡ Some row → (elim (latest session log) as (λ _. Bool) [ None ↦ none | Some r ↦ of r ]) ≡ of row
+latest_reads log session row none of is = ap (λ l. elim l as (λ _. Bool) [ None ↦ none | Some r ↦ of r ]) is
+
+-- The decision.
+
+pub decide_refused : (parts : Parts) (session : ℕ) (fault : Fault) → AreSound parts → row_under_way parts.slots session ≡ Err fault → Step (world_of parts) (Decide session) (Refused fault) (world_of parts)
+decide_refused parts session fault sound found = refused fault (told parts session fault _ sound found) refl refl
+
+pub decide_late : (parts : Parts) (session place : ℕ) (row : LogRow) → AreSound parts → row_under_way parts.slots session ≡ Ok place → slice_get parts.log place ≡ Some row → is_open row.standing ≡ false → Step (world_of parts) (Decide session) (Refused faults.AlreadyDecided) (world_of parts)
+decide_late parts session place row sound found at closed =
+    let u = found_row parts session place sound found in
+    let same : u.row ≡ row = let e : Some u.row ≡ Some row = sym (held-get (suc u.slot_at) u.hold.place parts.log u.row u.row_there) ∙ ap (slice_get parts.log) (sym u.place_is) ∙ at in cc in
+    subst (λ s. Step (world_of parts) (Decide s) (Refused faults.AlreadyDecided) (world_of parts)) (sym u.session_is)
+    (refused faults.AlreadyDecided (
+    let_through parts u.slot_at u.slot u.hold _ sound u.there u.holds
+    ∙ ap (λ b. first_fault (fault_if (not b) faults.AlreadyDecided ∷ []))
+    (latest_reads parts.log (suc u.slot_at) u.row false (λ r. is_open r.standing) (held_latest (suc u.slot_at) u.hold.place parts.log u.row u.row_there) ∙ ap (λ r. is_open r.standing) same ∙ closed)) refl refl)
+
+pub record Decides (parts : Parts) (session : ℕ) (v : Verdict) (next : Parts) : Type 0 where
+  pub step : Step (world_of parts) (Decide session) (Decided v) (world_of next)
+  pub sound : AreSound next
+
+pub decide_done : (parts : Parts) (session place : ℕ) (row : LogRow) (index : ℕ) (case : Case) → AreSound parts → row_under_way parts.slots session ≡ Ok place → slice_get parts.log place ≡ Some row → row.standing ≡ Open index case
+    → (log : List LogRow) → log ≡ slice_set parts.log place (record row { standing = decided (verdict case) }) → Decides parts session (verdict case) (record parts { log = log })
+decide_done parts session place row index case sound found at stands log is =
+    let u = found_row parts session place sound found in
+    let same : u.row ≡ row = let e : Some u.row ≡ Some row = sym (held-get (suc u.slot_at) u.hold.place parts.log u.row u.row_there) ∙ ap (slice_get parts.log) (sym u.place_is) ∙ at in cc in
+    let own : u.row.standing ≡ Open index case = ap (λ r. r.standing) same ∙ stands in
+    let none : refusal (world_of parts) (Decide (suc u.slot_at)) ≡ None =
+    let_through parts u.slot_at u.slot u.hold _ sound u.there u.holds
+    ∙ ap (λ b. first_fault (fault_if (not b) faults.AlreadyDecided ∷ []))
+    (latest_reads parts.log (suc u.slot_at) u.row false (λ r. is_open r.standing) (held_latest (suc u.slot_at) u.hold.place parts.log u.row u.row_there) ∙ ap is_open own) in
+    let log_is : moves.decided_parts parts u.slot_at u.slot u.hold u.row sound u.there u.holds u.row_there u.writes_are index case own none ≡ record parts { log = log } =
+    ap (λ l. record parts { log = l }) (ap (λ r. slice_set parts.log u.hold.place (record r { standing = decided (verdict case) })) same
+    ∙ ap (λ p. slice_set parts.log p (record row { standing = decided (verdict case) })) (sym u.place_is) ∙ sym is) in
+    subst (λ s. Decides parts s (verdict case) (record parts { log = log })) (sym u.session_is)
+    (subst (Decides parts (suc u.slot_at) (verdict case)) log_is (record {
+      step = moves.decided_step parts u.slot_at u.slot u.hold u.row sound u.there u.holds u.row_there u.writes_are index case own none;
+      sound = moves.decided_sound parts u.slot_at u.slot u.hold u.row sound u.there u.holds u.row_there u.writes_are index case own none;
+    }))
+
+-- The exits of the decision, seen from outside.
+
+pub decide_exit : (parts : Parts) (world : World) → world_of parts ≡ world → AreSound parts → (session : ℕ) (reply : Result Verdict Fault) (fault : Fault) → reply ≡ Err fault → row_under_way parts.slots session ≡ Err fault → Step world (Decide session) (decision reply) world
+decide_exit parts world seen sound session reply fault is found =
+    subst (λ r. Step world (Decide session) (decision r) world) (sym is) (subst (λ w. Step w (Decide session) (Refused fault) w) seen (decide_refused parts session fault sound found))
+
+pub decide_exit_late : (parts : Parts) (world : World) → world_of parts ≡ world → AreSound parts → (session place : ℕ) (row : LogRow) → row_under_way parts.slots session ≡ Ok place → slice_get parts.log place ≡ Some row → is_open row.standing ≡ false
+    → Step world (Decide session) (Refused faults.AlreadyDecided) world
+decide_exit_late parts world seen sound session place row found at closed =
+    subst (λ w. Step w (Decide session) (Refused faults.AlreadyDecided) w) seen (decide_late parts session place row sound found at closed)
+
+-- the row under way stands in the log
+pub row_stands : (parts : Parts) (session place : ℕ) → AreSound parts → row_under_way parts.slots session ≡ Ok place → slice_get parts.log place ≡ None → ⊥
+row_stands parts session place sound found none =
+    let u = found_row parts session place sound found in
+    clash u.row (sym (held-get (suc u.slot_at) u.hold.place parts.log u.row u.row_there) ∙ ap (slice_get parts.log) (sym u.place_is) ∙ none)
+  where
+    clash : (row : LogRow) → Some row ≡ None → ⊥
+    clash row e = cc
+
+pub decide_whole : (parts : Parts) (world : World) → world_of parts ≡ world → AreSound parts → (session place : ℕ) (row : LogRow) (index : ℕ) (case : Case) → row_under_way parts.slots session ≡ Ok place → slice_get parts.log place ≡ Some row → row.standing ≡ Open index case
+    → (v : Verdict) → v ≡ verdict case → (log : List LogRow) → log ≡ slice_set parts.log place (record row { standing = decided v })
+    → Step world (Decide session) (Decided v) (world_of (record parts { log = log })) × AreSound (record parts { log = log })
+decide_whole parts world seen sound session place row index case found at stands v right log is =
+    let d = decide_done parts session place row index case sound found at stands log (is ∙ ap (λ w. slice_set parts.log place (record row { standing = decided w })) right) in (
+      subst (λ w. Step w (Decide session) (Decided v) (world_of (record parts { log = log }))) seen
+          (subst (λ w. Step (world_of parts) (Decide session) (Decided w) (world_of (record parts { log = log }))) (sym right) d.step),
+      d.sound,
+    )

@@ -1,0 +1,30 @@
+-- What clauses see of a core, and what holds of its parts.
+use Rattle.std.specs.Prelude.{◌≡◌, length}
+use Rattle.occ_model.specs.World.{World}
+use Rattle.occ_core.specs.Parts.{Parts, world_of, AreSound}
+use Rattle.occ_core.specs.declared.core_state.Core.TheInside.{Inside}
+
+-- what clauses see of a core: its world
+pub record Seen : Type 0 where
+  pub world : World
+
+module _ {Z : Type 0} where
+  -- the parts of a core, as plain data
+  abbrev pub parts_of : Inside Z → Parts
+  parts_of c = record {
+    settings = record { schema = c.schema; sessions = length c.sessions; keep = c.window.keep };
+    log = c.log;
+    table = c.tables.state;
+    counter = c.counter;
+    phases = c.phases;
+    slots = c.sessions;
+    window = c.window.sets;
+  }
+
+  abbrev pub seen_of : Inside Z → Seen
+  seen_of c = record { world = world_of (parts_of c) }
+
+  -- what holds of the fields of every core
+  pub record IsCore (c : Inside Z) : Type 0 where
+    pub sound : AreSound (parts_of c)
+    pub tables_match : c.tables.tables ≡ length c.schema
