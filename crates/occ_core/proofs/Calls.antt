@@ -1,25 +1,25 @@
 -- What each call of the core has to show, over plain parts.
-use Rattle.std.proofs.Common.{◌≡◌, ℕ, zero, suc, ◌+◌, ◌≤◌, Bool, true, false, not, ◌&&◌, List, [], ◌∷◌, length, Option, None, Some, Result, Ok, Err, refl, sym, ap, subst, ◌∙◌, arith}
+use Rattle.std.proofs.Common.{◌≡◌, ℕ, zero, suc, ◌+◌, ◌-◌, ◌<◌, ◌≤◌, Bool, true, false, not, ◌&&◌, List, [], ◌∷◌, length, Option, None, Some, Result, Ok, Err, refl, sym, ap, subst, ◌∙◌, arith}
 use Rattle.std.specs.Prelude.{is_some, slice_get, slice_set, nat_le}
 use Rattle.std.proofs.lemmas.Bool.{le-leb, leb-true}
 use Rattle.occ_types.specs.Schema.{fault_if, first_fault}
 use Rattle.occ_types.specs.declared.fault.Fault.{Fault}
 use Rattle.occ_types.specs.declared.fault.Fault.TheVariants as faults
-use Rattle.occ_model.specs.Log.{LogRow, Open, Case, is_open}
+use Rattle.occ_model.specs.Log.{LogRow, Standing, Open, Writing, Done, Back, Case, is_open, is_back}
 use Rattle.occ_model.specs.Validity.{verdict}
 use Rattle.occ_model.specs.World.{World, latest, is_held, has_session}
-use Rattle.occ_model.specs.Event.{Decide, Refused, Decided}
+use Rattle.occ_model.specs.Event.{Decide, BackUp, Refused, Decided, BackedUp}
 use Rattle.occ_model.specs.Refusal as refusals
 use Rattle.occ_model.specs.Refusal.{refusal}
 use Rattle.occ_model.specs.Step.{Step, refused, decided}
 use Rattle.occ_model.specs.declared.verdict.Verdict.{Verdict}
 use Rattle.occ_model.proofs.Tests as tests
-use Rattle.occ_core.specs.Replies.{decision}
-use Rattle.occ_core.specs.Slots.{Slot, Hold, IsHeldAt, row_under_way}
+use Rattle.occ_core.specs.Replies.{decision, backing}
+use Rattle.occ_core.specs.Slots.{Slot, Hold, IsHeldAt, row_under_way, last_of, back_fault}
 use Rattle.occ_core.specs.Parts.{Parts, world_of, AreSound}
 use Rattle.occ_core.proofs.Held.{is_held_at, contains-held}
 use Rattle.occ_core.proofs.Opponents.{held-get}
-use Rattle.occ_core.proofs.Places.{held_latest, slice_get-below}
+use Rattle.occ_core.proofs.Places.{held_latest, slice_get-below, length-set}
 use Rattle.occ_core.proofs.Moves as moves
 
 -- the row that a session has under way
@@ -177,4 +177,78 @@ decide_whole parts world seen sound session place row index case found at stands
       subst (λ w. Step w (Decide session) (Decided v) (world_of (record parts { log = log }))) seen
           (subst (λ w. Step (world_of parts) (Decide session) (Decided w) (world_of (record parts { log = log }))) (sym right) d.step),
       d.sound,
+    )
+
+-- The back-up.
+
+-- what the guards on the standing read
+back_told : (parts : Parts) (k place : ℕ) (row : LogRow) → IsHeldAt (suc k) place parts.log row
+    → first_fault (refusals.not_decided (world_of parts) (suc k) ∷ fault_if (not (refusals.row_is_back (world_of parts) (suc k))) faults.AlreadyDecided ∷ [])
+    ≡ first_fault (fault_if (is_open row.standing) faults.NotDecided ∷ fault_if (not (is_back row.standing)) faults.AlreadyDecided ∷ [])
+back_told parts k place row there =
+    let e = held_latest (suc k) place parts.log row there in
+    ap (λ b. first_fault (fault_if b faults.NotDecided ∷ fault_if (not (refusals.row_is_back (world_of parts) (suc k))) faults.AlreadyDecided ∷ []))
+    (latest_reads parts.log (suc k) row false (λ r. is_open r.standing) e)
+    ∙ ap (λ b. first_fault (fault_if (is_open row.standing) faults.NotDecided ∷ fault_if (not b) faults.AlreadyDecided ∷ []))
+    (latest_reads parts.log (suc k) row true (λ r. is_back r.standing) e)
+
+back_guards : (standing : Standing) → first_fault (fault_if (is_open standing) faults.NotDecided ∷ fault_if (not (is_back standing)) faults.AlreadyDecided ∷ []) ≡ back_fault standing
+back_guards (Open index case) = refl
+back_guards (Writing done) = refl
+back_guards (Done number) = refl
+back_guards (Back cause) = refl
+
+back_refusal : (parts : Parts) (sound : AreSound parts) (session place : ℕ) (u : UnderWay parts session place) (row : LogRow) → slice_get parts.log place ≡ Some row
+    → refusal (world_of parts) (BackUp (suc u.slot_at)) ≡ back_fault row.standing
+back_refusal parts sound session place u row at =
+    let same : u.row ≡ row = let e : Some u.row ≡ Some row = sym (held-get (suc u.slot_at) u.hold.place parts.log u.row u.row_there) ∙ ap (slice_get parts.log) (sym u.place_is) ∙ at in cc in
+    let_through parts u.slot_at u.slot u.hold _ sound u.there u.holds
+    ∙ back_told parts u.slot_at u.hold.place u.row u.row_there ∙ back_guards u.row.standing ∙ ap (λ r. back_fault r.standing) same
+
+pub back_exit : (parts : Parts) (world : World) → world_of parts ≡ world → AreSound parts → (session : ℕ) (reply : Result ℕ Fault) (fault : Fault) → reply ≡ Err fault → row_under_way parts.slots session ≡ Err fault → Step world (BackUp session) (backing reply) world
+back_exit parts world seen sound session reply fault is found =
+    subst (λ r. Step world (BackUp session) (backing r) world) (sym is)
+    (subst (λ w. Step w (BackUp session) (Refused fault) w) seen (refused fault (told parts session fault _ sound found) refl refl))
+
+pub back_kept : (parts : Parts) (world : World) → world_of parts ≡ world → AreSound parts → (session place : ℕ) (row : LogRow) (fault : Fault) → row_under_way parts.slots session ≡ Ok place → slice_get parts.log place ≡ Some row → back_fault row.standing ≡ Some fault
+    → Step world (BackUp session) (Refused fault) world
+back_kept parts world seen sound session place row fault found at why =
+    let u = found_row parts session place sound found in
+    subst (λ w. Step w (BackUp session) (Refused fault) w) seen
+    (subst (λ s. Step (world_of parts) (BackUp s) (Refused fault) (world_of parts)) (sym u.session_is)
+    (refused fault (back_refusal parts sound session place u row at ∙ why) refl refl))
+
+-- the place of a session whose row is under way
+pub slot_below : (parts : Parts) (session place : ℕ) → AreSound parts → row_under_way parts.slots session ≡ Ok place → session - 1 < length parts.slots
+slot_below parts session place sound found =
+    let u = found_row parts session place sound found in
+    let less = slice_get-below parts.slots u.slot_at u.slot u.there in
+    let is = u.session_is in
+    omega arith
+
+-- the parts with other sessions
+abbrev pub with_slots : Parts → List Slot → Parts
+with_slots parts slots = record parts { slots = slots; settings = record parts.settings { sessions = length slots } }
+
+pub back_whole : (parts : Parts) (world : World) → world_of parts ≡ world → AreSound parts → (session place : ℕ) (row : LogRow) → row_under_way parts.slots session ≡ Ok place → slice_get parts.log place ≡ Some row → back_fault row.standing ≡ None
+    → (last : ℕ) → last ≡ last_of parts.slots (session - 1) → (slots : List Slot) → slots ≡ slice_set parts.slots (session - 1) (record { last = last_of parts.slots (session - 1); hold = None })
+    → Step world (BackUp session) (BackedUp last) (world_of (with_slots parts slots)) × AreSound (with_slots parts slots)
+back_whole parts world seen sound session place row found at free last last_is slots is =
+    let u = found_row parts session place sound found in
+    let k = u.slot_at in
+    let there : session - 1 ≡ u.slot_at = let e = u.session_is in omega arith in
+    let own : last_of parts.slots (session - 1) ≡ u.slot.last = ap (last_of parts.slots) there ∙ ap (λ o. elim o as (λ _. ℕ) [ None ↦ 0 | Some slot ↦ slot.last ]) u.there in
+    let none : refusal (world_of parts) (BackUp (suc u.slot_at)) ≡ None = back_refusal parts sound session place u row at ∙ free in
+    let slots_is : slice_set parts.slots u.slot_at (record { last = u.slot.last; hold = None }) ≡ slots =
+    sym (is ∙ ap (λ p. slice_set parts.slots p (record { last = last_of parts.slots (session - 1); hold = None })) there
+    ∙ ap (λ n. slice_set parts.slots u.slot_at (record { last = n; hold = None })) own) in
+    let count : parts.settings.sessions ≡ length slots = sym (ap length (sym slots_is) ∙ length-set parts.slots u.slot_at _ ∙ sound.each_session) in
+    let moved : moves.backed_parts parts u.slot_at u.slot u.hold u.row sound u.there u.holds u.row_there u.writes_are none ≡ with_slots parts slots =
+    ap (λ s. record parts { slots = s }) slots_is ∙ ap (λ n. record parts { slots = slots; settings = record parts.settings { sessions = n } }) count in
+    let step = subst (λ p. Step (world_of parts) (BackUp (suc u.slot_at)) (BackedUp u.slot.last) (world_of p)) moved
+    (moves.backed_step parts u.slot_at u.slot u.hold u.row sound u.there u.holds u.row_there u.writes_are none) in (
+      subst (λ w. Step w (BackUp session) (BackedUp last) (world_of (with_slots parts slots))) seen
+          (subst (λ n. Step (world_of parts) (BackUp session) (BackedUp n) (world_of (with_slots parts slots))) (sym (last_is ∙ own))
+          (subst (λ s. Step (world_of parts) (BackUp s) (BackedUp u.slot.last) (world_of (with_slots parts slots))) (sym u.session_is) step)),
+      subst AreSound moved (moves.backed_sound parts u.slot_at u.slot u.hold u.row sound u.there u.holds u.row_there u.writes_are none),
     )

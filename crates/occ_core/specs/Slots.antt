@@ -3,9 +3,9 @@ use Rattle.std.specs.Prelude.{◌≡◌, ℕ, zero, suc, cond, List, [], ◌∷�
 use Rattle.std.specs.Ordering.{nat_cmp}
 use Rattle.std.specs.FinSet.{FinSet, empty, insert}
 use Rattle.occ_types.specs.declared.fault.Fault.{Fault}
-use Rattle.occ_types.specs.declared.fault.Fault.TheVariants.{NoSession, NothingEntered}
+use Rattle.occ_types.specs.declared.fault.Fault.TheVariants.{NoSession, NothingEntered, NotDecided, AlreadyDecided}
 use Rattle.occ_model.specs.State.{Write}
-use Rattle.occ_model.specs.Log.{LogRow, is_active}
+use Rattle.occ_model.specs.Log.{LogRow, Standing, Open, Writing, Done, Back, is_active}
 use Rattle.occ_model.specs.World.{latest}
 
 -- the row of a session that is under way: its place in the log, and its writes once more, for the window
@@ -57,3 +57,10 @@ row_under_way slots (suc place) = elim (slice_get slots place) [
   | None ↦ Err NoSession
   | Some slot ↦ elim slot.hold [ None ↦ Err NothingEntered | Some hold ↦ Ok hold.place ]
 ]
+
+-- why a row that stands so can't be backed up
+abbrev pub back_fault : Standing → Option Fault
+back_fault (Open index case) = Some NotDecided
+back_fault (Writing done) = Some AlreadyDecided
+back_fault (Done number) = Some AlreadyDecided
+back_fault (Back cause) = None

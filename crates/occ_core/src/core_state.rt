@@ -1,11 +1,11 @@
 //! The core of the store: the world of the model, kept.
 ghost use Rattle.std.specs.Prelude.{◌≡◌, IfOk};
 ghost use Rattle.occ_model.specs.World.{opened, low};
-ghost use Rattle.occ_model.specs.Event.{Decide};
+ghost use Rattle.occ_model.specs.Event.{Decide, BackUp};
 ghost use Rattle.occ_model.specs.Step.{Step, decided};
-ghost use Rattle.occ_core.specs.Slots.{row_under_way};
+ghost use Rattle.occ_core.specs.Slots.{row_under_way, back_fault};
 ghost use Rattle.occ_core.specs.Rows.{log_of, standing_of};
-ghost use Rattle.occ_core.specs.Replies.{decision};
+ghost use Rattle.occ_core.specs.Replies.{decision, backing};
 
 use crate::log::Log;
 use crate::phases::ReadPhases;
@@ -113,6 +113,24 @@ impl<A: Allocator> Core<A> {
         self.log.stand(place, decided(verdict));
         Ok(verdict)
     }
+
+    /// Lets the session go on after its transaction was decided to be backed up, and answers the number of that transaction. Its
+    /// row stays in the log. Refused where there is no such session, where nothing of it is under way, where that is not decided,
+    /// and where it commits. It takes no memory.
+    pub fn back_up(&mut self, session: usize) -> Result<u64, Fault>
+        ensures { Step self.old.world (BackUp session) (backing result) self.new.world }
+    {
+        let place = row_under_way(&self.sessions, session)?;
+        let Some(row) = self.log.row(place) else {
+            return Err(Fault::NothingEntered);
+        };
+        if let Some(fault) = back_fault(&row.standing) {
+            return Err(fault);
+        }
+        let last = self.sessions.last(session - 1);
+        let _row = self.sessions.release(session - 1);
+        Ok(last)
+    }
 }
 
 // The place in the log of the session's row that is under way.
@@ -138,5 +156,17 @@ fn decided<A: Allocator>(verdict: Verdict) -> Standing<A>
     match verdict {
         Verdict::Commit => Standing::Writing(0),
         Verdict::BackUp(cause) => Standing::Back(cause),
+    }
+}
+
+// Why a row that stands so can't be backed up.
+fn back_fault<A: Allocator>(standing: &Standing<A>) -> Option<Fault>
+    ensures { result ≡ back_fault (standing_of standing.now) }
+{
+    match standing {
+        Standing::Open(_) => Some(Fault::NotDecided),
+        Standing::Writing(_) => Some(Fault::AlreadyDecided),
+        Standing::Done(_) => Some(Fault::AlreadyDecided),
+        Standing::Back(_) => None,
     }
 }

@@ -72,6 +72,16 @@ impl<A: Allocator> Sessions<A> {
         self.states.get(place)
     }
 
+    /// The number of the last transaction of the session at a place that entered, or 0.
+    pub fn last(&self, place: usize) -> u64
+        ensures { result ≡ last_of self.now place }
+    {
+        match self.states.get(place) {
+            None => 0,
+            Some(state) => state.last,
+        }
+    }
+
     /// The session at a place has a row that entered under this number.
     pub fn hold(&mut self, place: usize, number: u64, held: Held<A>)
         requires { place < length self.old }
