@@ -1,8 +1,12 @@
 //! Sets that several owners share, also across threads.
-ghost use Rattle.std.specs.Prelude.{◌≡◌, IfOk, IfErr};
+ghost use Rattle.std.specs.Prelude.{◌≡◌, ◌<◌, ◌++◌, [], ◌∷◌, length, IfOk, IfErr, OnOk, OnErr};
+ghost use Rattle.occ_types.specs.Seen.{question_of};
+ghost use Rattle.occ_sets.specs.Seen.{answer_of};
+ghost use Rattle.occ_types.specs.declared.limits.TheConstants as limit;
 
-use crate::reads::ReadSet;
+use crate::reads::{Answer, ReadSet};
 use crate::writes::WriteSet;
+use occ_types::Question;
 use std::alloc::{AllocError, AllocFailed, Allocator};
 use std::marker::Model;
 use std::sync::Arc;
@@ -49,7 +53,7 @@ impl<A: Allocator> SharedWrites<A> {
     }
 }
 
-/// A read set that several owners share and none changes any more. Clauses see its observations.
+/// A read set that grows while it has one owner, and that several owners share then. Clauses see its observations.
 #[derive(Drop)]
 pub struct SharedReads<A: Allocator> {
     shared: Arc<ReadSet<A>, A>,
@@ -83,10 +87,38 @@ impl<A: Allocator> SharedReads<A> {
         Ok(SharedReads { shared })
     }
 
+    /// Notes a question and the table's answer after the others. An error, where there is no memory for it, or another owner
+    /// reads the set, leaves the set as it was.
+    pub fn note(&mut self, question: Question<A>, answer: Answer<A>) -> Result<(), AllocError>
+        requires few { length self.old < limit.MAX_QUESTIONS }
+        ensures ok { OnOk result (self.new ≡ self.old ++ (question_of question, answer_of answer) ∷ []) }
+        ensures err { OnErr result (self.new ≡ self.old) }
+    {
+        let Some(reads) = Arc::get_mut(&mut self.shared) else {
+            return Err(AllocError);
+        };
+        note_read(reads, question, answer)
+    }
+
     /// The set.
     pub fn get(&self) -> &ReadSet<A>
         ensures { result.now ≡ self.now }
     {
         &self.shared
+    }
+}
+
+// Notes a read in a set that has room for it, where memory alone can be wanting.
+fn note_read<A: Allocator>(
+    reads: &mut ReadSet<A>,
+    question: Question<A>,
+    answer: Answer<A>,
+) -> Result<(), AllocError>
+    ensures ok { OnOk result (reads.new ≡ reads.old ++ (question_of question, answer_of answer) ∷ []) }
+    ensures err { OnErr result (reads.new ≡ reads.old) }
+{
+    match reads.note(question, answer) {
+        Ok(()) => Ok(()),
+        Err(_refused) => Err(AllocError),
     }
 }

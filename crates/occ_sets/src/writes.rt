@@ -1,5 +1,5 @@
 //! The write set of a transaction.
-ghost use Rattle.std.specs.Prelude.{◌≡◌, ◌==◌, ◌≤◌, [], false, cond, length, slice_get, is_some, None, IfErr, OnOk, OnErr, MatchResult};
+ghost use Rattle.std.specs.Prelude.{◌≡◌, ◌==◌, ◌<◌, ◌≤◌, [], false, cond, length, slice_get, is_some, None, IfErr, IfSome, OnOk, OnErr, MatchResult};
 ghost use Rattle.std.specs.Option.{option_copied, option_map};
 ghost use Rattle.occ_types.specs.declared.fault.Fault.TheVariants.{SetFull, Memory};
 ghost use Rattle.occ_types.specs.declared.limits.TheConstants as limit;
@@ -125,7 +125,8 @@ impl<A: Allocator> WriteSet<A> {
 
     /// The write at a place, in the order of the first writes.
     pub fn write_at(&self, place: usize) -> Option<(&Object<A>, Option<&Row<A>>)>
-        ensures { option_map (λ w. (object_of w.0.now, option_copied w.1)) result ≡ slice_get self.now place }
+        ensures value { option_map (λ w. (object_of w.0.now, option_copied w.1)) result ≡ slice_get self.now place }
+        ensures few { IfSome result (λ _. place < limit.MAX_WRITES) }
     {
         self.entries
             .get_index(place)

@@ -42,6 +42,9 @@ key_fed_alike a b e = ap key_fed ((key_same-decides a b).0 e)
 pub object_same_equiv : IsEquivalence (eq_by_cmp object_cmp)
 object_same_equiv = eq_by_cmp_equiv object_cmp_total
 
+pub object_po : IsPartialOrder (eq_by_cmp object_cmp) (as_partial_cmp object_cmp)
+object_po = po object_cmp_total (λ a b. refl)
+
 -- what an object feeds a hasher: its table, and then its key
 abbrev pub object_fed : Object → HashWrites
 object_fed object = fed.usize object.0 ++ key_fed object.1

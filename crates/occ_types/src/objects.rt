@@ -1,13 +1,14 @@
 //! The names of rows.
-ghost use Rattle.std.specs.Prelude.{◌≡◌};
-ghost use Rattle.std.specs.Ordering.{on, eq_by_cmp};
-ghost use Rattle.std.specs.Cmp.{on_per, on_equiv, partial_equiv_from_equiv};
-ghost use Rattle.occ_types.specs.Object.{object_cmp};
-ghost use Rattle.occ_types.specs.Same.{object_same_equiv, object_fed, object_fed_alike};
+ghost use Rattle.std.specs.Prelude.{◌≡◌, refl};
+ghost use Rattle.std.specs.Ordering.{on, eq_by_cmp, as_partial_cmp};
+ghost use Rattle.std.specs.Cmp.{on_per, on_equiv, on_total, on_po, partial_equiv_from_equiv};
+ghost use Rattle.occ_types.specs.Object.{object_cmp, object_cmp_total};
+ghost use Rattle.occ_types.specs.Same.{object_same_equiv, object_po, object_fed, object_fed_alike};
 ghost use Rattle.occ_types.specs.Seen.{object_of};
 
 use crate::keys::Key;
 use std::alloc::{AllocError, Allocator};
+use std::cmp::Ordering;
 use std::hash::{Hash, Hasher};
 
 /// A row's name: its table, by its place in the schema, and its key.
@@ -44,6 +45,34 @@ impl<A: Allocator> PartialEq for Object<A> {
 
 impl<A: Allocator> Eq for Object<A> {
     ghost laws = { on_equiv object_of object_same_equiv };
+}
+
+impl<A: Allocator> PartialOrd for Object<A> {
+    ghost partial_cmp = { as_partial_cmp (on object_of object_cmp) };
+
+    ghost laws = { on_po object_of object_po };
+
+    fn partial_cmp(&self, other: &Object<A>) -> Option<Ordering> {
+        Some(self.cmp(other))
+    }
+}
+
+impl<A: Allocator> Ord for Object<A> {
+    ghost cmp = { on object_of object_cmp };
+
+    ghost total = { on_total object_of object_cmp_total };
+
+    ghost matches_partial_cmp = { λ a b. refl };
+
+    ghost matches_eq = { λ a b. refl };
+
+    fn cmp(&self, other: &Object<A>) -> Ordering {
+        match self.table.cmp(&other.table) {
+            Ordering::Less => Ordering::Less,
+            Ordering::Equal => self.key.cmp(&other.key),
+            Ordering::Greater => Ordering::Greater,
+        }
+    }
 }
 
 impl<A: Allocator> Hash for Object<A> {

@@ -4,6 +4,7 @@ ghost use Rattle.std.specs.List.{position};
 ghost use Rattle.std.specs.Result.{result_err};
 ghost use Rattle.occ_types.specs.Schema.{check_tables, are_tables, check_key, check_row, check_question, is_empty_range};
 ghost use Rattle.occ_types.specs.Fits.{check_range, has_name};
+ghost use Rattle.occ_types.specs.Question.{Span};
 ghost use Rattle.occ_types.specs.declared.fault.Fault.TheVariants.{NoTable};
 ghost use Rattle.occ_types.specs.Seen.{key_of, end_of, question_of, table_of, tables_of};
 
@@ -116,8 +117,20 @@ impl<A: Allocator> Schema<A> {
                 table,
                 lower,
                 upper,
-            } => check_range(self.table_at(*table)?, lower, upper),
+            } => self.check_range(*table, lower, upper),
         }
+    }
+
+    /// Whether the question for a range fits the schema, as `check_question` has it.
+    pub fn check_range(
+        &self,
+        table: usize,
+        lower: &Option<Key<A>>,
+        upper: &Option<Key<A>>,
+    ) -> Result<(), Fault>
+        ensures { result_err result ≡ check_question self.now (Span table (end_of lower.now) (end_of upper.now)) }
+    {
+        check_range(self.table_at(table)?, lower, upper)
     }
 }
 
