@@ -49,7 +49,7 @@ found_row parts (suc k) place sound found = at_slot (slice_get parts.slots k) re
     at_slot None e found = cc
     at_slot (Some slot) e found = at_hold slot e slot.hold refl found
 
-past_end : {X : Type 0} (xs : List X) (k : ℕ) → slice_get xs k ≡ None → length xs ≤ k
+pub past_end : {X : Type 0} (xs : List X) (k : ℕ) → slice_get xs k ≡ None → length xs ≤ k
 past_end [] k e = omega arith
 past_end (x ∷ xs) zero e = cc
 past_end (x ∷ xs) (suc k) e = let h = past_end xs k e in omega arith
@@ -59,12 +59,12 @@ held_is [] k slot at = cc
 held_is (x ∷ xs) zero slot at = let e : x ≡ slot = cc in ap (λ s. is_some s.hold) e
 held_is (x ∷ xs) (suc k) slot at = held_is xs k slot at
 
-held_world : (parts : Parts) (k : ℕ) (slot : Slot) → slice_get parts.slots k ≡ Some slot → is_held (world_of parts) (suc k) ≡ is_some slot.hold
+pub held_world : (parts : Parts) (k : ℕ) (slot : Slot) → slice_get parts.slots k ≡ Some slot → is_held (world_of parts) (suc k) ≡ is_some slot.hold
 held_world parts k slot at =
     let e : suc k ≡ 1 + k = omega arith in
     ap (is_held (world_of parts)) e ∙ contains-held 1 parts.slots k ∙ held_is parts.slots k slot at
 
-exists : (parts : Parts) (k : ℕ) (slot : Slot) → AreSound parts → slice_get parts.slots k ≡ Some slot → has_session (world_of parts) (suc k) ≡ true
+pub exists : (parts : Parts) (k : ℕ) (slot : Slot) → AreSound parts → slice_get parts.slots k ≡ Some slot → has_session (world_of parts) (suc k) ≡ true
 exists parts k slot sound at =
     let less = slice_get-below parts.slots k slot at in
     let count = sound.each_session in
@@ -108,7 +108,7 @@ let_through parts k slot hold others sound at holds =
     ∙ ap (λ b. first_fault (fault_if (not b) faults.NothingEntered ∷ others)) (held_world parts k slot at ∙ ap is_some holds)
 
 -- what a guard on the latest row reads
-latest_reads : (log : List LogRow) (session : ℕ) (row : LogRow) (none : Bool) (of : LogRow → Bool) → latest session log ≡ Some row → (elim (latest session log) as (λ _. Bool) [ None ↦ none | Some r ↦ of r ]) ≡ of row
+pub latest_reads : (log : List LogRow) (session : ℕ) (row : LogRow) (none : Bool) (of : LogRow → Bool) → latest session log ≡ Some row → (elim (latest session log) as (λ _. Bool) [ None ↦ none | Some r ↦ of r ]) ≡ of row
 latest_reads log session row none of is = ap (λ l. elim l as (λ _. Bool) [ None ↦ none | Some r ↦ of r ]) is
 
 -- The decision.

@@ -1,8 +1,11 @@
 -- What a change of a vector is, to those who see it as plain data.
-use Rattle.std.proofs.Common.{◌≡◌, ℕ, zero, suc, ◌+◌, ◌<◌, false, List, [], ◌∷◌, ◌++◌, get_or, length, map, None, Some, refl, sym, ap, subst, ◌∙◌, arith}
-use Rattle.std.specs.Prelude.{slice_get, slice_set}
+use Rattle.std.proofs.Common.{◌≡◌, ℕ, zero, suc, ◌+◌, ◌<◌, false, List, [], ◌∷◌, ◌++◌, get_or, length, map, Option, None, Some, refl, eqb-true, eq-eqb, sym, ap, subst, ◌∙◌, arith}
+use Rattle.std.specs.Prelude.{slice_get, slice_set, ◌==◌, Result, Ok, Err, OnOk, OnErr, IsOk, is_some, true}
+use Rattle.std.specs.Result.{is_err}
 use Rattle.occ_model.specs.Log.{LogRow, is_open}
-use Rattle.occ_core.specs.Slots.{Slot, idle_slots, last_of}
+use Rattle.occ_core.specs.Slots.{Slot, Hold, idle_slots, last_of, ArePlaced, HoldsArePlaced}
+use Rattle.occ_core.proofs.Places.{slice_get-other}
+use Rattle.occ_model.proofs.Tests as tests
 use Rattle.occ_core.specs.Rows.{standing_of, log_row_of, log_of, slot_of, slots_of}
 use Rattle.occ_core.specs.declared.rows.Standing as code_standing
 use Rattle.occ_core.specs.declared.rows.Standing.TheVariants as standings
@@ -51,3 +54,43 @@ not_open (standings.Back cause) not = refl
 pub length-map : {X Y : Type 0} (f : X → Y) (xs : List X) → length (map f xs) ≡ length xs
 length-map f [] = refl
 length-map f (x ∷ xs) = ap suc (length-map f xs)
+
+-- no session is held where none has entered
+pub idle-placed : (tables count : ℕ) → HoldsArePlaced tables (idle_slots count)
+idle-placed tables zero k slot hold at holds = cc
+idle-placed tables (suc count) zero slot hold at holds =
+    let e : record { last = 0; hold = None } ≡ slot = cc in
+    let n : None ≡ Some hold = ap (λ (s : Slot). s.hold) e ∙ holds in
+    cc
+idle-placed tables (suc count) (suc k) slot hold at holds = idle-placed tables count k slot hold at holds
+
+-- a session that is let go, or takes a row whose writes are placed, leaves the writes of all placed
+pub placed-set : (tables : ℕ) (slots : List Slot) (place : ℕ) (next : Slot) → HoldsArePlaced tables slots → ((hold : Hold) → next.hold ≡ Some hold → ArePlaced tables hold.writes) → HoldsArePlaced tables (slice_set slots place next)
+placed-set tables slots place next placed own k slot hold at holds = tests.decided (k == place)
+    (λ e. let same : k ≡ place = eqb-true k place e in
+    let is = at_own slots place slot (ap (slice_get (slice_set slots place next)) (sym same) ∙ at) in
+    own hold (ap (λ (s : Slot). s.hold) is ∙ holds))
+    (λ e. placed k slot hold (sym (slice_get-other slots place k next (λ is. tests.clash (k == place) (eq-eqb k place is) e)) ∙ at) holds)
+  where
+    at_own : (xs : List Slot) (p : ℕ) (s : Slot) → slice_get (slice_set xs p next) p ≡ Some s → next ≡ s
+    at_own [] p s e = cc
+    at_own (x ∷ xs) zero s e = cc
+    at_own (x ∷ xs) (suc p) s e = at_own xs p s e
+
+pub placed-free : (tables : ℕ) (slots : List Slot) (place last : ℕ) → HoldsArePlaced tables slots → HoldsArePlaced tables (slice_set slots place (record { last = last; hold = None }))
+placed-free tables slots place last placed = placed-set tables slots place (record { last = last; hold = None }) placed (λ hold is. cc)
+
+-- what a result that is an error, or isn't one, says
+pub on_err : {T E P : Type 0} (r : Result T E) → is_err r ≡ true → OnErr r P → P
+on_err (Ok x) is says = cc
+on_err (Err e) is says = says
+
+pub on_ok : {T E P : Type 0} (r : Result T E) → is_err r ≡ false → OnOk r P → P
+on_ok (Ok x) is says = says
+on_ok (Err e) is says = cc
+
+-- a write that finds no memory puts a row
+pub puts_some : {T E X : Type 0} (r : Result T E) (row : Option X) → is_err r ≡ true → (row ≡ None → IsOk r) → is_some row ≡ true
+puts_some (Ok x) row is deletes = cc
+puts_some (Err e) None is deletes = let clash : false ≡ true = deletes refl in cc
+puts_some (Err e) (Some x) is deletes = refl

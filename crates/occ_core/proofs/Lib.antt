@@ -9,3 +9,10 @@ pub mod PhaseViews
 pub mod WindowMoves
 pub mod Calls
 pub mod Openings
+pub mod Finishes
+pub mod Reading
+pub mod Sizes
+pub mod Counting
+pub mod Entering
+pub mod Absent
+pub mod Copies

@@ -221,7 +221,7 @@ module _ {Z : Type 0} where
       both _ _ (ap (λ o. is_lt (ordering_then o (key_cmp k (key_of e.0)))) (tied_itself nat_cmp_total t) ∙ ap is_lt h.0) (below-placed t k es h.1)
 
   -- keys in order are objects in order
-  sorted-placed : (t : ℕ) (es : List (code_key.Key Z × Row)) → IsStrictlySortedBy (on key_of key_cmp) (keys_of es) → T (is_sorted object_cmp (placed t es))
+  pub sorted-placed : (t : ℕ) (es : List (code_key.Key Z × Row)) → IsStrictlySortedBy (on key_of key_cmp) (keys_of es) → T (is_sorted object_cmp (placed t es))
   sorted-placed t [] h = tt
   sorted-placed t (e ∷ es) h =
       both_hold _ _ (below-placed t (key_of e.0) es (sorted_head (on key_of key_cmp) e.0 (keys_of es) h)) (sorted-placed t es (sorted_tail (on key_of key_cmp) e.0 (keys_of es) h))

@@ -1,6 +1,7 @@
 -- What clauses see of a core, and what holds of its parts.
 use Rattle.std.specs.Prelude.{◌≡◌, length}
 use Rattle.occ_model.specs.World.{World}
+use Rattle.occ_core.specs.Slots.{HoldsArePlaced}
 use Rattle.occ_core.specs.Parts.{Parts, world_of, AreSound}
 use Rattle.occ_core.specs.declared.core_state.Core.TheInside.{Inside}
 
@@ -28,3 +29,4 @@ module _ {Z : Type 0} where
   pub record IsCore (c : Inside Z) : Type 0 where
     pub sound : AreSound (parts_of c)
     pub tables_match : c.tables.tables ≡ length c.schema
+    pub placed : HoldsArePlaced c.tables.tables c.sessions

@@ -6,3 +6,5 @@ pub mod Phases
 pub mod Window
 pub mod Core
 pub mod Replies
+pub mod Reads
+pub mod Entries

@@ -1,13 +1,54 @@
 -- What the calls of a core reply, as replies of the model.
-use Rattle.std.specs.Prelude.{ℕ, Result, Ok, Err}
+use Rattle.std.specs.Prelude.{ℕ, Bool, List, Option, None, Some, Result, Ok, Err, Vec}
 use Rattle.occ_types.specs.declared.fault.Fault.{Fault}
-use Rattle.occ_model.specs.Event.{Reply, Refused, Decided, BackedUp}
+use Rattle.occ_types.specs.declared.keys.Key as code_key
+use Rattle.occ_types.specs.Row.{Row}
+use Rattle.occ_model.specs.State.{Found, Rows}
+use Rattle.occ_model.specs.Log.{LogRow}
+use Rattle.occ_model.specs.Event.{Reply, Refused, Answered, Forgotten, Entered, Decided, Wrote, NoMore, Finished, BackedUp}
 use Rattle.occ_model.specs.declared.verdict.Verdict.{Verdict}
+use Rattle.occ_sets.specs.Seen.{rows_of}
+use Rattle.occ_core.specs.Slots.{written_in}
+use Rattle.occ_core.specs.declared.core_entries.Entered as entries
+use Rattle.occ_core.specs.declared.core_entries.RefusedEntry as refused
+use Rattle.occ_core.specs.declared.core_state.SingleWrite.{SingleWrite}
+use Rattle.occ_core.specs.declared.core_state.SingleWrite.TheVariants as writes
 
 abbrev pub decision : Result Verdict Fault → Reply
 decision (Ok verdict) = Decided verdict
 decision (Err fault) = Refused fault
 
+module _ {Z : Type 0} where
+  -- an entry replies the place of its row and the index of its case
+  abbrev pub entering : Result entries.Entered (refused.RefusedEntry Z) → Reply
+  entering (Ok entered) = Entered entered.place entered.index
+  entering (Err refusal) = Refused refusal.fault
+
+abbrev pub finishing : Result ℕ Fault → Reply
+finishing (Ok number) = Finished number
+finishing (Err fault) = Refused fault
+
 abbrev pub backing : Result ℕ Fault → Reply
 backing (Ok last) = BackedUp last
 backing (Err fault) = Refused fault
+
+-- a single write is named by its places in the log
+abbrev pub single : List LogRow → Result SingleWrite Fault → Reply
+single log (Ok (writes.Wrote row write)) = elim (written_in log row write) [ None ↦ NoMore | Some object ↦ Wrote object ]
+single log (Ok writes.NoMore) = NoMore
+single log (Err fault) = Refused fault
+
+-- what a read of one key replies
+abbrev pub reading : Result (Option Row) Fault → Reply
+reading (Ok row) = Answered (Found row)
+reading (Err fault) = Refused fault
+
+abbrev pub forgetting : Result Bool Fault → Reply
+forgetting (Ok there) = Forgotten there
+forgetting (Err fault) = Refused fault
+
+module _ {Z : Type 0} where
+  -- what a read of a range replies
+  abbrev pub scanning : Result (Vec (code_key.Key Z × Row) Z) Fault → Reply
+  scanning (Ok rows) = Answered (Rows (rows_of rows.items))
+  scanning (Err fault) = Refused fault

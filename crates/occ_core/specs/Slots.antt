@@ -1,9 +1,11 @@
 -- What the core keeps of each session, and how its rows are found without a scan of the log.
-use Rattle.std.specs.Prelude.{◌≡◌, ℕ, zero, suc, cond, List, [], ◌∷◌, ◌++◌, Option, None, Some, Result, Ok, Err, is_some, slice_get}
+use Rattle.std.specs.Prelude.{◌≡◌, ◌<◌, ℕ, zero, suc, nat_lt, cond, List, [], ◌∷◌, ◌++◌, Option, None, Some, Result, Ok, Err, is_some, slice_get, option_map, option_and_then}
 use Rattle.std.specs.Ordering.{nat_cmp}
 use Rattle.std.specs.FinSet.{FinSet, empty, insert}
 use Rattle.occ_types.specs.declared.fault.Fault.{Fault}
-use Rattle.occ_types.specs.declared.fault.Fault.TheVariants.{NoSession, NothingEntered, NotDecided, AlreadyDecided}
+use Rattle.occ_types.specs.Object.{Object}
+use Rattle.occ_types.specs.Schema.{fault_if}
+use Rattle.occ_types.specs.declared.fault.Fault.TheVariants.{NoSession, NothingEntered, NotDecided, AlreadyDecided, WritesLeft}
 use Rattle.occ_model.specs.State.{Write}
 use Rattle.occ_model.specs.Log.{LogRow, Standing, Open, Writing, Done, Back, is_active}
 use Rattle.occ_model.specs.World.{latest}
@@ -64,3 +66,30 @@ back_fault (Open index case) = Some NotDecided
 back_fault (Writing done) = Some AlreadyDecided
 back_fault (Done number) = Some AlreadyDecided
 back_fault (Back cause) = None
+
+-- the object of a write of the row at a place, by its place among the row's writes
+abbrev pub written_in : List LogRow → ℕ → ℕ → Option Object
+written_in log place write = option_and_then (λ row. option_map (λ w. w.0) (slice_get row.writes write)) (slice_get log place)
+
+-- how many writes a row that stands so has done, where it is in its write phase
+abbrev pub writes_done : Standing → Result ℕ Fault
+writes_done (Open index case) = Err NotDecided
+writes_done (Writing done) = Ok done
+writes_done (Done number) = Err AlreadyDecided
+writes_done (Back cause) = Err AlreadyDecided
+
+-- why a row can't be finished that stands so and has so many writes
+abbrev pub finish_fault : Standing → ℕ → Option Fault
+finish_fault (Open index case) writes = Some NotDecided
+finish_fault (Writing done) writes = fault_if (nat_lt done writes) WritesLeft
+finish_fault (Done number) writes = Some AlreadyDecided
+finish_fault (Back cause) writes = Some AlreadyDecided
+
+-- each write is of one of so many tables
+abbrev pub ArePlaced : ℕ → List Write → Type 0
+ArePlaced tables [] = Unit {0}
+ArePlaced tables (write ∷ writes) = (write.0.0 < tables) × ArePlaced tables writes
+
+-- the writes of each row under way are of one of so many tables
+abbrev pub HoldsArePlaced : ℕ → List Slot → Type 0
+HoldsArePlaced tables slots = (place : ℕ) (slot : Slot) (hold : Hold) → slice_get slots place ≡ Some slot → slot.hold ≡ Some hold → ArePlaced tables hold.writes

@@ -1,11 +1,13 @@
 //! The core of the store: the world of the model, kept.
-ghost use Rattle.std.specs.Prelude.{◌≡◌, IfOk};
+ghost use Rattle.std.specs.Prelude.{◌≡◌, ℕ, IfOk, Ok, is_some, true, option_map};
+ghost use Rattle.occ_types.specs.Seen.{object_of};
 ghost use Rattle.occ_model.specs.World.{opened, low};
-ghost use Rattle.occ_model.specs.Event.{Decide, BackUp};
+ghost use Rattle.occ_model.specs.Event.{Enter, Request, Decide, WriteOne, Finish, BackUp};
 ghost use Rattle.occ_model.specs.Step.{Step, decided};
-ghost use Rattle.occ_core.specs.Slots.{row_under_way, back_fault};
+ghost use Rattle.occ_core.specs.Slots.{row_under_way, written_in, back_fault, writes_done, finish_fault};
 ghost use Rattle.occ_core.specs.Rows.{log_of, standing_of};
-ghost use Rattle.occ_core.specs.Replies.{decision, backing};
+ghost use Rattle.occ_core.specs.Replies.{decision, single, finishing, backing};
+ghost use Rattle.occ_core.specs.declared.core_state.SingleWrite.TheVariants.{Wrote};
 
 use crate::log::Log;
 use crate::phases::ReadPhases;
@@ -15,22 +17,36 @@ use crate::tables::Tables;
 use crate::window::Window;
 use occ_case::verdict;
 use occ_model::verdict::Verdict;
-use occ_types::Schema;
 use occ_types::fault::Fault;
+use occ_types::{Object, Schema};
 use std::alloc::{AllocError, Allocator};
 use std::marker::Model;
 
 /// The core of the store: its tables, its log, and what is under way. Clauses see the world of the model.
 #[derive(Drop)]
 pub struct Core<A: Allocator> {
-    alloc: A,
-    schema: Schema<A>,
-    tables: Tables<A>,
-    log: Log<A>,
-    counter: u64,
-    phases: ReadPhases<A>,
-    sessions: Sessions<A>,
-    window: Window<A>,
+    pub(crate) alloc: A,
+    pub(crate) schema: Schema<A>,
+    pub(crate) tables: Tables<A>,
+    pub(crate) log: Log<A>,
+    pub(crate) counter: u64,
+    pub(crate) phases: ReadPhases<A>,
+    pub(crate) sessions: Sessions<A>,
+    pub(crate) window: Window<A>,
+}
+
+/// What one call of `Core::write_one` did.
+#[derive(Clone, Copy, Debug, PartialEq, Eq)]
+pub enum SingleWrite {
+    /// It put or deleted the row of the object that `Core::written` shows under these places.
+    Wrote {
+        /// The place of the transaction in the log.
+        row: usize,
+        /// The place of the write in the order of its first writes.
+        write: usize,
+    },
+    /// Nothing, since no write was left.
+    NoMore,
 }
 
 impl<A: Allocator> Model for Core<A> {
@@ -73,6 +89,31 @@ impl<A: Allocator + Copy> Core<A> {
             window,
         })
     }
+
+    /// Does the next single write of the transaction that the session has under way, and names its object, or tells that none is
+    /// left. Refused where there is no such session, where nothing of it is under way, where that is not decided, where it is to
+    /// be backed up, and where there is no memory for the row to be put. A deletion takes no memory.
+    pub fn write_one(&mut self, session: usize) -> Result<SingleWrite, Fault>
+        ensures step { Step self.old.world (WriteOne session) (single self.new.world.log result) self.new.world }
+        ensures named { (row write : ℕ) → result ≡ Ok (Wrote row write) → is_some (written_in self.new.world.log row write) ≡ true }
+    {
+        let place = row_under_way(&self.sessions, session)?;
+        let Some(row) = self.log.row(place) else {
+            return Err(Fault::NothingEntered);
+        };
+        let done = writes_done(&row.standing)?;
+        let Some((object, write)) = row.writes.get().write_at(done) else {
+            return Ok(SingleWrite::NoMore);
+        };
+        if self.tables.put(object.table, &object.key, write).is_err() {
+            return Err(Fault::Memory);
+        }
+        self.log.stand(place, Standing::Writing(done + 1));
+        Ok(SingleWrite::Wrote {
+            row: place,
+            write: done,
+        })
+    }
 }
 
 impl<A: Allocator> Core<A> {
@@ -97,6 +138,13 @@ impl<A: Allocator> Core<A> {
         self.log.rows()
     }
 
+    /// The object of a write in the log: by the place of its row, and by its own place in the order of the first writes.
+    pub fn written(&self, row: usize, write: usize) -> Option<&Object<A>>
+        ensures { option_map (λ o. object_of o.now) result ≡ written_in self.now.world.log row write }
+    {
+        self.log.written(row, write)
+    }
+
     /// Decides the transaction that the session has entered: by the verdict on its case, it commits or is to be backed up. Refused
     /// where there is no such session, where nothing of it is under way, and where it is decided. It takes no memory.
     pub fn decide(&mut self, session: usize) -> Result<Verdict, Fault>
@@ -112,6 +160,28 @@ impl<A: Allocator> Core<A> {
         let verdict = verdict(&open.case);
         self.log.stand(place, decided(verdict));
         Ok(verdict)
+    }
+
+    /// Ends the write phase of the transaction that the session has under way: it takes the next transaction number, which is
+    /// answered, and the session may go on. Refused where there is no such session, where nothing of it is under way, where that
+    /// is not decided, where it is to be backed up, and where single writes of it are left. It takes no memory.
+    pub fn finish(&mut self, session: usize) -> Result<u64, Fault>
+        ensures { Step self.old.world (Finish session) (finishing result) self.new.world }
+    {
+        let place = row_under_way(&self.sessions, session)?;
+        let Some(row) = self.log.row(place) else {
+            return Err(Fault::NothingEntered);
+        };
+        if let Some(fault) = finish_fault(&row.standing, row.writes.get().len()) {
+            return Err(fault);
+        }
+        let Some(held) = self.sessions.release(session - 1) else {
+            return Err(Fault::NothingEntered);
+        };
+        self.counter += 1;
+        self.log.stand(place, Standing::Done(self.counter));
+        self.window.advance(held.writes);
+        Ok(self.counter)
     }
 
     /// Lets the session go on after its transaction was decided to be backed up, and answers the number of that transaction. Its
@@ -156,6 +226,36 @@ fn decided<A: Allocator>(verdict: Verdict) -> Standing<A>
     match verdict {
         Verdict::Commit => Standing::Writing(0),
         Verdict::BackUp(cause) => Standing::Back(cause),
+    }
+}
+
+// How many writes a row that stands so has done, where it is in its write phase.
+fn writes_done<A: Allocator>(standing: &Standing<A>) -> Result<usize, Fault>
+    ensures { result ≡ writes_done (standing_of standing.now) }
+{
+    match standing {
+        Standing::Open(_) => Err(Fault::NotDecided),
+        Standing::Writing(done) => Ok(*done),
+        Standing::Done(_) => Err(Fault::AlreadyDecided),
+        Standing::Back(_) => Err(Fault::AlreadyDecided),
+    }
+}
+
+// Why a row can't be finished that stands so and has so many writes.
+fn finish_fault<A: Allocator>(standing: &Standing<A>, writes: usize) -> Option<Fault>
+    ensures { result ≡ finish_fault (standing_of standing.now) writes }
+{
+    match standing {
+        Standing::Open(_) => Some(Fault::NotDecided),
+        Standing::Writing(done) => {
+            if *done < writes {
+                Some(Fault::WritesLeft)
+            } else {
+                None
+            }
+        }
+        Standing::Done(_) => Some(Fault::AlreadyDecided),
+        Standing::Back(_) => Some(Fault::AlreadyDecided),
     }
 }
 

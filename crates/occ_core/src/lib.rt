@@ -1,7 +1,11 @@
 //! The core of the store: what it keeps, in parts. Each part is seen as plain data of the model.
 #![tactic(auto)]
 
+pub mod core_entries;
+pub mod core_reads;
 pub mod core_state;
+#[cfg(test)]
+mod core_tests;
 pub mod log;
 pub mod phases;
 pub mod rows;

@@ -1,10 +1,13 @@
 //! The decision log.
 ghost use Rattle.std.specs.Prelude.{◌≡◌, ◌<◌, [], ◌∷◌, ◌++◌, length, IfErr, OnOk, OnErr, slice_get, slice_set, Some};
 ghost use Rattle.std.specs.Option.{option_map};
+ghost use Rattle.occ_types.specs.Seen.{object_of};
 ghost use Rattle.occ_core.specs.Rows.{log_row_of, log_of, standing_of};
+ghost use Rattle.occ_core.specs.Slots.{written_in};
 ghost use Rattle.occ_model.specs.Log.{LogRow as PlainRow};
 
 use crate::rows::{LogRow, Standing};
+use occ_types::Object;
 use std::alloc::{AllocError, AllocFailed, Allocator};
 use std::marker::Model;
 
@@ -54,6 +57,15 @@ impl<A: Allocator> Log<A> {
         ensures { log_of result.now ≡ self.now }
     {
         self.rows.as_slice()
+    }
+
+    /// The object of a write of the row at a place, by its place in the order of the first writes.
+    pub fn written(&self, place: usize, write: usize) -> Option<&Object<A>>
+        ensures { option_map (λ o. object_of o.now) result ≡ written_in self.now place write }
+    {
+        let row = self.rows.get(place)?;
+        let (object, _row) = row.writes.get().write_at(write)?;
+        Some(object)
     }
 
     /// A row comes in at the end; it is handed back where there is no memory.

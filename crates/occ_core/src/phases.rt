@@ -7,7 +7,7 @@ ghost use Rattle.occ_types.specs.Seen.{question_of};
 ghost use Rattle.occ_sets.specs.Seen.{answer_of};
 ghost use Rattle.occ_core.specs.Phases.{phase_of, reads_of};
 
-use occ_sets::{Answer, ReadSet};
+use occ_sets::{Answer, ReadSet, SharedReads};
 use occ_types::Question;
 use std::alloc::{AllocError, Allocator};
 use std::collections::BTreeMap;
@@ -19,10 +19,10 @@ pub struct Phase<A: Allocator> {
     /// What the transaction counter was when the phase began.
     pub start: u64,
     /// What was read so far.
-    pub reads: ReadSet<A>,
+    pub reads: SharedReads<A>,
 }
 
-impl<A: Allocator> Phase<A> {
+impl<A: Allocator + Copy> Phase<A> {
     // A phase with its first read.
     fn first(
         alloc: A,
@@ -32,8 +32,8 @@ impl<A: Allocator> Phase<A> {
     ) -> Result<Phase<A>, AllocError>
         ensures { IfOk result (λ phase. (phase.start ≡ start) × (phase.reads ≡ (question_of question, answer_of answer) ∷ [])) }
     {
-        let mut reads = ReadSet::new(alloc);
-        note_read(&mut reads, question, answer)?;
+        let mut reads = no_reads(alloc)?;
+        reads.note(question, answer)?;
         Ok(Phase { start, reads })
     }
 }
@@ -81,7 +81,7 @@ impl<A: Allocator> ReadPhases<A> {
         ensures { result ≡ length (reads_of (finite.get self.now (session, number))) }
     {
         match self.phases.get(&(session, number)) {
-            Some(phase) => phase.reads.len(),
+            Some(phase) => phase.reads.get().len(),
             None => 0,
         }
     }
@@ -103,6 +103,17 @@ impl<A: Allocator> ReadPhases<A> {
 }
 
 impl<A: Allocator + Copy> ReadPhases<A> {
+    /// One more owner of what was read in a phase, which is nothing where it is not under way. The phase goes on as it was; an error,
+    /// where there is no memory, leaves it too.
+    pub fn share(&self, alloc: A, session: usize, number: u64) -> Result<SharedReads<A>, AllocError>
+        ensures { IfOk result (λ shared. shared ≡ reads_of (finite.get self.now (session, number))) }
+    {
+        match self.phases.get(&(session, number)) {
+            Some(phase) => phase.reads.share(),
+            None => no_reads(alloc),
+        }
+    }
+
     /// Notes a question and the table's answer after the others of a phase, which begins with it where it is not under way, and has this start.
     ///
     /// An error, where there is no memory, leaves the phases as they were.
@@ -121,7 +132,7 @@ impl<A: Allocator + Copy> ReadPhases<A> {
     {
         let key = (session, number);
         if let Some(phase) = self.phases.get_mut(&key) {
-            note_read(&mut phase.reads, question, answer)?;
+            phase.reads.note(question, answer)?;
             phase.start = start;
             return Ok(());
         }
@@ -131,17 +142,12 @@ impl<A: Allocator + Copy> ReadPhases<A> {
     }
 }
 
-// Notes a read in a set that has room for it, where memory alone can be wanting.
-fn note_read<A: Allocator>(
-    reads: &mut ReadSet<A>,
-    question: Question<A>,
-    answer: Answer<A>,
-) -> Result<(), AllocError>
-    ensures ok { OnOk result (reads.new ≡ reads.old ++ (question_of question, answer_of answer) ∷ []) }
-    ensures err { OnErr result (reads.new ≡ reads.old) }
+// A read set without a read.
+fn no_reads<A: Allocator>(alloc: A) -> Result<SharedReads<A>, AllocError>
+where
+    A: Copy,
+    ensures { IfOk result (λ reads. reads ≡ []) }
 {
-    match reads.note(question, answer) {
-        Ok(()) => Ok(()),
-        Err(_refused) => Err(AllocError),
-    }
+    let reads = SharedReads::new(alloc, ReadSet::new(alloc))?;
+    Ok(reads)
 }

@@ -1,17 +1,18 @@
 //! The tables of a store, with one map for each.
-ghost use Rattle.std.specs.Prelude.{◌≡◌, ◌<◌, map, length, IfOk, OnOk, OnErr, IsOk, Some, None};
+ghost use Rattle.std.specs.Prelude.{◌≡◌, ◌<◌, ◌≤◌, ◌-◌, ◌^◌, ◌++◌, min, map, length, IfOk, OnOk, OnErr, IsOk, MatchOption, Some, None};
 ghost use Rattle.std.specs.Option.{option_copied};
 ghost use Rattle.std.specs.Ordering.{on};
 ghost use Rattle.std.specs.Range.Bound.{bound_map};
 ghost use Rattle.std.specs.BTreeMap.{IsOrdered, IsUnchanged};
 ghost use Rattle.std.specs.FinMap as finite;
 ghost use Rattle.occ_types.specs.Key.{key_cmp};
+ghost use Rattle.occ_types.specs.Object as objects;
 ghost use Rattle.occ_types.specs.Question.{Span};
 ghost use Rattle.occ_types.specs.Seen.{key_of, end_of};
 ghost use Rattle.occ_model.specs.State.{put, answer, Rows, answer_size};
-ghost use Rattle.occ_core.specs.Kept.{seen, entries_within, is_backward, lower_bound, upper_bound, IsPut};
+ghost use Rattle.occ_core.specs.Kept.{seen, entries_within, is_backward, lower_bound, upper_bound, placed, named, IsPut};
 
-use occ_types::{Key, Row};
+use occ_types::{Key, Object, Row};
 use std::alloc::{AllocError, Allocator};
 use std::collections::BTreeMap;
 use std::marker::Model;
@@ -45,9 +46,10 @@ impl<A: Allocator + Clone> Tables<A> {
         Ok(Tables { maps })
     }
 
-    /// How many tables there are.
+    /// How many tables there are. No row stands in a table that is not there.
     pub fn count(&self) -> usize
-        ensures { result ≡ self.now.tables }
+        ensures value { result ≡ self.now.tables }
+        ensures no_more { (object : objects.Object) → self.now.tables ≤ object.0 → finite.get self.now.state object ≡ None }
     {
         self.maps.len()
     }
@@ -111,6 +113,33 @@ impl<A: Allocator + Clone> Tables<A> {
         match self.maps.get(table) {
             Some(map) => count_between(map, lower, upper),
             None => 0,
+        }
+    }
+}
+
+impl<A: Allocator> Tables<A> {
+    /// How many rows stand in all tables, or the greatest `usize` where they are more. It takes no memory.
+    pub fn len(&self) -> usize
+        ensures { result ≡ min (finite.len self.now.state) (2 ^ 64 - 1) }
+    {
+        let mut rows: usize = 0;
+        for map in self.maps.iter() {
+            rows = rows.saturating_add(map.len());
+        }
+        rows
+    }
+
+    /// The rows of a table under their keys, or none where there is no such table. It takes no memory.
+    pub fn table(&self, table: usize) -> Option<&BTreeMap<Key<A>, Row<A>, A>>
+        ensures { MatchOption result (self.now.tables ≤ table) (λ rows. Rows (map seen rows.now.entries) ≡ answer (Span table None None) self.now.state) }
+    {
+        match self.maps.get(table) {
+            Some(map) => {
+                // as in `copy_between`
+                let _rows = map.len();
+                Some(map)
+            }
+            None => None,
         }
     }
 }
@@ -205,4 +234,37 @@ fn upper_bound<A: Allocator>(upper: &Option<Key<A>>) -> Bound<&Key<A>>
         Some(end) => Bound::Excluded(end),
         None => Bound::Unbounded,
     }
+}
+
+impl<A: Allocator + Clone> Tables<A> {
+    /// Copies of the rows of all tables, each under its name, table by table and in the order of the keys.
+    ///
+    /// It is an error where there is no memory for the copies.
+    pub fn named_rows(&self) -> Result<Vec<(Object<A>, Row<A>), A>, AllocError>
+        ensures { IfOk result (λ rows. finite.from_entries (map named rows.items) ≡ self.now.state) }
+    {
+        let mut rows = Vec::new(self.maps.allocator().clone()?);
+        for (table, kept) in self.maps.iter().enumerate() {
+            name_rows(&mut rows, table, kept)?;
+        }
+        Ok(rows)
+    }
+}
+
+// Appends copies of the rows of one table, under their names.
+fn name_rows<A: Allocator + Clone>(
+    rows: &mut Vec<(Object<A>, Row<A>), A>,
+    table: usize,
+    kept: &BTreeMap<Key<A>, Row<A>, A>,
+) -> Result<(), AllocError>
+    ensures { OnOk result (map named rows.new.items ≡ map named rows.old.items ++ placed table kept.now.entries) }
+{
+    for (key, row) in kept {
+        let object = Object {
+            table,
+            key: key.clone()?,
+        };
+        rows.push((object, row.clone()?))?;
+    }
+    Ok(())
 }

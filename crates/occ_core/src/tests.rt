@@ -1,4 +1,4 @@
-//! Each public function of the parts once, on its happy path.
+//! The read phases and the window, on their happy paths.
 use crate::phases::ReadPhases;
 use crate::window::Window;
 use occ_sets::{Answer, SharedWrites, WriteSet};
@@ -44,7 +44,7 @@ fn phases(rt: HostRuntime) -> Result<(), Fail> {
     assert!(rt;
         phases
             .take(1, 1)
-            .is_some_and(|phase| phase.start == 5 && phase.reads.len() == 2)
+            .is_some_and(|phase| phase.start == 5 && phase.reads.get().len() == 2)
     );
     assert!(rt; phases.take(1, 1).is_none());
     assert!(rt; phases.start(1, 2) == Some(5));

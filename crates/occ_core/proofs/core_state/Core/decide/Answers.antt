@@ -29,6 +29,7 @@ invariant_of-self g c = record {
       (sym c.in_ok-place.ensures) (sym c.in-Some.ensures) (ap standing_of c.in-Open.is) c.verdict-verdict.result c.verdict-verdict.ensures c.stand.new.self
       (c.stand.ensures (log_row_of c.in-Some.row.now) (sym c.in-Some.ensures) ∙ ap (λ s. slice_set c.self.inside.log c.in_ok-place.place (record (log_row_of c.in-Some.row.now) { standing = s })) c.decided.ensures)).1;
   tables_match = c.self.invariant.tables_match;
+  placed = c.self.invariant.placed;
 }
 
 pub returns : goal.returns

@@ -1,12 +1,13 @@
-use Rattle.std.proofs.Common.{Ok, Err, Some, None, refl, sym, ap, subst, ◌∙◌}
+use Rattle.std.proofs.Common.{◌<◌, length, Ok, Err, Some, None, refl, sym, ap, subst, ◌∙◌}
 use Rattle.std.specs.Prelude.{Result}
 use Rattle.std.specs.Result.{OnErr}
 use Rattle.std.specs.Option.{IsSome, option_copied_mut}
 use Rattle.occ_types.specs.Seen.{question_of}
 use Rattle.occ_sets.specs.Seen.{answer_of}
-use Rattle.occ_core.specs.Phases.{phases_of}
+use Rattle.occ_core.specs.Phases.{reads_of, phases_of}
+use Rattle.occ_types.specs.declared.limits.TheConstants as limit
 use Rattle.occ_core.specs.declared.phases.Phase as code_phase
-use Rattle.occ_core.proofs.PhaseViews.{phases-noted, phases-same, same_view}
+use Rattle.occ_core.proofs.PhaseViews.{phase-found, phases-noted, phases-same, same_view}
 use Rattle.occ_core.proofs.phases.ReadPhases.note.Goals as goal
 
 -- what holds anyway holds at an error
@@ -17,17 +18,17 @@ at_err (Err e) p = p
 pub returns-in-Some-clause-ok : goal.returns-in-Some-clause-ok
 returns-in-Some-clause-ok g c =
     let at = sym (ap option_copied_mut c.in-Some.is) ∙ c.get_mut.ensures.value in
-    let phase : code_phase.Phase g.row.A.Denot = record { start = c.args.start; reads = c.note_read.new.reads } in
+    let phase : code_phase.Phase g.row.A.Denot = record { start = c.args.start; reads = c.note.new.self } in
     phases-noted c.self.inside.phases (c.get_mut.follows.lender phase) (c.args.session, c.args.number) (Some c.in-Some.phase.now) phase c.args.start (question_of c.args.question, answer_of c.args.answer) c.args.self.now
-    c.self.view_is at ((c.get_mut.follows.holds phase).3 (subst IsSome at refl)).0 refl c.in_ok-note_read.ensures.ok
+    c.self.view_is at ((c.get_mut.follows.holds phase).3 (subst IsSome at refl)).0 refl c.in_ok-note.ensures.ok
 
-pub returns-in_err-note_read-clause-err : goal.returns-in_err-note_read-clause-err
-returns-in_err-note_read-clause-err g c =
+pub returns-in_err-note-clause-err : goal.returns-in_err-note-clause-err
+returns-in_err-note-clause-err g c =
     let at = sym (ap option_copied_mut c.in-Some.is) ∙ c.get_mut.ensures.value in
     let was = c.in-Some.phase.now in
-    let phase : code_phase.Phase g.row.A.Denot = record { start = was.start; reads = c.note_read.new.reads } in
+    let phase : code_phase.Phase g.row.A.Denot = record { start = was.start; reads = c.note.new.self } in
     at_err c.from_residual.result
-    (phases-same c.self.inside.phases (c.get_mut.follows.lender phase) (c.args.session, c.args.number) was phase c.args.self.now c.self.view_is at ((c.get_mut.follows.holds phase).3 (subst IsSome at refl)).0 refl c.in_err-note_read.ensures.err)
+    (phases-same c.self.inside.phases (c.get_mut.follows.lender phase) (c.args.session, c.args.number) was phase c.args.self.now c.self.view_is at ((c.get_mut.follows.holds phase).3 (subst IsSome at refl)).0 refl c.in_err-note.ensures.err)
 
 pub returns-clause-ok : goal.returns-clause-ok
 returns-clause-ok g c =
@@ -40,3 +41,9 @@ pub returns-in_err-insert-clause-err : goal.returns-in_err-insert-clause-err
 returns-in_err-insert-clause-err g c =
     at_err c.from_residual-in_err-insert.result
     (same_view c.insert.new.self c.get_mut.follows.lender-at-none c.in_err-insert.ensures.err ∙ ap phases_of c.get_mut.follows.holds-at-none ∙ c.self.view_is)
+
+pub note-requires : goal.note-requires
+note-requires g c =
+    let at = sym (ap option_copied_mut c.in-Some.is) ∙ c.get_mut.ensures.value in
+    let found = phase-found c.self.inside.phases (c.args.session, c.args.number) (Some c.in-Some.phase.now) c.args.self.now c.self.view_is at in
+    record { few = subst (λ o. length (reads_of o) < limit.MAX_QUESTIONS) (sym found) c.requires.few }

@@ -1,0 +1,267 @@
+-- How many transactions are active: counted through the sessions, and in the log.
+use Rattle.std.proofs.Common.{◌≡◌, ℕ, zero, suc, ◌+◌, ◌<◌, ◌≤◌, Bool, true, false, cond, List, [], ◌∷◌, ◌++◌, drop, length, Option, None, Some, refl, sym, ap, subst, ◌∙◌, arith, length-append, append_assoc, eqb-true, eq-eqb}
+use Rattle.std.specs.Prelude.{◌==◌, is_some, slice_get, if◌then◌else◌, filter, option_map}
+use Rattle.std.specs.Ordering.{nat_cmp}
+use Rattle.std.specs.FinSet as sets
+use Rattle.std.specs.FinSet.{FinSet}
+use Rattle.occ_model.specs.State.{Write}
+use Rattle.occ_model.specs.Log.{LogRow, is_active}
+use Rattle.occ_model.specs.World.{latest, active_count}
+use Rattle.occ_model.specs.Invariant.{OneUnderWay, ActiveAreHeld}
+use Rattle.occ_model.proofs.Tests as tests
+use Rattle.occ_core.specs.Slots.{Slot, Hold, held_from, active_of, active_from}
+use Rattle.occ_core.specs.Entries.{active_at}
+use Rattle.occ_core.specs.Parts.{Parts, world_of, AreSound}
+use Rattle.occ_core.proofs.Held.{is_held_at, contains-held, held_place}
+use Rattle.occ_core.proofs.Opponents.{held-get, held-latest}
+use Rattle.occ_core.proofs.Places.{slice_get-below}
+
+-- Through the sessions, one by one.
+
+abbrev listed : Option (List Write) → List (List Write)
+listed None = []
+listed (Some writes) = writes ∷ []
+
+of_row : (log : List LogRow) (o : Option LogRow) → (elim o as (λ _. List (List Write)) [ None ↦ [] | Some row ↦ cond (is_active row.standing) (row.writes ∷ []) [] ]) ≡ listed (elim o as (λ _. Option (List Write)) [ None ↦ None | Some row ↦ cond (is_active row.standing) (Some row.writes) None ])
+of_row log None = refl
+of_row log (Some row) = chosen (is_active row.standing)
+  where
+    chosen : (b : Bool) → cond b (row.writes ∷ []) [] ≡ listed (cond b (Some row.writes) None)
+    chosen true = refl
+    chosen false = refl
+
+of_hold : (log : List LogRow) (h : Option Hold) → (elim h as (λ _. List (List Write)) [ None ↦ [] | Some hold ↦ elim (slice_get log hold.place) [ None ↦ [] | Some row ↦ cond (is_active row.standing) (row.writes ∷ []) [] ] ])
+    ≡ listed (elim h as (λ _. Option (List Write)) [ None ↦ None | Some hold ↦ elim (slice_get log hold.place) [ None ↦ None | Some row ↦ cond (is_active row.standing) (Some row.writes) None ] ])
+of_hold log None = refl
+of_hold log (Some hold) = of_row log (slice_get log hold.place)
+
+active_then : (log : List LogRow) (slots : List Slot) (k : ℕ) → k < length slots → active_from log (drop k slots) ≡ listed (active_at log (slice_get slots k)) ++ active_from log (drop (suc k) slots)
+active_then log [] k less = absurd (omega arith)
+active_then log (slot ∷ slots) zero less = ap (λ l. l ++ active_from log slots) (of_hold log slot.hold)
+active_then log (slot ∷ slots) (suc k) less = active_then log slots k (omega arith)
+
+active_next : (log : List LogRow) (slots : List Slot) (k : ℕ) → k < length slots → active_from log (drop k slots) ≡ listed (active_at log (slice_get slots k)) ++ active_from log (drop (k + 1) slots)
+active_next log slots k less = active_then log slots k less ∙ ap (λ n. listed (active_at log (slice_get slots k)) ++ active_from log (drop n slots)) (let e : suc k ≡ k + 1 = omega arith in e)
+
+pub active_found : (log : List LogRow) (slots : List Slot) (k : ℕ) (writes : List Write) → k < length slots → Some writes ≡ active_at log (slice_get slots k) → active_from log (drop k slots) ≡ writes ∷ active_from log (drop (k + 1) slots)
+active_found log slots k writes less found = active_next log slots k less ∙ ap (λ o. listed o ++ active_from log (drop (k + 1) slots)) (sym found)
+
+pub active_skipped : (log : List LogRow) (slots : List Slot) (k : ℕ) → k < length slots → None ≡ active_at log (slice_get slots k) → active_from log (drop k slots) ≡ active_from log (drop (k + 1) slots)
+active_skipped log slots k less found = active_next log slots k less ∙ ap (λ o. listed o ++ active_from log (drop (k + 1) slots)) (sym found)
+
+-- In the log.
+
+abbrev act : Option LogRow → ℕ
+act None = 0
+act (Some row) = cond (is_active row.standing) 1 0
+
+-- the active ones among the latest rows of so many sessions from one on
+abbrev tally : List LogRow → ℕ → ℕ → ℕ
+tally log from zero = 0
+tally log from (suc n) = act (latest from log) + tally log (suc from) n
+
+-- a number, where a session is one of so many from one on
+abbrev hit : ℕ → ℕ → ℕ → ℕ → ℕ
+hit session from zero a = 0
+hit session from (suc n) a = cond (session == from) a 0 + hit session (suc from) n a
+
+plus_zero : (a b : ℕ) → b ≡ 0 → a ≡ a + b
+plus_zero a b z = omega arith
+
+act_next : (s : ℕ) (row : LogRow) (rows : List LogRow) → (is_active row.standing ≡ true → latest row.session rows ≡ None) → act (latest s (row ∷ rows)) ≡ act (latest s rows) + cond (row.session == s) (cond (is_active row.standing) 1 0) 0
+act_next s row rows one = at (latest s rows) refl (row.session == s) refl
+  where
+    at : (o : Option LogRow) → latest s rows ≡ o → (b : Bool) → (row.session == s) ≡ b
+        → act (elim o as (λ _. Option LogRow) [ None ↦ if b then Some row else None | Some later ↦ Some later ]) ≡ act o + cond b (cond (is_active row.standing) 1 0) 0
+    at None e true f = omega arith
+    at None e false f = omega arith
+    at (Some later) e false f = omega arith
+    at (Some later) e true f = tests.decided (is_active row.standing)
+        (λ yes. let same : row.session ≡ s = eqb-true row.session s f in
+        let none : None ≡ Some later = sym (one yes) ∙ ap (λ k. latest k rows) same ∙ e in
+        cc)
+        (λ no. plus_zero (act (Some later)) (cond (is_active row.standing) 1 0) (ap (λ b. cond b 1 0) no))
+
+tally_next : (row : LogRow) (rows : List LogRow) → (is_active row.standing ≡ true → latest row.session rows ≡ None) → (from n : ℕ) → tally (row ∷ rows) from n ≡ tally rows from n + hit row.session from n (cond (is_active row.standing) 1 0)
+tally_next row rows one from zero = refl
+tally_next row rows one from (suc n) =
+    let a = act_next from row rows one in
+    let b = tally_next row rows one (suc from) n in
+    sums (act (latest from (row ∷ rows))) (act (latest from rows)) (cond (row.session == from) (cond (is_active row.standing) 1 0) 0) (tally (row ∷ rows) (suc from) n) (tally rows (suc from) n) (hit row.session (suc from) n (cond (is_active row.standing) 1 0)) a b
+  where
+    sums : (a b c d e f : ℕ) → a ≡ b + c → d ≡ e + f → a + d ≡ (b + e) + (c + f)
+    sums a b c d e f x y = omega arith
+
+hit_past : (session from n a : ℕ) → session < from → hit session from n a ≡ 0
+hit_past session from zero a less = refl
+hit_past session from (suc n) a less =
+    let h = hit_past session (suc from) n a (omega arith) in
+    let e : (session == from) ≡ false = tests.decided (session == from) (λ e. let same = eqb-true session from e in absurd (omega arith)) (λ e. e) in
+    let z : cond (session == from) a 0 ≡ 0 = ap (λ b. cond b a 0) e in
+    omega arith
+
+hit_in : (session from n a : ℕ) → from ≤ session → session < from + n → hit session from n a ≡ a
+hit_in session from zero a low high = absurd (omega arith)
+hit_in session from (suc n) a low high = tests.decided (session == from)
+    (λ e. let same = eqb-true session from e in
+    let h = hit_past session (suc from) n a (omega arith) in
+    let z : cond (session == from) a 0 ≡ a = ap (λ b. cond b a 0) e in
+    omega arith)
+    (λ e. let ne : session ≡ from → ⊥ = λ same. tests.clash (session == from) (eq-eqb session from same) e in
+    let up = above session from low ne in
+    let h = hit_in session (suc from) n a up (omega arith) in
+    let z : cond (session == from) a 0 ≡ 0 = ap (λ b. cond b a 0) e in
+    omega arith)
+  where
+    above : (x y : ℕ) → y ≤ x → (x ≡ y → ⊥) → suc y ≤ x
+    above x y le ne = tests.decided (Rattle.std.specs.Prelude.nat_lt y x)
+        (λ e. let h = Rattle.std.proofs.Common.ltb-true y x e in omega arith)
+        (λ e. let h = Rattle.std.proofs.Common.ltb-false y x e in absurd (ne (omega arith)))
+
+hit_none : (session from n : ℕ) → hit session from n 0 ≡ 0
+hit_none session from zero = refl
+hit_none session from (suc n) =
+    let h = hit_none session (suc from) n in
+    both (cond (session == from) nothing 0) (hit session (suc from) n 0) (flat (session == from)) h
+  where
+    nothing : ℕ
+    nothing = 0
+
+    both : (a b : ℕ) → a ≡ 0 → b ≡ 0 → a + b ≡ 0
+    both a b x y = omega arith
+
+    flat : (b : Bool) → cond b nothing 0 ≡ nothing
+    flat true = refl
+    flat false = refl
+
+-- each active row is of one of so many sessions
+abbrev InRange : ℕ → List LogRow → Type 0
+InRange n [] = Unit {0}
+InRange n (row ∷ rows) = (is_active row.standing ≡ true → (1 ≤ row.session) × (row.session ≤ n)) × InRange n rows
+
+in_range : (slots : List Slot) (log : List LogRow) → ActiveAreHeld (held_from 1 slots) log → InRange (length slots) log
+in_range slots [] held = tt
+in_range slots (row ∷ rows) held = (
+  λ active. let p = held_place slots row.session (held.0 active) in
+      let less = slice_get-below slots p.place p.session p.there in
+      let n = p.is_number in (omega arith, omega arith),
+  in_range slots rows held.1,
+)
+
+abbrev count : List LogRow → ℕ
+count log = length (filter (λ row. is_active row.standing) log)
+
+count-cons : (row : LogRow) (rows : List LogRow) → count (row ∷ rows) ≡ cond (is_active row.standing) 1 0 + count rows
+count-cons row rows = at (is_active row.standing)
+  where
+    at : (b : Bool) → length (if b then row ∷ filter (λ row. is_active row.standing) rows else filter (λ row. is_active row.standing) rows) ≡ cond b 1 0 + count rows
+    at true = omega arith
+    at false = omega arith
+
+tally_empty : (from n : ℕ) → tally [] from n ≡ 0
+tally_empty from zero = refl
+tally_empty from (suc n) = let h = tally_empty (suc from) n in omega arith
+
+counted : (n : ℕ) (log : List LogRow) → OneUnderWay log → InRange n log → tally log 1 n ≡ count log
+counted n [] one range = tally_empty 1 n
+counted n (row ∷ rows) one range =
+    let t = tally_next row rows one.0 1 n in
+    let r = counted n rows one.1 range.1 in
+    let c = count-cons row rows in
+    let h = tests.decided (is_active row.standing)
+    (λ yes. let bounds = range.0 yes in hit_in row.session 1 n (cond (is_active row.standing) 1 0) bounds.0 (let u = bounds.1 in omega arith))
+    (λ no. let z : cond (is_active row.standing) 1 0 ≡ 0 = ap (λ b. cond b 1 0) no in ap (hit row.session 1 n) z ∙ hit_none row.session 1 n ∙ sym z) in
+    omega arith
+
+slots_tally : (log : List LogRow) (slots : List Slot) (from : ℕ) → ((k : ℕ) (slot : Slot) → slice_get slots k ≡ Some slot → length (active_of log slot) ≡ act (latest (from + k) log)) → length (active_from log slots) ≡ tally log from (length slots)
+slots_tally log [] from each = refl
+slots_tally log (slot ∷ slots) from each =
+    let l = length-append (active_of log slot) (active_from log slots) in
+    let h = each 0 slot refl ∙ ap (λ s. act (latest s log)) (let e : from + 0 ≡ from = omega arith in e) in
+    let t = slots_tally log slots (suc from) (λ k s at. each (suc k) s at ∙ ap (λ q. act (latest q log)) (let e : from + suc k ≡ suc from + k = omega arith in e)) in
+    omega arith
+
+-- no active row is of a session that has none under way
+idle : (slots : List Slot) (log : List LogRow) → ActiveAreHeld (held_from 1 slots) log → (s : ℕ) → sets.contains (held_from 1 slots) s ≡ false → act (latest s log) ≡ 0
+idle slots [] held s out = refl
+idle slots (row ∷ rows) held s out = at (idle slots rows held.1 s out) (latest s rows) refl (row.session == s) refl
+  where
+    at : act (latest s rows) ≡ 0 → (o : Option LogRow) → latest s rows ≡ o → (b : Bool) → (row.session == s) ≡ b → act (elim o as (λ _. Option LogRow) [ None ↦ if b then Some row else None | Some later ↦ Some later ]) ≡ 0
+    at again None e false f = refl
+    at again None e true f = tests.decided (is_active row.standing)
+        (λ yes. let same : row.session ≡ s = eqb-true row.session s f in absurd (tests.clash (sets.contains (held_from 1 slots) s) (ap (sets.contains (held_from 1 slots)) (sym same) ∙ held.0 yes) out))
+        (λ no. ap (λ b. cond b 1 0) no)
+    at again (Some later) e b f = ap act (sym e) ∙ again
+
+-- the active transactions are as many as are found through the sessions
+pub active_counted : (parts : Parts) → AreSound parts → length (active_from parts.log parts.slots) ≡ active_count (world_of parts)
+active_counted parts sound =
+    slots_tally parts.log parts.slots 1 each
+    ∙ counted (length parts.slots) parts.log sound.law.one_under_way (in_range parts.slots parts.log sound.law.active_held)
+  where
+    row_counts : (row : LogRow) → length (cond (is_active row.standing) (row.writes ∷ []) []) ≡ cond (is_active row.standing) 1 0
+    row_counts row = at (is_active row.standing)
+      where
+        at : (b : Bool) → length (cond b (row.writes ∷ []) []) ≡ cond b 1 0
+        at true = refl
+        at false = refl
+
+    each : (k : ℕ) (slot : Slot) → slice_get parts.slots k ≡ Some slot → length (active_of parts.log slot) ≡ act (latest (1 + k) parts.log)
+    each k slot at = of_hold' slot.hold refl
+      where
+        of_hold' : (h : Option Hold) → slot.hold ≡ h → length (elim h as (λ _. List (List Write)) [ None ↦ [] | Some hold ↦ elim (slice_get parts.log hold.place) [ None ↦ [] | Some row ↦ cond (is_active row.standing) (row.writes ∷ []) [] ] ]) ≡ act (latest (1 + k) parts.log)
+        of_hold' None e =
+            let out : sets.contains (held_from 1 parts.slots) (1 + k) ≡ false = contains-held 1 parts.slots k ∙ not_held parts.slots k slot at e in
+            sym (idle parts.slots parts.log sound.law.active_held (1 + k) out)
+          where
+            not_held : (slots : List Slot) (k : ℕ) (slot : Slot) → slice_get slots k ≡ Some slot → slot.hold ≡ None → is_held_at slots k ≡ false
+            not_held [] k slot at e = cc
+            not_held (x ∷ xs) zero slot at e = let same : x ≡ slot = cc in ap (λ (s : Slot). is_some s.hold) same ∙ ap is_some e
+            not_held (x ∷ xs) (suc k) slot at e = not_held xs k slot at e
+        of_hold' (Some hold) e =
+            let r = (sound.slots_true k slot at).row_is hold e in
+            ap (λ o. length (elim o as (λ _. List (List Write)) [ None ↦ [] | Some row ↦ cond (is_active row.standing) (row.writes ∷ []) [] ])) (held-get (suc k) hold.place parts.log r.0 r.1)
+            ∙ row_counts r.0 ∙ sym (ap act (ap (λ s. latest s parts.log) (let e : 1 + k ≡ suc k = omega arith in e) ∙ held-latest (suc k) hold.place parts.log r.0 r.1))
+
+-- What a loop over the sessions keeps.
+
+pub some_of : {X : Type 0} (o : Option X) (f : X → List Write) (seen : Option (List Write)) → option_map f o ≡ seen → true ≡ is_some o → (writes : List Write) × (Some writes ≡ seen)
+some_of None f seen e some = cc
+some_of (Some x) f seen e some = (f x, e)
+
+pub none_of : {X : Type 0} (o : Option X) (f : X → List Write) (seen : Option (List Write)) → option_map f o ≡ seen → false ≡ is_some o → None ≡ seen
+none_of None f seen e none = e
+none_of (Some x) f seen e none = cc
+
+pub count_found : (log : List LogRow) (slots : List Slot) (k count next total : ℕ) (writes : List Write) → k < length slots → Some writes ≡ active_at log (slice_get slots k) → next ≡ count + 1
+    → (count + length (active_from log (drop k slots)) ≡ total) × (count ≤ k) → (next + length (active_from log (drop (k + 1) slots)) ≡ total) × (next ≤ k + 1)
+count_found log slots k count next total writes less found is was =
+    let e = ap length (active_found log slots k writes less found) in
+    let a = was.0 in
+    let b = was.1 in
+    (more count next (length (active_from log (drop k slots))) (length (active_from log (drop (k + 1) slots))) total e is a, omega arith)
+  where
+    more : (count next left after total : ℕ) → left ≡ suc after → next ≡ count + 1 → count + left ≡ total → next + after ≡ total
+    more count next left after total e is a = omega arith
+
+pub count_skipped : (log : List LogRow) (slots : List Slot) (k count next total : ℕ) → k < length slots → None ≡ active_at log (slice_get slots k) → next ≡ count
+    → (count + length (active_from log (drop k slots)) ≡ total) × (count ≤ k) → (next + length (active_from log (drop (k + 1) slots)) ≡ total) × (next ≤ k + 1)
+count_skipped log slots k count next total less found is was =
+    let e = ap length (active_skipped log slots k less found) in
+    let a = was.0 in
+    let b = was.1 in
+    (more count next (length (active_from log (drop k slots))) (length (active_from log (drop (k + 1) slots))) total e is a, omega arith)
+  where
+    more : (count next left after total : ℕ) → left ≡ after → next ≡ count → count + left ≡ total → next + after ≡ total
+    more count next left after total e is a = omega arith
+
+pub share_found : (log : List LogRow) (slots : List Slot) (k : ℕ) (before after : List (List Write)) (writes : List Write) → k < length slots → Some writes ≡ active_at log (slice_get slots k) → after ≡ before ++ writes ∷ []
+    → before ++ active_from log (drop k slots) ≡ active_from log slots → after ++ active_from log (drop (k + 1) slots) ≡ active_from log slots
+share_found log slots k before after writes less found is was =
+    ap (λ l. l ++ active_from log (drop (k + 1) slots)) is ∙ append_assoc before (writes ∷ []) (active_from log (drop (k + 1) slots))
+    ∙ ap (λ l. before ++ l) (sym (active_found log slots k writes less found)) ∙ was
+
+pub share_skipped : (log : List LogRow) (slots : List Slot) (k : ℕ) (before after : List (List Write)) → k < length slots → None ≡ active_at log (slice_get slots k) → after ≡ before
+    → before ++ active_from log (drop k slots) ≡ active_from log slots → after ++ active_from log (drop (k + 1) slots) ≡ active_from log slots
+share_skipped log slots k before after less found is was =
+    ap (λ l. l ++ active_from log (drop (k + 1) slots)) is ∙ ap (λ l. before ++ l) (sym (active_skipped log slots k less found)) ∙ was

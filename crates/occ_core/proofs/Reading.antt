@@ -1,0 +1,208 @@
+-- What the reads of the core have to show, over plain parts.
+use Rattle.std.proofs.Common.{◌≡◌, ℕ, zero, suc, ◌-◌, ◌<◌, Bool, not, ◌&&◌, List, [], ◌∷◌, length, Option, None, Some, Result, Err, refl, sym, ap, subst, ◌∙◌, arith}
+use Rattle.std.specs.Prelude.{Vec, is_some, slice_get, nat_le, nat_lt, ◌++◌}
+use Rattle.std.proofs.lemmas.Bool.{leb-true, ltb-true}
+use Rattle.std.specs.Ordering.{nat_cmp}
+use Rattle.std.specs.FinMap as finite
+use Rattle.std.specs.FinMap.{FinMap}
+use Rattle.occ_types.specs.declared.fault.Fault.{Fault}
+use Rattle.occ_types.specs.declared.fault.Fault.TheVariants as faults
+use Rattle.occ_types.specs.declared.limits.TheConstants.{MAX_QUESTIONS, MAX_ANSWER_ROWS}
+use Rattle.occ_types.specs.Schema.{fault_if, first_fault, check_question}
+use Rattle.occ_types.specs.Key.{Key}
+use Rattle.occ_types.specs.Row.{Row}
+use Rattle.occ_types.specs.Seen.{key_of}
+use Rattle.occ_types.specs.declared.keys.Key as code_key
+use Rattle.occ_types.specs.declared.objects.Object as code_object
+use Rattle.occ_types.specs.Question.{Question, One}
+use Rattle.occ_model.specs.State.{State, Answer, Found, Observation, answer}
+use Rattle.occ_model.specs.World.{World, ReadPhase, phase_cmp, last_entered}
+use Rattle.occ_model.specs.Event.{Event, Read, Forget, Refused, Answered, Forgotten}
+use Rattle.occ_model.specs.Refusal as refusals
+use Rattle.occ_model.specs.Refusal.{refusal}
+use Rattle.occ_model.specs.Step.{Step, refused, starved, taken, read_more}
+use Rattle.occ_model.proofs.Tests as tests
+use Rattle.occ_model.proofs.Phases.{not_refused}
+use Rattle.occ_model.proofs.Steps.{keeps}
+use Rattle.occ_core.specs.Phases.{reads_of}
+use Rattle.occ_core.specs.Reads.{session_fault, number_fault, start_fault, turn_fault, size_fault, room_fault, noted}
+use Rattle.occ_core.specs.Replies.{reading, scanning, forgetting}
+use Rattle.occ_core.specs.Slots.{last_of}
+use Rattle.occ_core.specs.Parts.{Parts, world_of, AreSound}
+use Rattle.occ_core.proofs.Moves.{slot_same, read_moves}
+
+pub session_is : (parts : Parts) (session : ℕ) → AreSound parts → refusals.no_session (world_of parts) session ≡ session_fault parts.slots session
+session_is parts session sound = ap (λ n. fault_if (not (nat_le 1 session && nat_le session n)) faults.NoSession) (sym sound.each_session)
+
+-- What was read is forgotten.
+
+forget_moves : (old : Parts) (session number : ℕ) → AreSound old → refusal (world_of old) (Forget session number) ≡ None
+    → AreSound (record old { phases = finite.remove old.phases (session, number) })
+forget_moves old session number sound none = record {
+  law = keeps (world_of old) (Forget session number) (Forgotten (finite.contains_key old.phases (session, number))) (world_of (record old { phases = finite.remove old.phases (session, number) })) sound.law (taken none (refl, refl));
+  each_session = sound.each_session;
+  slots_true = λ place slot at. slot_same old (record old { phases = finite.remove old.phases (session, number) }) refl place slot (sound.slots_true place slot at);
+  window_size = sound.window_size;
+  window_is = sound.window_is;
+  log_room = sound.log_room;
+  counter_room = sound.counter_room;
+}
+
+pub forget_exit : (parts : Parts) (world : World) → world_of parts ≡ world → AreSound parts → (session number : ℕ) (reply : Result Bool Fault) (fault : Fault) → reply ≡ Err fault → session_fault parts.slots session ≡ Some fault
+    → Step world (Forget session number) (forgetting reply) world
+forget_exit parts world seen sound session number reply fault is told =
+    subst (λ r. Step world (Forget session number) (forgetting r) world) (sym is)
+    (subst (λ w. Step w (Forget session number) (Refused fault) w) seen (refused fault (session_is parts session sound ∙ told) refl refl))
+
+pub forget_sound : (parts : Parts) (session number : ℕ) → AreSound parts → session_fault parts.slots session ≡ None → (phases : FinMap phase_cmp ReadPhase) → phases ≡ finite.remove parts.phases (session, number)
+    → AreSound (record parts { phases = phases })
+forget_sound parts session number sound free phases is =
+    subst (λ p. AreSound (record parts { phases = p })) (sym is) (forget_moves parts session number sound (session_is parts session sound ∙ free))
+
+-- When a read is refused.
+
+pub there : {X : Type 0} (xs : List X) (k : ℕ) → k < length xs → (x : X) × (slice_get xs k ≡ Some x)
+there [] k less = absurd (omega arith)
+there (x ∷ xs) zero less = (x, refl)
+there (x ∷ xs) (suc k) less = there xs k (omega arith)
+
+pub last_is : (parts : Parts) (session : ℕ) → AreSound parts → session_fault parts.slots session ≡ None → last_of parts.slots (session - 1) ≡ last_entered (world_of parts) session
+last_is parts session sound free =
+    let both = tests.and_true (nat_le 1 session) (nat_le session (length parts.slots)) (tests.not_false _ (not_refused _ faults.NoSession free)) in
+    let from = leb-true 1 session both.0 in
+    let below = leb-true session (length parts.slots) both.1 in
+    let found = there parts.slots (session - 1) (omega arith) in
+    let same : suc (session - 1) ≡ session = omega arith in
+    ap (λ o. elim o as (λ _. ℕ) [ None ↦ 0 | Some slot ↦ slot.last ]) found.1
+    ∙ (sound.slots_true (session - 1) found.0 found.1).last_is ∙ ap (last_entered (world_of parts)) same
+
+pub not_marked : (parts : Parts) (session : ℕ) → refusals.session_closed (world_of parts) session ≡ None
+not_marked parts session = ap (λ o. fault_if (is_some o) faults.SessionClosed) (finite.get-empty nat_cmp session)
+
+nested : (a b c : Option Fault) (others : List (Option Fault)) → first_fault (first_fault (a ∷ b ∷ c ∷ []) ∷ others) ≡ first_fault (a ∷ b ∷ c ∷ others)
+nested (Some f) b c others = refl
+nested None (Some f) c others = refl
+nested None None (Some f) others = refl
+nested None None None others = refl
+
+turn_is : (parts : Parts) (session number start : ℕ) (others : List (Option Fault)) → AreSound parts
+    → first_fault (refusals.no_session (world_of parts) session ∷ refusals.session_closed (world_of parts) session ∷ refusals.not_readable (world_of parts) session number ∷ refusals.wrong_start (world_of parts) session number start ∷ others)
+    ≡ first_fault (turn_fault parts.slots parts.phases parts.counter session number start ∷ others)
+turn_is parts session number start others sound =
+    ap (λ o. first_fault (o ∷ refusals.session_closed w session ∷ refusals.not_readable w session number ∷ refusals.wrong_start w session number start ∷ others)) (session_is parts session sound)
+    ∙ at (session_fault parts.slots session) refl
+    ∙ sym (nested (session_fault parts.slots session) (number_fault (last_of parts.slots (session - 1)) number) (start_fault parts.phases parts.counter session number start) others)
+  where
+    w : World
+    w = world_of parts
+
+    at : (o : Option Fault) → session_fault parts.slots session ≡ o
+        → first_fault (session_fault parts.slots session ∷ refusals.session_closed w session ∷ refusals.not_readable w session number ∷ refusals.wrong_start w session number start ∷ others)
+        ≡ first_fault (session_fault parts.slots session ∷ number_fault (last_of parts.slots (session - 1)) number ∷ start_fault parts.phases parts.counter session number start ∷ others)
+    at (Some f) e =
+        ap (λ o. first_fault (o ∷ refusals.session_closed w session ∷ refusals.not_readable w session number ∷ refusals.wrong_start w session number start ∷ others)) e
+        ∙ sym (ap (λ o. first_fault (o ∷ number_fault (last_of parts.slots (session - 1)) number ∷ start_fault parts.phases parts.counter session number start ∷ others)) e)
+    at None e =
+        ap (λ o. first_fault (session_fault parts.slots session ∷ o ∷ refusals.not_readable w session number ∷ refusals.wrong_start w session number start ∷ others)) (not_marked parts session)
+        ∙ ap (λ o. first_fault (o ∷ None ∷ refusals.not_readable w session number ∷ refusals.wrong_start w session number start ∷ others)) e
+        ∙ ap (λ last. first_fault (number_fault last number ∷ refusals.wrong_start w session number start ∷ others)) (sym (last_is parts session sound e))
+        ∙ sym (ap (λ o. first_fault (o ∷ number_fault (last_of parts.slots (session - 1)) number ∷ start_fault parts.phases parts.counter session number start ∷ others)) e)
+
+pub reads_are : (o : Option ReadPhase) → (elim o as (λ _. List Observation) [ None ↦ [] | Some phase ↦ phase.reads ]) ≡ reads_of o
+reads_are None = refl
+reads_are (Some phase) = refl
+
+read_refusal : (parts : Parts) (session number start : ℕ) (question : Question) → AreSound parts
+    → refusal (world_of parts) (Read session number start question)
+    ≡ first_fault (turn_fault parts.slots parts.phases parts.counter session number start ∷ check_question parts.settings.schema question ∷ size_fault parts.table question ∷ room_fault parts.phases session number ∷ [])
+read_refusal parts session number start question sound =
+    turn_is parts session number start (check_question parts.settings.schema question ∷ refusals.range_too_large (world_of parts) question ∷ refusals.questions_full (world_of parts) session number ∷ []) sound
+    ∙ ap (λ reads. first_fault (turn_fault parts.slots parts.phases parts.counter session number start ∷ check_question parts.settings.schema question ∷ size_fault parts.table question ∷ fault_if (nat_le MAX_QUESTIONS (length reads)) faults.SetFull ∷ []))
+    (reads_are (finite.get parts.phases (session, number)))
+
+-- what a refused read says, by the test that refuses it
+pub refused_turn : (a b c d : Option Fault) (f : Fault) → a ≡ Some f → first_fault (a ∷ b ∷ c ∷ d ∷ []) ≡ Some f
+refused_turn a b c d f at = ap (λ o. first_fault (o ∷ b ∷ c ∷ d ∷ [])) at
+
+pub refused_question : (a b c d : Option Fault) (f : Fault) → a ≡ None → b ≡ Some f → first_fault (a ∷ b ∷ c ∷ d ∷ []) ≡ Some f
+refused_question a b c d f p at = ap (λ o. first_fault (o ∷ b ∷ c ∷ d ∷ [])) p ∙ ap (λ o. first_fault (o ∷ c ∷ d ∷ [])) at
+
+pub refused_size : (a b c d : Option Fault) (f : Fault) → a ≡ None → b ≡ None → c ≡ Some f → first_fault (a ∷ b ∷ c ∷ d ∷ []) ≡ Some f
+refused_size a b c d f p q at = ap (λ o. first_fault (o ∷ b ∷ c ∷ d ∷ [])) p ∙ ap (λ o. first_fault (o ∷ c ∷ d ∷ [])) q ∙ ap (λ o. first_fault (o ∷ d ∷ [])) at
+
+pub passed_size : (a b c d : Option Fault) → a ≡ None → b ≡ None → c ≡ None → first_fault (a ∷ b ∷ c ∷ d ∷ []) ≡ first_fault (d ∷ [])
+passed_size a b c d p q r = ap (λ o. first_fault (o ∷ b ∷ c ∷ d ∷ [])) p ∙ ap (λ o. first_fault (o ∷ c ∷ d ∷ [])) q ∙ ap (λ o. first_fault (o ∷ d ∷ [])) r
+
+pub refused_room : (a b c d : Option Fault) (f : Fault) → a ≡ None → b ≡ None → c ≡ None → d ≡ Some f → first_fault (a ∷ b ∷ c ∷ d ∷ []) ≡ Some f
+refused_room a b c d f p q r at = passed_size a b c d p q r ∙ ap (λ o. first_fault (o ∷ [])) at
+
+pub not_refused_read : (a b c d : Option Fault) → a ≡ None → b ≡ None → c ≡ None → d ≡ None → first_fault (a ∷ b ∷ c ∷ d ∷ []) ≡ None
+not_refused_read a b c d p q r s = passed_size a b c d p q r ∙ ap (λ o. first_fault (o ∷ [])) s
+
+-- an answer to one key is never too large
+pub one_fits : (table : State) (place : ℕ) (key : Key) → size_fault table (One place key) ≡ None
+unfolding answer
+one_fits table place key = tests.decided (nat_lt MAX_ANSWER_ROWS 1)
+    (λ yes. let h = ltb-true MAX_ANSWER_ROWS 1 yes in absurd (omega arith))
+    (λ no. ap (λ b. fault_if b faults.RangeTooLarge) no)
+
+-- the tests of a read, in their order
+abbrev pub read_fault : Parts → ℕ → ℕ → ℕ → Question → Option Fault
+read_fault parts session number start question = first_fault (
+    turn_fault parts.slots parts.phases parts.counter session number start
+    ∷ check_question parts.settings.schema question
+    ∷ size_fault parts.table question
+    ∷ room_fault parts.phases session number
+    ∷ [])
+
+-- The exits of a read, seen from outside.
+
+pub read_exit : (parts : Parts) (world : World) → world_of parts ≡ world → AreSound parts → (session number start : ℕ) (question : Question) (fault : Fault) → read_fault parts session number start question ≡ Some fault
+    → Step world (Read session number start question) (Refused fault) world
+read_exit parts world seen sound session number start question fault told =
+    subst (λ w. Step w (Read session number start question) (Refused fault) w) seen (refused fault (read_refusal parts session number start question sound ∙ told) refl refl)
+
+-- there is no memory, and the read phases are as they were
+pub read_starved : (parts : Parts) (world : World) → world_of parts ≡ world → AreSound parts → (session number start : ℕ) (question : Question) → read_fault parts session number start question ≡ None
+    → (phases : FinMap phase_cmp ReadPhase) → phases ≡ parts.phases
+    → Step world (Read session number start question) (Refused faults.Memory) (world_of (record parts { phases = phases })) × AreSound (record parts { phases = phases })
+read_starved parts world seen sound session number start question free phases same =
+    subst (λ p. Step world (Read session number start question) (Refused faults.Memory) (world_of (record parts { phases = p })) × AreSound (record parts { phases = p })) (sym same) (
+      subst (λ w. Step w (Read session number start question) (Refused faults.Memory) (world_of parts)) seen (starved (read_refusal parts session number start question sound ∙ free) refl refl refl),
+      sound,
+    )
+
+-- there is no memory, and nothing was touched
+pub read_unmoved : (parts : Parts) (world : World) → world_of parts ≡ world → AreSound parts → (session number start : ℕ) (question : Question) → read_fault parts session number start question ≡ None
+    → Step world (Read session number start question) (Refused faults.Memory) world
+read_unmoved parts world seen sound session number start question free =
+    subst (λ w. Step w (Read session number start question) (Refused faults.Memory) w) seen (starved (read_refusal parts session number start question sound ∙ free) refl refl refl)
+
+pub read_whole : (parts : Parts) (world : World) → world_of parts ≡ world → AreSound parts → (session number start : ℕ) (question : Question) → read_fault parts session number start question ≡ None
+    → (seen_now : Observation) → seen_now ≡ (question, answer question parts.table)
+    → (phases : FinMap phase_cmp ReadPhase) → phases ≡ noted parts.phases session number start seen_now
+    → (given : Answer) → given ≡ answer question parts.table
+    → Step world (Read session number start question) (Answered given) (world_of (record parts { phases = phases })) × AreSound (record parts { phases = phases })
+read_whole parts world seen sound session number start question free seen_now right phases is given told =
+    let none = read_refusal parts session number start question sound ∙ free in
+    let moved : (read_more (world_of parts) session number start question).phases ≡ phases =
+    ap (λ reads. finite.insert parts.phases (session, number) (record { start = start; reads = reads ++ (question, answer question parts.table) ∷ [] })) (reads_are (finite.get parts.phases (session, number)))
+    ∙ ap (noted parts.phases session number start) (sym right) ∙ sym is in
+    subst (λ p. Step world (Read session number start question) (Answered given) (world_of (record parts { phases = p })) × AreSound (record parts { phases = p })) moved (
+      subst (λ w. Step w (Read session number start question) (Answered given) (read_more (world_of parts) session number start question)) seen (taken none (ap Answered told, refl)),
+      read_moves parts session number start question sound none,
+    )
+
+-- a fault is replied as it is
+pub reading_err : (old new : World) (event : Event) (reply : Result (Option Row) Fault) (fault : Fault) → reply ≡ Err fault → Step old event (Refused fault) new → Step old event (reading reply) new
+reading_err old new event reply fault is step = subst (λ r. Step old event (reading r) new) (sym is) step
+
+module _ {Z : Type 0} where
+  pub scanning_err : (old new : World) (event : Event) (reply : Result (Vec (code_key.Key Z × Row) Z) Fault) (fault : Fault) → reply ≡ Err fault → Step old event (Refused fault) new → Step old event (scanning reply) new
+  scanning_err old new event reply fault is step = subst (λ r. Step old event (scanning r) new) (sym is) step
+
+  -- the row of an object is what its question is answered
+  pub row_answers : (copied object : code_object.Object Z) → copied ≡ object → (row : Option Row) (state : State) → row ≡ finite.get state (object.table, key_of object.key)
+      → ◌≡◌ {A = Observation} (One copied.table (key_of copied.key), Found row) (One object.table (key_of object.key), answer (One object.table (key_of object.key)) state)
+  unfolding answer
+  row_answers copied object same row state is i = (One (same i).table (key_of (same i).key), Found (is i))

@@ -1,0 +1,15 @@
+use Rattle.std.proofs.Common.{ap, sym, ◌∙◌, Some}
+use Rattle.std.specs.Result.{result_err}
+use Rattle.std.proofs.lemmas.Result.{err_from_is_err_and}
+use Rattle.occ_core.specs.Core.{parts_of}
+use Rattle.occ_core.proofs.Entering.{entry_turned, entry_roomed}
+use Rattle.occ_core.proofs.core_state.Core.check_entry.Goals as goal
+
+pub returns-in_err-check_turn : goal.returns-in_err-check_turn
+returns-in_err-check_turn g c =
+    let p = err_from_is_err_and c.from_residual.result c.from_residual.ensures.1 in
+    ap result_err p.1 ∙ sym (entry_turned (parts_of c.self.inside) c.args.self.now.world (ap (λ s. s.world) c.self.view_is) c.args.session c.args.number c.args.start c.args.writes.now c.self.invariant.sound p.0 (sym c.in_err-check_turn.ensures ∙ ap Some (sym p.2)))
+
+pub returns : goal.returns
+returns g c =
+    c.check_room.ensures ∙ sym (entry_roomed (parts_of c.self.inside) c.args.self.now.world (ap (λ s. s.world) c.self.view_is) c.args.session c.args.number c.args.start c.args.writes.now c.self.invariant.sound (sym c.in_ok-check_turn.ensures))

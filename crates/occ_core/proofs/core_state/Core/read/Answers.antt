@@ -1,0 +1,67 @@
+use Rattle.std.proofs.Common.{ap, sym, ◌∙◌, Some, Err}
+use Rattle.std.proofs.lemmas.Result.{err_from_is_err_and}
+use Rattle.occ_types.specs.Question.{One}
+use Rattle.occ_types.specs.Seen.{key_of}
+use Rattle.occ_model.specs.State.{Found}
+use Rattle.occ_sets.specs.Seen.{observation_of}
+use Rattle.occ_core.specs.Core.{parts_of}
+use Rattle.occ_core.proofs.Reading.{refused_turn, refused_question, refused_room, not_refused_read, one_fits, read_exit, read_unmoved, read_starved, read_whole, reading_err}
+use Rattle.occ_core.proofs.core_state.Core.read.Goals as goal
+
+pub returns-in_err-check_turn : goal.returns-in_err-check_turn
+returns-in_err-check_turn g c =
+    let p = err_from_is_err_and c.from_residual.result c.from_residual.ensures.1 in
+    reading_err _ _ _ _ _ p.1 (read_exit (parts_of c.self.inside) c.args.self.now.world (ap (λ s. s.world) c.self.view_is) c.self.invariant.sound c.args.session c.args.number c.args.start
+    (One c.args.object.now.table (key_of c.args.object.now.key)) p.0
+    (refused_turn _ _ _ _ _ (sym c.in_err-check_turn.ensures ∙ ap Some (sym p.2))))
+
+pub returns-in_err-check_key : goal.returns-in_err-check_key
+returns-in_err-check_key g c =
+    let p = err_from_is_err_and c.from_residual-in_err-check_key.result c.from_residual-in_err-check_key.ensures.1 in
+    reading_err _ _ _ _ _ p.1 (read_exit (parts_of c.self.inside) c.args.self.now.world (ap (λ s. s.world) c.self.view_is) c.self.invariant.sound c.args.session c.args.number c.args.start
+    (One c.args.object.now.table (key_of c.args.object.now.key)) p.0
+    (refused_question _ _ _ _ _ (sym c.in_ok-check_turn.ensures) (sym c.in_err-check_key.ensures ∙ ap Some (sym p.2))))
+
+pub returns-in_err-check_room : goal.returns-in_err-check_room
+returns-in_err-check_room g c =
+    let p = err_from_is_err_and c.from_residual-in_err-check_room.result c.from_residual-in_err-check_room.ensures.1 in
+    reading_err _ _ _ _ _ p.1 (read_exit (parts_of c.self.inside) c.args.self.now.world (ap (λ s. s.world) c.self.view_is) c.self.invariant.sound c.args.session c.args.number c.args.start
+    (One c.args.object.now.table (key_of c.args.object.now.key)) p.0
+    (refused_room _ _ _ _ _ (sym c.in_ok-check_turn.ensures) (sym c.in_ok-check_key.ensures) (one_fits c.self.inside.tables.state c.args.object.now.table (key_of c.args.object.now.key)) (sym c.in_err-check_room.ensures ∙ ap Some (sym p.2))))
+
+pub returns-in_default : goal.returns-in_default
+returns-in_default g c =
+    read_unmoved (parts_of c.self.inside) c.args.self.now.world (ap (λ s. s.world) c.self.view_is) c.self.invariant.sound c.args.session c.args.number c.args.start
+    (One c.args.object.now.table (key_of c.args.object.now.key))
+    (not_refused_read _ _ _ _ (sym c.in_ok-check_turn.ensures) (sym c.in_ok-check_key.ensures) (one_fits c.self.inside.tables.state c.args.object.now.table (key_of c.args.object.now.key)) (sym c.in_ok-check_room.ensures))
+
+pub returns-in_err-note : goal.returns-in_err-note
+returns-in_err-note g c =
+    let p = err_from_is_err_and c.from_residual-in_err-note.result c.from_residual-in_err-note.ensures.1 in
+    reading_err _ _ _ _ _ (p.1 ∙ ap Err (p.2 ∙ c.in_err-note.ensures.memory)) ((read_starved (parts_of c.self.inside) c.args.self.now.world (ap (λ s. s.world) c.self.view_is) c.self.invariant.sound c.args.session c.args.number c.args.start
+    (One c.args.object.now.table (key_of c.args.object.now.key))
+    (not_refused_read _ _ _ _ (sym c.in_ok-check_turn.ensures) (sym c.in_ok-check_key.ensures) (one_fits c.self.inside.tables.state c.args.object.now.table (key_of c.args.object.now.key)) (sym c.in_ok-check_room.ensures)) c.note.new.phases c.in_err-note.ensures.err).0)
+
+pub invariant_of-self : goal.invariant_of-self
+invariant_of-self g c = record {
+  sound = (read_starved (parts_of c.self.inside) c.args.self.now.world (ap (λ s. s.world) c.self.view_is) c.self.invariant.sound c.args.session c.args.number c.args.start
+      (One c.args.object.now.table (key_of c.args.object.now.key))
+      (not_refused_read _ _ _ _ (sym c.in_ok-check_turn.ensures) (sym c.in_ok-check_key.ensures) (one_fits c.self.inside.tables.state c.args.object.now.table (key_of c.args.object.now.key)) (sym c.in_ok-check_room.ensures)) c.note.new.phases c.in_err-note.ensures.err).1;
+  tables_match = c.self.invariant.tables_match;
+  placed = c.self.invariant.placed;
+}
+
+pub invariant_of-self-2 : goal.invariant_of-self-2
+invariant_of-self-2 g c = record {
+  sound = (read_whole (parts_of c.self.inside) c.args.self.now.world (ap (λ s. s.world) c.self.view_is) c.self.invariant.sound c.args.session c.args.number c.args.start
+      (One c.args.object.now.table (key_of c.args.object.now.key))
+      (not_refused_read _ _ _ _ (sym c.in_ok-check_turn.ensures) (sym c.in_ok-check_key.ensures) (one_fits c.self.inside.tables.state c.args.object.now.table (key_of c.args.object.now.key)) (sym c.in_ok-check_room.ensures)) (observation_of c.in-Ok.seen) c.in-Ok.ensures.0 c.note.new.phases c.in_ok-note.ensures.ok (Found c.in-Ok.row) c.in-Ok.ensures.1).1;
+  tables_match = c.self.invariant.tables_match;
+  placed = c.self.invariant.placed;
+}
+
+pub returns : goal.returns
+returns g c =
+    (read_whole (parts_of c.self.inside) c.args.self.now.world (ap (λ s. s.world) c.self.view_is) c.self.invariant.sound c.args.session c.args.number c.args.start
+    (One c.args.object.now.table (key_of c.args.object.now.key))
+    (not_refused_read _ _ _ _ (sym c.in_ok-check_turn.ensures) (sym c.in_ok-check_key.ensures) (one_fits c.self.inside.tables.state c.args.object.now.table (key_of c.args.object.now.key)) (sym c.in_ok-check_room.ensures)) (observation_of c.in-Ok.seen) c.in-Ok.ensures.0 c.note.new.phases c.in_ok-note.ensures.ok (Found c.in-Ok.row) c.in-Ok.ensures.1).0

@@ -1,0 +1,334 @@
+//! The entry of a transaction: the first critical section (Kung and Robinson, section 5).
+ghost use Rattle.std.specs.Prelude.{◌≡◌, ◌++◌, ◌∷◌, [], length, slice_get, IfOk, IfErr, option_map};
+ghost use Rattle.std.specs.Result.{result_err};
+ghost use Rattle.occ_model.specs.Log.{Case as PlainCase, Open, is_active};
+ghost use Rattle.occ_model.specs.World.{active_count, reads_under};
+ghost use Rattle.occ_model.specs.Event.{Enter, Request};
+ghost use Rattle.occ_model.specs.Refusal.{refusal, check_writes};
+ghost use Rattle.occ_model.specs.Step.{Step, IsCaseOf, entering as entering_row};
+ghost use Rattle.occ_core.specs.Slots.{active_from};
+ghost use Rattle.occ_core.specs.Rows.{log_row_of, standing_of, slot_of};
+ghost use Rattle.occ_core.specs.Entries.{due_fault, busy_fault, spare_fault, turn_to_enter, write_fault, log_fault, counter_fault, room_to_enter, active_at};
+ghost use Rattle.occ_core.specs.Replies.{entering};
+
+use crate::core_reads::{check_session, check_start};
+use crate::core_state::Core;
+use crate::log::Log;
+use crate::phases::ReadPhases;
+use crate::rows::{LogRow, OpenCase, Standing};
+use crate::sessions::{Held, SessionState, Sessions};
+use occ_case::Case;
+use occ_sets::{SharedWrites, WriteSet};
+use occ_types::Schema;
+use occ_types::fault::Fault;
+use occ_types::limits::{MAX_COUNTER, MAX_LOG_ROWS, MAX_NUMBER};
+use std::alloc::{AllocError, Allocator};
+
+/// A transaction that entered.
+#[derive(Clone, Copy, Debug, PartialEq, Eq)]
+pub struct Entered {
+    /// The place of its row in the log.
+    pub place: usize,
+    /// The index that names its case.
+    pub index: u64,
+}
+
+/// A request that was refused, handed back.
+#[derive(Drop)]
+pub struct RefusedEntry<A: Allocator> {
+    /// The writes that were handed in.
+    pub writes: SharedWrites<A>,
+    /// Why it was refused.
+    pub fault: Fault,
+}
+
+impl<A: Allocator> Core<A> {
+    /// How many transactions are active: entered, and neither finished nor decided to be backed up.
+    pub fn active(&self) -> usize
+        ensures { result ≡ active_count self.now.world }
+    {
+        count_active(&self.sessions, &self.log)
+    }
+}
+
+impl<A: Allocator + Copy> Core<A> {
+    /// Enters a request of a session: a transaction that ends its read phase with this number, start and writes. Its row, with what
+    /// was read under the number, comes into the log and is open. Its case is fixed now, however late its decision comes: its
+    /// opponents are the transactions that are active, and of those that finished since its start the ones in the window.
+    ///
+    /// Refused, the first of these that holds: where there is no such session; where the number is not the one that is due; where the
+    /// session has a row under way; where only the number of the closing mark is left; where the read phase has another start, or
+    /// there is none and the start lies above the counter; where a write does not fit the schema; where the log is full; where the
+    /// counter has no room for one more; and where there is no memory. The writes are handed back then, and nothing moves.
+    pub fn enter_request(
+        &mut self,
+        session: usize,
+        number: u64,
+        start: u64,
+        writes: SharedWrites<A>,
+    ) -> Result<Entered, RefusedEntry<A>>
+        ensures step { Step self.old.world (Enter session (Request number start writes)) (entering result) self.new.world }
+        ensures handed_back { IfErr result (λ refused. refused.writes ≡ writes) }
+    {
+        if let Err(fault) = self.check_entry(session, number, start, writes.get()) {
+            return Err(RefusedEntry { writes, fault });
+        }
+        let Ok(row) = self.open_row(session, number, start, &writes) else {
+            return Err(RefusedEntry {
+                writes,
+                fault: Fault::Memory,
+            });
+        };
+        let place = row.place;
+        if self.log.push(row).is_err() {
+            return Err(RefusedEntry {
+                writes,
+                fault: Fault::Memory,
+            });
+        }
+        let _reads = self.phases.take(session, number);
+        self.sessions
+            .hold(session - 1, number, Held { place, writes });
+        Ok(Entered {
+            place,
+            index: place as u64,
+        })
+    }
+
+    // Whether a request may enter.
+    fn check_entry(
+        &self,
+        session: usize,
+        number: u64,
+        start: u64,
+        writes: &WriteSet<A>,
+    ) -> Result<(), Fault>
+        ensures { result_err result ≡ refusal self.now.world (Enter session (Request number start writes.now)) }
+    {
+        check_turn(
+            &self.sessions,
+            &self.phases,
+            self.counter,
+            session,
+            number,
+            start,
+        )?;
+        check_room(
+            &self.schema,
+            &self.sessions,
+            &self.log,
+            self.counter,
+            writes,
+        )
+    }
+
+    // The row of a request, open, with its case.
+    fn open_row(
+        &self,
+        session: usize,
+        number: u64,
+        start: u64,
+        writes: &SharedWrites<A>,
+    ) -> Result<LogRow<A>, AllocError>
+        ensures { IfOk result (λ row. (case : PlainCase) × IsCaseOf self.now.world session number start writes.now case × (log_row_of row ≡ entering_row self.now.world session number start (reads_under self.now.world session number) writes.now (Open (length self.now.world.log) case))) }
+    {
+        let low = self.low();
+        let reads = self.phases.share(self.alloc, session, number)?;
+        let skip = start.saturating_sub(low) as usize;
+        let finished = self.window.shared_from(self.alloc, skip)?;
+        let active = active_writes(self.alloc, &self.sessions, &self.log)?;
+        let case = Case::new(
+            start,
+            low,
+            reads.share()?,
+            writes.share()?,
+            finished,
+            active,
+        );
+        let place = self.log.len();
+        Ok(LogRow {
+            place,
+            session,
+            number,
+            start,
+            finish: self.counter,
+            reads,
+            writes: writes.share()?,
+            standing: Standing::Open(OpenCase {
+                index: place as u64,
+                case,
+            }),
+        })
+    }
+}
+
+// Whether a session may enter under a number from a start.
+fn check_turn<A: Allocator>(
+    sessions: &Sessions<A>,
+    phases: &ReadPhases<A>,
+    counter: u64,
+    session: usize,
+    number: u64,
+    start: u64,
+) -> Result<(), Fault>
+    ensures { result_err result ≡ turn_to_enter sessions.now phases.now counter session number start }
+{
+    check_session(sessions, session)?;
+    check_due(sessions.last(session - 1), number)?;
+    check_idle(sessions.get(session - 1))?;
+    check_spare(number)?;
+    check_start(phases, counter, session, number, start)
+}
+
+// Whether a number is the one after that of the session's last transaction.
+fn check_due(last: u64, number: u64) -> Result<(), Fault>
+    ensures { result_err result ≡ due_fault last number }
+{
+    if number <= last || number - last != 1 {
+        return Err(Fault::OutOfTurn);
+    }
+    Ok(())
+}
+
+// Whether a session has no row under way.
+fn check_idle<A: Allocator>(state: Option<&SessionState<A>>) -> Result<(), Fault>
+    ensures { result_err result ≡ busy_fault (option_map (λ s. slot_of s.now) state.entry) }
+{
+    match state {
+        Some(state) if state.held.is_some() => Err(Fault::SessionBusy),
+        _ => Ok(()),
+    }
+}
+
+// Whether a number after this one is left for the closing mark.
+fn check_spare(number: u64) -> Result<(), Fault>
+    ensures { result_err result ≡ spare_fault number }
+{
+    if number >= MAX_NUMBER {
+        return Err(Fault::NumbersExhausted);
+    }
+    Ok(())
+}
+
+// Whether writes fit the schema, and there is room for one more transaction.
+fn check_room<A: Allocator>(
+    schema: &Schema<A>,
+    sessions: &Sessions<A>,
+    log: &Log<A>,
+    counter: u64,
+    writes: &WriteSet<A>,
+) -> Result<(), Fault>
+    ensures { result_err result ≡ room_to_enter schema.now sessions.now log.now counter writes.now }
+{
+    check_writes(schema, writes)?;
+    check_log(log.len())?;
+    check_counter(counter, count_active(sessions, log))
+}
+
+// Whether each write fits the schema, in their order.
+fn check_writes<A: Allocator>(schema: &Schema<A>, writes: &WriteSet<A>) -> Result<(), Fault>
+    ensures { result_err result ≡ check_writes schema.now writes.now }
+{
+    for place in 0..writes.len() {
+        check_write(schema, writes, place)?;
+    }
+    Ok(())
+}
+
+// Whether the write at a place fits the schema: its key, and then its row.
+fn check_write<A: Allocator>(
+    schema: &Schema<A>,
+    writes: &WriteSet<A>,
+    place: usize,
+) -> Result<(), Fault>
+    ensures { result_err result ≡ write_fault schema.now (slice_get writes.now place) }
+{
+    let Some((object, row)) = writes.write_at(place) else {
+        return Ok(());
+    };
+    schema.check_key(object.table, &object.key)?;
+    match row {
+        None => Ok(()),
+        Some(row) => schema.check_row(object.table, row),
+    }
+}
+
+// Whether the log has room for one more row.
+fn check_log(rows: usize) -> Result<(), Fault>
+    ensures { result_err result ≡ log_fault rows }
+{
+    if rows >= MAX_LOG_ROWS {
+        return Err(Fault::LogFull);
+    }
+    Ok(())
+}
+
+// Whether the counter has room for the active transactions and one more.
+fn check_counter(counter: u64, active: usize) -> Result<(), Fault>
+    ensures { result_err result ≡ counter_fault counter active }
+{
+    if active as u64 >= MAX_COUNTER.saturating_sub(counter) {
+        return Err(Fault::CounterExhausted);
+    }
+    Ok(())
+}
+
+// The writes of the row of the session at a place, where it is active.
+fn active_at<'a, A: Allocator>(
+    sessions: &Sessions<A>,
+    log: &'a Log<A>,
+    place: usize,
+) -> Option<&'a SharedWrites<A>>
+    ensures { option_map (λ w. w.now) result ≡ active_at log.now (slice_get sessions.now place) }
+{
+    let state = sessions.get(place)?;
+    let held = state.held.as_ref()?;
+    let row = log.row(held.place)?;
+    if is_active(&row.standing) {
+        Some(&row.writes)
+    } else {
+        None
+    }
+}
+
+// Whether a row that stands so is active.
+fn is_active<A: Allocator>(standing: &Standing<A>) -> bool
+    ensures { result ≡ is_active (standing_of standing.now) }
+{
+    match standing {
+        Standing::Open(_) => true,
+        Standing::Writing(_) => true,
+        Standing::Done(_) => false,
+        Standing::Back(_) => false,
+    }
+}
+
+// How many transactions are active, found through the sessions.
+fn count_active<A: Allocator>(sessions: &Sessions<A>, log: &Log<A>) -> usize
+    ensures { result ≡ length (active_from log.now sessions.now) }
+{
+    let mut count = 0;
+    for place in 0..sessions.len() {
+        if active_at(sessions, log, place).is_some() {
+            count += 1;
+        }
+    }
+    count
+}
+
+// One more owner of the writes of each active transaction, found through the sessions.
+fn active_writes<A: Allocator>(
+    alloc: A,
+    sessions: &Sessions<A>,
+    log: &Log<A>,
+) -> Result<Vec<SharedWrites<A>, A>, AllocError>
+    ensures { IfOk result (λ active. active.items ≡ active_from log.now sessions.now) }
+{
+    let mut active = Vec::new(alloc);
+    for place in 0..sessions.len() {
+        if let Some(writes) = active_at(sessions, log, place) {
+            active.push(writes.share()?)?;
+        }
+    }
+    Ok(active)
+}

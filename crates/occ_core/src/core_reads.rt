@@ -1,0 +1,273 @@
+//! What a transaction reads of the tables in its read phase.
+ghost use Rattle.std.specs.Prelude.{◌≡◌, IfOk, IfErr, OnOk, OnErr, None, length};
+ghost use Rattle.std.specs.Option.{option_copied};
+ghost use Rattle.std.specs.Result.{result_err};
+ghost use Rattle.occ_types.specs.Question.{One, Span};
+ghost use Rattle.occ_types.specs.Seen.{key_of, end_of};
+ghost use Rattle.occ_model.specs.Event.{Read, Forget};
+ghost use Rattle.occ_model.specs.State.{answer, Found, Rows};
+ghost use Rattle.occ_model.specs.Step.{Step};
+ghost use Rattle.occ_sets.specs.Seen.{observation_of, rows_of};
+ghost use Rattle.occ_core.specs.Reads.{session_fault, number_fault, start_fault, turn_fault, size_fault, room_fault, noted};
+ghost use Rattle.occ_types.specs.declared.fault.Fault.TheVariants.{Memory};
+ghost use Rattle.occ_core.specs.Replies.{reading, scanning, forgetting};
+
+use crate::core_state::Core;
+use crate::phases::ReadPhases;
+use crate::sessions::Sessions;
+use crate::tables::Tables;
+use occ_sets::{Answer, Observation};
+use occ_types::fault::Fault;
+use occ_types::limits::{MAX_ANSWER_ROWS, MAX_QUESTIONS, READ_AHEAD};
+use occ_types::{Key, Object, Question, Row, Schema};
+use std::alloc::{AllocError, Allocator};
+
+impl<A: Allocator> Core<A> {
+    /// The tables of the store, and what fits them.
+    pub fn schema(&self) -> &Schema<A>
+        ensures { result.now ≡ self.now.world.settings.schema }
+    {
+        &self.schema
+    }
+
+    /// The rows that stand in the tables.
+    pub fn tables(&self) -> &Tables<A>
+        ensures state { result.now.state ≡ self.now.world.table }
+        ensures count { result.now.tables ≡ length self.now.world.settings.schema }
+    {
+        &self.tables
+    }
+
+    /// How many sessions there are; they are numbered from 1.
+    pub fn sessions(&self) -> usize
+        ensures { result ≡ self.now.world.settings.sessions }
+    {
+        self.sessions.len()
+    }
+
+    /// Forgets what a session has read under a number, and answers whether it has read anything. The number may then be read under
+    /// from another start. Refused where there is no such session. It takes no memory.
+    pub fn forget(&mut self, session: usize, number: u64) -> Result<bool, Fault>
+        ensures { Step self.old.world (Forget session number) (forgetting result) self.new.world }
+    {
+        check_session(&self.sessions, session)?;
+        let phase = self.phases.take(session, number);
+        Ok(phase.is_some())
+    }
+}
+
+impl<A: Allocator + Copy> Core<A> {
+    /// A copy of the row of an object, or none where there is none, as the tables have it now. The question is noted with its answer
+    /// in the read phase of the number, which begins with it from this start where it is not under way.
+    ///
+    /// Refused, the first of these that holds: where there is no such session; where the number is not the one that is due or among
+    /// the 1,025 after it; where the read phase has another start, or there is none and the start lies above the counter; where the
+    /// key does not fit the schema; where 256 questions are noted; and where there is no memory for the copies. Nothing moves then.
+    pub fn read(
+        &mut self,
+        session: usize,
+        number: u64,
+        start: u64,
+        object: &Object<A>,
+    ) -> Result<Option<Row<A>>, Fault>
+        ensures { Step self.old.world (Read session number start (One object.now.table (key_of object.now.key))) (reading result) self.new.world }
+    {
+        check_turn(
+            &self.sessions,
+            &self.phases,
+            self.counter,
+            session,
+            number,
+            start,
+        )?;
+        self.schema.check_key(object.table, &object.key)?;
+        check_room(&self.phases, session, number)?;
+        let Ok((seen, row)) = observe_row(&self.tables, object) else {
+            return Err(Fault::Memory);
+        };
+        note(&mut self.phases, self.alloc, session, number, start, seen)?;
+        Ok(row)
+    }
+
+    /// Copies of the rows of a table from the lower end on and below the upper one, with their keys and in the order of the keys, as
+    /// the table has them now. The question is noted with its answer as by `read`.
+    ///
+    /// Refused as `read` is, where the ends must fit the schema and the lower one be below the upper one; and after that, before the
+    /// room for questions is looked at, where the answer has more than 1,024 rows. They are counted before any is copied.
+    pub fn scan(
+        &mut self,
+        session: usize,
+        number: u64,
+        start: u64,
+        table: usize,
+        lower: &Option<Key<A>>,
+        upper: &Option<Key<A>>,
+    ) -> Result<Vec<(Key<A>, Row<A>), A>, Fault>
+        ensures { Step self.old.world (Read session number start (Span table (end_of lower.now) (end_of upper.now))) (scanning result) self.new.world }
+    {
+        check_turn(
+            &self.sessions,
+            &self.phases,
+            self.counter,
+            session,
+            number,
+            start,
+        )?;
+        self.schema.check_range(table, lower, upper)?;
+        check_size(&self.tables, table, lower, upper)?;
+        check_room(&self.phases, session, number)?;
+        let Ok((seen, rows)) = observe_rows(&self.tables, table, lower, upper) else {
+            return Err(Fault::Memory);
+        };
+        note(&mut self.phases, self.alloc, session, number, start, seen)?;
+        Ok(rows)
+    }
+}
+
+// Notes an observation in a read phase that has room for it.
+fn note<A: Allocator + Copy>(
+    phases: &mut ReadPhases<A>,
+    alloc: A,
+    session: usize,
+    number: u64,
+    start: u64,
+    seen: Observation<A>,
+) -> Result<(), Fault>
+    requires few { room_fault phases.old session number ≡ None }
+    ensures ok { OnOk result (phases.new ≡ noted phases.old session number start (observation_of seen)) }
+    ensures err { OnErr result (phases.new ≡ phases.old) }
+    ensures memory { IfErr result (λ fault. fault ≡ Memory) }
+{
+    match phases.note(alloc, session, number, start, seen.question, seen.answer) {
+        Ok(()) => Ok(()),
+        Err(AllocError) => Err(Fault::Memory),
+    }
+}
+
+// The question for the row of an object and what the tables answer, and a copy of the row.
+fn observe_row<A: Allocator + Clone>(
+    tables: &Tables<A>,
+    object: &Object<A>,
+) -> Result<(Observation<A>, Option<Row<A>>), AllocError>
+    ensures { IfOk result (λ copies. (observation_of copies.0 ≡ (One object.now.table (key_of object.now.key), answer (One object.now.table (key_of object.now.key)) tables.now.state)) × (Found copies.1 ≡ answer (One object.now.table (key_of object.now.key)) tables.now.state)) }
+{
+    let found = tables.row(object.table, &object.key);
+    let question = Question::One(object.clone()?);
+    let answer = Answer::Found(copy(found)?);
+    let row = copy(found)?;
+    Ok((Observation { question, answer }, row))
+}
+
+// The question for a range and what the tables answer, and a copy of the rows.
+fn observe_rows<A: Allocator + Clone>(
+    tables: &Tables<A>,
+    table: usize,
+    lower: &Option<Key<A>>,
+    upper: &Option<Key<A>>,
+) -> Result<(Observation<A>, Vec<(Key<A>, Row<A>), A>), AllocError>
+    ensures { IfOk result (λ copies. (observation_of copies.0 ≡ (Span table (end_of lower.now) (end_of upper.now), answer (Span table (end_of lower.now) (end_of upper.now)) tables.now.state)) × (Rows (rows_of copies.1.items) ≡ answer (Span table (end_of lower.now) (end_of upper.now)) tables.now.state)) }
+{
+    let question = Question::Span {
+        table,
+        lower: lower.clone()?,
+        upper: upper.clone()?,
+    };
+    let answer = Answer::Rows(tables.rows(table, lower, upper)?);
+    let rows = tables.rows(table, lower, upper)?;
+    Ok((Observation { question, answer }, rows))
+}
+
+// A copy of a row that may be there.
+fn copy<A: Allocator + Clone>(row: Option<&Row<A>>) -> Result<Option<Row<A>>, AllocError>
+    ensures { IfOk result (λ copied. copied ≡ option_copied row.entry) }
+{
+    match row {
+        None => Ok(None),
+        Some(row) => Ok(Some(row.clone()?)),
+    }
+}
+
+// Whether there is such a session.
+pub(crate) fn check_session<A: Allocator>(
+    sessions: &Sessions<A>,
+    session: usize,
+) -> Result<(), Fault>
+    ensures { result_err result ≡ session_fault sessions.now session }
+{
+    if session == 0 || session > sessions.len() {
+        return Err(Fault::NoSession);
+    }
+    Ok(())
+}
+
+// Whether a number is the next one after that of a session's last transaction, or among the 1,025 after it.
+fn check_number(last: u64, number: u64) -> Result<(), Fault>
+    ensures { result_err result ≡ number_fault last number }
+{
+    if number <= last || number - last > READ_AHEAD + 1 {
+        return Err(Fault::OutOfTurn);
+    }
+    Ok(())
+}
+
+// Whether a start is that of the read phase, or has been reached where there is none.
+pub(crate) fn check_start<A: Allocator>(
+    phases: &ReadPhases<A>,
+    counter: u64,
+    session: usize,
+    number: u64,
+    start: u64,
+) -> Result<(), Fault>
+    ensures { result_err result ≡ start_fault phases.now counter session number start }
+{
+    match phases.start(session, number) {
+        None if start > counter => Err(Fault::FutureStart),
+        Some(begun) if begun != start => Err(Fault::StartDiffers),
+        _ => Ok(()),
+    }
+}
+
+// Whether a session may read under a number from a start.
+fn check_turn<A: Allocator>(
+    sessions: &Sessions<A>,
+    phases: &ReadPhases<A>,
+    counter: u64,
+    session: usize,
+    number: u64,
+    start: u64,
+) -> Result<(), Fault>
+    ensures { result_err result ≡ turn_fault sessions.now phases.now counter session number start }
+{
+    check_session(sessions, session)?;
+    check_number(sessions.last(session - 1), number)?;
+    check_start(phases, counter, session, number, start)
+}
+
+// Whether the answer to a range has no more rows than an answer may have. They are counted, and none is copied.
+pub(crate) fn check_size<A: Allocator + Clone>(
+    tables: &Tables<A>,
+    table: usize,
+    lower: &Option<Key<A>>,
+    upper: &Option<Key<A>>,
+) -> Result<(), Fault>
+    ensures { result_err result ≡ size_fault tables.now.state (Span table (end_of lower.now) (end_of upper.now)) }
+{
+    if tables.count_rows(table, lower, upper) > MAX_ANSWER_ROWS {
+        return Err(Fault::RangeTooLarge);
+    }
+    Ok(())
+}
+
+// Whether a read phase has room for another question.
+fn check_room<A: Allocator>(
+    phases: &ReadPhases<A>,
+    session: usize,
+    number: u64,
+) -> Result<(), Fault>
+    ensures { result_err result ≡ room_fault phases.now session number }
+{
+    if phases.questions(session, number) >= MAX_QUESTIONS {
+        return Err(Fault::SetFull);
+    }
+    Ok(())
+}
