@@ -1,0 +1,7 @@
+use Rattle.std.proofs.Common.{◌≡◌, drop}
+use Rattle.occ_model.specs.State.{apply}
+use Rattle.occ_audit.proofs.replica.Replica.write.Given as goal
+
+-- the writes that are left lead to the same end
+abbrev pub invariant-loop-place : goal.invariant-loop-place
+invariant-loop-place g l = apply l.self (drop l.place l.writes) ≡ apply l.fn.self (drop l.fn.from l.writes)

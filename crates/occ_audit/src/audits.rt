@@ -1,0 +1,50 @@
+//! The audit of a log.
+ghost use Rattle.std.specs.Prelude.{◌≡◌, IfOk};
+ghost use Rattle.std.specs.Bool.{Decides};
+ghost use Rattle.occ_core.specs.Rows.{log_of};
+ghost use Rattle.occ_model.specs.Log.{Audited, Explained, settled, serial};
+ghost use Rattle.occ_model.specs.World.{empty_base};
+ghost use Rattle.occ_audit.specs.Order.{marks_of};
+
+use crate::order::{are_closed, are_placed, last_numbers};
+use crate::replay::{replay, settle};
+use crate::replica::Replica;
+use occ_core::{LogRow, Tables};
+use std::alloc::{AllocError, Allocator};
+use std::collections::BTreeMap;
+
+/// What is audited: a whole log, from the empty state on, with the closing marks and the tables that are claimed to belong to it.
+#[derive(Drop)]
+pub struct Book<'a, A: Allocator> {
+    /// The rows, in the order of entry.
+    pub log: &'a [LogRow<A>],
+    /// The closing mark of each session that has one.
+    pub marks: &'a BTreeMap<usize, u64, A>,
+    /// The tables as they stand.
+    pub tables: &'a Tables<A>,
+}
+
+/// Whether the whole claim on a log holds: places and each session's numbers stand without a gap, and none comes after its closing mark; each committed transaction read what serial replay of those before it answers; and the tables, with the rest of each open write phase, are the replay of the whole log.
+///
+/// The numbers of the log may be any. The time is linear in the log, in what its rows read and write and in the rows of the tables, but for a factor for each search in a map; the memory is linear in the rows of the tables and of the log.
+///
+/// It is an error where there is no memory.
+pub fn audit_rows<A: Allocator + Copy>(alloc: A, book: &Book<'_, A>) -> Result<bool, AllocError>
+    ensures { IfOk result (λ yes. Decides yes (Audited empty_base (marks_of book.now.marks.now) book.now.tables.now.state (log_of book.now.log.now))) }
+{
+    if !are_placed(book.log) {
+        return Ok(false);
+    }
+    let Some(last) = last_numbers(alloc, book.log)? else {
+        return Ok(false);
+    };
+    if !are_closed(book.marks, &last) {
+        return Ok(false);
+    }
+    let Some(replayed) = replay(alloc, book.log)? else {
+        return Ok(false);
+    };
+    let mut table = Replica::of_tables(alloc, book.tables)?;
+    settle(&mut table, book.log)?;
+    Ok(table.same(&replayed))
+}

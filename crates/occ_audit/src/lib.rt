@@ -1,0 +1,11 @@
+//! The audit of a decision log: whether all that a store claims of its log, its closing marks and its tables holds.
+#![tactic(auto)]
+
+pub mod audits;
+mod order;
+mod replay;
+mod replica;
+#[cfg(test)]
+mod tests;
+
+pub use audits::{Book, audit_rows};

@@ -1,0 +1,93 @@
+//! Serial replay of a log, and the table with the rest of each open write phase.
+ghost use Rattle.std.specs.Prelude.{◌≡◌, true, IfOk, OnOk, MatchOption};
+ghost use Rattle.std.specs.Bool.{Decides};
+ghost use Rattle.std.specs.FinMap as finite;
+ghost use Rattle.occ_core.specs.Rows.{log_of, log_row_of, standing_of};
+ghost use Rattle.occ_model.specs.State.{apply};
+ghost use Rattle.occ_model.specs.Log.{AreAnswers, Explained, is_committed, after, serial, settled, rest};
+
+use crate::replica::Replica;
+use occ_core::{LogRow, Standing};
+use occ_sets::ReadSet;
+use std::alloc::{AllocError, Allocator};
+
+// The state that serial replay of a log makes, or none where some committed row read what the replay of those before it doesn't answer.
+pub(crate) fn replay<A: Allocator + Clone>(
+    alloc: A,
+    log: &[LogRow<A>],
+) -> Result<Option<Replica<A>>, AllocError>
+    ensures { IfOk result (λ found. MatchOption found
+        (Explained finite.empty (log_of log.now) → ⊥)
+        (λ replica. Explained finite.empty (log_of log.now) × (replica ≡ serial finite.empty (log_of log.now)))) }
+{
+    let mut replica = Replica::new(alloc);
+    for row in log {
+        if !play(&mut replica, row)? {
+            return Ok(None);
+        }
+    }
+    Ok(Some(replica))
+}
+
+// Plays one row: false where it is committed and read something else than the state answers.
+fn play<A: Allocator + Clone>(replica: &mut Replica<A>, row: &LogRow<A>) -> Result<bool, AllocError>
+    ensures explained { IfOk result (λ yes. Decides yes (is_committed (standing_of row.now.standing) ≡ true → AreAnswers replica.old row.now.reads)) }
+    ensures played { IfOk result (λ yes. yes ≡ true → replica.new ≡ after replica.old (log_row_of row.now)) }
+{
+    if !is_committed(&row.standing) {
+        return Ok(true);
+    }
+    if !are_answers(replica, row.reads.get())? {
+        return Ok(false);
+    }
+    replica.write(row.writes.get(), 0)?;
+    Ok(true)
+}
+
+// Whether a row that stands so is committed.
+fn is_committed<A: Allocator>(standing: &Standing<A>) -> bool
+    ensures { result ≡ is_committed (standing_of standing.now) }
+{
+    matches!(standing, Standing::Writing(_) | Standing::Done(_))
+}
+
+// Whether the state answers each question as it was answered.
+fn are_answers<A: Allocator + Clone>(
+    replica: &Replica<A>,
+    reads: &ReadSet<A>,
+) -> Result<bool, AllocError>
+    ensures { IfOk result (λ yes. Decides yes (AreAnswers replica.now reads.now)) }
+{
+    for seen in reads.observations() {
+        if !replica.answers(&seen.question, &seen.answer)? {
+            return Ok(false);
+        }
+    }
+    Ok(true)
+}
+
+// Does what each open write phase has still to do, in the order of entry.
+pub(crate) fn settle<A: Allocator + Clone>(
+    table: &mut Replica<A>,
+    log: &[LogRow<A>],
+) -> Result<(), AllocError>
+    ensures { OnOk result (table.new ≡ settled table.old (log_of log.now)) }
+{
+    for row in log {
+        settle_row(table, row)?;
+    }
+    Ok(())
+}
+
+// Does the rest of a row's writes.
+fn settle_row<A: Allocator + Clone>(
+    table: &mut Replica<A>,
+    row: &LogRow<A>,
+) -> Result<(), AllocError>
+    ensures { OnOk result (table.new ≡ apply table.old (rest (log_row_of row.now))) }
+{
+    match &row.standing {
+        Standing::Writing(done) => table.write(row.writes.get(), *done),
+        _ => Ok(()),
+    }
+}
