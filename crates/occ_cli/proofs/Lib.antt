@@ -2,7 +2,16 @@ pub mod Escapes
 pub mod Line
 pub mod Cuts
 pub mod Numbers
+pub mod Spelled
 pub mod Values
+pub mod StepLines
+pub mod HeaderLines
+pub mod SchemaLines
+pub mod Taking
+pub mod WholeHeader
+pub mod Replaying
 pub mod Rows
 pub mod Sending
 pub mod Words
+pub mod Printing
+pub mod TableRows

@@ -1,28 +1,25 @@
 -- Texts, keys, cells and rows: what is read is spelled so, and what is spelled so is read again.
-use Rattle.std.proofs.Common.{◌≡◌, ◌≢◌, ℕ, suc, pos, negsuc, ◌+◌, ◌-◌, ◌^◌, ◌<◌, ◌≤◌, Bool, true, false, cond, eqb, leb, ◌/◌, ◌%◌, List, [], ◌∷◌, length, map, drop, Option, Some, None, Result, Ok, Err, option_map, FitsSigned, w64, IfOk, IfSome, lit<, refl, sym, ap, subst, ◌∙◌, inl, inr, arith}
+use Rattle.std.proofs.Common.{◌≡◌, ◌≢◌, ℕ, pos, negsuc, ◌-◌, ◌^◌, Bool, true, false, cond, eqb, List, [], ◌∷◌, length, map, drop, Option, Some, None, Result, Ok, Err, option_map, IfOk, IfSome, lit<, refl, sym, ap, subst, ◌∙◌, arith}
 use Rattle.std.specs.Prelude.{option_and_then}
 use Rattle.std.specs.List.{All, slice_split, join_with_byte}
-use Rattle.std.specs.Fmt.{decimal}
 use Rattle.std.specs.Str.{IsUtf8, is_utf8}
-use Rattle.std.specs.Char.{is_ascii_digit}
-use Rattle.std.proofs.lemmas.Bool.{false_from_ne_true, false≢true, leb-true, cases_lt}
+use Rattle.std.proofs.lemmas.Bool.{false_from_ne_true, false≢true}
 use Rattle.std.proofs.lemmas.List.{length-map}
-use Rattle.std.proofs.lemmas.List.Elements.{All-nil, All-cons, All-head, All-tail, All-append, All-weaker}
-use Rattle.std.proofs.lemmas.List.Sums.{AllPass-from_list_all}
+use Rattle.std.proofs.lemmas.List.Elements.{All-nil, All-cons, All-head, All-tail}
 use Rattle.std.proofs.lemmas.List.Splits.{join_with_byte-slice_split, length-slice_split}
 use Rattle.std.proofs.lemmas.Str.{IsUtf8-from_is_utf8, is_utf8-from_IsUtf8}
-use Rattle.std.proofs.lemmas.Int.{ints}
 use Rattle.occ_types.specs.Key.{Key}
 use Rattle.occ_types.specs.Key as keys
 use Rattle.occ_types.specs.Row.{Cell, Row}
 use Rattle.occ_types.specs.Row as rows
 use Rattle.occ_cli.specs.declared.tokens.Unread.{Unread}
-use Rattle.occ_cli.specs.Spelling.{is_plain, hex_digit, escaped_byte, escaped, text_text, key_text, cell_text, row_text, IsText, KeyFits, CellFits, RowFits}
+use Rattle.occ_cli.specs.Spelling.{is_plain, text_text, key_text, cell_text, row_text, IsText, KeyFits, CellFits, RowFits}
 use Rattle.occ_cli.specs.Reading.{Reads, begins_with, number_of, int_of}
 use Rattle.occ_cli.specs.Escapes.{Gives, unescaped, if_text, text_of, read_key, read_cell, read_cells, read_row}
-use Rattle.occ_cli.proofs.Numbers.{first_is, number_takes, number_again, int_takes, int_again, decimal_begins_otherwise, decimal_digits, some_or_none}
-use Rattle.occ_cli.proofs.Escapes.{some_is, bind_value, map_value, low_digit, high_digit, plain_spelling, escape_spelling, unescaped_takes, unescaped_again}
-use Rattle.occ_cli.proofs.Words.{both, split_joined}
+use Rattle.occ_cli.proofs.Numbers.{first_is, number_takes, number_again, int_takes, int_again, decimal_begins_otherwise, some_or_none}
+use Rattle.occ_cli.proofs.Escapes.{some_is, bind_value, map_value, unescaped_takes, unescaped_again}
+use Rattle.occ_cli.proofs.Words.{split_joined}
+use Rattle.occ_cli.proofs.Spelled.{OfSpellings, of_cell, of_key, pos_small}
 
 -- ---- from a reader of lists to a call
 
@@ -115,9 +112,6 @@ cell_takes : (token : List ℕ) (cell : Cell) → read_cell token ≡ Some cell 
 unfolding read_cell
 cell_takes token cell h = cell_cases (begins_with token 39) token cell h
 
-pos_small : (n : ℕ) → FitsSigned w64 (pos n) → n < 2 ^ 64
-pos_small n fits = omega (arith, ints)
-
 cell_again : (cell : Cell) → CellFits cell → read_cell (cell_text cell) ≡ Some cell
 unfolding read_cell
 cell_again (rows.Int (pos n)) fits = rw (decimal_begins_otherwise n 39 (pos_small n fits) (lit< tt), int_again (pos n) fits) refl
@@ -126,18 +120,19 @@ cell_again (rows.Text bytes) fits = ap (option_map rows.Text) (text_again bytes 
 
 -- ---- rows
 
--- a byte that stands in no cell
-pub record Separates (separator : ℕ) : Type 0 where
-  plain : is_plain separator ≡ false
-  percent : 37 ≢ separator
-  quote : 39 ≢ separator
-  minus : 45 ≢ separator
-  digit : (n : ℕ) → n < 10 → 48 + n ≢ separator
-  letter : (n : ℕ) → 10 ≤ n → n < 16 → 87 + n ≢ separator
+abbrev Lacks : ℕ → List ℕ → Type 0
+Lacks separator bytes = All (λ byte. byte ≢ separator) bytes
+
+-- a byte that stands in no cell, and in no key
+abbrev pub Separates : ℕ → Type 0
+Separates separator = OfSpellings (λ byte. byte ≢ separator)
+
+plain_differs : (separator byte : ℕ) → is_plain separator ≡ false → is_plain byte ≡ true → byte ≢ separator
+plain_differs separator byte other h e = absurd (false≢true (sym other ∙ ap is_plain (sym e) ∙ h))
 
 pub comma_separates : Separates 44
 comma_separates = record {
-  plain = refl;
+  plain = λ byte h. plain_differs 44 byte refl h;
   percent = λ e. omega arith;
   quote = λ e. omega arith;
   minus = λ e. omega arith;
@@ -147,7 +142,7 @@ comma_separates = record {
 
 pub colon_separates : Separates 58
 colon_separates = record {
-  plain = refl;
+  plain = λ byte h. plain_differs 58 byte refl h;
   percent = λ e. omega arith;
   quote = λ e. omega arith;
   minus = λ e. omega arith;
@@ -155,55 +150,12 @@ colon_separates = record {
   letter = λ n le lt e. omega arith;
 }
 
-abbrev Lacks : ℕ → List ℕ → Type 0
-Lacks separator bytes = All (λ byte. byte ≢ separator) bytes
-
-plain_lacks : (separator byte : ℕ) → Separates separator → is_plain byte ≡ true → byte ≢ separator
-plain_lacks separator byte s h e = absurd (false≢true (sym s.plain ∙ ap is_plain (sym e) ∙ h))
-
-hex_lacks : (separator n : ℕ) → Separates separator → n < 16 → hex_digit n ≢ separator
-hex_lacks separator n s lt e = elim (cases_lt n 10) [
-  | inl low ↦ s.digit n low (sym (low_digit n low) ∙ e)
-  | inr high ↦ s.letter n high lt (sym (high_digit n high) ∙ e)
-]
-
-one_lacks : (b : Bool) (separator byte : ℕ) → is_plain byte ≡ b → Separates separator → byte < 256 → Lacks separator (escaped_byte byte)
-one_lacks true separator byte h s small = subst (Lacks separator) (sym (plain_spelling byte h)) (All-cons (λ x. x ≢ separator) byte [] (plain_lacks separator byte s h) (All-nil (λ x. x ≢ separator)))
-one_lacks false separator byte h s small =
-    subst (Lacks separator) (sym (escape_spelling byte h)) (All-cons (λ x. x ≢ separator) 37 (hex_digit (byte / 16) ∷ hex_digit (byte % 16) ∷ []) s.percent
-    (All-cons (λ x. x ≢ separator) (hex_digit (byte / 16)) (hex_digit (byte % 16) ∷ []) (hex_lacks separator (byte / 16) s (omega arith))
-    (All-cons (λ x. x ≢ separator) (hex_digit (byte % 16)) [] (hex_lacks separator (byte % 16) s (omega arith)) (All-nil (λ x. x ≢ separator)))))
-
-escaped_lacks : (separator : ℕ) (bytes : List ℕ) → Separates separator → All (λ byte. byte < 256) bytes → Lacks separator (escaped bytes)
-escaped_lacks separator [] s small = All-nil (λ x. x ≢ separator)
-escaped_lacks separator (byte ∷ bytes) s small =
-    All-append (λ x. x ≢ separator) (escaped_byte byte) (escaped bytes) (one_lacks (is_plain byte) separator byte refl s (All-head (λ b. b < 256) byte bytes small))
-    (escaped_lacks separator bytes s (All-tail (λ b. b < 256) byte bytes small))
-
-digit_lacks : (separator byte : ℕ) → Separates separator → is_ascii_digit byte ≡ true → byte ≢ separator
-digit_lacks separator byte s h e =
-    let t = both (leb 48 byte) (leb byte 57) h in
-    let lo : 48 ≤ byte = leb-true 48 byte t.0 in
-    let hi : byte ≤ 57 = leb-true byte 57 t.1 in
-    let whole : 48 + (byte - 48) ≡ byte = omega arith in
-    s.digit (byte - 48) (omega arith) (whole ∙ e)
-
-decimal_lacks : (separator n : ℕ) → Separates separator → n < 2 ^ 64 → Lacks separator (decimal n)
-decimal_lacks separator n s small =
-    All-weaker (λ byte. is_ascii_digit byte ≡ true) (λ byte. byte ≢ separator) (λ byte h. digit_lacks separator byte s h) (decimal n) (AllPass-from_list_all is_ascii_digit (decimal n) (decimal_digits n small))
-
-negsuc_small : (n : ℕ) → FitsSigned w64 (negsuc n) → suc n < 2 ^ 64
-negsuc_small n fits = omega (arith, ints)
-
 -- no separator stands in a cell, or in a key
 pub cell_lacks : (separator : ℕ) (cell : Cell) → Separates separator → CellFits cell → Lacks separator (cell_text cell)
-cell_lacks separator (rows.Int (pos n)) s fits = decimal_lacks separator n s (pos_small n fits)
-cell_lacks separator (rows.Int (negsuc n)) s fits = All-cons (λ x. x ≢ separator) 45 (decimal (suc n)) s.minus (decimal_lacks separator (suc n) s (negsuc_small n fits))
-cell_lacks separator (rows.Text bytes) s fits = All-cons (λ x. x ≢ separator) 39 (escaped bytes) s.quote (escaped_lacks separator bytes s fits.small)
+cell_lacks separator cell s fits = of_cell (λ byte. byte ≢ separator) cell s fits
 
 pub key_lacks : (separator : ℕ) (key : Key) → Separates separator → KeyFits key → Lacks separator (key_text key)
-key_lacks separator (keys.Num n) s fits = decimal_lacks separator n s fits
-key_lacks separator (keys.Text bytes) s fits = All-cons (λ x. x ≢ separator) 39 (escaped bytes) s.quote (escaped_lacks separator bytes s fits.small)
+key_lacks separator key s fits = of_key (λ byte. byte ≢ separator) key s fits
 
 -- cells that were read are spelled by their parts, and fit
 record Cells (parts : List (List ℕ)) (cells : Row) : Type 0 where

@@ -24,7 +24,8 @@ passed : {X : Type 0} (b : Bool) (x y : X) → cond b (Some x) None ≡ Some y �
 passed true x y h = (refl, cc)
 passed false x y h = absurd cc
 
-IsToken-from_test : (token : List ℕ) → is_token token ≡ true → IsToken token
+-- a token passes the test
+pub IsToken-from_test : (token : List ℕ) → is_token token ≡ true → IsToken token
 unfolding is_token
 IsToken-from_test token h =
     let p = both (ltb 0 (length token)) (list_all is_ascii_graphic token) h in

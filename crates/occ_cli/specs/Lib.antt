@@ -1,7 +1,17 @@
+pub mod Books
+pub mod Answers
 pub mod Escapes
+pub mod HeaderReading
+pub mod HeaderTaking
+pub mod Headers
 pub mod Line
 pub mod Parts
+pub mod Printing
 pub mod Reading
+pub mod Replaying
 pub mod Sending
 pub mod Spelling
 pub mod Status
+pub mod StepReading
+pub mod Steps
+pub mod Waiting

@@ -4,6 +4,7 @@ ghost use Rattle.std.specs.Prelude.{◌≡◌, ◌≤◌, ◌^◌, ok_or, FitsSi
 ghost use Rattle.std.specs.Result.{result_ok};
 ghost use Rattle.std.specs.Int.{w64};
 ghost use Rattle.std.specs.List.{list_all};
+ghost use Rattle.std.specs.Str.{bytes_eq};
 ghost use Rattle.std.specs.Char.{is_ascii_digit, is_ascii_graphic, is_ascii_lowercase};
 ghost use Rattle.std.specs.Fmt.{decimal, signed_decimal};
 ghost use Rattle.occ_cli.specs.declared.tokens.Unread.TheVariants.{Memory};
@@ -65,8 +66,9 @@ fn are_tokens(line: &[u8]) -> bool
     true
 }
 
+/// The tokens of a line, if it has them.
 #[tactic(auto, unfolding(crate::specs::Reading::tokens_of))]
-fn tokens_value(line: &[u8]) -> Option<Parts<'_>>
+pub(crate) fn tokens_value(line: &[u8]) -> Option<Parts<'_>>
     ensures { result ≡ tokens_of line.now }
 {
     if !are_tokens(line) {
@@ -92,6 +94,13 @@ pub(crate) fn begins_with(bytes: &[u8], byte: u8) -> bool
         [] => false,
         [first, ..] => *first == byte,
     }
+}
+
+/// Whether the token is this word.
+pub(crate) fn is_word(token: &[u8], word: &str) -> bool
+    ensures { result ≡ bytes_eq token.now word.now }
+{
+    token == word.as_bytes()
 }
 
 /// What stands behind the first byte.
@@ -129,8 +138,9 @@ fn decimal_value(token: &[u8]) -> Option<u64>
     text.parse().ok()
 }
 
+/// A number up to `limit`, if the bytes spell one.
 #[tactic(auto, unfolding(crate::specs::Reading::number_of))]
-fn number_value(token: &[u8], limit: u64) -> Option<u64>
+pub(crate) fn number_value(token: &[u8], limit: u64) -> Option<u64>
     ensures exact { result ≡ number_of limit token.now }
     ensures within { IfSome result (λ number. number ≤ limit) }
 {

@@ -1,0 +1,121 @@
+//! The program `occ`: its words to an engine, and what the engine answers to an exit status.
+#![tactic(auto)]
+
+use clap::error::ErrorKind;
+use clap::{Arg, ArgAction, Command};
+use occ_cli::replay::replay_text;
+use occ_cli::trouble::{Trouble, status_of};
+use std::alloc::{AllocError, Global};
+use std::fs::File;
+use std::io::ErrorKind as IoErrorKind;
+use std::process::ExitCode;
+use thiserror::Error;
+
+/// What ends the program with another status than 0. Its text is the line that stands on standard error.
+#[derive(Clone, Copy, Debug, Error)]
+enum Stop {
+    /// The words are no command, or ask for help or a version.
+    #[error("usage")]
+    Usage,
+    /// An engine stopped, or never began for want of memory or of its file.
+    #[error("{0}")]
+    Engine(Trouble),
+}
+
+impl From<AllocError> for Stop {
+    fn from(_refused: AllocError) -> Stop {
+        Stop::Engine(Trouble::Memory)
+    }
+}
+
+impl From<Trouble> for Stop {
+    fn from(trouble: Trouble) -> Stop {
+        Stop::Engine(trouble)
+    }
+}
+
+impl From<clap::Error> for Stop {
+    fn from(refused: clap::Error) -> Stop {
+        match refused.kind() {
+            ErrorKind::OutOfMemory => Stop::Engine(Trouble::Memory),
+            _ => Stop::Usage,
+        }
+    }
+}
+
+fn main(rt: HostRuntime) -> ExitCode {
+    match run(&rt) {
+        Ok(()) => ExitCode::SUCCESS,
+        Err(stop) => {
+            // where this line can't be written either, the status still tells
+            let _written = eprintln!(rt; "{stop}");
+            ExitCode::from(status(stop))
+        }
+    }
+}
+
+fn status(stop: Stop) -> u8 {
+    match stop {
+        Stop::Usage => 2,
+        Stop::Engine(trouble) => status_of(&Err(trouble)),
+    }
+}
+
+/// Reads the words of the command line, and runs what they ask for.
+fn run(rt: &HostRuntime) -> Result<(), Stop> {
+    let words = words(rt)?;
+    let matches = command(rt.alloc())?.try_get_matches_from(words.as_slice())?;
+    match matches.subcommand_matches("replay") {
+        Some(found) => {
+            let quiet = found.get_flag("quiet");
+            replay(rt, found.get_str("file"), quiet)?;
+            Ok(())
+        }
+        None => Err(Stop::Usage),
+    }
+}
+
+/// The words of the command line; one that is no text is no word of a command.
+fn words(rt: &HostRuntime) -> Result<Vec<String>, Stop> {
+    match std::env::args(rt) {
+        Ok(all) => Ok(all.collect(rt.alloc())?),
+        Err(error) if error.kind() == IoErrorKind::OutOfMemory => {
+            Err(Stop::Engine(Trouble::Memory))
+        }
+        Err(_) => Err(Stop::Usage),
+    }
+}
+
+/// `occ replay [FILE] [--quiet]`.
+fn command<'a>(alloc: Global) -> Result<Command<'a>, AllocError> {
+    let quiet = Arg::new(alloc, "quiet")
+        .long("quiet")
+        .action(ArgAction::SetTrue);
+    let replay = plain(Command::new(alloc, "replay"))
+        .arg(Arg::new(alloc, "file"))?
+        .arg(quiet)?;
+    plain(Command::new(alloc, "occ"))
+        .subcommand_required(true)
+        .subcommand(replay)
+}
+
+/// A command without help and version: a wish for them is one more unknown word.
+fn plain<'a>(command: Command<'a>) -> Command<'a> {
+    command
+        .disable_help_flag(true)
+        .disable_help_subcommand(true)
+        .disable_version_flag(true)
+}
+
+/// Replays a file, or standard input where none is named.
+fn replay(rt: &HostRuntime, file: Option<&str>, quiet: bool) -> Result<(), Trouble> {
+    let mut output = rt.stdout();
+    match file {
+        None => replay_text(rt.alloc(), &mut rt.stdin(), &mut output, quiet),
+        Some(path) => match File::open(rt, path) {
+            Ok(mut text) => replay_text(rt.alloc(), &mut text, &mut output, quiet),
+            Err(error) if error.kind() == IoErrorKind::OutOfMemory => Err(Trouble::Memory),
+            Err(_) => Err(Trouble::Read),
+        },
+    }
+}

@@ -1,0 +1,254 @@
+-- Exits and calls of a replay, over plain data.
+use Rattle.std.proofs.Common.{◌≡◌, ℕ, zero, suc, ◌-◌, ◌<◌, ◌⊎◌, ◌≤◌, List, [], ◌∷◌, length, get_or, Option, Some, None, Result, Ok, Err, refl, sym, ap, subst, ◌∙◌, inl, inr, arith}
+use Rattle.std.specs.Prelude.{Bool, true, false, cond, slice_get, slice_set, filter, MatchOption}
+use Rattle.std.specs.Option.{ok_or}
+use Rattle.occ_types.specs.Key.{Key}
+use Rattle.occ_types.specs.declared.fault.Fault.{Fault}
+use Rattle.occ_types.specs.declared.fault.Fault.TheVariants as faults
+use Rattle.occ_model.specs.Log.{is_active}
+use Rattle.occ_model.specs.World.{World}
+use Rattle.occ_model.specs.Event.{Event, Reply}
+use Rattle.occ_model.specs.Event as events
+use Rattle.occ_model.specs.Step.{Step}
+use Rattle.occ_sets.specs.Sets.{Copied}
+use Rattle.occ_core.specs.Rows.{standing_of, log_row_of, log_of}
+use Rattle.occ_core.specs.declared.rows.LogRow as code_row
+use Rattle.occ_types.specs.Question.{Question, One}
+use Rattle.occ_types.specs.Row.{Row}
+use Rattle.occ_model.specs.Overlay.{own}
+use Rattle.occ_cli.specs.Steps as steps
+use Rattle.occ_cli.specs.declared.steps.Act.TheVariants as acts
+use Rattle.occ_sets.specs.declared.reads.Answer as code_seen
+use Rattle.occ_cli.specs.declared.answers.Answer as code_answer
+use Rattle.occ_cli.specs.Answers.{Answer}
+use Rattle.occ_cli.specs.Answers as says
+use Rattle.occ_cli.specs.Replaying.{AtMostOneStep, PlayedIn, Plays, Begins, Submits, Writes, Gets, GetsIn, Scans, next_item, still_waiting, kept_after, copy_of, object_named, Client, Replayed, Given, client_of, span_named, Tells, ScansIn, ByStore, ByClient, ByAsking, Enters, told, overlaid, replied, played, Played}
+
+-- At most one step.
+
+-- where a fault stands in the place of a value, nothing changes
+given_steps : {X Y : Type 0} (f : Y → World) (r : Result X Fault) (old : Y) (answer : Answer) (new : Y) (P : X → Type 0) → ((x : X) → P x → AtMostOneStep (f old) (f new)) → Given r old answer new P → AtMostOneStep (f old) (f new)
+given_steps f (Ok x) old answer new P steps h = steps x h
+given_steps f (Err e) old answer new P steps h = inl (ap f h.1)
+
+tells_steps : (old : World) (event : Event) (answer : Answer) (new : World) → Tells old event answer new → AtMostOneStep old new
+tells_steps old event answer new h = inr (event, h.0, h.1)
+
+own_steps : (old : World) (event : Event) (answer : Answer) (new : World) (row : Option (Option Row)) → MatchOption row (Tells old event answer new) (λ r. (answer ≡ says.Found r) × (new ≡ old)) → AtMostOneStep old new
+own_steps old event answer new None h = tells_steps old event answer new h
+own_steps old event answer new (Some row) h = inl h.1
+
+gets_steps : (old : World) (session : ℕ) (name : List ℕ) (key : Key) (client : Client) (answer : Answer) (new : World) → Gets old session name key client answer new → AtMostOneStep old new
+gets_steps old session name key client answer new h =
+    given_steps (λ (w : World). w) (copy_of client) old answer new (λ copy. GetsIn old session name key copy answer new)
+    (λ copy g. given_steps (λ (w : World). w) (object_named old.settings.schema name key) old answer new
+    (λ object. MatchOption (own copy.writes object) (Tells old (events.Read session copy.number copy.start (One object.0 object.1)) answer new) (λ row. (answer ≡ says.Found row) × (new ≡ old)))
+    (λ object m. own_steps old (events.Read session copy.number copy.start (One object.0 object.1)) answer new (own copy.writes object) m) g)
+    h
+
+scans_steps : (old : World) (session : ℕ) (name : List ℕ) (lower upper : Key) (client : Client) (answer : Answer) (new : World) → Scans old session name lower upper client answer new → AtMostOneStep old new
+scans_steps old session name lower upper client answer new h =
+    given_steps (λ (w : World). w) (copy_of client) old answer new (λ copy. ScansIn old session name lower upper copy answer new)
+    (λ copy g. given_steps (λ (w : World). w) (span_named old.settings.schema name lower upper) old answer new
+    (λ question. (reply : Reply) × Step old (events.Read session copy.number copy.start question) reply new × (told old.settings.schema (overlaid question copy.writes reply) ≡ Some answer))
+    (λ question m. inr (events.Read session copy.number copy.start question, m.0, m.1)) g)
+    h
+
+item_steps : (old : World) (session : ℕ) (client : Client) (answer : Answer) (next : Client) (new : World) (item : Option Copied)
+    → MatchOption item ((answer ≡ says.Empty) × (next ≡ client) × (new ≡ old))
+    (λ i. (reply : Reply) × Step old (events.Enter session (events.Request i.number i.start i.writes)) reply new × (told old.settings.schema reply ≡ Some answer) × (next ≡ record client { queue = still_waiting client; kept = kept_after i reply }))
+    → AtMostOneStep old new
+item_steps old session client answer next new None h = inl h.2
+item_steps old session client answer next new (Some i) h = inr (events.Enter session (events.Request i.number i.start i.writes), h.0, h.1)
+
+client_steps : (old : Replayed) (session : ℕ) (answer : Answer) (new : Replayed) (Moves : Client → Client → Type 0) → ByClient old session answer new Moves → AtMostOneStep old.world new.world
+client_steps old session answer new Moves h =
+    given_steps (λ (r : Replayed). r.world) (client_of old.clients session) old answer new (λ client. (next : Client) × Moves client next × (new ≡ record old { clients = slice_set old.clients (session - 1) next }))
+    (λ client m. inl (ap (λ (r : Replayed). r.world) m.2)) h
+
+asking_steps : (old : Replayed) (session : ℕ) (answer : Answer) (new : Replayed) (Asks : Client → Type 0) → ((client : Client) → Asks client → AtMostOneStep old.world new.world) → ByAsking old session answer new Asks → AtMostOneStep old.world new.world
+asking_steps old session answer new Asks steps h =
+    given_steps (λ (r : Replayed). r.world) (client_of old.clients session) old answer new (λ client. Asks client × (new.clients ≡ old.clients)) (λ client m. steps client m.0) h
+
+store_steps : (old : Replayed) (event : Event) (answer : Answer) (new : Replayed) → ByStore old event answer new → AtMostOneStep old.world new.world
+store_steps old event answer new h = tells_steps old.world event answer new.world h.0
+
+-- whatever is played, the store does at most one step
+plays_steps : (old : Replayed) (step : steps.Step) (answer : Answer) (new : Replayed) → Plays old step answer new → AtMostOneStep old.world new.world
+plays_steps old (steps.Does acts.Begin session) answer new h = client_steps old session answer new (λ client next. Begins old.world.counter client answer next) h
+plays_steps old (steps.Does acts.Submit session) answer new h = client_steps old session answer new (λ client next. Submits client answer next) h
+plays_steps old (steps.Does acts.Enter session) answer new h =
+    given_steps (λ (r : Replayed). r.world) (client_of old.clients session) old answer new
+    (λ client. (next : Client) × Enters old.world session client answer next new.world × (new.clients ≡ slice_set old.clients (session - 1) next))
+    (λ client m. item_steps old.world session client answer m.0 new.world (next_item client) m.1) h
+plays_steps old (steps.Does acts.Decide session) answer new h = store_steps old (events.Decide session) answer new h
+plays_steps old (steps.Does acts.Write session) answer new h = store_steps old (events.WriteOne session) answer new h
+plays_steps old (steps.Does acts.Finish session) answer new h = store_steps old (events.Finish session) answer new h
+plays_steps old (steps.Does acts.BackUp session) answer new h = store_steps old (events.BackUp session) answer new h
+plays_steps old (steps.Get session name key) answer new h =
+    asking_steps old session answer new (λ client. Gets old.world session name key client answer new.world) (λ client g. gets_steps old.world session name key client answer new.world g) h
+plays_steps old (steps.Scan session name lower upper) answer new h =
+    asking_steps old session answer new (λ client. Scans old.world session name lower upper client answer new.world) (λ client g. scans_steps old.world session name lower upper client answer new.world g) h
+plays_steps old (steps.Put session name key row) answer new h = client_steps old session answer new (λ client next. Writes old.world.settings.schema name key (Some row) client answer next) h
+plays_steps old (steps.Delete session name key) answer new h = client_steps old session answer new (λ client next. Writes old.world.settings.schema name key None client answer next) h
+plays_steps old steps.Show answer new h = inl (ap (λ (r : Replayed). r.world) h.1)
+
+module _ {Z : Type 0} where
+  -- the store refused a question
+  pub ask_refused : (old : World) (session n m number start : ℕ) (asked question : Question) (new : World) (r : Result (code_seen.Answer Z) Fault) (e f : Fault)
+      → n ≡ number → m ≡ start → question ≡ asked → r ≡ Err e → e ≡ f → Step old (events.Read session n m asked) (events.Refused f) new → Step old (events.Read session number start question) (replied r) new
+  ask_refused old session n m number start asked question new r e f is_number is_start is_question is same step =
+      let event : events.Read session n m asked ≡ events.Read session number start question = cc in
+      subst (λ (x : Result (code_seen.Answer Z) Fault). Step old (events.Read session number start question) (replied x) new) (sym (is ∙ ap Err same))
+      (subst (λ (x : Event). Step old x (events.Refused f) new) event step)
+
+  -- the store refused an event
+  pub tells_refused : (old : World) (event : Event) (new : World) (r : Result (code_answer.Answer Z) Fault) (e f : Fault) → r ≡ Err e → e ≡ f → Step old event (events.Refused f) new → PlayedIn old new r (λ answer. Tells old event answer new)
+  tells_refused old event new r e f is same step =
+      subst (λ (x : Result (code_answer.Answer Z) Fault). PlayedIn old new x (λ answer. Tells old event answer new)) (sym (is ∙ ap Err same)) (inr (events.Refused f, step, refl))
+
+  -- the store refused a key
+  pub read_refused : (old : World) (session n m number start : ℕ) (question : Question) (new : World) (r : Result (code_answer.Answer Z) Fault) (e f : Fault)
+      → n ≡ number → m ≡ start → r ≡ Err e → e ≡ f → Step old (events.Read session n m question) (events.Refused f) new → PlayedIn old new r (λ answer. Tells old (events.Read session number start question) answer new)
+  read_refused old session n m number start question new r e f is_number is_start is same step =
+      let event : events.Read session n m question ≡ events.Read session number start question = cc in
+      tells_refused old (events.Read session number start question) new r e f is same (subst (λ (x : Event). Step old x (events.Refused f) new) event step)
+
+  -- the store refused a range
+  pub scan_refused : (old : World) (session : ℕ) (name : List ℕ) (lower upper : Key) (copy : Copied) (question : Question) (new : World) (r : Result (code_answer.Answer Z) Fault) (e f : Fault)
+      → Ok question ≡ span_named old.settings.schema name lower upper → r ≡ Err e → e ≡ f → Step old (events.Read session copy.number copy.start question) (events.Refused f) new
+      → PlayedIn old new r (λ answer. ScansIn old session name lower upper copy answer new)
+  scan_refused old session name lower upper copy question new r e f asked is same step =
+      subst (λ (x : Result (code_answer.Answer Z) Fault). PlayedIn old new x (λ answer. ScansIn old session name lower upper copy answer new)) (sym (is ∙ ap Err same))
+      (inr (subst
+      (λ (g : Result Question Fault). Given g old (says.Refused f) new (λ q. (reply : Reply) × Step old (events.Read session copy.number copy.start q) reply new × (told old.settings.schema (overlaid q copy.writes reply) ≡ Some (says.Refused f))))
+      asked (events.Refused f, step, refl)))
+
+  -- what is played so is also played otherwise
+  pub played_as : {P Q : Answer → Type 0} (old new : World) (r : Result (code_answer.Answer Z) Fault) → ((answer : Answer) → P answer → Q answer) → PlayedIn old new r P → PlayedIn old new r Q
+  played_as old new r f (inl memory) = inl memory
+  played_as old new r f (inr so) = inr (f (played r) so)
+
+  -- what a client plays alone leaves the store
+  pub played_alone : (P : Answer → Type 0) (world : World) (r : Result (code_answer.Answer Z) Fault) → Played r P → PlayedIn world world r P
+  played_alone P world r (inl memory) = inl (memory, inl refl)
+  played_alone P world r (inr so) = inr so
+
+  -- the store did at most one step
+  pub halted : (old : Replayed) (step : steps.Step) (new : Replayed) (r : Result (code_answer.Answer Z) Fault) → PlayedIn old.world new.world r (λ answer. Plays old step answer new) → AtMostOneStep old.world new.world
+  halted old step new r (inl memory) = memory.1
+  halted old step new r (inr so) = plays_steps old step (played r) new so
+
+-- an element stands at its place
+pub found_at : {X : Type 0} (xs : List X) (place : ℕ) (x : X) → place < length xs → x ≡ get_or xs place x → slice_get xs place ≡ Some x
+found_at [] place x lt is = absurd (omega arith)
+found_at (y ∷ ys) zero x lt is = ap Some (sym is)
+found_at (y ∷ ys) (suc place) x lt is = found_at ys place x (omega arith) is
+
+counted : {X Y : Type 0} (b : Bool) (x : X) (y : Y) (xs : List X) (ys : List Y) → length xs ≡ length ys → length (cond b (x ∷ xs) xs) ≡ length (cond b (y ∷ ys) ys)
+counted true x y xs ys e = ap suc e
+counted false x y xs ys e = e
+
+-- as many rows of a log are active as are seen to be
+pub active_seen : {Z : Type 0} (rows : List (code_row.LogRow Z)) → length (filter (λ row. is_active (standing_of row.standing)) rows) ≡ length (filter (λ row. is_active row.standing) (log_of rows))
+active_seen [] = refl
+active_seen (row ∷ rows) =
+    counted (is_active (standing_of row.standing)) row (log_row_of row) (filter (λ r. is_active (standing_of r.standing)) rows) (filter (λ r. is_active r.standing) (log_of rows)) (active_seen rows)
+
+-- no element stands behind the end
+pub none_at : {X : Type 0} (xs : List X) (place : ℕ) → length xs ≤ place → slice_get xs place ≡ None
+none_at [] place le = refl
+none_at (y ∷ ys) zero le = absurd (omega arith)
+none_at (y ∷ ys) (suc place) le = none_at ys place (omega arith)
+
+-- a session that doesn't exist has no client
+pub no_client : (clients : List Client) (session : ℕ) → (session ≡ 0) ⊎ ((session ≡ 0 → ⊥) × (length clients < session)) → client_of clients session ≡ Err faults.NoSession
+no_client clients zero _ = refl
+no_client clients (suc place) (inl none) = absurd (omega (arith, none))
+no_client clients (suc place) (inr above) =
+    let behind : length clients < suc place = above.1 in
+    ap (λ (o : Option Client). ok_or o faults.NoSession) (none_at clients place (omega arith))
+
+-- the client of a session stands at its place
+pub client_at : (clients : List Client) (session place : ℕ) (client : Client) → session ≡ suc place → place < length clients → client ≡ get_or clients place client → client_of clients session ≡ Ok client
+client_at clients zero place client is lt at = absurd (omega arith)
+client_at clients (suc p) place client is lt at =
+    let same : p ≡ place = omega arith in
+    ap (λ (k : ℕ). ok_or (slice_get clients k) faults.NoSession) same ∙ ap (λ (o : Option Client). ok_or o faults.NoSession) (found_at clients place client lt at)
+
+module _ {Z : Type 0} (world : World) (clients : List Client) (self : Replayed) (view : record { world = world; clients = clients } ≡ self) (r : Result (code_answer.Answer Z) Fault) where
+  -- a step of the store alone
+  pub by_store : (event : Event) (next : World) (reply : Reply) → Step world event reply next → told world.settings.schema reply ≡ Some (played r)
+      → PlayedIn self.world next r (λ answer. ByStore self event answer (record { world = next; clients = clients }))
+  by_store event next reply step tells =
+      subst (λ (s : Replayed). PlayedIn s.world next r (λ answer. ByStore s event answer (record { world = next; clients = clients }))) view (inr ((reply, step, tells), refl))
+
+  -- a step of the store alone that is refused
+  pub store_refused : (event : Event) (next : World) (e f : Fault) → r ≡ Err e → e ≡ f → Step world event (events.Refused f) next
+      → PlayedIn self.world next r (λ answer. ByStore self event answer (record { world = next; clients = clients }))
+  store_refused event next e f is same step =
+      by_store event next (events.Refused f) step (ap (λ (x : Result (code_answer.Answer Z) Fault). Some (played x)) (sym (is ∙ ap Err same)))
+
+  -- what the lemmas start from
+  abbrev before : Replayed
+  before = record { world = world; clients = clients }
+
+  -- there is no such session
+  pub no_seat : (shown : List Client) (session : ℕ) (e f : Fault) (P : Answer → Client → Type 0) → shown ≡ clients → r ≡ Err e → e ≡ f → client_of shown session ≡ Err f
+      → PlayedIn self.world self.world r (λ answer. Given (client_of self.clients session) self answer self (P answer))
+  no_seat shown session e f P showing is same none =
+      let seen : shown ≡ self.clients = showing ∙ ap (λ (s : Replayed). s.clients) view in
+      let at : client_of self.clients session ≡ Err f = sym (ap (λ (l : List Client). client_of l session) seen) ∙ none in
+      let refused : Given (client_of self.clients session) self (says.Refused f) self (P (says.Refused f)) =
+      subst (λ (g : Result Client Fault). Given g self (says.Refused f) self (P (says.Refused f))) (sym at) (refl, refl) in
+      subst (λ (x : Result (code_answer.Answer Z) Fault). PlayedIn self.world self.world x (λ answer. Given (client_of self.clients session) self answer self (P answer))) (sym (is ∙ ap Err same)) (inr refused)
+
+  -- a client that asks the store isn't there
+  pub no_asker : (shown : List Client) (session : ℕ) (e f : Fault) (Asks : Answer → Client → Type 0) → shown ≡ clients → r ≡ Err e → e ≡ f → client_of shown session ≡ Err f
+      → PlayedIn self.world self.world r (λ answer. ByAsking self session answer self (Asks answer))
+  no_asker shown session e f Asks showing is same none = no_seat shown session e f (λ answer c. Asks answer c × (self.clients ≡ self.clients)) showing is same none
+
+  -- a client that moves alone isn't there
+  pub no_mover : (shown : List Client) (session : ℕ) (e f : Fault) (Moves : Answer → Client → Client → Type 0) → shown ≡ clients → r ≡ Err e → e ≡ f → client_of shown session ≡ Err f
+      → PlayedIn self.world self.world r (λ answer. ByClient self session answer self (Moves answer))
+  no_mover shown session e f Moves showing is same none =
+      no_seat shown session e f (λ answer c. (n : Client) × Moves answer c n × (self ≡ record self { clients = slice_set self.clients (session - 1) n })) showing is same none
+
+  module _ (shown : List Client) (showing : shown ≡ clients) (session place : ℕ) (there : (session ≡ suc place) × (place < length shown)) (client : Client) (at : client ≡ get_or clients place client) where
+    is_seated : client_of clients session ≡ Ok client
+    is_seated = client_at clients session place client there.0 (subst (λ (l : List Client). place < length l) showing there.1) at
+
+    is_place : place ≡ session - 1
+    is_place = let is : session ≡ suc place = there.0 in omega arith
+
+    -- there is a client, and the call does what it does with it
+    seated : (new : Replayed) (P : Replayed → Answer → Client → Type 0) → PlayedIn world new.world r (λ answer. P (record { world = world; clients = clients }) answer client)
+        → PlayedIn self.world new.world r (λ answer. Given (client_of self.clients session) self answer new (P self answer))
+    seated new P does =
+        subst (λ (s : Replayed). PlayedIn s.world new.world r (λ answer. Given (client_of s.clients session) s answer new (P s answer))) view
+        (played_as world new.world r (λ answer so. subst (λ (g : Result Client Fault). Given g (record { world = world; clients = clients }) answer new (P (record { world = world; clients = clients }) answer)) (sym is_seated) so) does)
+
+    -- a step of one client alone
+    pub by_client : (next : Client) (Moves : World → Answer → Client → Client → Type 0) → Played r (λ answer. Moves world answer client next)
+        → PlayedIn self.world world r (λ answer. ByClient self session answer (record { world = world; clients = slice_set clients place next }) (Moves self.world answer))
+    by_client next Moves does =
+        let after : Replayed = record { world = world; clients = slice_set clients place next } in
+        let P : Replayed → Answer → Client → Type 0 = λ old answer c. (n : Client) × Moves old.world answer c n × (after ≡ record old { clients = slice_set old.clients (session - 1) n }) in
+        let moved : after ≡ record before { clients = slice_set clients (session - 1) next } = ap (λ (k : ℕ). record before { clients = slice_set clients k next }) is_place in
+        seated after P (played_as {P = λ answer. Moves world answer client next} {Q = λ answer. P before answer client} world world r (λ answer so. (next, so, moved)) (played_alone (λ answer. Moves world answer client next) world r does))
+
+    -- a step of a client that asks the store
+    pub by_asking : (next : World) (Asks : World → Answer → Client → Type 0) → PlayedIn world next r (λ answer. Asks world answer client)
+        → PlayedIn self.world next r (λ answer. ByAsking self session answer (record { world = next; clients = clients }) (Asks self.world answer))
+    by_asking next Asks does =
+        let P : Replayed → Answer → Client → Type 0 = λ old answer c. Asks old.world answer c × (clients ≡ old.clients) in
+        seated (record { world = next; clients = clients }) P (played_as {P = λ answer. Asks world answer client} {Q = λ answer. P before answer client} world next r (λ answer so. (so, refl)) does)
+
+    -- a step of a client that enters the store
+    pub by_entering : (next : Client) (later : World) → PlayedIn world later r (λ answer. Enters world session client answer next later)
+        → PlayedIn self.world later r (λ answer. Given (client_of self.clients session) self answer (record { world = later; clients = slice_set clients place next })
+        (λ c. (n : Client) × Enters self.world session c answer n later × (slice_set clients place next ≡ slice_set self.clients (session - 1) n)))
+    by_entering next later does =
+        let P : Replayed → Answer → Client → Type 0 = λ old answer c. (n : Client) × Enters old.world session c answer n later × (slice_set clients place next ≡ slice_set old.clients (session - 1) n) in
+        let moved : slice_set clients place next ≡ slice_set clients (session - 1) next = ap (λ (k : ℕ). slice_set clients k next) is_place in
+        seated (record { world = later; clients = slice_set clients place next }) P (played_as {P = λ answer. Enters world session client answer next later} {Q = λ answer. P before answer client} world later r (λ answer so. (next, so, moved)) does)

@@ -1,0 +1,274 @@
+-- What a replay does with one step of a schedule (our own choice).
+use Rattle.std.specs.Prelude.{◌≡◌, ℕ, zero, suc, ◌+◌, ◌-◌, ◌^◌, ◌⊎◌, min, nat_le, List, [], ◌∷◌, ◌++◌, length, replicate, drop, Option, None, Some, is_some, Result, Ok, Err, MatchOption, slice_get, slice_set}
+use Rattle.std.specs.List.{position}
+use Rattle.std.specs.Option.{ok_or}
+use Rattle.std.specs.FinMap as finite
+use Rattle.occ_types.specs.Key.{Key}
+use Rattle.occ_types.specs.Object.{Object}
+use Rattle.occ_types.specs.Question.{Question, One, Span}
+use Rattle.occ_types.specs.Row.{Row}
+use Rattle.occ_types.specs.Schema.{Schema, fault_if, first_fault, check_key, check_row, check_question}
+use Rattle.occ_types.specs.Fits.{has_name}
+use Rattle.occ_types.specs.declared.fault.Fault.{Fault}
+use Rattle.occ_types.specs.declared.fault.Fault.TheVariants as faults
+use Rattle.occ_model.specs.State.{Write}
+use Rattle.occ_model.specs.State as states
+use Rattle.occ_model.specs.Overlay.{set, own, overlay}
+use Rattle.occ_model.specs.World.{World, Settings, opened, low, active_count}
+use Rattle.occ_model.specs.Refusal.{numbers_exhausted}
+use Rattle.occ_model.specs.Event.{Event, Reply}
+use Rattle.occ_model.specs.Event as events
+use Rattle.occ_model.specs.Step as model
+use Rattle.occ_sets.specs.Sets.{Copied, is_full_for}
+use Rattle.occ_sets.specs.Seen as sets
+use Rattle.occ_sets.specs.declared.reads.Answer as code_seen
+use Rattle.occ_cli.specs.declared.steps.Act.TheVariants as acts
+use Rattle.occ_cli.specs.declared.answers.Answer as code_answer
+use Rattle.occ_cli.specs.Steps.{Step, Does, Get, Scan, Put, Delete, Show}
+use Rattle.occ_cli.specs.Answers.{Answer, answer_of}
+use Rattle.occ_cli.specs.Answers as says
+use Rattle.occ_cli.specs.declared.answers.Counts.{Counts}
+
+-- One client: its open transaction, the number of the last item that it pushed, the items that wait to be entered (the first one first, and at most `limit` of them), and an item that was taken to be entered and refused.
+pub record Client : Type 0 where
+  pub copy : Option Copied
+  pub pushed : ℕ
+  pub queue : List Copied
+  pub limit : ℕ
+  pub kept : Option Copied
+
+-- the store, and its clients by session
+pub record Replayed : Type 0 where
+  pub world : World
+  pub clients : List Client
+
+-- a client that did nothing yet
+abbrev pub fresh : ℕ → Client
+fresh limit = record { copy = None; pushed = 0; queue = []; limit = limit; kept = None }
+
+-- a replay that begins
+abbrev pub started : Settings → ℕ → Replayed
+started settings limit = record { world = opened settings; clients = replicate settings.sessions (fresh limit) }
+
+-- what goes on with a value; or a fault stands in its place, is answered, and nothing changes
+abbrev pub Given : {X Y : Type 0} → Result X Fault → Y → Answer → Y → (X → Type 0) → Type 0
+Given (Ok x) old answer new P = P x
+Given (Err fault) old answer new P = (answer ≡ says.Refused fault) × (new ≡ old)
+
+-- a value, unless there is a fault
+abbrev pub unless : {X : Type 0} → Option Fault → X → Result X Fault
+unless None x = Ok x
+unless (Some fault) x = Err fault
+
+-- one value after another, up to the first fault
+abbrev pub and_then : {X Y : Type 0} → Result X Fault → (X → Result Y Fault) → Result Y Fault
+and_then (Ok x) f = f x
+and_then (Err fault) f = Err fault
+
+-- the client of a session; sessions are numbered from 1
+abbrev pub client_of : List Client → ℕ → Result Client Fault
+client_of clients zero = Err faults.NoSession
+client_of clients (suc place) = ok_or (slice_get clients place) faults.NoSession
+
+-- the open transaction
+abbrev pub copy_of : Client → Result Copied Fault
+copy_of client = ok_or client.copy faults.NoReadOpen
+
+-- the place of the table with a name
+abbrev pub table_named : Schema → List ℕ → Result ℕ Fault
+table_named schema name = ok_or (position (has_name name) schema) faults.NoTable
+
+-- a key of the table with a name
+abbrev pub object_named : Schema → List ℕ → Key → Result Object Fault
+object_named schema name key = and_then (table_named schema name) (λ place. unless (check_key schema place key) (place, key))
+
+-- a range of the table with a name
+abbrev pub span_named : Schema → List ℕ → Key → Key → Result Question Fault
+span_named schema name lower upper = and_then (table_named schema name) (λ place.
+    let question = Span place (Some lower) (Some upper) in
+    unless (check_question schema question) question)
+
+-- `begin`: the number of the next transaction
+abbrev pub next_number : Client → Result ℕ Fault
+next_number client = unless (first_fault (
+    fault_if (is_some client.copy) faults.ReadOpen
+    ∷ numbers_exhausted (client.pushed + 1)
+    ∷ [])) (client.pushed + 1)
+
+abbrev pub Begins : ℕ → Client → Answer → Client → Type 0
+Begins counter old answer new = Given (next_number old) old answer new (λ number.
+    (answer ≡ says.Begun number counter)
+    × (new ≡ record old { copy = Some (record { number = number; start = counter; writes = [] }) }))
+
+-- whether the row of a write fits, where it has one
+abbrev pub check_written : Schema → ℕ → Option Row → Option Fault
+check_written schema place None = None
+check_written schema place (Some row) = check_row schema place row
+
+-- `put` and `delete`: the write
+abbrev pub write_named : Schema → List ℕ → Key → Option Row → Copied → Result Write Fault
+write_named schema name key row copy = and_then (object_named schema name key) (λ object. unless (first_fault (
+    check_written schema object.0 row
+    ∷ fault_if (is_full_for copy.writes object) faults.SetFull
+    ∷ [])) (object, row))
+
+abbrev pub WritesCopy : Schema → List ℕ → Key → Option Row → Copied → Answer → Copied → Type 0
+WritesCopy schema name key row old answer new = Given (write_named schema name key row old) old answer new (λ write.
+    (answer ≡ says.Done) × (new ≡ record old { writes = set old.writes write.0 write.1 }))
+
+abbrev pub Writes : Schema → List ℕ → Key → Option Row → Client → Answer → Client → Type 0
+Writes schema name key row old answer new = Given (copy_of old) old answer new (λ copy.
+    (next : Copied) × WritesCopy schema name key row copy answer next × (new ≡ record old { copy = Some next }))
+
+-- `submit`: the transaction to wait
+abbrev pub submitted : Client → Result Copied Fault
+submitted client = and_then (copy_of client) (λ copy. unless (fault_if (nat_le client.limit (length client.queue)) faults.QueueFull) copy)
+
+abbrev pub Submits : Client → Answer → Client → Type 0
+Submits old answer new = Given (submitted old) old answer new (λ copy.
+    (answer ≡ says.Queued copy.number)
+    × (new ≡ record old { copy = None; pushed = copy.number; queue = old.queue ++ copy ∷ [] }))
+
+-- the name of the table at a place
+abbrev pub name_at : Schema → ℕ → List ℕ
+name_at schema place = elim (slice_get schema place) [ None ↦ [] | Some table ↦ table.name ]
+
+-- what was read, as an answer
+abbrev pub shown : states.Answer → Answer
+shown (states.Found row) = says.Found row
+shown (states.Rows rows) = says.Rows rows
+
+-- a reply of the store as an answer, where a step can have it
+abbrev pub told : Schema → Reply → Option Answer
+told schema (events.Refused fault) = Some (says.Refused fault)
+told schema (events.Answered given) = Some (shown given)
+told schema (events.Forgotten known) = None
+told schema (events.Entered place index) = Some (says.Entered place)
+told schema events.Closed = None
+told schema (events.Decided verdict) = Some (says.Decided verdict)
+told schema (events.Wrote object) = Some (says.Wrote (name_at schema object.0) object.1)
+told schema events.NoMore = Some says.NoMore
+told schema (events.Finished number) = Some (says.Finished number)
+told schema (events.BackedUp number) = Some (says.BackedUp number)
+told schema (events.EndedBack cause) = None
+told schema (events.RanAlone number answers) = None
+told schema (events.Folded rows) = None
+
+-- the answer is what the store replies to an event
+abbrev pub Tells : World → Event → Answer → World → Type 0
+Tells old event answer new = (reply : Reply) × model.Step old event reply new × (told old.settings.schema reply ≡ Some answer)
+
+-- `get` in an open transaction: the own write, or else what the store answers
+abbrev pub GetsIn : World → ℕ → List ℕ → Key → Copied → Answer → World → Type 0
+GetsIn old session name key copy answer new = Given (object_named old.settings.schema name key) old answer new (λ object.
+    MatchOption (own copy.writes object)
+    (Tells old (events.Read session copy.number copy.start (One object.0 object.1)) answer new)
+    (λ row. (answer ≡ says.Found row) × (new ≡ old)))
+
+abbrev pub Gets : World → ℕ → List ℕ → Key → Client → Answer → World → Type 0
+Gets old session name key client answer new =
+    Given (copy_of client) old answer new (λ copy. GetsIn old session name key copy answer new)
+
+-- what the store replies to a question, with the own writes over it
+abbrev pub overlaid : Question → List Write → Reply → Reply
+overlaid question writes (events.Answered given) = events.Answered (overlay question writes given)
+overlaid question writes reply = reply
+
+-- `scan` in an open transaction: what the store answers, with the own writes over it
+abbrev pub ScansIn : World → ℕ → List ℕ → Key → Key → Copied → Answer → World → Type 0
+ScansIn old session name lower upper copy answer new = Given (span_named old.settings.schema name lower upper) old answer new (λ question.
+    (reply : Reply) × model.Step old (events.Read session copy.number copy.start question) reply new
+    × (told old.settings.schema (overlaid question copy.writes reply) ≡ Some answer))
+
+abbrev pub Scans : World → ℕ → List ℕ → Key → Key → Client → Answer → World → Type 0
+Scans old session name lower upper client answer new =
+    Given (copy_of client) old answer new (λ copy. ScansIn old session name lower upper copy answer new)
+
+-- the item to be entered next: the one that was refused, or else the first one that waits
+abbrev pub next_item : Client → Option Copied
+next_item client = elim client.kept [ None ↦ slice_get client.queue 0 | Some item ↦ Some item ]
+
+-- the items that wait when it is taken
+abbrev pub still_waiting : Client → List Copied
+still_waiting client = elim client.kept [ None ↦ drop 1 client.queue | Some item ↦ client.queue ]
+
+-- a refused item is kept
+abbrev pub kept_after : Copied → Reply → Option Copied
+kept_after item (events.Refused fault) = Some item
+kept_after item reply = None
+
+-- `enter`
+abbrev pub Enters : World → ℕ → Client → Answer → Client → World → Type 0
+Enters old session client answer next new = MatchOption (next_item client)
+    ((answer ≡ says.Empty) × (next ≡ client) × (new ≡ old))
+    (λ item. (reply : Reply) × model.Step old (events.Enter session (events.Request item.number item.start item.writes)) reply new
+    × (told old.settings.schema reply ≡ Some answer)
+    × (next ≡ record client { queue = still_waiting client; kept = kept_after item reply }))
+
+-- a step of one client alone
+abbrev pub ByClient : Replayed → ℕ → Answer → Replayed → (Client → Client → Type 0) → Type 0
+ByClient old session answer new Moves = Given (client_of old.clients session) old answer new (λ client.
+    (next : Client) × Moves client next × (new ≡ record old { clients = slice_set old.clients (session - 1) next }))
+
+-- a step of the store alone
+abbrev pub ByStore : Replayed → Event → Answer → Replayed → Type 0
+ByStore old event answer new = Tells old.world event answer new.world × (new.clients ≡ old.clients)
+
+-- a step of a client that asks the store
+abbrev pub ByAsking : Replayed → ℕ → Answer → Replayed → (Client → Type 0) → Type 0
+ByAsking old session answer new Asks = Given (client_of old.clients session) old answer new (λ client.
+    Asks client × (new.clients ≡ old.clients))
+
+-- `show`
+abbrev pub counts_of : World → Counts
+counts_of world = record {
+  counter = world.counter;
+  low = low world;
+  log = length world.log;
+  state = min (finite.len world.table) (2 ^ 64 - 1);
+  active = active_count world;
+}
+
+-- the store stands as it was, or has done one step
+abbrev pub AtMostOneStep : World → World → Type 0
+AtMostOneStep old new = (new ≡ old) ⊎ ((event : Event) × (reply : Reply) × model.Step old event reply new)
+
+-- what a replay answers to a step, and what it then is
+abbrev pub Plays : Replayed → Step → Answer → Replayed → Type 0
+Plays old (Does acts.Begin session) answer new = ByClient old session answer new (λ client next. Begins old.world.counter client answer next)
+Plays old (Does acts.Submit session) answer new = ByClient old session answer new (λ client next. Submits client answer next)
+Plays old (Does acts.Enter session) answer new = Given (client_of old.clients session) old answer new (λ client.
+    (next : Client) × Enters old.world session client answer next new.world
+    × (new.clients ≡ slice_set old.clients (session - 1) next))
+Plays old (Does acts.Decide session) answer new = ByStore old (events.Decide session) answer new
+Plays old (Does acts.Write session) answer new = ByStore old (events.WriteOne session) answer new
+Plays old (Does acts.Finish session) answer new = ByStore old (events.Finish session) answer new
+Plays old (Does acts.BackUp session) answer new = ByStore old (events.BackUp session) answer new
+Plays old (Get session name key) answer new =
+    ByAsking old session answer new (λ client. Gets old.world session name key client answer new.world)
+Plays old (Scan session name lower upper) answer new =
+    ByAsking old session answer new (λ client. Scans old.world session name lower upper client answer new.world)
+Plays old (Put session name key row) answer new =
+    ByClient old session answer new (λ client next. Writes old.world.settings.schema name key (Some row) client answer next)
+Plays old (Delete session name key) answer new =
+    ByClient old session answer new (λ client next. Writes old.world.settings.schema name key None client answer next)
+Plays old Show answer new = (answer ≡ says.Counted (counts_of old.world)) × (new ≡ old)
+
+module _ {Z : Type 0} where
+  -- the answer of a call; a fault is answered as a refusal
+  abbrev pub played : Result (code_answer.Answer Z) Fault → Answer
+  played (Ok answer) = answer_of answer
+  played (Err fault) = says.Refused fault
+
+  -- what the store replied to a question
+  abbrev pub replied : Result (code_seen.Answer Z) Fault → Reply
+  replied (Ok seen) = events.Answered (sets.answer_of seen)
+  replied (Err fault) = events.Refused fault
+
+  -- a call is played so, or memory was refused
+  abbrev pub Played : Result (code_answer.Answer Z) Fault → (Answer → Type 0) → Type 0
+  Played result Is = (result ≡ Err faults.Memory) ⊎ Is (played result)
+
+  -- the same of a call that may ask the store; where memory was refused, the store has done at most one step
+  abbrev pub PlayedIn : World → World → Result (code_answer.Answer Z) Fault → (Answer → Type 0) → Type 0
+  PlayedIn old new result Is = ((result ≡ Err faults.Memory) × AtMostOneStep old new) ⊎ Is (played result)

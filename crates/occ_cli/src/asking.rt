@@ -1,0 +1,116 @@
+//! What a client reads: its own writes, and what the store answers.
+
+ghost use Rattle.std.specs.Prelude.{◌≡◌};
+ghost use Rattle.std.specs.Option.{option_copied};
+ghost use Rattle.occ_types.specs.Question.{One};
+ghost use Rattle.occ_types.specs.Seen.{key_of, object_of, question_of};
+ghost use Rattle.occ_model.specs.Event as events;
+ghost use Rattle.occ_model.specs.Step.{Step};
+ghost use Rattle.occ_sets.specs.Seen as sets;
+ghost use Rattle.occ_cli.specs.Answers.{answer_of, Found};
+ghost use Rattle.occ_cli.specs.Replaying.{GetsIn, ScansIn, Tells, shown, replied, Played, PlayedIn};
+
+use crate::answers::Answer;
+use crate::clients::{object_named, span_named};
+use occ_core::core_state::Core;
+use occ_sets::{Answer as Seen, PrivateCopy};
+use occ_types::fault::Fault;
+use occ_types::{Key, Object, Question, Row};
+use std::alloc::Allocator;
+
+/// `get` in an open transaction: its own write of the key, and else what the store answers. Refused with `NoTable`, `WrongKind` or `TooLong`, and then as the store refuses a read.
+pub fn get<A: Allocator + Copy>(
+    copy: &PrivateCopy<A>,
+    core: &mut Core<A>,
+    session: usize,
+    table: &str,
+    key: Key<A>,
+) -> Result<Answer<A>, Fault>
+    ensures { PlayedIn core.old.world core.new.world result (λ answer. GetsIn core.old.world session table.now (key_of key) copy.now answer core.new.world) }
+{
+    let object = object_named(core.schema(), table, key)?;
+    match copy.own(&object) {
+        Some(row) => own_row(row),
+        None => read(copy, core, session, &object),
+    }
+}
+
+// The answer of an own write.
+fn own_row<A: Allocator + Clone>(row: Option<&Row<A>>) -> Result<Answer<A>, Fault>
+    ensures { Played result (λ answer. answer ≡ Found (option_copied row.entry)) }
+{
+    match row {
+        None => Ok(Answer::Found(None)),
+        Some(row) => match row.clone() {
+            Ok(row) => Ok(Answer::Found(Some(row))),
+            Err(_refused) => Err(Fault::Memory),
+        },
+    }
+}
+
+// What the store answers for one key.
+fn read<A: Allocator + Copy>(
+    copy: &PrivateCopy<A>,
+    core: &mut Core<A>,
+    session: usize,
+    object: &Object<A>,
+) -> Result<Answer<A>, Fault>
+    ensures { PlayedIn core.old.world core.new.world result (λ answer. Tells core.old.world (events.Read session copy.now.number copy.now.start (One object.now.table (key_of object.now.key))) answer core.new.world) }
+{
+    let row = core.read(session, copy.number(), copy.start(), object)?;
+    Ok(Answer::Found(row))
+}
+
+/// `scan` in an open transaction: what the store answers, with the own writes over it. Refused with `NoTable`, `WrongKind`, `TooLong` or `EmptyRange`, and then as the store refuses a read.
+pub fn scan<A: Allocator + Copy>(
+    copy: &PrivateCopy<A>,
+    core: &mut Core<A>,
+    session: usize,
+    table: &str,
+    lower: Key<A>,
+    upper: Key<A>,
+) -> Result<Answer<A>, Fault>
+    ensures { PlayedIn core.old.world core.new.world result (λ answer. ScansIn core.old.world session table.now (key_of lower) (key_of upper) copy.now answer core.new.world) }
+{
+    let question = span_named(core.schema(), table, lower, upper)?;
+    let given = ask(core, session, copy, &question)?;
+    match copy.overlay(&question, given) {
+        Ok(seen) => Ok(shown(seen)),
+        Err(_refused) => Err(Fault::Memory),
+    }
+}
+
+// What the store answers to a question.
+fn ask<A: Allocator + Copy>(
+    core: &mut Core<A>,
+    session: usize,
+    copy: &PrivateCopy<A>,
+    question: &Question<A>,
+) -> Result<Seen<A>, Fault>
+    ensures { Step core.old.world (events.Read session copy.now.number copy.now.start (question_of question.now)) (replied result) core.new.world }
+{
+    match question {
+        Question::One(object) => {
+            let row = core.read(session, copy.number(), copy.start(), object)?;
+            Ok(Seen::Found(row))
+        }
+        Question::Span {
+            table,
+            lower,
+            upper,
+        } => {
+            let rows = core.scan(session, copy.number(), copy.start(), *table, lower, upper)?;
+            Ok(Seen::Rows(rows))
+        }
+    }
+}
+
+// What was seen, as an answer of the replay.
+fn shown<A: Allocator>(seen: Seen<A>) -> Answer<A>
+    ensures { answer_of result ≡ shown (sets.answer_of seen) }
+{
+    match seen {
+        Seen::Found(row) => Answer::Found(row),
+        Seen::Rows(rows) => Answer::Rows(rows),
+    }
+}

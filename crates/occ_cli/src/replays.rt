@@ -1,0 +1,306 @@
+//! A replay of a schedule, step by step.
+
+ghost use Rattle.std.specs.Prelude.{◌≡◌, ◌<◌, suc, Some, None, Ok, Err, length, replicate, IfOk, OnErr, MatchResult};
+ghost use Rattle.occ_types.specs.Seen.{key_of};
+ghost use Rattle.occ_model.specs.Event as events;
+ghost use Rattle.occ_cli.specs.declared.steps.Act.TheVariants as acts;
+ghost use Rattle.occ_core.specs.Replies.{single};
+ghost use Rattle.occ_core.specs.declared.core_state.SingleWrite.TheVariants as kinds;
+ghost use Rattle.occ_cli.specs.Answers.{answer_of};
+ghost use Rattle.occ_cli.specs.Steps.{step_of, Does, Get, Scan, Show};
+ghost use Rattle.occ_cli.specs.Replaying.{started, fresh, client_of, counts_of, name_at, told, ByClient, Tells, Writes, Plays, PlayedIn, AtMostOneStep};
+
+use crate::answers::{Answer, Counts};
+use crate::clients::Client;
+use crate::steps::{Act, Step};
+use occ_core::core_state::{Core, SingleWrite};
+use occ_types::fault::Fault;
+use occ_types::{Key, Row, Schema, Text};
+use std::alloc::{AllocError, Allocator};
+use std::marker::Model;
+
+/// A store and its clients, one for each session, as the steps of a schedule leave them.
+#[derive(Drop)]
+pub struct Replay<A: Allocator> {
+    alloc: A,
+    core: Core<A>,
+    clients: Vec<Client<A>, A>,
+}
+
+impl<A: Allocator> Model for Replay<A> {
+    ghost use Rattle.std.specs.Coded.{codes};
+    ghost use Rattle.std.specs.FinMap as finite;
+    ghost use Rattle.occ_cli.specs.Replaying.{Replayed};
+
+    ghost Value = { Replayed };
+
+    ghost coded = { Prim.hlevel (codes, finite.code) };
+
+    ghost view = { λ r. record { world = r.core.world; clients = r.clients.items } };
+}
+
+impl<A: Allocator + Copy> Replay<A> {
+    /// An empty store with these tables and so many sessions, which keeps the last `keep` write sets for testing, and a client for each session, which can have `queue` transactions that wait. It is an error where there is no memory for it, and the schema is gone then.
+    pub fn open(
+        alloc: A,
+        schema: Schema<A>,
+        sessions: usize,
+        queue: usize,
+        keep: usize,
+    ) -> Result<Replay<A>, AllocError>
+        ensures { IfOk result (λ replay. replay ≡ started (record { schema = schema; sessions = sessions; keep = keep }) queue) }
+    {
+        let core = Core::open(alloc, schema, sessions, keep)?;
+        let clients = fresh_clients(alloc, sessions, queue)?;
+        Ok(Replay {
+            alloc,
+            core,
+            clients,
+        })
+    }
+
+    /// Does a step, and answers it. It is an error where memory is refused: the replay is over then, and its store has done at most one step.
+    pub fn answer(&mut self, step: Step<'_, A>) -> Result<Answer<A>, AllocError>
+        ensures ok { IfOk result (λ answer. Plays self.old (step_of step.entry) (answer_of answer) self.new) }
+        ensures err { OnErr result (AtMostOneStep self.old.world self.new.world) }
+    {
+        match self.play(step) {
+            Ok(answer) => Ok(answer),
+            Err(Fault::Memory) => Err(AllocError),
+            Err(fault) => Ok(Answer::Refused(fault)),
+        }
+    }
+
+    // Does a step; every refusal is an error.
+    fn play(&mut self, step: Step<'_, A>) -> Result<Answer<A>, Fault>
+        ensures { PlayedIn self.old.world self.new.world result (λ answer. Plays self.old (step_of step.entry) answer self.new) }
+    {
+        match step {
+            Step::Does { act, session } => self.act(act, session),
+            Step::Get {
+                session,
+                table,
+                key,
+            } => self.get(session, table, key),
+            Step::Scan {
+                session,
+                table,
+                lower,
+                upper,
+            } => self.scan(session, table, lower, upper),
+            Step::Put {
+                session,
+                table,
+                key,
+                row,
+            } => self.write(session, table, key, Some(row)),
+            Step::Delete {
+                session,
+                table,
+                key,
+            } => self.write(session, table, key, None),
+            Step::Show => Ok(Answer::Counted(self.counts())),
+        }
+    }
+
+    // A step that names a session and nothing else.
+    fn act(&mut self, act: Act, session: usize) -> Result<Answer<A>, Fault>
+        ensures { PlayedIn self.old.world self.new.world result (λ answer. Plays self.old (Does act session) answer self.new) }
+    {
+        match act {
+            Act::Begin => self.begin(session),
+            Act::Submit => self.submit(session),
+            Act::Enter => self.enter(session),
+            Act::Decide => self.decide(session),
+            Act::Write => self.write_one(session),
+            Act::Finish => self.finish(session),
+            Act::BackUp => self.back_up(session),
+        }
+    }
+
+    fn begin(&mut self, session: usize) -> Result<Answer<A>, Fault>
+        ensures { PlayedIn self.old.world self.new.world result (λ answer. Plays self.old (Does acts.Begin session) answer self.new) }
+    {
+        let place = place_of(self.clients.as_slice(), session)?;
+        let counter = self.core.counter();
+        let client = &mut self.clients[place];
+        client.begin(self.alloc, counter)
+    }
+
+    fn submit(&mut self, session: usize) -> Result<Answer<A>, Fault>
+        ensures { PlayedIn self.old.world self.new.world result (λ answer. Plays self.old (Does acts.Submit session) answer self.new) }
+    {
+        let place = place_of(self.clients.as_slice(), session)?;
+        let client = &mut self.clients[place];
+        client.submit()
+    }
+
+    fn enter(&mut self, session: usize) -> Result<Answer<A>, Fault>
+        ensures { PlayedIn self.old.world self.new.world result (λ answer. Plays self.old (Does acts.Enter session) answer self.new) }
+    {
+        let place = place_of(self.clients.as_slice(), session)?;
+        let client = &mut self.clients[place];
+        client.enter(self.alloc, &mut self.core, session)
+    }
+
+    fn get(&mut self, session: usize, table: &str, key: Key<A>) -> Result<Answer<A>, Fault>
+        ensures { PlayedIn self.old.world self.new.world result (λ answer. Plays self.old (Get session table.now (key_of key)) answer self.new) }
+    {
+        let place = place_of(self.clients.as_slice(), session)?;
+        let client = &self.clients[place];
+        client.get(&mut self.core, session, table, key)
+    }
+
+    fn scan(
+        &mut self,
+        session: usize,
+        table: &str,
+        lower: Key<A>,
+        upper: Key<A>,
+    ) -> Result<Answer<A>, Fault>
+        ensures { PlayedIn self.old.world self.new.world result (λ answer. Plays self.old (Scan session table.now (key_of lower) (key_of upper)) answer self.new) }
+    {
+        let place = place_of(self.clients.as_slice(), session)?;
+        let client = &self.clients[place];
+        client.scan(&mut self.core, session, table, lower, upper)
+    }
+
+    // `put`, and `delete` where `row` is none.
+    fn write(
+        &mut self,
+        session: usize,
+        table: &str,
+        key: Key<A>,
+        row: Option<Row<A>>,
+    ) -> Result<Answer<A>, Fault>
+        ensures { PlayedIn self.old.world self.new.world result (λ answer. ByClient self.old session answer self.new (λ client next. Writes self.old.world.settings.schema table.now (key_of key) row client answer next)) }
+    {
+        let place = place_of(self.clients.as_slice(), session)?;
+        let client = &mut self.clients[place];
+        client.write(self.core.schema(), table, key, row)
+    }
+
+    fn write_one(&mut self, session: usize) -> Result<Answer<A>, Fault>
+        ensures { PlayedIn self.old.world self.new.world result (λ answer. Plays self.old (Does acts.Write session) answer self.new) }
+    {
+        write_one(self.alloc, &mut self.core, session)
+    }
+}
+
+impl<A: Allocator> Replay<A> {
+    /// The store.
+    pub fn core(&self) -> &Core<A>
+        ensures { result.now.world ≡ self.now.world }
+    {
+        &self.core
+    }
+
+    fn decide(&mut self, session: usize) -> Result<Answer<A>, Fault>
+        ensures { PlayedIn self.old.world self.new.world result (λ answer. Plays self.old (Does acts.Decide session) answer self.new) }
+    {
+        let verdict = self.core.decide(session)?;
+        Ok(Answer::Decided(verdict))
+    }
+
+    fn finish(&mut self, session: usize) -> Result<Answer<A>, Fault>
+        ensures { PlayedIn self.old.world self.new.world result (λ answer. Plays self.old (Does acts.Finish session) answer self.new) }
+    {
+        let number = self.core.finish(session)?;
+        Ok(Answer::Finished(number))
+    }
+
+    fn back_up(&mut self, session: usize) -> Result<Answer<A>, Fault>
+        ensures { PlayedIn self.old.world self.new.world result (λ answer. Plays self.old (Does acts.BackUp session) answer self.new) }
+    {
+        let number = self.core.back_up(session)?;
+        Ok(Answer::BackedUp(number))
+    }
+
+    // What there is.
+    fn counts(&self) -> Counts
+        ensures { result ≡ counts_of self.now.world }
+    {
+        Counts {
+            counter: self.core.counter(),
+            low: self.core.low(),
+            log: self.core.log().len(),
+            state: self.core.tables().len(),
+            active: self.core.active(),
+        }
+    }
+}
+
+// Clients that did nothing yet.
+fn fresh_clients<A: Allocator + Copy>(
+    alloc: A,
+    sessions: usize,
+    queue: usize,
+) -> Result<Vec<Client<A>, A>, AllocError>
+    ensures { IfOk result (λ clients. clients.items ≡ replicate sessions (fresh queue)) }
+{
+    let mut clients = Vec::with_capacity(alloc, sessions)?;
+    for _ in 0..sessions {
+        clients.push(Client::new(alloc, queue)?)?;
+    }
+    Ok(clients)
+}
+
+// The place of the client of a session.
+fn place_of<A: Allocator>(clients: &[Client<A>], session: usize) -> Result<usize, Fault>
+    ensures { MatchResult result
+        (λ place. (session ≡ suc place) × (place < length clients.now))
+        (λ fault. client_of clients.now session ≡ Err fault) }
+{
+    if session == 0 || session > clients.len() {
+        return Err(Fault::NoSession);
+    }
+    Ok(session - 1)
+}
+
+// A single write of the store, told by its table's name and its key.
+fn write_one<A: Allocator + Copy>(
+    alloc: A,
+    core: &mut Core<A>,
+    session: usize,
+) -> Result<Answer<A>, Fault>
+    ensures { PlayedIn core.old.world core.new.world result (λ answer. Tells core.old.world (events.WriteOne session) answer core.new.world) }
+{
+    match core.write_one(session)? {
+        SingleWrite::NoMore => Ok(Answer::NoMore),
+        SingleWrite::Wrote { row, write } => match written(alloc, core, row, write) {
+            Ok(answer) => Ok(answer),
+            Err(_refused) => Err(Fault::Memory),
+        },
+    }
+}
+
+// The write at its places in the log, as an answer.
+fn written<A: Allocator + Copy>(
+    alloc: A,
+    core: &Core<A>,
+    row: usize,
+    write: usize,
+) -> Result<Answer<A>, AllocError>
+    ensures { IfOk result (λ answer. told core.now.world.settings.schema (single core.now.world.log (Ok (kinds.Wrote row write))) ≡ Some (answer_of answer)) }
+{
+    let Some(object) = core.written(row, write) else {
+        return Ok(Answer::NoMore);
+    };
+    let table = table_name(alloc, core.schema(), object.table)?;
+    let key = object.key.clone()?;
+    Ok(Answer::Wrote { table, key })
+}
+
+// A copy of the name of the table at a place, which is empty where there is none.
+fn table_name<A: Allocator + Copy>(
+    alloc: A,
+    schema: &Schema<A>,
+    place: usize,
+) -> Result<Text<A>, AllocError>
+    ensures { IfOk result (λ name. name ≡ name_at schema.now place) }
+{
+    match schema.tables().get(place) {
+        None => Text::new(alloc, ""),
+        Some(table) => table.name.clone(),
+    }
+}
