@@ -1,8 +1,8 @@
 //! What the verdict on a transaction depends on.
-ghost use Rattle.std.specs.Prelude.{◌≡◌, map};
+ghost use Rattle.std.specs.Prelude.{◌≡◌, map, IfOk};
 
 use occ_sets::shared::{SharedReads, SharedWrites};
-use std::alloc::Allocator;
+use std::alloc::{AllocError, Allocator};
 use std::marker::Model;
 
 /// What the verdict on a transaction depends on, fixed at its entry: its own start, reads and writes, the lower end of the window,
@@ -62,4 +62,34 @@ impl<A: Allocator> Case<A> {
             active,
         }
     }
+}
+
+impl<A: Allocator + Clone> Case<A> {
+    /// The same case once more. Its sets get one more owner, and none is copied; an error where there is no memory for the lists of
+    /// opponents, or a set has too many owners to be counted.
+    pub fn share(&self) -> Result<Case<A>, AllocError>
+        ensures { IfOk result (λ shared. shared ≡ self.now) }
+    {
+        Ok(Case {
+            start: self.start,
+            low: self.low,
+            reads: self.reads.share()?,
+            writes: self.writes.share()?,
+            finished: share_all(&self.finished)?,
+            active: share_all(&self.active)?,
+        })
+    }
+}
+
+// One more owner of each write set, in their order.
+fn share_all<A: Allocator + Clone>(
+    sets: &Vec<SharedWrites<A>, A>,
+) -> Result<Vec<SharedWrites<A>, A>, AllocError>
+    ensures { IfOk result (λ shared. shared.items ≡ sets.now.items) }
+{
+    let mut shared = Vec::new(sets.allocator().clone()?);
+    for place in 0..sets.len() {
+        shared.push(sets[place].share()?)?;
+    }
+    Ok(shared)
 }

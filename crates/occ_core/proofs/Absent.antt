@@ -6,7 +6,7 @@ use Rattle.std.specs.FinMap.{get}
 use Rattle.occ_types.specs.Object.{Object}
 use Rattle.occ_types.specs.Row.{Row}
 use Rattle.occ_types.specs.declared.keys.Key as code_key
-use Rattle.occ_core.specs.Kept.{Content, content_of, state_of}
+use Rattle.occ_core.specs.Kept.{Content, content_of}
 use Rattle.occ_core.proofs.Views.{get-state_of, row_in}
 
 module _ {Z : Type 0} where

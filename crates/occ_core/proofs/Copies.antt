@@ -1,7 +1,10 @@
 -- Copies of all rows under their names, made table by table.
 use Rattle.std.proofs.Common.{◌≡◌, ℕ, suc, ◌+◌, ◌<◌, ◌≤◌, List, [], ◌∷◌, ◌++◌, map, length, get_or, drop, refl, sym, ap, ◌∙◌, append_assoc, append-nil, add-one, drop-cons}
 use Rattle.std.proofs.lemmas.List.{at_drop_all}
-use Rattle.std.specs.BTreeMap.{BTreeMap}
+use Rattle.std.proofs.lemmas.Map.Entries.{entries_from_clone}
+use Rattle.std.proofs.lemmas.Slice.Zip.{AllZip-long}
+use Rattle.std.specs.BTreeMap.{BTreeMap, IsClone}
+use Rattle.std.specs.List.{AllZip}
 use Rattle.occ_types.specs.Row.{Row}
 use Rattle.occ_types.specs.declared.keys.Key as code_key
 use Rattle.occ_types.specs.declared.objects.Object as code_object
@@ -26,3 +29,23 @@ module _ {Z : Type 0} where
   copied-all i maps kept rows old view same h e =
       ap finite.from_entries (sym (append-nil (map named rows)) ∙ ap (λ es. map named rows ++ es) (sym (at_drop_all (placed_from i) kept i h)) ∙ e ∙ ap (placed_from 0) same)
       ∙ ap (λ (c : Content). c.state) view
+
+  -- a copy of a map has its entries
+  same_entries : (m n : BTreeMap (code_key.Key Z) Row) → IsClone (λ a b. b ≡ a) (λ a b. b ≡ a) m n → n.entries ≡ m.entries
+  same_entries m n are = entries_from_clone (λ a b. b ≡ a) (λ a b. b ≡ a) (λ x y e. e) (λ v w e. e) m.entries n.entries are
+
+  placed-cloned : (place : ℕ) (maps copies : List (BTreeMap (code_key.Key Z) Row)) → AllZip (IsClone (λ a b. b ≡ a) (λ a b. b ≡ a)) maps copies → placed_from place copies ≡ placed_from place maps
+  placed-cloned place [] [] are = refl
+  placed-cloned place [] (n ∷ ns) are = absurd are
+  placed-cloned place (m ∷ ms) [] are = absurd are
+  placed-cloned place (m ∷ ms) (n ∷ ns) are =
+      ap (λ es. placed place es ++ placed_from (suc place) ns) (same_entries m n are.0)
+      ∙ ap (λ es. placed place m.entries ++ es) (placed-cloned (suc place) ms ns are.1)
+
+  -- copies of the maps hold the same
+  pub content-cloned : (maps copies : List (BTreeMap (code_key.Key Z) Row)) → AllZip (IsClone (λ a b. b ≡ a) (λ a b. b ≡ a)) maps copies → content_of copies ≡ content_of maps
+  unfolding state_of
+  content-cloned maps copies are =
+      let tables = AllZip-long _ maps copies are in
+      let entries = placed-cloned 0 maps copies are in
+      (λ i. record { tables = tables i; state = finite.from_entries (entries i) })

@@ -51,7 +51,7 @@ active_skipped log slots k less found = active_next log slots k less ∙ ap (λ 
 
 -- In the log.
 
-abbrev act : Option LogRow → ℕ
+abbrev pub act : Option LogRow → ℕ
 act None = 0
 act (Some row) = cond (is_active row.standing) 1 0
 
@@ -182,7 +182,7 @@ slots_tally log (slot ∷ slots) from each =
     omega arith
 
 -- no active row is of a session that has none under way
-idle : (slots : List Slot) (log : List LogRow) → ActiveAreHeld (held_from 1 slots) log → (s : ℕ) → sets.contains (held_from 1 slots) s ≡ false → act (latest s log) ≡ 0
+pub idle : (slots : List Slot) (log : List LogRow) → ActiveAreHeld (held_from 1 slots) log → (s : ℕ) → sets.contains (held_from 1 slots) s ≡ false → act (latest s log) ≡ 0
 idle slots [] held s out = refl
 idle slots (row ∷ rows) held s out = at (idle slots rows held.1 s out) (latest s rows) refl (row.session == s) refl
   where

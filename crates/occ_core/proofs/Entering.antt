@@ -152,7 +152,7 @@ entry_refusal parts session number start writes sound =
         ∙ sym (ap (λ o. first_fault (first_fault (turn o) ∷ first_fault room ∷ [])) e)
     at None e =
         ap (λ o. first_fault (o ∷ refusals.session_closed w session ∷ refusals.not_due w session number ∷ refusals.session_busy w session ∷ None ∷ rest)) e
-        ∙ ap (λ o. first_fault (o ∷ refusals.not_due w session number ∷ refusals.session_busy w session ∷ None ∷ rest)) (not_marked parts session)
+        ∙ ap (λ o. first_fault (o ∷ refusals.not_due w session number ∷ refusals.session_busy w session ∷ None ∷ rest)) (not_marked parts session sound)
         ∙ ap (λ last. first_fault (due_fault last number ∷ refusals.session_busy w session ∷ None ∷ rest)) (sym (last_is parts session sound e))
         ∙ ap (λ o. first_fault (due_fault (last_of parts.slots (session - 1)) number ∷ o ∷ None ∷ rest)) (busy_is parts session sound e)
         ∙ without (due_fault (last_of parts.slots (session - 1)) number) (busy_fault (slice_get parts.slots (session - 1))) rest

@@ -67,7 +67,7 @@ write_guards (Writing done) fault undone e = cc
 write_guards (Done number) fault undone e = cc
 write_guards (Back cause) fault undone e = cc
 
-writing_is : (standing : Standing) (done : ℕ) → writes_done standing ≡ Ok done → standing ≡ Writing done
+pub writing_is : (standing : Standing) (done : ℕ) → writes_done standing ≡ Ok done → standing ≡ Writing done
 writing_is (Open index case) done e = cc
 writing_is (Writing n) done e = cc
 writing_is (Done number) done e = cc
@@ -134,6 +134,7 @@ ended parts slots log window = record {
   log = log;
   table = parts.table;
   counter = parts.counter + 1;
+  marks = parts.marks;
   phases = parts.phases;
   slots = slots;
   window = window.sets;
@@ -204,7 +205,7 @@ write_kept parts world seen sound session place row reply fault is found at why 
     (refused fault (write_refusal parts sound session place u row at ∙ write_guards row.standing fault undone why) refl refl)))
 
 -- a row in its write phase may write
-may_write : (parts : Parts) (sound : AreSound parts) (session place : ℕ) (u : UnderWay parts session place) (row : LogRow) (done : ℕ) → slice_get parts.log place ≡ Some row → row.standing ≡ Writing done → refusal (world_of parts) (WriteOne (suc u.slot_at)) ≡ None
+pub may_write : (parts : Parts) (sound : AreSound parts) (session place : ℕ) (u : UnderWay parts session place) (row : LogRow) (done : ℕ) → slice_get parts.log place ≡ Some row → row.standing ≡ Writing done → refusal (world_of parts) (WriteOne (suc u.slot_at)) ≡ None
 may_write parts sound session place u row done at stands =
     write_refusal parts sound session place u row at ∙ ap (λ s. first_fault (fault_if (is_open s) faults.NotDecided ∷ fault_if (is_back s) faults.AlreadyDecided ∷ [])) stands
 

@@ -21,7 +21,7 @@ same_number a b = tests.decided (a == b)
     (λ e. apart a b (λ is. tests.clash (a == b) (eq-eqb a b is) e) ∙ sym e)
 
 -- no session below the first number is in the set
-below_first : (n q : ℕ) (sessions : List Slot) → q < n → sets.contains (held_from n sessions) q ≡ false
+pub below_first : (n q : ℕ) (sessions : List Slot) → q < n → sets.contains (held_from n sessions) q ≡ false
 below_first n q [] less = sets.contains-empty nat_cmp q
 below_first n q (session ∷ sessions) less = go (is_some session.hold) (below_first (suc n) q sessions (omega arith))
   where

@@ -16,3 +16,5 @@ pub mod Counting
 pub mod Entering
 pub mod Absent
 pub mod Copies
+pub mod Nexts
+pub mod Sharing

@@ -3,6 +3,7 @@ use Rattle.std.proofs.Common.{◌≡◌, ℕ, zero, suc, ◌-◌, List, [], drop
 use Rattle.std.specs.Prelude.{slice_get}
 use Rattle.std.specs.FinMap as finite
 use Rattle.std.specs.FinSet as sets
+use Rattle.std.specs.Ordering.{nat_cmp}
 use Rattle.occ_types.specs.Schema.{Schema}
 use Rattle.std.specs.FinMap.{FinMap}
 use Rattle.occ_model.specs.Log.{LogRow}
@@ -38,6 +39,7 @@ opened_parts schema sessions keep = record {
   log = [];
   table = finite.empty;
   counter = 0;
+  marks = finite.empty;
   phases = finite.empty;
   slots = idle_slots sessions;
   window = [];
@@ -61,11 +63,12 @@ opened_sound schema sessions keep = record {
   window_is = λ start above test. ap (Rattle.std.specs.List.list_any test) (drop-nothing (start - Rattle.occ_core.specs.Parts.low_of (opened_parts schema sessions keep)));
   log_room = omega arith;
   counter_room = omega arith;
+  none_closed = refl;
 }
 
 -- the fields of a core that was just opened are these parts
 pub opened_is : (schema : Schema) (sessions keep : ℕ) (tables : Content) (count : ℕ) → tables ≡ record { tables = count; state = finite.empty } → (slots : List Slot) → slots ≡ idle_slots sessions
-    → (window : Window) → window ≡ record { keep = keep; sets = [] } → (log : List LogRow) → log ≡ [] → (phases : FinMap phase_cmp ReadPhase) → phases ≡ finite.empty
-    → ◌≡◌ {A = Parts} (record { settings = record { schema = schema; sessions = length slots; keep = window.keep }; log = log; table = tables.state; counter = 0; phases = phases; slots = slots; window = window.sets }) (opened_parts schema sessions keep)
-opened_is schema sessions keep tables count t slots s window w log l phases p =
-    λ i. record { settings = record { schema = schema; sessions = length (s i); keep = (w i).keep }; log = l i; table = (t i).state; counter = 0; phases = p i; slots = s i; window = (w i).sets }
+    → (window : Window) → window ≡ record { keep = keep; sets = [] } → (log : List LogRow) → log ≡ [] → (phases : FinMap phase_cmp ReadPhase) → phases ≡ finite.empty → (marks : FinMap nat_cmp ℕ) → marks ≡ finite.empty
+    → ◌≡◌ {A = Parts} (record { settings = record { schema = schema; sessions = length slots; keep = window.keep }; log = log; table = tables.state; counter = 0; marks = marks; phases = phases; slots = slots; window = window.sets }) (opened_parts schema sessions keep)
+opened_is schema sessions keep tables count t slots s window w log l phases p marks m =
+    λ i. record { settings = record { schema = schema; sessions = length (s i); keep = (w i).keep }; log = l i; table = (t i).state; counter = 0; marks = m i; phases = p i; slots = s i; window = (w i).sets }

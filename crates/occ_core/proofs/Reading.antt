@@ -46,6 +46,7 @@ forget_moves old session number sound none = record {
   window_is = sound.window_is;
   log_room = sound.log_room;
   counter_room = sound.counter_room;
+  none_closed = sound.none_closed;
 }
 
 pub forget_exit : (parts : Parts) (world : World) → world_of parts ≡ world → AreSound parts → (session number : ℕ) (reply : Result Bool Fault) (fault : Fault) → reply ≡ Err fault → session_fault parts.slots session ≡ Some fault
@@ -76,8 +77,9 @@ last_is parts session sound free =
     ap (λ o. elim o as (λ _. ℕ) [ None ↦ 0 | Some slot ↦ slot.last ]) found.1
     ∙ (sound.slots_true (session - 1) found.0 found.1).last_is ∙ ap (last_entered (world_of parts)) same
 
-pub not_marked : (parts : Parts) (session : ℕ) → refusals.session_closed (world_of parts) session ≡ None
-not_marked parts session = ap (λ o. fault_if (is_some o) faults.SessionClosed) (finite.get-empty nat_cmp session)
+pub not_marked : (parts : Parts) (session : ℕ) → AreSound parts → refusals.session_closed (world_of parts) session ≡ None
+not_marked parts session sound =
+    ap (λ o. fault_if (is_some o) faults.SessionClosed) (ap (λ marks. finite.get marks session) sound.none_closed ∙ finite.get-empty nat_cmp session)
 
 nested : (a b c : Option Fault) (others : List (Option Fault)) → first_fault (first_fault (a ∷ b ∷ c ∷ []) ∷ others) ≡ first_fault (a ∷ b ∷ c ∷ others)
 nested (Some f) b c others = refl
@@ -103,7 +105,7 @@ turn_is parts session number start others sound =
         ap (λ o. first_fault (o ∷ refusals.session_closed w session ∷ refusals.not_readable w session number ∷ refusals.wrong_start w session number start ∷ others)) e
         ∙ sym (ap (λ o. first_fault (o ∷ number_fault (last_of parts.slots (session - 1)) number ∷ start_fault parts.phases parts.counter session number start ∷ others)) e)
     at None e =
-        ap (λ o. first_fault (session_fault parts.slots session ∷ o ∷ refusals.not_readable w session number ∷ refusals.wrong_start w session number start ∷ others)) (not_marked parts session)
+        ap (λ o. first_fault (session_fault parts.slots session ∷ o ∷ refusals.not_readable w session number ∷ refusals.wrong_start w session number start ∷ others)) (not_marked parts session sound)
         ∙ ap (λ o. first_fault (o ∷ None ∷ refusals.not_readable w session number ∷ refusals.wrong_start w session number start ∷ others)) e
         ∙ ap (λ last. first_fault (number_fault last number ∷ refusals.wrong_start w session number start ∷ others)) (sym (last_is parts session sound e))
         ∙ sym (ap (λ o. first_fault (o ∷ number_fault (last_of parts.slots (session - 1)) number ∷ start_fault parts.phases parts.counter session number start ∷ others)) e)

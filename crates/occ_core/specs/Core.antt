@@ -1,5 +1,9 @@
 -- What clauses see of a core, and what holds of its parts.
-use Rattle.std.specs.Prelude.{◌≡◌, length}
+use Rattle.std.specs.Prelude.{◌≡◌, ℕ, length}
+use Rattle.std.specs.BTreeMap.{BTreeMap}
+use Rattle.std.specs.FinMap as finite
+use Rattle.std.specs.FinMap.{FinMap}
+use Rattle.std.specs.Ordering.{nat_cmp}
 use Rattle.occ_model.specs.World.{World}
 use Rattle.occ_core.specs.Slots.{HoldsArePlaced}
 use Rattle.occ_core.specs.Parts.{Parts, world_of, AreSound}
@@ -9,6 +13,10 @@ use Rattle.occ_core.specs.declared.core_state.Core.TheInside.{Inside}
 pub record Seen : Type 0 where
   pub world : World
 
+-- the closing marks as plain data
+abbrev pub marks_of : BTreeMap ℕ ℕ → FinMap nat_cmp ℕ
+marks_of marks = finite.from_entries marks.entries
+
 module _ {Z : Type 0} where
   -- the parts of a core, as plain data
   abbrev pub parts_of : Inside Z → Parts
@@ -17,6 +25,7 @@ module _ {Z : Type 0} where
     log = c.log;
     table = c.tables.state;
     counter = c.counter;
+    marks = marks_of c.marks;
     phases = c.phases;
     slots = c.sessions;
     window = c.window.sets;

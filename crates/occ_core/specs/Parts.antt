@@ -2,6 +2,7 @@
 use Rattle.std.specs.Prelude.{◌≡◌, ℕ, suc, ◌+◌, ◌-◌, ◌≤◌, List, length, drop, Some, slice_get}
 use Rattle.std.specs.FinMap as finite
 use Rattle.std.specs.FinMap.{FinMap}
+use Rattle.std.specs.Ordering.{nat_cmp}
 use Rattle.occ_types.specs.declared.limits.TheConstants.{MAX_LOG_ROWS, MAX_COUNTER, MAX_NUMBER}
 use Rattle.occ_model.specs.State.{State, Write}
 use Rattle.occ_model.specs.Log.{LogRow}
@@ -15,6 +16,7 @@ pub record Parts : Type 0 where
   pub log : List LogRow
   pub table : State
   pub counter : ℕ
+  pub marks : FinMap nat_cmp ℕ
   pub phases : FinMap phase_cmp ReadPhase
   -- of each session, in order
   pub slots : List Slot
@@ -28,7 +30,7 @@ world_of parts = record {
   log = parts.log;
   table = parts.table;
   counter = parts.counter;
-  marks = finite.empty;
+  marks = parts.marks;
   phases = parts.phases;
   held = held_from 1 parts.slots;
 }
@@ -51,3 +53,5 @@ pub record AreSound (parts : Parts) : Type 0 where
   pub window_is : (start : ℕ) → low_of parts ≤ start → AreSame (drop (start - low_of parts) parts.window) (finished_opponents parts.log parts.counter (low_of parts) start)
   pub log_room : length parts.log ≤ MAX_LOG_ROWS
   pub counter_room : parts.counter + active_count (world_of parts) ≤ MAX_COUNTER
+  -- no call closes a session yet
+  pub none_closed : parts.marks ≡ finite.empty

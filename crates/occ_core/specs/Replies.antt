@@ -1,10 +1,12 @@
 -- What the calls of a core reply, as replies of the model.
-use Rattle.std.specs.Prelude.{ℕ, Bool, List, Option, None, Some, Result, Ok, Err, Vec}
+use Rattle.std.specs.Prelude.{ℕ, Bool, List, [], ◌∷◌, Option, None, Some, Result, Ok, Err, Vec}
 use Rattle.occ_types.specs.declared.fault.Fault.{Fault}
 use Rattle.occ_types.specs.declared.keys.Key as code_key
+use Rattle.occ_types.specs.Object.{Object}
 use Rattle.occ_types.specs.Row.{Row}
-use Rattle.occ_model.specs.State.{Found, Rows}
-use Rattle.occ_model.specs.Log.{LogRow}
+use Rattle.occ_model.specs.State.{Write, Found, Rows}
+use Rattle.occ_model.specs.Log.{LogRow, rest}
+use Rattle.occ_model.specs.World.{World, latest}
 use Rattle.occ_model.specs.Event.{Reply, Refused, Answered, Forgotten, Entered, Decided, Wrote, NoMore, Finished, BackedUp}
 use Rattle.occ_model.specs.declared.verdict.Verdict.{Verdict}
 use Rattle.occ_sets.specs.Seen.{rows_of}
@@ -31,6 +33,15 @@ finishing (Err fault) = Refused fault
 abbrev pub backing : Result ℕ Fault → Reply
 backing (Ok last) = BackedUp last
 backing (Err fault) = Refused fault
+
+-- the object of the first of some writes
+abbrev pub first_object : List Write → Option Object
+first_object [] = None
+first_object (write ∷ writes) = Some write.0
+
+-- the object of a session's next single write, where one is left
+abbrev pub next_object : World → ℕ → Option Object
+next_object world session = elim (latest session world.log) [ None ↦ None | Some row ↦ first_object (rest row) ]
 
 -- a single write is named by its places in the log
 abbrev pub single : List LogRow → Result SingleWrite Fault → Reply

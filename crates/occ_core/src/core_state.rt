@@ -1,12 +1,14 @@
 //! The core of the store: the world of the model, kept.
-ghost use Rattle.std.specs.Prelude.{◌≡◌, ℕ, IfOk, Ok, is_some, true, option_map};
+ghost use Rattle.std.specs.Prelude.{◌≡◌, ℕ, IfOk, IsSome, None, Ok, is_some, true, option_map};
 ghost use Rattle.occ_types.specs.Seen.{object_of};
 ghost use Rattle.occ_model.specs.World.{opened, low};
 ghost use Rattle.occ_model.specs.Event.{Enter, Request, Decide, WriteOne, Finish, BackUp};
+ghost use Rattle.occ_model.specs.Refusal.{refusal};
 ghost use Rattle.occ_model.specs.Step.{Step, decided};
 ghost use Rattle.occ_core.specs.Slots.{row_under_way, written_in, back_fault, writes_done, finish_fault};
+ghost use Rattle.occ_core.specs.Core.{marks_of};
 ghost use Rattle.occ_core.specs.Rows.{log_of, standing_of};
-ghost use Rattle.occ_core.specs.Replies.{decision, single, finishing, backing};
+ghost use Rattle.occ_core.specs.Replies.{decision, single, next_object, finishing, backing};
 ghost use Rattle.occ_core.specs.declared.core_state.SingleWrite.TheVariants.{Wrote};
 
 use crate::log::Log;
@@ -20,6 +22,7 @@ use occ_model::verdict::Verdict;
 use occ_types::fault::Fault;
 use occ_types::{Object, Schema};
 use std::alloc::{AllocError, Allocator};
+use std::collections::BTreeMap;
 use std::marker::Model;
 
 /// The core of the store: its tables, its log, and what is under way. Clauses see the world of the model.
@@ -33,6 +36,7 @@ pub struct Core<A: Allocator> {
     pub(crate) phases: ReadPhases<A>,
     pub(crate) sessions: Sessions<A>,
     pub(crate) window: Window<A>,
+    pub(crate) marks: BTreeMap<usize, u64, A>,
 }
 
 /// What one call of `Core::write_one` did.
@@ -87,6 +91,7 @@ impl<A: Allocator + Copy> Core<A> {
             phases: ReadPhases::new(alloc),
             sessions: states,
             window,
+            marks: BTreeMap::new(alloc),
         })
     }
 
@@ -138,11 +143,41 @@ impl<A: Allocator> Core<A> {
         self.log.rows()
     }
 
+    /// The closing marks: of each session that is closed, the number of its mark. No call closes a session yet, so there are none.
+    pub fn marks(&self) -> &BTreeMap<usize, u64, A>
+        ensures { marks_of result.now ≡ self.now.world.marks }
+    {
+        &self.marks
+    }
+
     /// The object of a write in the log: by the place of its row, and by its own place in the order of the first writes.
     pub fn written(&self, row: usize, write: usize) -> Option<&Object<A>>
         ensures { option_map (λ o. object_of o.now) result ≡ written_in self.now.world.log row write }
     {
         self.log.written(row, write)
+    }
+
+    /// The object of the single write that `write_one` would do next for the session, or none where it would do none: where there is
+    /// no such session, where nothing of it is under way or that is not decided to commit, and where no write is left.
+    pub fn next_write(&self, session: usize) -> Option<&Object<A>>
+        ensures object { option_map (λ o. object_of o.now) result ≡ next_object self.now.world session }
+        ensures free { IsSome result → refusal self.now.world (WriteOne session) ≡ None }
+    {
+        let place = match row_under_way(&self.sessions, session) {
+            Ok(place) => place,
+            Err(_fault) => return None,
+        };
+        let Some(row) = self.log.row(place) else {
+            return None;
+        };
+        let done = match writes_done(&row.standing) {
+            Ok(done) => done,
+            Err(_fault) => return None,
+        };
+        match row.writes.get().write_at(done) {
+            Some((object, _row)) => Some(object),
+            None => None,
+        }
     }
 
     /// Decides the transaction that the session has entered: by the verdict on its case, it commits or is to be backed up. Refused

@@ -1,6 +1,7 @@
 //! The core of the store: what it keeps, in parts. Each part is seen as plain data of the model.
 #![tactic(auto)]
 
+pub mod core_book;
 pub mod core_entries;
 pub mod core_reads;
 pub mod core_state;
@@ -15,6 +16,7 @@ pub mod tables;
 mod tests;
 pub mod window;
 
+pub use core_book::OwnedBook;
 pub use log::Log;
 pub use phases::ReadPhases;
 pub use rows::{LogRow, Standing};

@@ -1,5 +1,5 @@
 //! The decision log.
-ghost use Rattle.std.specs.Prelude.{◌≡◌, ◌<◌, [], ◌∷◌, ◌++◌, length, IfErr, OnOk, OnErr, slice_get, slice_set, Some};
+ghost use Rattle.std.specs.Prelude.{◌≡◌, ◌<◌, [], ◌∷◌, ◌++◌, length, IfOk, IfErr, OnOk, OnErr, slice_get, slice_set, Some};
 ghost use Rattle.std.specs.Option.{option_map};
 ghost use Rattle.occ_types.specs.Seen.{object_of};
 ghost use Rattle.occ_core.specs.Rows.{log_row_of, log_of, standing_of};
@@ -85,5 +85,18 @@ impl<A: Allocator> Log<A> {
     {
         let row = &mut self.rows[place];
         row.standing = standing;
+    }
+}
+
+impl<A: Allocator + Clone> Log<A> {
+    /// The rows once more, each as by `LogRow::share`; an error where there is no memory for them.
+    pub fn share_rows(&self) -> Result<Vec<LogRow<A>, A>, AllocError>
+        ensures { IfOk result (λ shared. log_of shared.items ≡ self.now) }
+    {
+        let mut shared = Vec::new(self.rows.allocator().clone()?);
+        for row in &self.rows {
+            shared.push(row.share()?)?;
+        }
+        Ok(shared)
     }
 }

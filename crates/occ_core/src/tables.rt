@@ -117,6 +117,16 @@ impl<A: Allocator + Clone> Tables<A> {
     }
 }
 
+impl<A: Allocator + Clone> Clone for Tables<A> {
+    ghost is_clone = { λ source copy. copy ≡ source };
+
+    fn clone(&self) -> Result<Tables<A>, AllocError> {
+        Ok(Tables {
+            maps: self.maps.clone()?,
+        })
+    }
+}
+
 impl<A: Allocator> Tables<A> {
     /// How many rows stand in all tables, or the greatest `usize` where they are more. It takes no memory.
     pub fn len(&self) -> usize
