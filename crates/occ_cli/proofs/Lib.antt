@@ -15,3 +15,7 @@ pub mod Sending
 pub mod Words
 pub mod Printing
 pub mod TableRows
+pub mod Settings
+pub mod Schedules
+pub mod WholeReplay
+pub mod Closing

@@ -31,7 +31,7 @@ joined_more f new mid front name word xs ys is same begun =
     ∙ ap (λ (l : List ℕ). front ++ 32 ∷ l) (append_assoc name (32 ∷ word) more ∙ ap (λ (l : List ℕ). name ++ 32 ∷ l) (sym (joined f word xs)))
 
 -- bytes pushed after others
-Sends-then : (a b c : Option (List ℕ)) (old mid new s t : List ℕ) → Sends a b (old ++ s) mid → Sends b c (mid ++ t) new → Sends a c (old ++ (s ++ t)) new
+pub Sends-then : (a b c : Option (List ℕ)) (old mid new s t : List ℕ) → Sends a b (old ++ s) mid → Sends b c (mid ++ t) new → Sends a c (old ++ (s ++ t)) new
 Sends-then a b c old mid new s t h k = record {
   sent = h.sent ++ k.sent;
   written = Appends-trans a b c h.sent k.sent h.written k.written;
@@ -46,11 +46,11 @@ pub Pushed-then : (a b c : Option (List ℕ)) (old mid new s t : List ℕ) → P
 Pushed-then a b c old mid new s t h k = record { sends = Sends-then a b c old mid new s t h.sends k.sends; few = λ l. k.few (h.few l) }
 
 -- nothing of a text was pushed
-front_none : (a : Option (List ℕ)) (old text : List ℕ) → PushedFront a a old old text
+pub front_none : (a : Option (List ℕ)) (old text : List ℕ) → PushedFront a a old old text
 front_none a old text = record { front = []; rest = text; whole = refl; sends = record { sent = []; written = Appends-nil a; whole = append-nil old } }
 
 -- a beginning of what comes next, behind what was pushed
-front_then : (a b c : Option (List ℕ)) (old mid new s t : List ℕ) → Pushed a b old mid s → PushedFront b c mid new t → PushedFront a c old new (s ++ t)
+pub front_then : (a b c : Option (List ℕ)) (old mid new s t : List ℕ) → Pushed a b old mid s → PushedFront b c mid new t → PushedFront a c old new (s ++ t)
 front_then a b c old mid new s t h k = record {
   front = s ++ k.front;
   rest = k.rest;
@@ -59,7 +59,7 @@ front_then a b c old mid new s t h k = record {
 }
 
 -- a beginning of a part is one of the whole
-front_more : (a b : Option (List ℕ)) (old new s t : List ℕ) → PushedFront a b old new s → PushedFront a b old new (s ++ t)
+pub front_more : (a b : Option (List ℕ)) (old new s t : List ℕ) → PushedFront a b old new s → PushedFront a b old new (s ++ t)
 front_more a b old new s t h = record {
   front = h.front;
   rest = h.rest ++ t;
@@ -91,7 +91,7 @@ printed_part (Err Read) e a b old new s t is h = h
 printed_part (Err (Malformed line)) e a b old new s t is h = h
 
 -- the same, of lines
-lines_text-append : (ls ms : List (List ℕ)) → lines_text (ls ++ ms) ≡ lines_text ls ++ lines_text ms
+pub lines_text-append : (ls ms : List (List ℕ)) → lines_text (ls ++ ms) ≡ lines_text ls ++ lines_text ms
 lines_text-append ls ms = flat_map-append (λ line. line ++ 10 ∷ []) ls ms
 
 pub lines_then : (r : Printed) (a b c : Option (List ℕ)) (old mid new : List ℕ) (ls ms : List (List ℕ)) → Pushed a b old mid (lines_text ls) → PrintGives r b c mid new (lines_text ms) → PrintGives r a c old new (lines_text (ls ++ ms))

@@ -74,7 +74,7 @@ store_steps : (old : Replayed) (event : Event) (answer : Answer) (new : Replayed
 store_steps old event answer new h = tells_steps old.world event answer new.world h.0
 
 -- whatever is played, the store does at most one step
-plays_steps : (old : Replayed) (step : steps.Step) (answer : Answer) (new : Replayed) → Plays old step answer new → AtMostOneStep old.world new.world
+pub plays_steps : (old : Replayed) (step : steps.Step) (answer : Answer) (new : Replayed) → Plays old step answer new → AtMostOneStep old.world new.world
 plays_steps old (steps.Does acts.Begin session) answer new h = client_steps old session answer new (λ client next. Begins old.world.counter client answer next) h
 plays_steps old (steps.Does acts.Submit session) answer new h = client_steps old session answer new (λ client next. Submits client answer next) h
 plays_steps old (steps.Does acts.Enter session) answer new h =

@@ -15,3 +15,5 @@ pub mod Status
 pub mod StepReading
 pub mod Steps
 pub mod Waiting
+pub mod Schedules
+pub mod Turns

@@ -47,7 +47,7 @@ pub struct Book<'a, A: Allocator> {
 }
 
 /// Pushes a line and its line feed.
-fn push_line<W: Write, A: Allocator>(
+pub fn push_line<W: Write, A: Allocator>(
     output: &mut Output<A>,
     writer: &mut W,
     line: &mut String<A>,

@@ -192,7 +192,7 @@ pub fn table<A: Allocator + Copy>(alloc: A, line: &[u8]) -> Result<TableDef<A>, 
 }
 
 /// What a line that wasn't read ends an engine with.
-fn trouble_at(unread: Unread, line: u64) -> Trouble
+pub fn trouble_at(unread: Unread, line: u64) -> Trouble
     ensures { result ≡ trouble_at unread line }
 {
     match unread {
@@ -213,7 +213,13 @@ fn take_line<R: Read, A: Allocator>(input: &mut Input<A>, reader: &mut R) -> Res
     }
 }
 
-fn take_version<R: Read, A: Allocator>(input: &mut Input<A>, reader: &mut R) -> Result<(), Trouble>
+/// Takes the line `occ 1`.
+///
+/// `Malformed` where another line stands next, or none; `Read` where the reader fails.
+pub fn take_version<R: Read, A: Allocator>(
+    input: &mut Input<A>,
+    reader: &mut R,
+) -> Result<(), Trouble>
     requires { input.old.number < 2 ^ 32 }
     ensures { Taken (λ taken. taken) (λ version. codes "occ 1") (λ version. Unit {0}) result
         (prepend_known input.old.unread (R.remaining reader.old))
@@ -227,7 +233,10 @@ fn take_version<R: Read, A: Allocator>(input: &mut Input<A>, reader: &mut R) -> 
     }
 }
 
-fn take_count<R: Read, A: Allocator>(
+/// Takes a line of a word and a number from 1 to `most`, and answers the number.
+///
+/// `Malformed` where another line stands next, or none; `Read` where the reader fails.
+pub fn take_count<R: Read, A: Allocator>(
     input: &mut Input<A>,
     reader: &mut R,
     word: &str,
@@ -255,7 +264,7 @@ fn has_table<A: Allocator>(tables: &[TableDef<A>], name: &str) -> bool
 
 /// The table of a line behind those of others. `Malformed` also where it is the 33rd, or its name is that of another.
 #[tactic(auto, unfolding(crate::specs::HeaderTaking::table_behind))]
-fn table_behind<A: Allocator + Copy>(
+pub fn table_behind<A: Allocator + Copy>(
     alloc: A,
     tables: &[TableDef<A>],
     line: &[u8],

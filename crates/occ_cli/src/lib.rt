@@ -8,6 +8,8 @@ mod book_tests;
 pub mod books;
 pub mod clients;
 #[cfg(test)]
+mod device_tests;
+#[cfg(test)]
 mod grammar_tests;
 pub mod headers;
 pub mod input;

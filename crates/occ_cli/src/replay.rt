@@ -1,9 +1,19 @@
 //! The replay of a schedule: a text in, a text out.
 
-ghost use Rattle.std.specs.Prelude.{◌≡◌, ◌+◌, ◌<◌, ◌^◌, true, IfOk};
+ghost use Rattle.std.specs.Prelude.{◌≡◌, ◌<◌, ◌^◌, ◌∷◌, [], true, IfOk};
+ghost use Rattle.std.specs.Bool.{Decides};
+ghost use Rattle.std.specs.Io.KnownBytes.{Appends, prepend_known};
+ghost use Rattle.occ_types.specs.declared.fault.Fault.TheVariants as faults;
+ghost use Rattle.occ_cli.specs.Answers as says;
+ghost use Rattle.occ_cli.specs.Answers.{answer_of, answer_text};
+ghost use Rattle.occ_cli.specs.Printing.{lines_text, Pushed, PushedFront, PrintGives};
+ghost use Rattle.occ_cli.specs.Books.{book_of};
+ghost use Rattle.occ_cli.specs.Schedules.{ReplayGives, AppendsFront, audit_line, book_at};
+ghost use Rattle.occ_cli.specs.Steps.{step_of};
+ghost use Rattle.occ_cli.specs.Turns.{StepAt, AnswerGives, TurnGives, TurnsGive, ClosingGives, AuditGives, is_cut_short};
 
 use crate::answers::{Answer, write_answer};
-use crate::books::{Book, write_book};
+use crate::books::{Book, push_line, write_book};
 use crate::headers::read_header;
 use crate::input::{Input, Next};
 use crate::output::Output;
@@ -12,6 +22,7 @@ use crate::steps::{Step, read_step};
 use crate::tokens::Unread;
 use crate::trouble::Trouble;
 use occ_audit::audit_rows;
+use occ_types::fault::Fault;
 use std::alloc::Allocator;
 use std::collections::BTreeMap;
 use std::io::{Read, Write};
@@ -20,25 +31,33 @@ use std::io::{Read, Write};
 /// whether its audit holds. Without answers where `quiet` is true.
 ///
 /// `Malformed` at the first line that is none of the grammar, and `Read` where the reader fails: the answers to all whole lines
-/// before were written then. `Write` where the writer fails, and `Memory` where memory was refused: a beginning of the text was
-/// written then. Its memory is bounded by what the store holds, and not by the text.
+/// before were written then, and nothing else. `Write` where the writer fails, and `Memory` where memory was refused: a beginning
+/// of the text was written then. Its memory is bounded by what the store holds, and not by the text. At `Ok` the reader is at its
+/// end; at an error it may have given more than the lines that were taken.
 pub fn replay_text<R: Read, W: Write, A: Allocator + Copy>(
     alloc: A,
     reader: &mut R,
     writer: &mut W,
     quiet: bool,
-) -> Result<(), Trouble> {
+) -> Result<(), Trouble>
+    ensures { ReplayGives quiet (R.remaining reader.old) (Appends (W.contents writer.old) (W.contents writer.new))
+        (AppendsFront (W.contents writer.old) (W.contents writer.new)) result (R.remaining reader.new) }
+{
     let mut input = Input::new(alloc)?;
     let mut output = Output::new(alloc);
-    match replay_lines(alloc, &mut input, reader, &mut output, writer, quiet) {
-        // a want of memory may not be mended by more writing
-        Err(Trouble::Memory) => Err(Trouble::Memory),
-        Err(Trouble::Write) => Err(Trouble::Write),
-        outcome => {
-            output.flush(writer)?;
-            outcome
-        }
+    let outcome = replay_lines(alloc, &mut input, reader, &mut output, writer, quiet);
+    if is_cut_short(&outcome) {
+        return outcome;
     }
+    output.flush(writer)?;
+    outcome
+}
+
+// Whether no more is to be written: the writer failed, or memory was refused.
+fn is_cut_short(outcome: &Result<(), Trouble>) -> bool
+    ensures { result ≡ is_cut_short outcome.now }
+{
+    matches!(outcome, Err(Trouble::Write | Trouble::Memory))
 }
 
 // The replay, whose last bytes may still be held back.
@@ -51,9 +70,13 @@ fn replay_lines<R: Read, W: Write, A: Allocator + Copy>(
     quiet: bool,
 ) -> Result<(), Trouble>
     requires { input.old.number ≡ 0 }
+    ensures { ReplayGives quiet (prepend_known input.old.unread (R.remaining reader.old))
+        (Pushed (W.contents writer.old) (W.contents writer.new) output.old output.new)
+        (PushedFront (W.contents writer.old) (W.contents writer.new) output.old output.new) result
+        (prepend_known input.new.unread (R.remaining reader.new)) }
 {
     let header = read_header(alloc, input, reader)?;
-    let settings = Limits {
+    let limits = Limits {
         sessions: header.sessions,
         queue: header.queue,
         keep: header.keep,
@@ -61,12 +84,12 @@ fn replay_lines<R: Read, W: Write, A: Allocator + Copy>(
     let mut replay = Replay::open(
         alloc,
         header.schema,
-        settings.sessions,
-        settings.queue,
-        settings.keep,
+        limits.sessions,
+        limits.queue,
+        limits.keep,
     )?;
-    while take_turn(alloc, input, reader, output, writer, &mut replay, quiet)? {}
-    close(alloc, output, writer, &replay, settings)
+    take_turns(alloc, input, reader, output, writer, &mut replay, quiet)?;
+    close(alloc, output, writer, &replay, limits)
 }
 
 /// What the header of a schedule says beside its tables.
@@ -75,6 +98,25 @@ struct Limits {
     sessions: usize,
     queue: usize,
     keep: usize,
+}
+
+// Does and answers all steps that stand next in the text, up to its end.
+fn take_turns<R: Read, W: Write, A: Allocator + Copy>(
+    alloc: A,
+    input: &mut Input<A>,
+    reader: &mut R,
+    output: &mut Output<A>,
+    writer: &mut W,
+    replay: &mut Replay<A>,
+    quiet: bool,
+) -> Result<(), Trouble>
+    ensures { TurnsGive quiet (Pushed (W.contents writer.old) (W.contents writer.new) output.old output.new)
+        (PushedFront (W.contents writer.old) (W.contents writer.new) output.old output.new) result
+        (prepend_known input.old.unread (R.remaining reader.old)) (prepend_known input.new.unread (R.remaining reader.new))
+        input.old.number replay.old replay.new }
+{
+    while take_turn(alloc, input, reader, output, writer, replay, quiet)? {}
+    Ok(())
 }
 
 // Takes the next line, does its step and answers it. False where the text has no line more.
@@ -87,31 +129,60 @@ fn take_turn<R: Read, W: Write, A: Allocator + Copy>(
     replay: &mut Replay<A>,
     quiet: bool,
 ) -> Result<bool, Trouble>
-    ensures { IfOk result (λ more. more ≡ true → (input.new.number ≡ input.old.number + 1) × (input.new.number < 2 ^ 64)) }
+    ensures gives { TurnGives quiet (Pushed (W.contents writer.old) (W.contents writer.new) output.old output.new)
+        (PushedFront (W.contents writer.old) (W.contents writer.new) output.old output.new) result
+        (prepend_known input.old.unread (R.remaining reader.old)) (prepend_known input.new.unread (R.remaining reader.new))
+        input.old.number input.new.number replay.old replay.new }
+    ensures counted { IfOk result (λ more. more ≡ true → input.new.number < 2 ^ 64) }
 {
     match input.next_line(reader)? {
         Next::End => return Ok(false),
         Next::Line => {}
     }
     let step = step_at(alloc, input.line(), input.number())?;
-    let answer = replay.answer(step)?;
-    if !quiet {
-        say(alloc, output, writer, &answer)?;
-    }
+    answer_step(alloc, output, writer, replay, step, quiet)?;
     Ok(true)
 }
 
 // The step of the line of this number.
-fn step_at<A: Allocator + Copy>(
-    alloc: A,
-    line: &[u8],
-    number: u64,
-) -> Result<Step<'_, A>, Trouble> {
+fn step_at<A: Allocator + Copy>(alloc: A, line: &[u8], number: u64) -> Result<Step<'_, A>, Trouble>
+    ensures { StepAt step_of result line.now number }
+{
     match read_step(alloc, line) {
         Ok(step) => Ok(step),
         Err(Unread::Malformed) => Err(Trouble::Malformed(number)),
         Err(Unread::Memory) => Err(Trouble::Memory),
     }
+}
+
+// Does a step, and answers it by a line unless `quiet` is true.
+fn answer_step<W: Write, A: Allocator + Copy>(
+    alloc: A,
+    output: &mut Output<A>,
+    writer: &mut W,
+    replay: &mut Replay<A>,
+    step: Step<'_, A>,
+    quiet: bool,
+) -> Result<(), Trouble>
+    ensures { AnswerGives quiet (Pushed (W.contents writer.old) (W.contents writer.new) output.old output.new)
+        (PushedFront (W.contents writer.old) (W.contents writer.new) output.old output.new) result
+        (step_of step.entry) replay.old replay.new }
+{
+    let answer = replay.answer(step)?;
+    if is_starved(&answer) {
+        return Err(Trouble::Memory);
+    }
+    if quiet {
+        return Ok(());
+    }
+    say(alloc, output, writer, &answer)
+}
+
+// Whether an answer tells of a want of memory.
+fn is_starved<A: Allocator>(answer: &Answer<A>) -> bool
+    ensures { Decides result (answer_of answer.now ≡ says.Refused faults.Memory) }
+{
+    matches!(answer, Answer::Refused(Fault::Memory))
 }
 
 // Writes the line of an answer.
@@ -120,11 +191,12 @@ fn say<W: Write, A: Allocator + Copy>(
     output: &mut Output<A>,
     writer: &mut W,
     answer: &Answer<A>,
-) -> Result<(), Trouble> {
+) -> Result<(), Trouble>
+    ensures { PrintGives result (W.contents writer.old) (W.contents writer.new) output.old output.new (lines_text (answer_text (answer_of answer.now) ∷ [])) }
+{
     let mut line = String::new(alloc);
     write_answer(&mut line, answer)?;
-    line.push('\n')?;
-    output.push(writer, line.as_bytes())
+    push_line(output, writer, &mut line)
 }
 
 // Writes the book and its audit.
@@ -134,7 +206,11 @@ fn close<W: Write, A: Allocator + Copy>(
     writer: &mut W,
     replay: &Replay<A>,
     limits: Limits,
-) -> Result<(), Trouble> {
+) -> Result<(), Trouble>
+    ensures { ClosingGives (Pushed (W.contents writer.old) (W.contents writer.new) output.old output.new)
+        (PushedFront (W.contents writer.old) (W.contents writer.new) output.old output.new) result
+        (book_at (record { sessions = limits.sessions; queue = limits.queue; keep = limits.keep; tables = replay.now.world.settings.schema }) replay.now.world) }
+{
     let core = replay.core();
     let book = Book {
         sessions: limits.sessions,
@@ -147,15 +223,32 @@ fn close<W: Write, A: Allocator + Copy>(
         low: core.low(),
     };
     write_book(alloc, output, writer, &book)?;
+    write_audit(alloc, output, writer, &book)
+}
+
+// Writes whether the audit of a book holds.
+fn write_audit<W: Write, A: Allocator + Copy>(
+    alloc: A,
+    output: &mut Output<A>,
+    writer: &mut W,
+    book: &Book<A>,
+) -> Result<(), Trouble>
+    ensures { AuditGives (Pushed (W.contents writer.old) (W.contents writer.new) output.old output.new)
+        (PushedFront (W.contents writer.old) (W.contents writer.new) output.old output.new) result (book_of book.now) }
+{
     let marks = BTreeMap::new(alloc);
     let audited = occ_audit::Book {
-        log: core.log(),
+        log: book.log,
         marks: &marks,
-        tables: core.tables(),
+        tables: book.tables,
     };
-    if audit_rows(alloc, &audited)? {
-        output.push(writer, b"audit yes\n")
-    } else {
-        output.push(writer, b"audit no\n")
-    }
+    let holds = audit_rows(alloc, &audited)?;
+    output.push(writer, audit_line(holds).as_bytes())
+}
+
+// The line of an audit, with its line feed.
+fn audit_line(holds: bool) -> &'static str
+    ensures { result.now ≡ lines_text (audit_line holds ∷ []) }
+{
+    if holds { "audit yes\n" } else { "audit no\n" }
 }

@@ -13,8 +13,8 @@ use std::test::Fail;
 
 /// A device that moves at most `most` bytes a call, is interrupted at each third call, and fails from the call `fails` on.
 #[derive(Drop)]
-struct Device {
-    bytes: Vec<u8>,
+pub(crate) struct Device {
+    pub(crate) bytes: Vec<u8>,
     at: usize,
     most: usize,
     calls: usize,
@@ -22,7 +22,7 @@ struct Device {
 }
 
 impl Device {
-    fn new(bytes: Vec<u8>, most: usize, fails: usize) -> Device {
+    pub(crate) fn new(bytes: Vec<u8>, most: usize, fails: usize) -> Device {
         Device {
             bytes,
             at: 0,
@@ -30,6 +30,12 @@ impl Device {
             calls: 0,
             fails,
         }
+    }
+
+    /// The bytes that reads have taken.
+    pub(crate) fn handed_out(&self) -> &[u8] {
+        let bytes = self.bytes.as_slice();
+        &bytes[..self.at.min(bytes.len())]
     }
 
     /// What the next call meets.

@@ -74,3 +74,111 @@ fn torn_line(rt: HostRuntime) -> Result<(), Fail> {
     );
     Ok(())
 }
+
+/// A schedule with one table under texts, whose last line, the eighth, reads the key that this token spells.
+fn reading(alloc: Global, token: &str) -> Result<String, AllocError> {
+    format!(in alloc;
+        "occ 1\nsessions 1\nqueue 4\nkeep 8\ntable p text int text\nsteps\nbegin 1\nget 1 p {token}\n"
+    )
+}
+
+/// A schedule whose eighth line puts a row with the cell that this token spells.
+fn putting(alloc: Global, token: &str) -> Result<String, AllocError> {
+    format!(in alloc;
+        "occ 1\nsessions 1\nqueue 4\nkeep 8\ntable p text int text\nsteps\nbegin 1\nput 1 p 'a -5,{token}\n"
+    )
+}
+
+#[test]
+fn malformed_texts(rt: HostRuntime) -> Result<(), Fail> {
+    for token in [
+        // an upper-case digit
+        "'%2A",
+        "'%2F",
+        "'%C3%a9",
+        // a plain byte that is escaped
+        "'%61",
+        "'a%2db",
+        "'%30",
+        // a byte that isn't plain and isn't escaped
+        "'a*b",
+        "'/",
+        "''",
+        "'a=b",
+        "'a,b",
+        "'~",
+        // an escape that is cut, or none
+        "'%",
+        "'%2",
+        "'a%2",
+        "'%%20",
+        "'%2g",
+        "'%g2",
+        // bytes that aren't UTF-8: no first byte, a cut letter, one spelled too long, a half of a pair, past the last letter
+        "'%ff",
+        "'%80",
+        "'%c3",
+        "'%c3a",
+        "'%e2%82",
+        "'%c0%80",
+        "'%ed%a0%80",
+        "'%f4%90%80%80",
+        // no quote before it
+        "abc",
+        "%61",
+        "a'",
+    ] {
+        let malformed = Err(Trouble::Malformed(8));
+        let schedule = reading(rt.alloc(), token)?;
+        assert!(rt;
+            gives(
+                rt.alloc(),
+                schedule.as_str(),
+                false,
+                malformed,
+                "begun 1 0\n"
+            )?,
+            "{token}"
+        );
+        let schedule = putting(rt.alloc(), token)?;
+        assert!(rt;
+            gives(
+                rt.alloc(),
+                schedule.as_str(),
+                false,
+                malformed,
+                "begun 1 0\n"
+            )?,
+            "{token}"
+        );
+    }
+    Ok(())
+}
+
+#[test]
+fn well_formed_texts(rt: HostRuntime) -> Result<(), Fail> {
+    let book =
+        "occ 1\nsessions 1\nqueue 4\nkeep 8\ntable p text int text\nlog 0\nmarks 0\nstate 0\ncounter 0 low 0\naudit yes\n";
+    let read = format!(in rt.alloc(); "begun 1 0\nnone\n{book}")?;
+    let put = format!(in rt.alloc(); "begun 1 0\nok\n{book}")?;
+    for token in [
+        "'",
+        "'%2a%2f",
+        "'a-b_c.9",
+        "'%c3%a9",
+        "'%ed%9f%bf",
+        "'%f4%8f%bf%bf",
+    ] {
+        let schedule = reading(rt.alloc(), token)?;
+        assert!(rt;
+            gives(rt.alloc(), schedule.as_str(), false, Ok(()), read.as_str())?,
+            "{token}"
+        );
+        let schedule = putting(rt.alloc(), token)?;
+        assert!(rt;
+            gives(rt.alloc(), schedule.as_str(), false, Ok(()), put.as_str())?,
+            "{token}"
+        );
+    }
+    Ok(())
+}

@@ -97,7 +97,7 @@ pub(crate) fn begins_with(bytes: &[u8], byte: u8) -> bool
 }
 
 /// Whether the token is this word.
-pub(crate) fn is_word(token: &[u8], word: &str) -> bool
+pub fn is_word(token: &[u8], word: &str) -> bool
     ensures { result ≡ bytes_eq token.now word.now }
 {
     token == word.as_bytes()

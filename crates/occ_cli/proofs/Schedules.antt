@@ -1,0 +1,172 @@
+-- A schedule, turn by turn, and what was written of its text.
+use Rattle.std.proofs.Common.{◌≡◌, ◌≢◌, ℕ, ◌+◌, Bool, true, false, List, [], ◌∷◌, ◌++◌, length, Option, Result, Ok, Err, refl, sym, ap, subst, ◌∙◌, inl, inr, arith, append-nil, length-append}
+use Rattle.std.specs.Io.KnownBytes.{Consumes, Keeps, IsAtEnd}
+use Rattle.std.proofs.KnownBytes.{Consumes-nil, Consumes-trans}
+use Rattle.std.proofs.lemmas.List.{map-append}
+use Rattle.std.proofs.lemmas.List.Elements.{All-nil, All-cons, All-append}
+use Rattle.occ_types.specs.declared.fault.Fault.TheVariants as faults
+use Rattle.occ_cli.specs.declared.trouble.Trouble.{Trouble}
+use Rattle.occ_cli.specs.declared.trouble.Trouble.TheVariants as troubles
+use Rattle.occ_cli.specs.Answers as says
+use Rattle.occ_cli.specs.Answers.{Answer, answer_text}
+use Rattle.occ_cli.specs.Printing.{lines_text, Pushed, PushedFront}
+use Rattle.occ_cli.specs.Replaying.{Replayed, Plays}
+use Rattle.occ_cli.specs.Schedules.{Turn, PlaysAll, step_lines, answer_lines, LineOfNoStep}
+use Rattle.occ_cli.specs.Steps.{Step, StepFits, step_text}
+use Rattle.occ_cli.specs.Turns.{IsTurn, IsHalfTurn, AreTurns, AreHalfSaid, StepAt, TurnGives, TurnsGive}
+use Rattle.occ_cli.proofs.Printing.{Pushed-nothing, Pushed-then, front_none, front_then, lines_text-append, lines_then}
+
+-- ---- one turn more
+
+plays_more : (old : Replayed) (turns : List Turn) (mid : Replayed) (step : Step) (answer : Answer) (new : Replayed) → PlaysAll old turns mid → IsTurn mid step answer new → PlaysAll old (turns ++ (step, answer) ∷ []) new
+plays_more old [] mid step answer new h t = (new, subst (λ (r : Replayed). Plays r step answer new) h t.plays, t.fed, refl)
+plays_more old (first ∷ turns) mid step answer new h t = (h.0, h.1, h.2, plays_more h.0 turns mid step answer new h.3 t)
+
+pub answers_more : (quiet : Bool) (xs ys : List Turn) → answer_lines quiet (xs ++ ys) ≡ answer_lines quiet xs ++ answer_lines quiet ys
+answers_more true xs ys = refl
+answers_more false xs ys = map-append (λ (turn : Turn). answer_text turn.1) xs ys
+
+one_line : (line : List ℕ) → lines_text (line ∷ []) ≡ line ++ 10 ∷ []
+one_line line = append-nil (line ++ 10 ∷ [])
+
+steps_more : (turns : List Turn) (turn : Turn) → lines_text (step_lines (turns ++ turn ∷ [])) ≡ lines_text (step_lines turns) ++ (step_text turn.0 ++ 10 ∷ [])
+steps_more turns turn =
+    ap lines_text (map-append (λ (t : Turn). step_text t.0) turns (turn ∷ []))
+    ∙ lines_text-append (step_lines turns) (step_text turn.0 ∷ [])
+    ∙ ap (λ (l : List ℕ). lines_text (step_lines turns) ++ l) (one_line (step_text turn.0))
+
+pub no_turns : (a : Option (List ℕ)) (old : Replayed) → AreTurns a a old [] old
+no_turns a old = record { steps = All-nil (λ (turn : Turn). StepFits turn.0); played = refl; taken = Consumes-nil a }
+
+pub turns_more : (a b c : Option (List ℕ)) (old : Replayed) (turns : List Turn) (mid : Replayed) (step : Step) (answer : Answer) (new : Replayed)
+    → AreTurns a b old turns mid → StepFits step → Consumes b c (step_text step ++ 10 ∷ []) → IsTurn mid step answer new → AreTurns a c old (turns ++ (step, answer) ∷ []) new
+turns_more a b c old turns mid step answer new h fits takes t = record {
+  steps = All-append (λ (turn : Turn). StepFits turn.0) turns ((step, answer) ∷ []) h.steps (All-cons (λ (turn : Turn). StepFits turn.0) (step, answer) [] fits (All-nil (λ (turn : Turn). StepFits turn.0)));
+  played = plays_more old turns mid step answer new h.played t;
+  taken = subst (Consumes a c) (sym (steps_more turns (step, answer))) (Consumes-trans a b c (lines_text (step_lines turns)) (step_text step ++ 10 ∷ []) h.taken takes);
+}
+
+-- ---- what was pushed
+
+pub said_more : (quiet : Bool) (a b c : Option (List ℕ)) (old mid new : List ℕ) (turns : List Turn) (turn : Turn) → Pushed a b old mid (lines_text (answer_lines quiet turns)) → Pushed b c mid new (lines_text (answer_lines quiet (turn ∷ [])))
+    → Pushed a c old new (lines_text (answer_lines quiet (turns ++ turn ∷ [])))
+said_more quiet a b c old mid new turns turn h k =
+    subst (λ (l : List (List ℕ)). Pushed a c old new (lines_text l)) (sym (answers_more quiet turns (turn ∷ [])))
+    (lines_then (Ok tt) a b c old mid new (answer_lines quiet turns) (answer_lines quiet (turn ∷ [])) h k)
+
+pub front_said_more : (quiet : Bool) (a b c : Option (List ℕ)) (old mid new : List ℕ) (turns : List Turn) (turn : Turn) → Pushed a b old mid (lines_text (answer_lines quiet turns)) → PushedFront b c mid new (lines_text (answer_lines quiet (turn ∷ [])))
+    → PushedFront a c old new (lines_text (answer_lines quiet (turns ++ turn ∷ [])))
+front_said_more quiet a b c old mid new turns turn h k =
+    subst (λ (l : List (List ℕ)). PushedFront a c old new (lines_text l)) (sym (answers_more quiet turns (turn ∷ [])))
+    (lines_then (Err troubles.Write) a b c old mid new (answer_lines quiet turns) (answer_lines quiet (turn ∷ [])) h k)
+
+-- nothing behind what was pushed
+pub pushed_no_more : (a b c : Option (List ℕ)) (old mid new bytes : List ℕ) → Pushed a b old mid bytes → Pushed b c mid new [] → Pushed a c old new bytes
+pushed_no_more a b c old mid new bytes h k = subst (Pushed a c old new) (append-nil bytes) (Pushed-then a b c old mid new bytes [] h k)
+
+pub front_no_more : (a b c : Option (List ℕ)) (old mid new bytes : List ℕ) → Pushed a b old mid bytes → PushedFront b c mid new [] → PushedFront a c old new bytes
+front_no_more a b c old mid new bytes h k = subst (PushedFront a c old new) (append-nil bytes) (front_then a b c old mid new bytes [] h k)
+
+-- all of it is a beginning
+pub front_all : (a b : Option (List ℕ)) (old new bytes : List ℕ) → Pushed a b old new bytes → PushedFront a b old new bytes
+front_all a b old new bytes h = record { front = bytes; rest = []; whole = sym (append-nil bytes); sends = h.sends }
+
+-- ---- one turn
+
+-- a step is done, and nothing is said
+pub quietly : (quiet : Bool) (step : Step) (answer : Answer) (old new : Replayed) (w : Option (List ℕ)) (held : List ℕ) → quiet ≡ true → Plays old step answer new → (answer ≢ says.Refused faults.Memory)
+    → (x : Answer) × IsTurn old step x new × Pushed w w held held (lines_text (answer_lines quiet ((step, x) ∷ [])))
+quietly quiet step answer old new w held is plays fed =
+    (answer, record { plays = plays; fed = fed }, subst (λ (q : Bool). Pushed w w held held (lines_text (answer_lines q ((step, answer) ∷ [])))) (sym is) (Pushed-nothing w held))
+
+-- the line is that of no step, or memory was refused for it
+pub turn_unread : {X : Type 0} (view : X → Step) (result : Result Bool Trouble) (trouble why : Trouble) (quiet : Bool) (a b w : Option (List ℕ)) (held shown line : List ℕ) (n first last : ℕ) (now : Replayed) → result ≡ Err trouble → trouble ≡ why
+    → Consumes a b (line ++ 10 ∷ []) → last ≡ first + 1 → shown ≡ line → n ≡ last → StepAt view (Err why) shown n → TurnGives quiet (Pushed w w held held) (PushedFront w w held held) result a b first last now now
+turn_unread view result trouble (troubles.Malformed k) quiet a b w held shown line n first last now is same taken next shows here none =
+    subst (λ (r : Result Bool Trouble). TurnGives quiet (Pushed w w held held) (PushedFront w w held held) r a b first last now now) (sym (is ∙ ap (λ (t : Trouble). Err t) same))
+    (LineOfNoStep line b taken (λ step fits e. none.0 step fits (shows ∙ e)), none.1 ∙ here ∙ next, Pushed-nothing w held)
+turn_unread view result trouble troubles.Read quiet a b w held shown line n first last now is same taken next shows here none = absurd none
+turn_unread view result trouble troubles.Write quiet a b w held shown line n first last now is same taken next shows here none = absurd none
+turn_unread view result trouble troubles.Memory quiet a b w held shown line n first last now is same taken next shows here none =
+    subst (λ (r : Result Bool Trouble). TurnGives quiet (Pushed w w held held) (PushedFront w w held held) r a b first last now now) (sym (is ∙ ap (λ (t : Trouble). Err t) same))
+    (inl (front_none w held []))
+
+-- ---- all turns
+
+-- what stands after some turns
+pub record AreSoFar (quiet : Bool) (a b : Option (List ℕ)) (old now : Replayed) (wa wb : Option (List ℕ)) (held holds : List ℕ) (first last : ℕ) : Type 0 where
+  pub turns : List Turn
+  pub are : AreTurns a b old turns now
+  pub said : Pushed wa wb held holds (lines_text (answer_lines quiet turns))
+  pub number : last ≡ first + length turns
+
+pub so_far_none : (quiet : Bool) (a : Option (List ℕ)) (old : Replayed) (wa : Option (List ℕ)) (held : List ℕ) (first : ℕ) → AreSoFar quiet a a old old wa wa held held first first
+so_far_none true a old wa held first = record { turns = []; are = no_turns a old; said = Pushed-nothing wa held; number = omega arith }
+so_far_none false a old wa held first = record { turns = []; are = no_turns a old; said = Pushed-nothing wa held; number = omega arith }
+
+pub so_far_more : (quiet : Bool) (a b c : Option (List ℕ)) (old now next : Replayed) (wa wb wc : Option (List ℕ)) (held holds keeps : List ℕ) (first mid last : ℕ) → AreSoFar quiet a b old now wa wb held holds first mid
+    → TurnGives quiet (Pushed wb wc holds keeps) (PushedFront wb wc holds keeps) (Ok true) b c mid last now next → AreSoFar quiet a c old next wa wc held keeps first last
+so_far_more quiet a b c old now next wa wb wc held holds keeps first mid last s t =
+    let turn = t.0 in
+    record {
+      turns = s.turns ++ turn ∷ [];
+      are = turns_more a b c old s.turns now turn.0 turn.1 next s.are t.1 t.2 t.3;
+      said = said_more quiet wa wb wc held holds keeps s.turns turn s.said t.4;
+      number = t.5 ∙ ap (λ (k : ℕ). k + 1) s.number ∙ number_more first (length s.turns) ∙ ap (λ (k : ℕ). first + k) (sym (length-append s.turns (turn ∷ [])));
+    }
+  where
+    number_more : (first n : ℕ) → first + n + 1 ≡ first + (n + 1)
+    number_more first n = omega arith
+
+-- the end of the text
+pub so_far_end : (quiet : Bool) (a b c : Option (List ℕ)) (old now next : Replayed) (wa wb wc : Option (List ℕ)) (held holds keeps : List ℕ) (first mid last : ℕ) → AreSoFar quiet a b old now wa wb held holds first mid
+    → TurnGives quiet (Pushed wb wc holds keeps) (PushedFront wb wc holds keeps) (Ok false) b c mid last now next
+    → (turns : List Turn) × (rest : Option (List ℕ)) × AreTurns a rest old turns next × IsAtEnd rest × Keeps rest c × Pushed wa wc held keeps (lines_text (answer_lines quiet turns))
+so_far_end quiet a b c old now next wa wb wc held holds keeps first mid last s t = (
+  s.turns,
+  b,
+  record { steps = s.are.steps; played = subst (λ (r : Replayed). PlaysAll old s.turns r) (sym t.2) s.are.played; taken = s.are.taken },
+  t.0,
+  t.1,
+  pushed_no_more wa wb wc held holds keeps (lines_text (answer_lines quiet s.turns)) s.said t.3,
+)
+
+half_more : (quiet : Bool) (a b c : Option (List ℕ)) (old now next : Replayed) (wa wb wc : Option (List ℕ)) (held holds keeps : List ℕ) (first mid : ℕ) → AreSoFar quiet a b old now wa wb held holds first mid
+    → IsHalfTurn quiet (Pushed wb wc holds keeps) (PushedFront wb wc holds keeps) b c now next → AreHalfSaid quiet (Pushed wa wc held keeps) (PushedFront wa wc held keeps) a old
+half_more quiet a b c old now next wa wb wc held holds keeps first mid s t = record {
+  turns = s.turns ++ (t.step, t.said.answer) ∷ [];
+  rest = c;
+  new = next;
+  are = turns_more a b c old s.turns now t.step t.said.answer next s.are t.fits t.taken t.said.turn;
+  wrote = front_said_more quiet wa wb wc held holds keeps s.turns (t.step, t.said.answer) s.said t.said.wrote;
+}
+
+half_none : (quiet : Bool) (a b : Option (List ℕ)) (old now : Replayed) (wa wb wc : Option (List ℕ)) (held holds keeps : List ℕ) (first mid : ℕ) → AreSoFar quiet a b old now wa wb held holds first mid
+    → PushedFront wb wc holds keeps [] → AreHalfSaid quiet (Pushed wa wc held keeps) (PushedFront wa wc held keeps) a old
+half_none quiet a b old now wa wb wc held holds keeps first mid s t = record {
+  turns = s.turns;
+  rest = b;
+  new = now;
+  are = s.are;
+  wrote = front_no_more wa wb wc held holds keeps (lines_text (answer_lines quiet s.turns)) s.said t;
+}
+
+-- trouble at a turn
+pub so_far_stopped : {T : Type 0} (result : Result T Trouble) (trouble : Trouble) (quiet : Bool) (a b c : Option (List ℕ)) (old now next : Replayed) (wa wb wc : Option (List ℕ)) (held holds keeps : List ℕ) (first mid last : ℕ) → result ≡ Err trouble
+    → AreSoFar quiet a b old now wa wb held holds first mid → TurnGives quiet (Pushed wb wc holds keeps) (PushedFront wb wc holds keeps) (Err trouble) b c mid last now next
+    → TurnsGive quiet (Pushed wa wc held keeps) (PushedFront wa wc held keeps) result a c first old next
+so_far_stopped result (troubles.Malformed n) quiet a b c old now next wa wb wc held holds keeps first mid last is s t =
+    subst (λ (r : Result _ Trouble). TurnsGive quiet (Pushed wa wc held keeps) (PushedFront wa wc held keeps) r a c first old next) (sym is)
+    (s.turns, b, now, s.are, t.0, t.1 ∙ ap (λ (k : ℕ). k + 1) s.number, pushed_no_more wa wb wc held holds keeps (lines_text (answer_lines quiet s.turns)) s.said t.2)
+so_far_stopped result troubles.Read quiet a b c old now next wa wb wc held holds keeps first mid last is s t =
+    subst (λ (r : Result _ Trouble). TurnsGive quiet (Pushed wa wc held keeps) (PushedFront wa wc held keeps) r a c first old next) (sym is)
+    (s.turns, t.0, b, now, s.are, t.1, t.2, pushed_no_more wa wb wc held holds keeps (lines_text (answer_lines quiet s.turns)) s.said t.3)
+so_far_stopped result troubles.Write quiet a b c old now next wa wb wc held holds keeps first mid last is s t =
+    subst (λ (r : Result _ Trouble). TurnsGive quiet (Pushed wa wc held keeps) (PushedFront wa wc held keeps) r a c first old next) (sym is)
+    (half_more quiet a b c old now next wa wb wc held holds keeps first mid s t)
+so_far_stopped result troubles.Memory quiet a b c old now next wa wb wc held holds keeps first mid last is s (inl t) =
+    subst (λ (r : Result _ Trouble). TurnsGive quiet (Pushed wa wc held keeps) (PushedFront wa wc held keeps) r a c first old next) (sym is)
+    (half_none quiet a b old now wa wb wc held holds keeps first mid s t)
+so_far_stopped result troubles.Memory quiet a b c old now next wa wb wc held holds keeps first mid last is s (inr t) =
+    subst (λ (r : Result _ Trouble). TurnsGive quiet (Pushed wa wc held keeps) (PushedFront wa wc held keeps) r a c first old next) (sym is)
+    (half_more quiet a b c old now next wa wb wc held holds keeps first mid s t)

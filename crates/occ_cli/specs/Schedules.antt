@@ -1,0 +1,130 @@
+-- A schedule from its first line to its last, and the text that its replay writes (our own choice).
+use Rattle.std.specs.Prelude.{◌≡◌, ◌≢◌, ◌+◌, ℕ, Bool, true, false, List, [], ◌∷◌, ◌++◌, map, length, Option, Result, Ok, Err, IfSome, All, codes}
+use Rattle.std.specs.Bool.{Decides}
+use Rattle.std.specs.FinMap.{empty}
+use Rattle.std.specs.Io.KnownBytes.{Consumes, Keeps, Appends, IsAtEnd}
+use Rattle.occ_types.specs.declared.fault.Fault.TheVariants as faults
+use Rattle.occ_model.specs.Log.{Audited}
+use Rattle.occ_model.specs.World.{World, empty_base, low}
+use Rattle.occ_cli.specs.declared.trouble.Trouble.{Trouble}
+use Rattle.occ_cli.specs.declared.trouble.Trouble.TheVariants.{Read, Write, Memory, Malformed}
+use Rattle.occ_cli.specs.Answers.{Answer, answer_text}
+use Rattle.occ_cli.specs.Answers as says
+use Rattle.occ_cli.specs.Books.{Book, book_lines}
+use Rattle.occ_cli.specs.Headers.{Header, HeaderFits, header_text}
+use Rattle.occ_cli.specs.HeaderTaking.{CannotStand, BeginsHeader}
+use Rattle.occ_cli.specs.Line.{IsLine, BeginsNoLine}
+use Rattle.occ_cli.specs.Printing.{lines_text}
+use Rattle.occ_cli.specs.Replaying.{Replayed, Plays, started}
+use Rattle.occ_cli.specs.Steps.{Step, StepFits, step_text}
+
+-- one step of a schedule, with its answer
+abbrev pub Turn : Type 0
+Turn = Step × Answer
+
+-- Steps are done and answered one after another. No answer tells of a want of memory: a replay ends at one.
+abbrev pub PlaysAll : Replayed → List Turn → Replayed → Type 0
+PlaysAll old [] new = new ≡ old
+PlaysAll old (turn ∷ turns) new = (next : Replayed) × Plays old turn.0 turn.1 next × (turn.1 ≢ says.Refused faults.Memory) × PlaysAll next turns new
+
+-- a schedule so far: its header, its steps with their answers, and the store and the clients after them
+pub record Schedule : Type 0 where
+  pub header : Header
+  pub turns : List Turn
+  pub state : Replayed
+
+-- the store and the clients that a header opens
+abbrev pub opened_by : Header → Replayed
+opened_by header = started (record { schema = header.tables; sessions = header.sessions; keep = header.keep }) header.queue
+
+pub record IsReplayed (schedule : Schedule) : Type 0 where
+  pub header : HeaderFits schedule.header
+  pub steps : All (λ turn. StepFits turn.0) schedule.turns
+  pub played : PlaysAll (opened_by schedule.header) schedule.turns schedule.state
+
+abbrev pub step_lines : List Turn → List (List ℕ)
+step_lines turns = map (λ turn. step_text turn.0) turns
+
+abbrev pub schedule_lines : Schedule → List (List ℕ)
+schedule_lines schedule = header_text schedule.header ++ step_lines schedule.turns
+
+-- the lines of the answers, or none of them
+abbrev pub answer_lines : Bool → List Turn → List (List ℕ)
+answer_lines true turns = []
+answer_lines false turns = map (λ turn. answer_text turn.1) turns
+
+-- the book of a world; no step closes a session yet, so it has no marks
+abbrev pub book_at : Header → World → Book
+book_at header world = record {
+  header = header;
+  log = world.log;
+  marks = empty;
+  state = world.table;
+  counter = world.counter;
+  low = low world;
+}
+
+-- the book of what came of a schedule
+abbrev pub book_after : Schedule → Book
+book_after schedule = book_at schedule.header schedule.state.world
+
+-- the audit of that book
+abbrev pub IsAudited : Book → Type 0
+IsAudited book = Audited empty_base book.marks book.state book.log
+
+abbrev pub audit_line : Bool → List ℕ
+audit_line true = codes "audit yes"
+audit_line false = codes "audit no"
+
+-- what is written behind the answers
+abbrev pub closing_lines : Book → Bool → List (List ℕ)
+closing_lines book holds = book_lines book ++ audit_line holds ∷ []
+
+-- what a whole replay writes
+abbrev pub replay_lines : Bool → Schedule → Bool → List (List ℕ)
+replay_lines quiet schedule holds = answer_lines quiet schedule.turns ++ closing_lines (book_after schedule) holds
+
+-- what stands next is no line of a step: no line stands there, or another one
+pub data IsNoStep (rest : Option (List ℕ)) : Type 0 where
+  NoLineThere : IfSome rest BeginsNoLine → IsNoStep rest
+  LineOfNoStep : (line : List ℕ) (after : Option (List ℕ)) → Consumes rest after (line ++ 10 ∷ []) → ((step : Step) → StepFits step → line ≢ step_text step) → IsNoStep rest
+
+-- The text of a reader, by where its replay ended. `Wrote` tells what was written, `WroteFront` of what text a beginning was.
+module _ (quiet : Bool) (before : Option (List ℕ)) (Wrote WroteFront : List ℕ → Type 0) where
+  -- the line of this number is malformed, and all before it were taken and answered
+  pub data IsMalformedAt (number : ℕ) : Type 0 where
+    MalformedHeader : (lines : List (List ℕ)) (rest : Option (List ℕ)) → Consumes before rest (lines_text lines) → BeginsHeader lines → CannotStand (λ line. BeginsHeader (lines ++ line ∷ [])) rest → number ≡ length lines + 1 → Wrote [] → IsMalformedAt number
+    MalformedStep : (schedule : Schedule) (rest : Option (List ℕ)) → IsReplayed schedule → Consumes before rest (lines_text (schedule_lines schedule)) → IsNoStep rest → number ≡ length (schedule_lines schedule) + 1
+        → Wrote (lines_text (answer_lines quiet schedule.turns)) → IsMalformedAt number
+
+  -- a read failed amid a line or before it, and all lines before were taken and answered
+  pub data IsUnreadable : Type 0 where
+    UnreadHeader : (lines : List (List ℕ)) (part : List ℕ) (rest : Option (List ℕ)) → Consumes before rest (lines_text lines ++ part) → BeginsHeader lines → IsLine part → Wrote [] → IsUnreadable
+    UnreadStep : (schedule : Schedule) (part : List ℕ) (rest : Option (List ℕ)) → IsReplayed schedule → Consumes before rest (lines_text (schedule_lines schedule) ++ part) → IsLine part
+        → Wrote (lines_text (answer_lines quiet schedule.turns)) → IsUnreadable
+
+  -- a beginning of the text was written: of nothing yet, of the answers to the lines that were taken, or at their end of the whole
+  pub data IsCutShort : Type 0 where
+    CutBefore : WroteFront [] → IsCutShort
+    CutAmid : (schedule : Schedule) (rest : Option (List ℕ)) → IsReplayed schedule → Consumes before rest (lines_text (schedule_lines schedule)) → WroteFront (lines_text (answer_lines quiet schedule.turns)) → IsCutShort
+    CutInBook : (schedule : Schedule) (rest : Option (List ℕ)) → IsReplayed schedule → Consumes before rest (lines_text (schedule_lines schedule)) → IsAtEnd rest
+        → WroteFront (lines_text (answer_lines quiet schedule.turns ++ book_lines (book_after schedule))) → IsCutShort
+    CutInAudit : (schedule : Schedule) (rest : Option (List ℕ)) → IsReplayed schedule → Consumes before rest (lines_text (schedule_lines schedule)) → IsAtEnd rest → (holds : Bool) → Decides holds (IsAudited (book_after schedule))
+        → WroteFront (lines_text (replay_lines quiet schedule holds)) → IsCutShort
+
+  -- what a replay leaves, by its outcome, where `after` is what the reader has left at the end
+  abbrev pub ReplayGives : {T : Type 0} → Result T Trouble → Option (List ℕ) → Type 0
+  ReplayGives (Ok done) after =
+      (schedule : Schedule) × (rest : Option (List ℕ)) × IsReplayed schedule × Consumes before rest (lines_text (schedule_lines schedule)) × IsAtEnd rest × Keeps rest after
+      × (holds : Bool) × Decides holds (IsAudited (book_after schedule)) × Wrote (lines_text (replay_lines quiet schedule holds))
+  ReplayGives (Err (Malformed number)) after = IsMalformedAt number
+  ReplayGives (Err Read) after = IsUnreadable
+  ReplayGives (Err Write) after = IsCutShort
+  ReplayGives (Err Memory) after = IsCutShort
+
+-- a beginning of a text was written
+pub record AppendsFront (before after : Option (List ℕ)) (text : List ℕ) : Type 0 where
+  pub front : List ℕ
+  pub rest : List ℕ
+  pub whole : text ≡ front ++ rest
+  pub written : Appends before after front

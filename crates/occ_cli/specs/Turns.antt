@@ -1,0 +1,111 @@
+-- What the parts of a replay leave, by their outcomes.
+use Rattle.std.specs.Prelude.{◌≡◌, ◌≢◌, ◌+◌, ◌⊎◌, ℕ, Bool, true, false, List, [], ◌∷◌, ◌++◌, length, Option, Result, Ok, Err, All}
+use Rattle.std.specs.Bool.{Decides}
+use Rattle.std.specs.Io.KnownBytes.{Consumes, Keeps, IsAtEnd}
+use Rattle.occ_types.specs.declared.fault.Fault.TheVariants as faults
+use Rattle.occ_cli.specs.declared.trouble.Trouble.{Trouble}
+use Rattle.occ_cli.specs.declared.trouble.Trouble.TheVariants.{Read, Write, Memory, Malformed}
+use Rattle.occ_cli.specs.Answers.{Answer}
+use Rattle.occ_cli.specs.Answers as says
+use Rattle.occ_cli.specs.Books.{Book, book_lines}
+use Rattle.occ_cli.specs.Line.{IsLine}
+use Rattle.occ_cli.specs.Printing.{lines_text}
+use Rattle.occ_cli.specs.Replaying.{Replayed, Plays}
+use Rattle.occ_cli.specs.Schedules.{Turn, PlaysAll, step_lines, answer_lines, IsAudited, audit_line, closing_lines, IsNoStep}
+use Rattle.occ_cli.specs.Steps.{Step, StepFits, step_text}
+
+-- whether no more is written: the writer failed, or memory was refused
+abbrev pub is_cut_short : {T : Type 0} → Result T Trouble → Bool
+is_cut_short (Ok done) = false
+is_cut_short (Err (Malformed number)) = false
+is_cut_short (Err Read) = false
+is_cut_short (Err Write) = true
+is_cut_short (Err Memory) = true
+
+-- the step of a line; malformed where the line is that of no step
+abbrev pub StepAt : {X : Type 0} (view : X → Step) → Result X Trouble → List ℕ → ℕ → Type 0
+StepAt view (Ok x) line number = (line ≡ step_text (view x)) × StepFits (view x)
+StepAt view (Err (Malformed n)) line number = ((step : Step) → StepFits step → line ≢ step_text step) × (n ≡ number)
+StepAt view (Err Read) line number = ⊥
+StepAt view (Err Write) line number = ⊥
+StepAt view (Err Memory) line number = Unit {0}
+
+-- a step is done and answered
+pub record IsTurn (old : Replayed) (step : Step) (answer : Answer) (new : Replayed) : Type 0 where
+  pub plays : Plays old step answer new
+  pub fed : answer ≢ says.Refused faults.Memory
+
+module _ (quiet : Bool) (Wrote WroteFront : List ℕ → Type 0) where
+  -- a step was done, and a beginning of its answer was written
+  pub record IsHalfSaid (step : Step) (old new : Replayed) : Type 0 where
+    pub answer : Answer
+    pub turn : IsTurn old step answer new
+    pub wrote : WroteFront (lines_text (answer_lines quiet ((step, answer) ∷ [])))
+
+  -- what doing and answering a step leaves
+  abbrev pub AnswerGives : {T : Type 0} → Result T Trouble → Step → Replayed → Replayed → Type 0
+  AnswerGives (Ok done) step old new = (answer : Answer) × IsTurn old step answer new × Wrote (lines_text (answer_lines quiet ((step, answer) ∷ [])))
+  AnswerGives (Err Write) step old new = IsHalfSaid step old new
+  AnswerGives (Err Memory) step old new = WroteFront [] ⊎ IsHalfSaid step old new
+  AnswerGives (Err Read) step old new = ⊥
+  AnswerGives (Err (Malformed number)) step old new = ⊥
+
+  -- the line of a step was taken, and a beginning of its answer was written
+  pub record IsHalfTurn (before rest : Option (List ℕ)) (old new : Replayed) : Type 0 where
+    pub step : Step
+    pub fits : StepFits step
+    pub taken : Consumes before rest (step_text step ++ 10 ∷ [])
+    pub said : IsHalfSaid step old new
+
+  -- what one turn leaves, where first and last are how many lines were taken before and after
+  abbrev pub TurnGives : Result Bool Trouble → Option (List ℕ) → Option (List ℕ) → ℕ → ℕ → Replayed → Replayed → Type 0
+  TurnGives (Ok true) before after first last old new =
+      (turn : Turn) × StepFits turn.0 × Consumes before after (step_text turn.0 ++ 10 ∷ []) × IsTurn old turn.0 turn.1 new × Wrote (lines_text (answer_lines quiet (turn ∷ []))) × (last ≡ first + 1)
+  TurnGives (Ok false) before after first last old new = IsAtEnd before × Keeps before after × (new ≡ old) × Wrote []
+  TurnGives (Err (Malformed number)) before after first last old new = IsNoStep before × (number ≡ first + 1) × Wrote []
+  TurnGives (Err Read) before after first last old new = (part : List ℕ) × IsLine part × Consumes before after part × Wrote []
+  TurnGives (Err Write) before after first last old new = IsHalfTurn before after old new
+  TurnGives (Err Memory) before after first last old new = WroteFront [] ⊎ IsHalfTurn before after old new
+
+-- some steps were taken from a text, done and answered
+pub record AreTurns (before rest : Option (List ℕ)) (old : Replayed) (turns : List Turn) (new : Replayed) : Type 0 where
+  pub steps : All (λ turn. StepFits turn.0) turns
+  pub played : PlaysAll old turns new
+  pub taken : Consumes before rest (lines_text (step_lines turns))
+
+module _ (quiet : Bool) (Wrote WroteFront : List ℕ → Type 0) where
+  -- a beginning of the answers was written
+  pub record AreHalfSaid (before : Option (List ℕ)) (old : Replayed) : Type 0 where
+    pub turns : List Turn
+    pub rest : Option (List ℕ)
+    pub new : Replayed
+    pub are : AreTurns before rest old turns new
+    pub wrote : WroteFront (lines_text (answer_lines quiet turns))
+
+  -- what all turns leave
+  abbrev pub TurnsGive : {T : Type 0} → Result T Trouble → Option (List ℕ) → Option (List ℕ) → ℕ → Replayed → Replayed → Type 0
+  TurnsGive (Ok done) before after first old new = (turns : List Turn) × (rest : Option (List ℕ)) × AreTurns before rest old turns new × IsAtEnd rest × Keeps rest after × Wrote (lines_text (answer_lines quiet turns))
+  TurnsGive (Err (Malformed number)) before after first old new =
+      (turns : List Turn) × (rest : Option (List ℕ)) × (last : Replayed) × AreTurns before rest old turns last × IsNoStep rest × (number ≡ first + length turns + 1) × Wrote (lines_text (answer_lines quiet turns))
+  TurnsGive (Err Read) before after first old new =
+      (turns : List Turn) × (part : List ℕ) × (rest : Option (List ℕ)) × (last : Replayed) × AreTurns before rest old turns last × IsLine part × Consumes rest after part × Wrote (lines_text (answer_lines quiet turns))
+  TurnsGive (Err Write) before after first old new = AreHalfSaid before old
+  TurnsGive (Err Memory) before after first old new = AreHalfSaid before old
+
+-- what stands behind the answers
+module _ (Wrote WroteFront : List ℕ → Type 0) where
+  -- what a book and its audit leave
+  abbrev pub ClosingGives : {T : Type 0} → Result T Trouble → Book → Type 0
+  ClosingGives (Ok done) book = (holds : Bool) × Decides holds (IsAudited book) × Wrote (lines_text (closing_lines book holds))
+  ClosingGives (Err Write) book = WroteFront (lines_text (book_lines book)) ⊎ ((holds : Bool) × Decides holds (IsAudited book) × WroteFront (lines_text (closing_lines book holds)))
+  ClosingGives (Err Memory) book = WroteFront (lines_text (book_lines book)) ⊎ ((holds : Bool) × Decides holds (IsAudited book) × WroteFront (lines_text (closing_lines book holds)))
+  ClosingGives (Err Read) book = ⊥
+  ClosingGives (Err (Malformed number)) book = ⊥
+
+  -- what the line of an audit leaves
+  abbrev pub AuditGives : {T : Type 0} → Result T Trouble → Book → Type 0
+  AuditGives (Ok done) book = (holds : Bool) × Decides holds (IsAudited book) × Wrote (lines_text (audit_line holds ∷ []))
+  AuditGives (Err Write) book = (holds : Bool) × Decides holds (IsAudited book) × WroteFront (lines_text (audit_line holds ∷ []))
+  AuditGives (Err Memory) book = WroteFront [] ⊎ ((holds : Bool) × Decides holds (IsAudited book) × WroteFront (lines_text (audit_line holds ∷ [])))
+  AuditGives (Err Read) book = ⊥
+  AuditGives (Err (Malformed number)) book = ⊥
