@@ -3,6 +3,7 @@
 
 use clap::error::ErrorKind;
 use clap::{Arg, ArgAction, Command};
+use occ_books::audit_text;
 use occ_cli::replay::replay_text;
 use occ_cli::trouble::{Trouble, status_of};
 use std::alloc::{AllocError, Global};
@@ -45,7 +46,7 @@ impl From<clap::Error> for Stop {
 
 fn main(rt: HostRuntime) -> ExitCode {
     match run(&rt) {
-        Ok(()) => ExitCode::SUCCESS,
+        Ok(right) => ExitCode::from(status_of(&Ok(right))),
         Err(stop) => {
             // where this line can't be written either, the status still tells
             let _written = eprintln!(rt; "{stop}");
@@ -61,15 +62,19 @@ fn status(stop: Stop) -> u8 {
     }
 }
 
-/// Reads the words of the command line, and runs what they ask for.
-fn run(rt: &HostRuntime) -> Result<(), Stop> {
+/// Reads the words of the command line, and runs what they ask for. False is the answer of an audit that doesn't hold.
+fn run(rt: &HostRuntime) -> Result<bool, Stop> {
     let words = words(rt)?;
     let matches = command(rt.alloc())?.try_get_matches_from(words.as_slice())?;
-    match matches.subcommand_matches("replay") {
+    if let Some(found) = matches.subcommand_matches("replay") {
+        let quiet = found.get_flag("quiet");
+        replay(rt, found.get_str("file"), quiet)?;
+        return Ok(true);
+    }
+    match matches.subcommand_matches("audit") {
         Some(found) => {
-            let quiet = found.get_flag("quiet");
-            replay(rt, found.get_str("file"), quiet)?;
-            Ok(())
+            let right = audit(rt, found.get_str("file"))?;
+            Ok(right)
         }
         None => Err(Stop::Usage),
     }
@@ -86,7 +91,7 @@ fn words(rt: &HostRuntime) -> Result<Vec<String>, Stop> {
     }
 }
 
-/// `occ replay [FILE] [--quiet]`.
+/// `occ replay [FILE] [--quiet]` and `occ audit [FILE]`.
 fn command<'a>(alloc: Global) -> Result<Command<'a>, AllocError> {
     let quiet = Arg::new(alloc, "quiet")
         .long("quiet")
@@ -94,9 +99,11 @@ fn command<'a>(alloc: Global) -> Result<Command<'a>, AllocError> {
     let replay = plain(Command::new(alloc, "replay"))
         .arg(Arg::new(alloc, "file"))?
         .arg(quiet)?;
+    let audit = plain(Command::new(alloc, "audit")).arg(Arg::new(alloc, "file"))?;
     plain(Command::new(alloc, "occ"))
         .subcommand_required(true)
-        .subcommand(replay)
+        .subcommand(replay)?
+        .subcommand(audit)
 }
 
 /// A command without help and version: a wish for them is one more unknown word.
@@ -114,6 +121,19 @@ fn replay(rt: &HostRuntime, file: Option<&str>, quiet: bool) -> Result<(), Troub
         None => replay_text(rt.alloc(), &mut rt.stdin(), &mut output, quiet),
         Some(path) => match File::open(rt, path) {
             Ok(mut text) => replay_text(rt.alloc(), &mut text, &mut output, quiet),
+            Err(error) if error.kind() == IoErrorKind::OutOfMemory => Err(Trouble::Memory),
+            Err(_) => Err(Trouble::Read),
+        },
+    }
+}
+
+/// Audits the book in a file, or on standard input where none is named.
+fn audit(rt: &HostRuntime, file: Option<&str>) -> Result<bool, Trouble> {
+    let mut output = rt.stdout();
+    match file {
+        None => audit_text(rt.alloc(), &mut rt.stdin(), &mut output),
+        Some(path) => match File::open(rt, path) {
+            Ok(mut text) => audit_text(rt.alloc(), &mut text, &mut output),
             Err(error) if error.kind() == IoErrorKind::OutOfMemory => Err(Trouble::Memory),
             Err(_) => Err(Trouble::Read),
         },

@@ -1,0 +1,10 @@
+pub mod Lines
+pub mod HeadLines
+pub mod EntryLines
+pub mod Found
+pub mod Gathering
+pub mod RowTaking
+pub mod Rising
+pub mod Sections
+pub mod Telling
+pub mod LinesAgain

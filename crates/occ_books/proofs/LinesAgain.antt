@@ -1,0 +1,116 @@
+-- What is spelled so is read of a line.
+use Rattle.std.proofs.Common.{◌≡◌, ℕ, zero, suc, ◌+◌, ◌^◌, ◌-◌, ◌==◌, ◌<◌, ◌≤◌, Bool, true, false, cond, List, [], ◌∷◌, ◌++◌, length, Option, Some, None, IfSome, ◌⊎◌, inl, inr, lit<, refl, sym, ap, subst, ◌∙◌, arith}
+use Rattle.std.specs.Prelude.{option_map, option_and_then, codes, slice_get, nat_eq}
+use Rattle.std.specs.List.{position, list_any}
+use Rattle.std.specs.Str.{bytes_eq}
+use Rattle.std.specs.Fmt.{decimal}
+use Rattle.std.proofs.lemmas.Bool.Decides.{Decides-eqb}
+use Rattle.occ_types.specs.declared.fault.Fault.{Fault}
+use Rattle.occ_types.specs.Key.{Key}
+use Rattle.occ_types.specs.Object.{Object}
+use Rattle.occ_types.specs.Row.{Row}
+use Rattle.occ_types.specs.Schema.{Table, Schema, check_key, check_row}
+use Rattle.occ_cli.specs.Spelling.{line_text, key_text, row_text, IsToken, AreTokens, KeyFits, RowFits}
+use Rattle.occ_cli.specs.Reading.{is_token, tokens_of, number_of}
+use Rattle.occ_cli.proofs.Numbers.{number_again}
+use Rattle.occ_cli.proofs.Words.{IsToken-from_test, tokens_again}
+use Rattle.occ_cli.proofs.Spelled.{IsToken-decimal}
+use Rattle.occ_cli.proofs.StepLines.{one_token, more_tokens}
+use Rattle.occ_model.specs.declared.verdict.Cause.TheVariants.{Conflict, TooOld}
+use Rattle.occ_books.specs.declared.heads.Stand.{Stand}
+use Rattle.occ_books.specs.declared.heads.Stand.TheVariants.{Open, Writing, Done, Back}
+use Rattle.occ_books.specs.declared.heads.Head.{Head}
+use Rattle.occ_books.specs.declared.heads.Mark.{Mark}
+use Rattle.occ_books.specs.declared.heads.Counts.{Counts}
+use Rattle.occ_books.specs.Cursors.{Tokens, before, next_token, next_word, next_number, at_end}
+use Rattle.occ_books.specs.Heads.{stand_tokens, head_tokens, head_text, mark_text, counts_text, IsSession, StandFits, HeadFits, MarkFits, CountsFit, bare_stand, counted_stand, stand_of, unless_zero, next_session, head_of, head_of_line, mark_of, mark_of_line, counts_of, counts_of_line}
+
+pub number-again : (limit n : ℕ) (rest : Tokens) → limit < 2 ^ 64 → n ≤ limit → next_number limit (decimal n ∷ rest) ≡ Some (n, rest)
+unfolding next_number
+number-again limit n rest small fits = ap (before rest) (number_again limit n small fits)
+
+wide : 2 ^ 64 - 1 < 2 ^ 64
+wide = lit< tt
+
+unless_zero-again : (n : ℕ) (rest : Tokens) → 1 ≤ n → unless_zero (n, rest) ≡ Some (n, rest)
+unless_zero-again zero rest h = absurd (omega arith)
+unless_zero-again (suc n) rest h = by (suc n == 0) refl
+  where
+    by : (b : Bool) → (suc n == 0) ≡ b → cond {A = Option (ℕ × Tokens)} b None (Some (suc n, rest)) ≡ Some (suc n, rest)
+    by false e = refl
+    by true e = let z = (Decides-eqb (suc n) 0).0 e in absurd (omega arith)
+
+session-again : (sessions session : ℕ) (rest : Tokens) → sessions < 2 ^ 64 → IsSession sessions session → next_session sessions (decimal session ∷ rest) ≡ Some (session, rest)
+unfolding next_session
+session-again sessions session rest small fits = ap (option_and_then unless_zero) (number-again sessions session rest small fits.last) ∙ unless_zero-again session rest fits.first
+
+stand-again : (writes : ℕ) (stand : Stand) → writes ≤ 256 → StandFits writes stand → stand_of writes (stand_tokens stand) ≡ Some stand
+unfolding stand_of bare_stand counted_stand
+stand-again writes Open few fits = refl
+stand-again writes (Writing done) few fits = ap (option_map Writing) (number_again writes done (omega arith) fits)
+stand-again writes (Done number) few fits = ap (option_map Done) (number_again (2 ^ 64 - 1) number wide fits)
+stand-again writes (Back Conflict) few fits = refl
+stand-again writes (Back TooOld) few fits = refl
+
+head-again : (sessions : ℕ) (head : Head) → sessions < 2 ^ 64 → HeadFits sessions head → head_of sessions (head_tokens head) ≡ Some head
+unfolding head_of next_word
+head-again sessions head small fits =
+    rw (
+      number-again (2 ^ 64 - 1) head.place _ wide fits.place,
+      session-again sessions head.session _ small fits.session,
+      number-again (2 ^ 64 - 1) head.number _ wide fits.number,
+      number-again (2 ^ 64 - 1) head.start _ wide fits.start,
+      number-again (2 ^ 64 - 1) head.finish _ wide fits.finish,
+      number-again 256 head.reads _ (lit< tt) fits.reads,
+      number-again 256 head.writes _ (lit< tt) fits.writes,
+      stand-again head.writes head.stand fits.writes fits.stand,
+    ) refl
+
+small_number : (n limit : ℕ) → n ≤ limit → limit < 2 ^ 64 → n < 2 ^ 64
+small_number n limit le lt = omega arith
+
+token_of : (n : ℕ) → n ≤ 2 ^ 64 - 1 → IsToken (decimal n)
+token_of n le = IsToken-decimal n (small_number n (2 ^ 64 - 1) le wide)
+
+stand-AreTokens : (writes : ℕ) (stand : Stand) → writes ≤ 256 → StandFits writes stand → AreTokens (stand_tokens stand)
+unfolding is_token
+stand-AreTokens writes Open few fits = one_token (IsToken-from_test (codes "open") refl)
+stand-AreTokens writes (Writing done) few fits = more_tokens (codes "writing") _ (IsToken-from_test (codes "writing") refl) (one_token (IsToken-decimal done (omega arith)))
+stand-AreTokens writes (Done number) few fits = more_tokens (codes "done") _ (IsToken-from_test (codes "done") refl) (one_token (token_of number fits))
+stand-AreTokens writes (Back Conflict) few fits = one_token (IsToken-from_test (codes "conflict") refl)
+stand-AreTokens writes (Back TooOld) few fits = one_token (IsToken-from_test (codes "tooold") refl)
+
+head-AreTokens : (sessions : ℕ) (head : Head) → sessions < 2 ^ 64 → HeadFits sessions head → AreTokens (head_tokens head)
+unfolding is_token
+head-AreTokens sessions head small fits =
+    more_tokens (codes "row") _ (IsToken-from_test (codes "row") refl)
+    (more_tokens (decimal head.place) _ (token_of head.place fits.place)
+    (more_tokens (decimal head.session) _ (IsToken-decimal head.session (small_number head.session sessions fits.session.last small))
+    (more_tokens (decimal head.number) _ (token_of head.number fits.number)
+    (more_tokens (decimal head.start) _ (token_of head.start fits.start)
+    (more_tokens (decimal head.finish) _ (token_of head.finish fits.finish)
+    (more_tokens (decimal head.reads) _ (IsToken-decimal head.reads (small_number head.reads 256 fits.reads (lit< tt)))
+    (more_tokens (decimal head.writes) _ (IsToken-decimal head.writes (small_number head.writes 256 fits.writes (lit< tt)))
+    (stand-AreTokens head.writes head.stand fits.writes fits.stand))))))))
+
+pub head_line-again : (sessions : ℕ) (head : Head) → sessions < 2 ^ 64 → HeadFits sessions head → head_of_line sessions (head_text head) ≡ Some head
+unfolding head_of_line
+head_line-again sessions head small fits =
+    ap (option_and_then (head_of sessions)) (tokens_again (head_tokens head) (head-AreTokens sessions head small fits)) ∙ head-again sessions head small fits
+
+pub mark_line-again : (sessions : ℕ) (mark : Mark) → sessions < 2 ^ 64 → MarkFits sessions mark → mark_of_line sessions (mark_text mark) ≡ Some mark
+unfolding mark_of_line mark_of next_word is_token
+mark_line-again sessions mark small fits =
+    ap (option_and_then (mark_of sessions)) (tokens_again (codes "mark" ∷ decimal mark.session ∷ decimal mark.number ∷ [])
+    (more_tokens (codes "mark") _ (IsToken-from_test (codes "mark") refl)
+    (more_tokens (decimal mark.session) _ (IsToken-decimal mark.session (small_number mark.session sessions fits.session.last small)) (one_token (token_of mark.number fits.number)))))
+    ∙ rw (session-again sessions mark.session (decimal mark.number ∷ []) small fits.session, number-again (2 ^ 64 - 1) mark.number [] wide fits.number) refl
+
+pub counts_line-again : (counts : Counts) → CountsFit counts → counts_of_line (counts_text counts) ≡ Some counts
+unfolding counts_of_line counts_of next_word is_token
+counts_line-again counts fits =
+    ap (option_and_then counts_of) (tokens_again (codes "counter" ∷ decimal counts.counter ∷ codes "low" ∷ decimal counts.low ∷ [])
+    (more_tokens (codes "counter") _ (IsToken-from_test (codes "counter") refl)
+    (more_tokens (decimal counts.counter) _ (token_of counts.counter fits.counter)
+    (more_tokens (codes "low") _ (IsToken-from_test (codes "low") refl) (one_token (token_of counts.low fits.low))))))
+    ∙ rw (number-again (2 ^ 64 - 1) counts.counter (codes "low" ∷ decimal counts.low ∷ []) wide fits.counter, number-again (2 ^ 64 - 1) counts.low [] wide fits.low) refl

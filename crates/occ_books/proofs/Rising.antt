@@ -1,0 +1,74 @@
+-- Entries that come in the order of their keys.
+use Rattle.std.proofs.Common.{◌≡◌, ℕ, Bool, true, false, ◌&&◌, cond, T, List, [], ◌∷◌, ◌++◌, Option, Some, None, refl, sym, ap, subst, ◌∙◌}
+use Rattle.std.specs.Prelude.{IfSome}
+use Rattle.std.specs.declared.cmp.Ordering.{Ordering}
+use Rattle.std.specs.declared.cmp.Ordering.TheVariants.{Less, Equal, Greater}
+use Rattle.std.specs.Ordering.{is_lt, is_eq, nat_cmp, ordering_reverse}
+use Rattle.std.specs.Cmp.{IsTotalOrder, nat_cmp_total, eq_by_cmp_equiv}
+use Rattle.std.specs.Map.{lookup}
+use Rattle.std.specs.BTreeMap as tree
+use Rattle.std.specs.BTreeMap.{BTreeMap}
+use Rattle.std.specs.FinMap.{FinMap, get, insert, entries, entries_sorted, entries-insert, from_entries, get-insert, get-from_entries, same_map, nat_cmp-IsAntisymmetric, find, put, is_sorted}
+use Rattle.std.specs.FinMap.Entries.{by_order, below_all}
+use Rattle.occ_audit.specs.Order.{marks_of}
+
+first : (a b : Bool) → T (a && b) → T a
+first true b p = tt
+first false b p = p
+
+second : (a b : Bool) → T (a && b) → T b
+second true b p = p
+second false b p = absurd p
+
+less : (o : Ordering) → T (is_lt o) → o ≡ Less
+less Less p = refl
+less Equal p = absurd p
+less Greater p = absurd p
+
+above : {K : Type 0} (R : K → K → Ordering) (total : IsTotalOrder R) (x y : K) → R x y ≡ Less → R y x ≡ Greater
+above R total x y h = total.antisymm y x ∙ ap ordering_reverse h
+
+module _ {K X : Type 0} where
+  -- the key of the last entry, if there is one
+  abbrev pub LastIs : Option K → List (K × X) → Type 0
+  LastIs None es = es ≡ []
+  LastIs (Some key) es = (front : List (K × X)) × (value : X) × (es ≡ front ++ (key, value) ∷ [])
+
+  module _ (R : K → K → Ordering) (total : IsTotalOrder R) where
+    below_last : (x key : K) (front : List (K × X)) (value : X) → T (below_all R x (front ++ (key, value) ∷ [])) → R x key ≡ Less
+    below_last x key [] value h = less _ (first _ _ h)
+    below_last x key (e ∷ es) value h = below_last x key es value (second _ _ h)
+
+    put_above : (key k : K) (v value : X) (front : List (K × X)) → T (is_sorted R (front ++ (key, value) ∷ [])) → R key k ≡ Less → put R k v (front ++ (key, value) ∷ []) ≡ (front ++ (key, value) ∷ []) ++ (k, v) ∷ []
+    put_above key k v value [] h lt =
+        ap (λ o. by_order o ((k, v) ∷ (key, value) ∷ []) ((key, v) ∷ []) ((key, value) ∷ (k, v) ∷ [])) (above R total key k lt)
+    put_above key k v value (e ∷ es) h lt =
+        let rest = es ++ (key, value) ∷ [] in
+        let under : R e.0 k ≡ Less = total.trans e.0 key k (below_last e.0 key es value (first _ _ h)) lt in
+        ap (λ o. by_order o ((k, v) ∷ e ∷ rest) ((e.0, v) ∷ rest) (e ∷ put R k v rest)) (above R total e.0 k under)
+        ∙ ap (λ (l : List (K × X)). e ∷ l) (put_above key k v value es (second _ _ h) lt)
+
+    -- an entry behind the last one goes last
+    pub put_last : (last : Option K) (es : List (K × X)) (k : K) (v : X) → T (is_sorted R es) → LastIs last es → IfSome last (λ key. R key k ≡ Less) → put R k v es ≡ es ++ (k, v) ∷ []
+    put_last None es k v sorted is lt = ap (put R k v) is ∙ ap (λ (l : List (K × X)). l ++ (k, v) ∷ []) (sym is)
+    put_last (Some key) es k v sorted is lt =
+        ap (put R k v) is.2 ∙ put_above key k v is.1 is.0 (subst (λ (l : List (K × X)). T (is_sorted R l)) is.2 sorted) lt ∙ ap (λ (l : List (K × X)). l ++ (k, v) ∷ []) (sym is.2)
+
+    pub insert_last : (last : Option K) (m : FinMap R X) (k : K) (v : X) → LastIs last (entries m) → IfSome last (λ key. R key k ≡ Less) → entries (insert m k v) ≡ entries m ++ (k, v) ∷ []
+    insert_last last m k v is lt = entries-insert total m k v ∙ put_last last (entries m) k v (entries_sorted m) is lt
+
+-- ---- closing marks
+
+find-lookup : (q : ℕ) (es : List (ℕ × ℕ)) → find nat_cmp q es ≡ lookup (λ x. is_eq (nat_cmp q x)) es
+find-lookup q [] = refl
+find-lookup q (e ∷ es) = ap (cond (is_eq (nat_cmp q e.0)) (Some e.1)) (find-lookup q es)
+
+get-marks : (m : BTreeMap ℕ ℕ) (q : ℕ) → get (marks_of m) q ≡ tree.get nat_cmp m q
+get-marks m q = get-from_entries nat_cmp_total m.entries q ∙ find-lookup q m.entries
+
+pub marks-insert : (m n : BTreeMap ℕ ℕ) (k v : ℕ) → ((q : ℕ) → tree.get nat_cmp n q ≡ cond (is_eq (nat_cmp k q)) (Some v) (tree.get nat_cmp m q)) → marks_of n ≡ insert (marks_of m) k v
+marks-insert m n k v is = same_map nat_cmp_total nat_cmp-IsAntisymmetric (marks_of n) (insert (marks_of m) k v) (λ q.
+    get-marks n q ∙ is q
+    ∙ ap (λ b. cond b (Some v) (tree.get nat_cmp m q)) ((eq_by_cmp_equiv nat_cmp_total).symm k q)
+    ∙ ap (cond (is_eq (nat_cmp q k)) (Some v)) (sym (get-marks m q))
+    ∙ sym (get-insert nat_cmp_total (marks_of m) k v q))

@@ -1,0 +1,125 @@
+-- The rows of the log, from their lines.
+use Rattle.std.proofs.Common.{◌≡◌, ℕ, ◌≤◌, Bool, true, false, cond, List, [], ◌∷◌, ◌++◌, map, length, Option, Some, None, Result, Ok, Err, refl, sym, ap, subst, ◌∙◌}
+use Rattle.std.specs.Prelude.{IfOk, codes, is_some}
+use Rattle.std.specs.List.{AllByRecursion, flat_map}
+use Rattle.std.specs.Ordering.{eq_by_cmp}
+use Rattle.std.specs.Fmt.{decimal}
+use Rattle.std.proofs.lemmas.List.{append-nil}
+use Rattle.occ_types.specs.Key.{Key}
+use Rattle.occ_types.specs.Object.{Object, object_cmp}
+use Rattle.occ_types.specs.Question.{Question, One, Span}
+use Rattle.occ_types.specs.Row.{Row}
+use Rattle.occ_types.specs.Schema.{Schema}
+use Rattle.occ_types.specs.Seen.{table_asked}
+use Rattle.occ_model.specs.State.{Write, Observation, Rows}
+use Rattle.occ_model.specs.Overlay.{set, own}
+use Rattle.occ_model.specs.Log.{LogRow, Standing, Open, Writing, Done, Back}
+use Rattle.occ_model.specs.declared.verdict.Cause.TheVariants.{Conflict, TooOld}
+use Rattle.occ_cli.specs.declared.trouble.Trouble.{Trouble}
+use Rattle.occ_cli.specs.Spelling.{line_text}
+use Rattle.occ_cli.specs.Books.{question_text, pair_line, read_lines, write_line, standing_text, row_line, row_lines}
+use Rattle.occ_books.specs.declared.heads.Stand.{Stand}
+use Rattle.occ_books.specs.declared.heads.Stand.TheVariants as stands
+use Rattle.occ_books.specs.declared.heads.Head.{Head}
+use Rattle.occ_books.specs.Heads.{stand_tokens, head_text, IsSession, StandFits, HeadFits}
+use Rattle.occ_books.specs.Entries.{Asked, AskedSpan, asked_text, AskedFits, PairFits, WriteFits}
+use Rattle.occ_books.specs.Taking.{TakesLines, Gathered, ReadFits, StandingFits, LogRowFits, StandsSo, IsRowOf}
+use Rattle.occ_books.proofs.Gathering.{more_lines, single_lines}
+
+-- ---- writes
+
+absent : (b : Bool) (x : Option Row) (o : Option (Option Row)) → cond b (Some x) o ≡ None → (b ≡ false) × (o ≡ None)
+absent true x o h = absurd cc
+absent false x o h = (refl, h)
+
+-- a write of an object that wasn't written goes last
+pub set-absent : (writes : List Write) (object : Object) (row : Option Row) → own writes object ≡ None → set writes object row ≡ writes ++ (object, row) ∷ []
+set-absent [] object row h = refl
+set-absent (write ∷ writes) object row h =
+    let a = absent (eq_by_cmp object_cmp object write.0) write.1 (own writes object) h in
+    ap (λ (b : Bool). cond b ((write.0, row) ∷ writes) (write ∷ set writes object row)) a.0 ∙ ap (λ (l : List Write). write ∷ l) (set-absent writes object row a.1)
+
+-- ---- ranges
+
+pub span_taken : (schema : Schema) (question : Question) (rows : List (Key × Row)) (n table : ℕ) (a b c : Option (List ℕ)) → TakesLines a b (asked_text schema (AskedSpan question n) ∷ []) × AskedFits schema (AskedSpan question n)
+    → table ≡ table_asked question → Gathered (λ (pair : Key × Row). pair_line pair ∷ []) (PairFits schema table) b c rows → length rows ≡ n
+    → TakesLines a c (read_lines schema (question, Rows rows)) × ReadFits schema (question, Rows rows)
+span_taken schema (One t key) rows n table a b c head same pairs count = absurd head.1.0.ends
+span_taken schema (Span t lower upper) rows n table a b c head same pairs count =
+    let question = Span t lower upper in
+    let first : TakesLines a b (line_text (question_text schema question ∷ decimal (length rows) ∷ []) ∷ []) =
+    subst (λ (k : ℕ). TakesLines a b (line_text (question_text schema question ∷ decimal k ∷ []) ∷ [])) (sym count) head.0 in
+    let rest : TakesLines b c (map pair_line rows) = subst (TakesLines b c) (single_lines pair_line rows) pairs.taken in
+    let g = subst (λ (k : ℕ). Gathered (λ (pair : Key × Row). pair_line pair ∷ []) (PairFits schema k) b c rows) same pairs in
+    (more_lines (line_text (question_text schema question ∷ decimal (length rows) ∷ []) ∷ []) (map pair_line rows) a b c first rest, (head.1.0, g.fit))
+
+-- ---- rows
+
+abbrev stand_text : Stand → List ℕ
+stand_text stand = line_text (stand_tokens stand)
+
+abbrev line_of : ℕ → ℕ → ℕ → ℕ → ℕ → ℕ → ℕ → List ℕ → List ℕ
+line_of place session number start finish reads writes stand =
+    line_text (codes "row" ∷ decimal place ∷ decimal session ∷ decimal number ∷ decimal start ∷ decimal finish ∷ decimal reads ∷ decimal writes ∷ stand ∷ [])
+
+spelling : (place session number start finish reads writes : ℕ) (stand : Stand)
+    → head_text (record { place = place; session = session; number = number; start = start; finish = finish; reads = reads; writes = writes; stand = stand }) ≡ line_of place session number start finish reads writes (stand_text stand)
+spelling place session number start finish reads writes stands.Open = refl
+spelling place session number start finish reads writes (stands.Writing done) = refl
+spelling place session number start finish reads writes (stands.Done tn) = refl
+spelling place session number start finish reads writes (stands.Back Conflict) = refl
+spelling place session number start finish reads writes (stands.Back TooOld) = refl
+
+stand_spelling : (stand : Stand) (standing : Standing) → StandsSo stand standing → stand_text stand ≡ standing_text standing
+stand_spelling stands.Open standing h = ap standing_text (sym h.2)
+stand_spelling (stands.Writing done) standing h = ap standing_text (sym h)
+stand_spelling (stands.Done tn) standing h = ap standing_text (sym h)
+stand_spelling (stands.Back Conflict) standing h = ap standing_text (sym h)
+stand_spelling (stands.Back TooOld) standing h = ap standing_text (sym h)
+
+standing_fits : (writes : ℕ) (stand : Stand) (standing : Standing) → StandsSo stand standing → StandFits writes stand → StandingFits writes standing
+standing_fits writes stands.Open standing h f = subst (StandingFits writes) (sym h.2) tt
+standing_fits writes (stands.Writing done) standing h f = subst (StandingFits writes) (sym h) f
+standing_fits writes (stands.Done tn) standing h f = subst (StandingFits writes) (sym h) tt
+standing_fits writes (stands.Back cause) standing h f = subst (StandingFits writes) (sym h) tt
+
+head_line : (head : Head) (reads : List Observation) (writes : List Write) (row : LogRow) → length reads ≡ head.reads → length writes ≡ head.writes → IsRowOf head reads writes row → head_text head ≡ row_line row
+head_line head reads writes row r w is =
+    let rs : head.reads ≡ length row.reads = sym (ap length is.read ∙ r) in
+    let ws : head.writes ≡ length row.writes = sym (ap length is.written ∙ w) in
+    spelling head.place head.session head.number head.start head.finish head.reads head.writes head.stand
+    ∙ (λ i. line_of (sym is.place i) (sym is.session i) (sym is.number i) (sym is.start i) (sym is.finish i) (rs i) (ws i) (stand_spelling head.stand row.standing is.stands i))
+
+row_taken : (schema : Schema) (sessions : ℕ) (head : Head) (reads : List Observation) (writes : List Write) (row : LogRow) (a b c d : Option (List ℕ))
+    → TakesLines a b (head_text head ∷ []) × HeadFits sessions head
+    → Gathered (read_lines schema) (ReadFits schema) b c reads × (length reads ≡ head.reads)
+    → Gathered (λ (write : Write). write_line schema write ∷ []) (WriteFits schema) c d writes × (length writes ≡ head.writes)
+    → IsRowOf head reads writes row → TakesLines a d (row_lines schema row) × LogRowFits schema sessions row
+row_taken schema sessions head reads writes row a b c d first read written is =
+    let first_line : TakesLines a b (row_line row ∷ []) = subst (λ (l : List ℕ). TakesLines a b (l ∷ [])) (head_line head reads writes row read.1 written.1 is) first.0 in
+    let of_reads : TakesLines b c (flat_map (read_lines schema) row.reads) = subst (λ (l : List Observation). TakesLines b c (flat_map (read_lines schema) l)) (sym is.read) read.0.taken in
+    let of_writes : TakesLines c d (map (write_line schema) row.writes) =
+    subst (λ (l : List Write). TakesLines c d (map (write_line schema) l)) (sym is.written) (subst (TakesLines c d) (single_lines (write_line schema) writes) written.0.taken) in (
+      more_lines (row_line row ∷ flat_map (read_lines schema) row.reads) (map (write_line schema) row.writes) a c d
+          (more_lines (row_line row ∷ []) (flat_map (read_lines schema) row.reads) a b c first_line of_reads) of_writes,
+      record {
+        session = subst (IsSession sessions) (sym is.session) first.1.session;
+        few_reads = subst (λ (k : ℕ). k ≤ 256) (sym (ap length is.read ∙ read.1)) first.1.reads;
+        few_writes = subst (λ (k : ℕ). k ≤ 256) (sym (ap length is.written ∙ written.1)) first.1.writes;
+        done = standing_fits (length row.writes) head.stand row.standing is.stands (subst (λ (k : ℕ). StandFits k head.stand) (sym (ap length is.written ∙ written.1)) first.1.stand);
+        reads = subst (AllByRecursion (ReadFits schema)) (sym is.read) read.0.fit;
+        writes = subst (AllByRecursion (WriteFits schema)) (sym is.written) written.0.fit;
+      },
+    )
+
+pub row_result : {X : Type 0} (view : X → LogRow) (result : Result X Trouble) (schema : Schema) (sessions : ℕ) (head : Head) (reads : List Observation) (writes : List Write) (a b c d : Option (List ℕ))
+    → TakesLines a b (head_text head ∷ []) × HeadFits sessions head
+    → Gathered (read_lines schema) (ReadFits schema) b c reads × (length reads ≡ head.reads)
+    → Gathered (λ (write : Write). write_line schema write ∷ []) (WriteFits schema) c d writes × (length writes ≡ head.writes)
+    → IfOk result (λ x. IsRowOf head reads writes (view x)) → IfOk result (λ x. TakesLines a d (row_lines schema (view x)) × LogRowFits schema sessions (view x))
+row_result view (Ok x) schema sessions head reads writes a b c d first read written is = row_taken schema sessions head reads writes (view x) a b c d first read written is
+row_result view (Err e) schema sessions head reads writes a b c d first read written is = tt
+
+pub not_some : (o : Option (Option Row)) (b : Bool) → b ≡ is_some o → b ≡ false → o ≡ None
+not_some None b is off = refl
+not_some (Some x) b is off = let e : true ≡ false = sym is ∙ off in absurd cc

@@ -1,0 +1,263 @@
+-- The parts of a book: its tables, its closing marks, its state and its end.
+use Rattle.std.proofs.Common.{◌≡◌, ℕ, zero, suc, ◌+◌, ◌-◌, ◌^◌, ◌<◌, ◌≤◌, Bool, true, false, cond, ◌||◌, List, [], ◌∷◌, ◌++◌, map, length, Option, Some, None, Result, Ok, Err, ◌⊎◌, inl, inr, refl, sym, ap, subst, ◌∙◌, arith, length-append, append_assoc}
+use Rattle.std.specs.Prelude.{not, IfOk, IfSome, codes, slice_get, min}
+use Rattle.std.specs.List.{AllByRecursion, flat_map}
+use Rattle.std.specs.Str.{bytes_eq}
+use Rattle.std.specs.declared.cmp.Ordering.{Ordering}
+use Rattle.std.specs.declared.cmp.Ordering.TheVariants.{Less, Equal, Greater}
+use Rattle.std.specs.Ordering.{nat_cmp, is_lt, is_eq}
+use Rattle.std.specs.FinMap as finite
+use Rattle.std.specs.FinMap.{FinMap, entries, insert, len, empty, from_entries, get-from_entries, get-empty, same_map, nat_cmp-IsAntisymmetric, len-entries, len-empty}
+use Rattle.std.specs.Cmp.{nat_cmp_total}
+use Rattle.std.specs.BTreeMap as tree
+use Rattle.std.specs.BTreeMap.{BTreeMap}
+use Rattle.std.specs.Io.KnownBytes.{Consumes, Keeps, IsAtEnd}
+use Rattle.std.proofs.KnownBytes.{Consumes-nil, Consumes-trans}
+use Rattle.std.proofs.lemmas.Cmp.{ranked}
+use Rattle.std.proofs.lemmas.List.{nil_from_length, map-append, append-nil}
+use Rattle.std.proofs.Math.Nat.{min-eq_left}
+use Rattle.occ_types.specs.Object.{Object, object_cmp, object_cmp_total}
+use Rattle.occ_types.specs.Row.{Row}
+use Rattle.occ_types.specs.declared.fault.Fault.TheVariants.{NoTable}
+use Rattle.occ_types.specs.Schema.{Table, Schema, check_key, check_key_in, check_tables}
+use Rattle.occ_model.specs.Log.{LogRow}
+use Rattle.occ_model.specs.State.{State, put}
+use Rattle.occ_audit.specs.Order.{marks_of}
+use Rattle.occ_cli.specs.declared.tokens.Unread.{Unread}
+use Rattle.occ_cli.specs.Escapes.{Gives}
+use Rattle.occ_cli.specs.Headers.{table_text, count_text, Within}
+use Rattle.occ_cli.specs.HeaderTaking.{TablesSoFar, table_behind}
+use Rattle.occ_cli.specs.Printing.{lines_text}
+use Rattle.occ_cli.specs.Books.{row_lines, mark_line, mark_lines, at_line, row_count, state_lines}
+use Rattle.occ_cli.proofs.SchemaLines.{table_next}
+use Rattle.occ_cli.proofs.StepLines.{word_is}
+use Rattle.occ_books.specs.declared.heads.Mark.{Mark}
+use Rattle.occ_books.specs.Heads.{mark_text, counts_text, IsSession, MarkFits}
+use Rattle.occ_books.specs.Entries.{ObjectFits, AtFits}
+use Rattle.occ_books.specs.Taking.{TakesLines, Gathered, LogRowFits, is_behind}
+use Rattle.occ_books.specs.Printed.{IsEnding, EndTaken, EntryFits, SettingsTaken, IsBookText}
+use Rattle.occ_books.specs.declared.printed.Settings.{Settings}
+use Rattle.occ_books.specs.declared.heads.Counts.{Counts}
+use Rattle.occ_books.proofs.Gathering.{one_line, more_lines, gathered_next, count_more, nothing, single_lines}
+use Rattle.occ_books.proofs.Rising.{LastIs, insert_last, marks-insert}
+
+-- ---- tables
+
+pub behind_read : {X : Type 0} (view : X → Table) (read : Result X Unread) (x : X) (tables : List Table) (shown line : List ℕ) (a b : Option (List ℕ)) → TablesSoFar tables → TakesLines a b (line ∷ []) → shown ≡ line
+    → Gives view read (table_behind tables shown) → read ≡ Ok x → TakesLines a b (table_text (view x) ∷ []) × TablesSoFar (tables ++ view x ∷ [])
+behind_read view read x tables shown line a b so_far taken same gives is =
+    let n = table_next tables shown (view x) so_far (subst (λ r. Gives view r (table_behind tables shown)) is gives) in
+    (subst (λ (l : List ℕ). TakesLines a b (l ∷ [])) (sym same ∙ n.spelled) taken, n.so_far)
+
+pub tables_next : {X : Type 0} (view : X → Table) (items shown now : List X) (x : X) (a b c : Option (List ℕ)) → now ≡ items ++ x ∷ [] → shown ≡ items → TakesLines a b (map table_text (map view items))
+    → TakesLines b c (table_text (view x) ∷ []) × TablesSoFar (map view shown ++ view x ∷ []) → TakesLines a c (map table_text (map view now)) × TablesSoFar (map view now)
+tables_next {X = X} view items shown now x a b c is same taken next =
+    let all : map view now ≡ map view items ++ view x ∷ [] = ap (map view) is ∙ map-append view items (x ∷ []) in (
+      subst (TakesLines a c) (sym (ap (map table_text) all ∙ map-append table_text (map view items) (view x ∷ [])))
+          (more_lines (map table_text (map view items)) (table_text (view x) ∷ []) a b c taken next.0),
+      subst TablesSoFar (ap (λ (l : List X). map view l ++ view x ∷ []) same ∙ sym all) next.1,
+    )
+
+pub tables_end : (tables schema : List Table) (log : List ℕ) (a b c : Option (List ℕ)) → TakesLines a b (map table_text tables) → TakesLines b c (log ∷ []) → (check_tables tables ≡ None) × (schema ≡ tables)
+    → TakesLines a c (map table_text schema ++ log ∷ []) × (check_tables schema ≡ None)
+tables_end tables schema log a b c taken next good =
+    subst (λ (s : List Table). TakesLines a c (map table_text s ++ log ∷ []) × (check_tables s ≡ None)) (sym good.1) (more_lines (map table_text tables) (log ∷ []) a b c taken next, good.0)
+
+-- ---- closing marks
+
+-- the session of the last mark, or 0
+abbrev pub last_session : ℕ → Option ℕ
+last_session zero = None
+last_session (suc n) = Some (suc n)
+
+less_than : (a b : ℕ) → a < b → nat_cmp a b ≡ Less
+less_than a b lt = by (nat_cmp a b) refl
+  where
+    by : (r : Ordering) → r ≡ nat_cmp a b → r ≡ Less
+    by Less e = refl
+    by Equal e = let q = ranked a b Equal e in absurd (omega arith)
+    by Greater e = let q = ranked a b Greater e in absurd (omega arith)
+
+session_above : (last session : ℕ) → last < session → IfSome (last_session last) (λ key. nat_cmp key session ≡ Less)
+session_above zero session lt = tt
+session_above (suc n) session lt = less_than (suc n) session lt
+
+is_last : (session : ℕ) → 1 ≤ session → last_session session ≡ Some session
+is_last zero h = absurd (omega arith)
+is_last (suc n) h = refl
+
+pub record MarksSoFar (sessions last count : ℕ) (marks : FinMap nat_cmp ℕ) (a b : Option (List ℕ)) : Type 0 where
+  pub taken : Gathered (λ (mark : ℕ × ℕ). mark_line mark ∷ []) (EntryFits sessions) a b (entries marks)
+  pub number : length (entries marks) ≡ count
+  pub ends : LastIs (last_session last) (entries marks)
+
+no_entries : (m : BTreeMap ℕ ℕ) → m.entries ≡ [] → entries (marks_of m) ≡ []
+no_entries m none =
+    let same = same_map nat_cmp_total nat_cmp-IsAntisymmetric (marks_of m) empty (λ q. get-from_entries nat_cmp_total m.entries q ∙ ap (finite.find nat_cmp q) none ∙ sym (get-empty nat_cmp q)) in
+    ap entries same ∙ nil_from_length _ (sym (len-entries empty) ∙ len-empty nat_cmp ℕ)
+
+pub marks_start : (sessions : ℕ) (m : BTreeMap ℕ ℕ) (a : Option (List ℕ)) → m.entries ≡ [] → MarksSoFar sessions 0 0 (marks_of m) a a
+marks_start sessions m a none =
+    let e = no_entries m none in
+    record {
+      taken = subst (Gathered (λ (mark : ℕ × ℕ). mark_line mark ∷ []) (EntryFits sessions) a a) (sym e) (nothing _ _ a);
+      number = ap length e;
+      ends = e;
+    }
+
+pub marks_next : (sessions last count : ℕ) (m n : BTreeMap ℕ ℕ) (mark : Mark) (a b c : Option (List ℕ)) → MarksSoFar sessions last count (marks_of m) a b
+    → TakesLines b c (mark_text mark ∷ []) × MarkFits sessions mark × (last < mark.session)
+    → ((q : ℕ) → tree.get nat_cmp n q ≡ cond (is_eq (nat_cmp mark.session q)) (Some mark.number) (tree.get nat_cmp m q))
+    → MarksSoFar sessions mark.session (count + 1) (marks_of n) a c
+marks_next sessions last count m n mark a b c so_far next is =
+    let more : entries (marks_of n) ≡ entries (marks_of m) ++ (mark.session, mark.number) ∷ [] =
+    ap entries (marks-insert m n mark.session mark.number is) ∙ insert_last nat_cmp nat_cmp_total (last_session last) (marks_of m) mark.session mark.number so_far.ends (session_above last mark.session next.2) in
+    record {
+      taken = gathered_next _ (EntryFits sessions) (entries (marks_of m)) (entries (marks_of n)) (mark.session, mark.number) a b c more so_far.taken (next.0, next.1.session);
+      number = count_more (entries (marks_of m)) (entries (marks_of n)) (mark.session, mark.number) count more so_far.number;
+      ends = subst (λ (o : Option ℕ). LastIs o (entries (marks_of n))) (sym (is_last mark.session next.1.session.first)) (entries (marks_of m), mark.number, more);
+    }
+
+pub marks_end : (sessions last n i : ℕ) (marks : FinMap nat_cmp ℕ) (a b c : Option (List ℕ)) → TakesLines a b (count_text (codes "marks") n ∷ []) → MarksSoFar sessions last i marks b c → i ≡ n
+    → TakesLines a c (mark_lines marks) × AllByRecursion (EntryFits sessions) (entries marks)
+marks_end sessions last n i marks a b c first so_far all =
+    let count : n ≡ len marks = sym all ∙ sym so_far.number ∙ sym (len-entries marks) in (
+      more_lines (count_text (codes "marks") (len marks) ∷ []) (map mark_line (entries marks)) a b c
+          (subst (λ (k : ℕ). TakesLines a b (count_text (codes "marks") k ∷ [])) count first)
+          (subst (TakesLines b c) (single_lines mark_line (entries marks)) so_far.taken.taken),
+      so_far.taken.fit,
+    )
+
+-- ---- the state
+
+pub record StateSoFar (schema : Schema) (last : Option Object) (count tables : ℕ) (state : State) (a b : Option (List ℕ)) : Type 0 where
+  pub taken : Gathered (λ (entry : Object × Row). at_line schema entry ∷ []) (AtFits schema) a b (entries state)
+  pub number : length (entries state) ≡ count
+  pub ends : LastIs last (entries state)
+  pub all : tables ≡ length schema
+
+pub state_start : (schema : Schema) (tables : ℕ) (state : State) (a : Option (List ℕ)) → state ≡ empty → tables ≡ length schema → StateSoFar schema None 0 tables state a a
+state_start schema tables state a none all =
+    let e : entries state ≡ [] = ap entries none ∙ nil_from_length _ (sym (len-entries empty) ∙ len-empty object_cmp Row) in
+    record {
+      taken = subst (Gathered (λ (entry : Object × Row). at_line schema entry ∷ []) (AtFits schema) a a) (sym e) (nothing _ _ a);
+      number = ap length e;
+      ends = e;
+      all = all;
+    }
+
+there : (schema : Schema) (place : ℕ) → (slice_get schema place ≡ None → ⊥) → place < length schema
+there [] place h = absurd (h refl)
+there (table ∷ schema) zero h = omega arith
+there (table ∷ schema) (suc place) h = let p = there schema place h in omega arith
+
+pub place_there : (schema : Schema) (tables place : ℕ) (key : _) → tables ≡ length schema → check_key schema place key ≡ None → place < tables
+place_there schema tables place key all good =
+    let p = there schema place (λ none. let e = sym (ap (λ o. elim o [ None ↦ Some NoTable | Some table ↦ check_key_in table key ]) none) ∙ good in absurd cc) in
+    subst (λ (k : ℕ). place < k) (sym all) p
+
+behind_less : (r : Ordering) → is_lt r ≡ true → r ≡ Less
+behind_less Less h = refl
+behind_less Equal h = absurd cc
+behind_less Greater h = absurd cc
+
+object_above : (last : Option Object) (object : Object) → is_behind last object ≡ true → IfSome last (λ key. object_cmp key object ≡ Less)
+object_above None object h = tt
+object_above (Some last) object h = behind_less (object_cmp last object) h
+
+put-is : (state : State) (object : Object) (row : Row) → put state (object, Some row) ≡ insert state object row
+unfolding put
+put-is state object row = refl
+
+pub state_next : (schema : Schema) (last : Option Object) (count tables after : ℕ) (state new : State) (entry : Object × Row) (a b c : Option (List ℕ)) → StateSoFar schema last count tables state a b
+    → TakesLines b c (at_line schema entry ∷ []) × AtFits schema entry → is_behind last entry.0 ≡ true → new ≡ put state (entry.0, Some entry.1) → after ≡ tables
+    → StateSoFar schema (Some entry.0) (count + 1) after new a c
+state_next schema last count tables after state new entry a b c so_far next up is same =
+    let more : entries new ≡ entries state ++ entry ∷ [] =
+    ap entries (is ∙ put-is state entry.0 entry.1) ∙ insert_last object_cmp object_cmp_total last state entry.0 entry.1 so_far.ends (object_above last entry.0 up) in
+    record {
+      taken = gathered_next _ (AtFits schema) (entries state) (entries new) entry a b c more so_far.taken next;
+      number = count_more (entries state) (entries new) entry count more so_far.number;
+      ends = (entries state, entry.1, more);
+      all = same ∙ so_far.all;
+    }
+
+pub state_end : (schema : Schema) (last : Option Object) (n i tables : ℕ) (state : State) (a b c : Option (List ℕ)) → TakesLines a b (count_text (codes "state") n ∷ []) → n ≤ 2 ^ 64 - 1 → StateSoFar schema last i tables state b c → i ≡ n
+    → TakesLines a c (state_lines schema state) × AllByRecursion (AtFits schema) (entries state)
+state_end schema last n i tables state a b c first small so_far all =
+    let is : n ≡ len state = sym all ∙ sym so_far.number ∙ sym (len-entries state) in
+    let count : n ≡ row_count state = is ∙ sym (min-eq_left (subst (λ (k : ℕ). k ≤ 2 ^ 64 - 1) is small)) in (
+      more_lines (count_text (codes "state") (row_count state) ∷ []) (map (at_line schema) (entries state)) a b c
+          (subst (λ (k : ℕ). TakesLines a b (count_text (codes "state") k ∷ [])) count first)
+          (subst (TakesLines b c) (single_lines (at_line schema) (entries state)) so_far.taken.taken),
+      so_far.taken.fit,
+    )
+
+-- ---- the end
+
+pub end_here : (a : Option (List ℕ)) → IsAtEnd a → EndTaken a
+end_here a e = record { lines = []; ending = inl refl; rest = a; taken = Consumes-nil a; whole = e }
+
+ending_of : (line : List ℕ) (p q : Bool) → p ≡ bytes_eq line (codes "audit yes") → q ≡ bytes_eq line (codes "audit no") → (p || q) ≡ true → IsEnding (line ∷ [])
+ending_of line true q is or h = inr (inl (ap (λ (l : List ℕ). l ∷ []) (word_is line (codes "audit yes") (sym is))))
+ending_of line false true is or h = inr (inr (ap (λ (l : List ℕ). l ∷ []) (word_is line (codes "audit no") (sym or))))
+ending_of line false false is or h = absurd cc
+
+pub truth : (b p : Bool) → b ≡ p → b ≡ true → p ≡ true
+truth b p e h = sym e ∙ h
+
+pub end_behind : (shown line : List ℕ) (a b : Option (List ℕ)) → Consumes a b (line ++ 10 ∷ []) → shown ≡ line → (bytes_eq shown (codes "audit yes") || bytes_eq shown (codes "audit no")) ≡ true → IsAtEnd b → EndTaken a
+end_behind shown line a b taken same audit e = record {
+  lines = line ∷ [];
+  ending = subst (λ (l : List ℕ). IsEnding (l ∷ [])) same (ending_of shown _ _ refl refl audit);
+  rest = b;
+  taken = one_line line a b taken;
+  whole = e;
+}
+
+-- ---- the first lines
+
+pub settings_taken : (s q k : ℕ) (a b c d e : Option (List ℕ)) → Consumes a b (codes "occ 1" ++ 10 ∷ []) → Consumes b c (count_text (codes "sessions") s ++ 10 ∷ []) → Consumes c d (count_text (codes "queue") q ++ 10 ∷ [])
+    → Consumes d e (count_text (codes "keep") k ++ 10 ∷ []) → TakesLines a e (codes "occ 1" ∷ count_text (codes "sessions") s ∷ count_text (codes "queue") q ∷ count_text (codes "keep") k ∷ [])
+settings_taken s q k a b c d e v ss qs ks =
+    more_lines (codes "occ 1" ∷ []) (count_text (codes "sessions") s ∷ count_text (codes "queue") q ∷ count_text (codes "keep") k ∷ []) a b e (one_line (codes "occ 1") a b v)
+    (more_lines (count_text (codes "sessions") s ∷ []) (count_text (codes "queue") q ∷ count_text (codes "keep") k ∷ []) b c e (one_line (count_text (codes "sessions") s) b c ss)
+    (more_lines (count_text (codes "queue") q ∷ []) (count_text (codes "keep") k ∷ []) c d e (one_line (count_text (codes "queue") q) c d qs) (one_line (count_text (codes "keep") k) d e ks)))
+
+-- ---- the whole
+
+all_of : (a b : Option (List ℕ)) (bs : List ℕ) → Consumes a b bs → IsAtEnd b → IfSome a (λ bytes. bytes ≡ bs)
+all_of None b bs p q = tt
+all_of (Some x) None bs p q = absurd p
+all_of (Some x) (Some y) bs p q = p ∙ ap (λ (l : List ℕ). bs ++ l) q ∙ append-nil bs
+
+pub whole_book : (settings : Settings) (tables : Schema) (rows entered : ℕ) (log : List LogRow) (marks : FinMap nat_cmp ℕ) (state : State) (counts : Counts) (a b c d e f g : Option (List ℕ))
+    → SettingsTaken settings a b → TakesLines b c (map table_text tables ++ count_text (codes "log") rows ∷ []) × (check_tables tables ≡ None)
+    → Gathered (row_lines tables) (LogRowFits tables settings.sessions) c d log → length log ≡ entered → entered ≡ rows
+    → TakesLines d e (mark_lines marks) × AllByRecursion (EntryFits settings.sessions) (entries marks)
+    → TakesLines e f (state_lines tables state) × AllByRecursion (AtFits tables) (entries state)
+    → TakesLines f g (counts_text counts ∷ []) → EndTaken g
+    → IsBookText a (record { header = record { sessions = settings.sessions; queue = settings.queue; keep = settings.keep; tables = tables }; log = log; marks = marks; state = state; counter = counts.counter; low = counts.low })
+whole_book settings tables rows entered log marks state counts a b c d e f g first opening gathered count same marked stated counted end =
+    let s = codes "occ 1" ∷ count_text (codes "sessions") settings.sessions ∷ count_text (codes "queue") settings.queue ∷ count_text (codes "keep") settings.keep ∷ [] in
+    let t = map table_text tables in
+    let l = count_text (codes "log") (length log) in
+    let r = flat_map (row_lines tables) log in
+    let opened : TakesLines b c (t ++ l ∷ []) = subst (λ (n : ℕ). TakesLines b c (t ++ count_text (codes "log") n ∷ [])) (sym (count ∙ same)) opening.0 in
+    let logged : TakesLines a d ((s ++ (t ++ l ∷ [])) ++ r) = more_lines (s ++ (t ++ l ∷ [])) r a c d (more_lines s (t ++ l ∷ []) a b c first.taken opened) gathered.taken in
+    let turned : (s ++ (t ++ l ∷ [])) ++ r ≡ (s ++ t) ++ (l ∷ r) = ap (λ (x : List (List ℕ)). x ++ r) (sym (append_assoc s t (l ∷ []))) ∙ append_assoc (s ++ t) (l ∷ []) r in
+    let front = (s ++ t) ++ (l ∷ r) in
+    let upto_marks = more_lines front (mark_lines marks) a d e (subst (TakesLines a d) turned logged) marked.0 in
+    let upto_state = more_lines (front ++ mark_lines marks) (state_lines tables state) a e f upto_marks stated.0 in
+    let upto_counts = more_lines ((front ++ mark_lines marks) ++ state_lines tables state) (counts_text counts ∷ []) a f g upto_state counted in
+    record {
+      lines = end.lines;
+      ending = end.ending;
+      whole = all_of a end.rest _ (Consumes-trans a g end.rest _ (lines_text end.lines) upto_counts end.taken) end.whole;
+      fits = record {
+        header = record { sessions = first.sessions_fit; queue = first.queue_fits; keep = first.keep_fits; tables = opening.1 };
+        log = gathered.fit;
+        marks = marked.1;
+        state = stated.1;
+      };
+    }

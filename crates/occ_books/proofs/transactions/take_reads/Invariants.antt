@@ -1,0 +1,12 @@
+use Rattle.std.proofs.Common.{◌≡◌, [], ◌∷◌, length}
+use Rattle.std.specs.Io.KnownBytes.{prepend_known}
+use Rattle.occ_cli.specs.Books.{read_lines}
+use Rattle.occ_books.specs.Taking.{Gathered, ReadFits, LogRowFits}
+use Rattle.occ_books.proofs.transactions.take_reads.Given as goal
+
+-- what was taken so far
+abbrev pub invariant-loop : goal.invariant-loop
+invariant-loop g l = record {
+  taken : Gathered (read_lines l.schema) (ReadFits l.schema) (prepend_known l.fn.input.unread (g.R.Read.remaining l.fn.reader)) (prepend_known l.input.unread (g.R.Read.remaining l.reader)) l.reads;
+  count : length l.reads ≡ l.counter;
+}

@@ -1,0 +1,90 @@
+-- Taking the lines of a book from an input.
+use Rattle.std.specs.Prelude.{◌≡◌, ◌≤◌, ◌⊎◌, ℕ, Bool, true, List, [], ◌∷◌, ◌++◌, map, length, Option, Some, None, codes}
+use Rattle.std.specs.List.{AllByRecursion, flat_map}
+use Rattle.std.specs.Io.KnownBytes.{Consumes}
+use Rattle.occ_types.specs.Key.{Key}
+use Rattle.std.specs.Ordering.{is_lt}
+use Rattle.occ_types.specs.Object.{Object, object_cmp}
+use Rattle.occ_types.specs.Question.{Question, One, Span}
+use Rattle.occ_types.specs.Row.{Row}
+use Rattle.occ_types.specs.Schema.{Table, Schema}
+use Rattle.occ_types.specs.Seen.{table_of}
+use Rattle.occ_model.specs.State.{Observation, Write, Found, Rows}
+use Rattle.occ_model.specs.Log.{Case, LogRow, Standing, Open, Writing, Done, Back}
+use Rattle.occ_cli.specs.Printing.{lines_text}
+use Rattle.occ_cli.specs.Headers.{table_text, count_text}
+use Rattle.occ_cli.specs.HeaderTaking.{TablesSoFar}
+use Rattle.occ_books.specs.declared.heads.Head.{Head}
+use Rattle.occ_books.specs.declared.heads.Stand.{Stand}
+use Rattle.occ_books.specs.declared.heads.Stand.TheVariants as stands
+use Rattle.occ_books.specs.declared.printed.Behind as code_behind
+use Rattle.occ_books.specs.declared.printed.Behind.TheVariants as behind
+use Rattle.occ_books.specs.Heads.{IsSession}
+use Rattle.occ_books.specs.Entries.{ObjectFits, FoundFits, SpanFits, PairFits, WriteFits}
+
+-- whole lines were taken, and nothing else
+abbrev pub TakesLines : Option (List ℕ) → Option (List ℕ) → List (List ℕ) → Type 0
+TakesLines before after lines = Consumes before after (lines_text lines)
+
+-- an object comes behind another one, if there is one
+abbrev pub is_behind : Option Object → Object → Bool
+is_behind None object = true
+is_behind (Some last) object = is_lt (object_cmp last object)
+
+-- ---- what fits a header
+
+-- a read that a book may have: a row of its table, or rows of it for a range with both ends
+abbrev pub ReadFits : Schema → Observation → Type 0
+ReadFits schema (One table key, Found row) = ObjectFits schema (table, key) × FoundFits schema table row
+ReadFits schema (One table key, Rows rows) = ⊥
+ReadFits schema (Span table lower upper, Found row) = ⊥
+ReadFits schema (Span table lower upper, Rows rows) = SpanFits schema (Span table lower upper) × AllByRecursion (PairFits schema table) rows
+
+-- no more writes are done than there are
+abbrev pub StandingFits : ℕ → Standing → Type 0
+StandingFits writes (Open index case) = Unit {0}
+StandingFits writes (Writing done) = done ≤ writes
+StandingFits writes (Done number) = Unit {0}
+StandingFits writes (Back cause) = Unit {0}
+
+-- a row of the log that a book of this header may have
+pub record LogRowFits (schema : Schema) (sessions : ℕ) (row : LogRow) : Type 0 where
+  pub session : IsSession sessions row.session
+  pub few_reads : length row.reads ≤ 256
+  pub few_writes : length row.writes ≤ 256
+  pub done : StandingFits (length row.writes) row.standing
+  pub reads : AllByRecursion (ReadFits schema) row.reads
+  pub writes : AllByRecursion (WriteFits schema) row.writes
+
+-- ---- many of a kind
+
+-- the lines of some values were taken, and each of them fits
+pub record Gathered {Y : Type 0} (lines : Y → List (List ℕ)) (fits : Y → Type 0) (before after : Option (List ℕ)) (ys : List Y) : Type 0 where
+  pub taken : TakesLines before after (flat_map lines ys)
+  pub fit : AllByRecursion fits ys
+
+module _ {Z : Type 0} where
+  -- the line behind those of tables
+  abbrev pub BehindTaken : code_behind.Behind Z → List Table → Option (List ℕ) → Option (List ℕ) → Type 0
+  BehindTaken (behind.Table table) tables before after = TakesLines before after (table_text (table_of table) ∷ []) × TablesSoFar (tables ++ table_of table ∷ [])
+  BehindTaken (behind.Log rows) tables before after = TakesLines before after (count_text (codes "log") rows ∷ [])
+
+-- ---- rows of the log
+
+-- a standing of the log is what a row's first line says; a case is not told
+abbrev pub StandsSo : Stand → Standing → Type 0
+StandsSo stands.Open standing = (index : ℕ) × (case : Case) × (standing ≡ Open index case)
+StandsSo (stands.Writing done) standing = standing ≡ Writing done
+StandsSo (stands.Done number) standing = standing ≡ Done number
+StandsSo (stands.Back cause) standing = standing ≡ Back cause
+
+-- the row of a first line, its reads and its writes
+pub record IsRowOf (head : Head) (reads : List Observation) (writes : List Write) (row : LogRow) : Type 0 where
+  pub place : row.place ≡ head.place
+  pub session : row.session ≡ head.session
+  pub number : row.number ≡ head.number
+  pub start : row.start ≡ head.start
+  pub finish : row.finish ≡ head.finish
+  pub read : row.reads ≡ reads
+  pub written : row.writes ≡ writes
+  pub stands : StandsSo head.stand row.standing

@@ -1,0 +1,64 @@
+//! The audit of a printed book.
+
+ghost use Rattle.std.specs.Prelude.{◌≡◌, IfOk};
+ghost use Rattle.std.specs.Bool.{Decides};
+ghost use Rattle.occ_model.specs.Log.{Audited};
+ghost use Rattle.occ_model.specs.World.{empty_base};
+ghost use Rattle.occ_books.specs.Printed.{AuditGives, TellGives, verdict_text, printed_book};
+
+use crate::printed::{Printed, take_book};
+use occ_audit::{Book, audit_rows};
+use occ_cli::input::Input;
+use occ_cli::output::Output;
+use occ_cli::trouble::Trouble;
+use std::alloc::Allocator;
+use std::io::{Read, Write};
+
+/// Reads one book, writes `audit yes` or `audit no` and a line feed, and answers which of them: whether its log is explained by
+/// serial replay in the order of entry, and its state is what that leaves.
+///
+/// An audit line behind the book may say anything. `Malformed` at the first line that can't stand where it stands, or that isn't
+/// there, and `Read` where the reader fails: nothing was written then. `Write` where the writer fails, and `Memory` where memory
+/// was refused. The time is about linear in the book; the memory is linear in what the book tells, and no count is trusted.
+pub fn audit_text<R: Read, W: Write, A: Allocator + Copy>(
+    alloc: A,
+    reader: &mut R,
+    writer: &mut W,
+) -> Result<bool, Trouble>
+    ensures { AuditGives result (R.remaining reader.old) (W.contents writer.old) (W.contents writer.new) }
+{
+    let mut input = Input::new(alloc)?;
+    let printed = take_book(alloc, &mut input, reader)?;
+    let verdict = judge(alloc, &printed)?;
+    tell(alloc, writer, verdict)?;
+    Ok(verdict)
+}
+
+/// Whether the audit of a book holds.
+fn judge<A: Allocator + Copy>(alloc: A, printed: &Printed<A>) -> Result<bool, Trouble>
+    ensures { IfOk result (λ verdict. Decides verdict (Audited empty_base (printed_book printed.now).marks (printed_book printed.now).state (printed_book printed.now).log)) }
+{
+    let book = Book {
+        log: printed.log.as_slice(),
+        marks: &printed.marks,
+        tables: &printed.tables,
+    };
+    let verdict = audit_rows(alloc, &book)?;
+    Ok(verdict)
+}
+
+/// The line of a verdict, with its line feed.
+fn verdict_line(verdict: bool) -> &'static str
+    ensures { result.now ≡ verdict_text verdict }
+{
+    if verdict { "audit yes\n" } else { "audit no\n" }
+}
+
+/// Writes the line of a verdict.
+fn tell<W: Write, A: Allocator>(alloc: A, writer: &mut W, verdict: bool) -> Result<(), Trouble>
+    ensures { TellGives result verdict (W.contents writer.old) (W.contents writer.new) }
+{
+    let mut output = Output::new(alloc);
+    output.push(writer, verdict_line(verdict).as_bytes())?;
+    output.flush(writer)
+}

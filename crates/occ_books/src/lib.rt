@@ -1,0 +1,15 @@
+//! Books that anybody printed: read whole, checked line by line, and audited.
+#![tactic(auto)]
+
+pub mod audits;
+mod cursors;
+pub mod entries;
+pub mod heads;
+mod named;
+pub mod printed;
+mod takes;
+#[cfg(test)]
+mod tests;
+mod transactions;
+
+pub use audits::audit_text;

@@ -1,0 +1,125 @@
+//! Readers of what a line names under a schema: tables, and keys and rows that fit them.
+
+ghost use Rattle.std.specs.Prelude.{◌≡◌};
+ghost use Rattle.std.specs.Result.{result_err};
+ghost use Rattle.occ_types.specs.Seen.{key_of, object_of};
+ghost use Rattle.occ_cli.specs.Escapes.{Gives};
+ghost use Rattle.occ_books.specs.Cursors.{GivesNext};
+ghost use Rattle.occ_books.specs.Named.{unless_fault, place_of, key_in, row_in, next_table, next_key, next_row, next_object};
+
+use crate::cursors::next_token;
+use occ_cli::parts::Parts;
+use occ_cli::texts;
+use occ_cli::tokens::{Unread, name};
+use occ_types::fault::Fault;
+use occ_types::{Key, Object, Row, Schema};
+use std::alloc::Allocator;
+
+/// What has a fault is not read.
+pub(crate) fn unless_fault(checked: Result<(), Fault>) -> Result<(), Unread>
+    ensures { Gives (λ _. tt) result (unless_fault (result_err checked)) }
+{
+    match checked {
+        Ok(()) => Ok(()),
+        Err(_) => Err(Unread::Malformed),
+    }
+}
+
+/// The place of the table of this name.
+#[tactic(auto, unfolding(crate::specs::Named::place_of))]
+fn place_of<A: Allocator>(schema: &Schema<A>, token: &[u8]) -> Result<usize, Unread>
+    ensures { Gives (λ place. place) result (place_of schema.now token.now) }
+{
+    let name = name(token)?;
+    match schema.table_named(name) {
+        Some(place) => Ok(place),
+        None => Err(Unread::Malformed),
+    }
+}
+
+/// A key of the table at a place.
+#[tactic(auto, unfolding(crate::specs::Named::key_in))]
+fn key_in<A: Allocator>(
+    alloc: A,
+    schema: &Schema<A>,
+    table: usize,
+    token: &[u8],
+) -> Result<Key<A>, Unread>
+    ensures { Gives key_of result (key_in schema.now table token.now) }
+{
+    let key = texts::key(alloc, token)?;
+    unless_fault(schema.check_key(table, &key))?;
+    Ok(key)
+}
+
+/// A row of the table at a place.
+#[tactic(auto, unfolding(crate::specs::Named::row_in))]
+pub(crate) fn row_in<A: Allocator + Clone>(
+    alloc: A,
+    schema: &Schema<A>,
+    table: usize,
+    token: &[u8],
+) -> Result<Row<A>, Unread>
+    ensures { Gives (λ row. row) result (row_in schema.now table token.now) }
+{
+    let row = texts::row(alloc, token)?;
+    unless_fault(schema.check_row(table, &row))?;
+    Ok(row)
+}
+
+/// The place of the table that the next token names.
+#[tactic(auto, unfolding(crate::specs::Named::next_table))]
+pub(crate) fn next_table<A: Allocator>(
+    schema: &Schema<A>,
+    parts: &mut Parts<'_>,
+) -> Result<usize, Unread>
+    ensures { GivesNext (λ place. place) result (next_table schema.now parts.old) parts.new }
+{
+    let token = next_token(parts)?;
+    let place = place_of(schema, token)?;
+    Ok(place)
+}
+
+/// The next token as a key of a table.
+#[tactic(auto, unfolding(crate::specs::Named::next_key))]
+pub(crate) fn next_key<A: Allocator>(
+    alloc: A,
+    schema: &Schema<A>,
+    table: usize,
+    parts: &mut Parts<'_>,
+) -> Result<Key<A>, Unread>
+    ensures { GivesNext key_of result (next_key schema.now table parts.old) parts.new }
+{
+    let token = next_token(parts)?;
+    let key = key_in(alloc, schema, table, token)?;
+    Ok(key)
+}
+
+/// The next token as a row of a table.
+#[tactic(auto, unfolding(crate::specs::Named::next_row))]
+pub(crate) fn next_row<A: Allocator + Clone>(
+    alloc: A,
+    schema: &Schema<A>,
+    table: usize,
+    parts: &mut Parts<'_>,
+) -> Result<Row<A>, Unread>
+    ensures { GivesNext (λ row. row) result (next_row schema.now table parts.old) parts.new }
+{
+    let token = next_token(parts)?;
+    let row = row_in(alloc, schema, table, token)?;
+    Ok(row)
+}
+
+/// The name of a row, from the next two tokens: its table's name and its key.
+#[tactic(auto, unfolding(crate::specs::Named::next_object))]
+pub(crate) fn next_object<A: Allocator>(
+    alloc: A,
+    schema: &Schema<A>,
+    parts: &mut Parts<'_>,
+) -> Result<Object<A>, Unread>
+    ensures { GivesNext object_of result (next_object schema.now parts.old) parts.new }
+{
+    let table = next_table(schema, parts)?;
+    let key = next_key(alloc, schema, table, parts)?;
+    Ok(Object { table, key })
+}

@@ -1,0 +1,234 @@
+//! Taking a whole book from an input.
+
+ghost use Rattle.std.specs.Prelude.{◌≡◌, ◌++◌, ◌∷◌, [], ◌||◌, IfOk, None, map, codes};
+ghost use Rattle.std.specs.FinMap as finite;
+ghost use Rattle.std.specs.List.{AllByRecursion};
+ghost use Rattle.std.specs.Str.{bytes_eq};
+ghost use Rattle.std.specs.Io.KnownBytes.{prepend_known};
+ghost use Rattle.occ_types.specs.Schema.{check_tables};
+ghost use Rattle.occ_types.specs.Seen.{tables_of};
+ghost use Rattle.occ_audit.specs.Order.{marks_of};
+ghost use Rattle.occ_cli.specs.Headers.{table_text, count_text};
+ghost use Rattle.occ_cli.specs.HeaderTaking.{TablesSoFar};
+ghost use Rattle.occ_cli.specs.Books.{mark_lines, state_lines};
+ghost use Rattle.occ_books.specs.Entries.{AtFits};
+ghost use Rattle.occ_books.specs.Taking.{TakesLines, BehindTaken};
+ghost use Rattle.occ_books.specs.Printed.{SettingsTaken, EntryFits, EndTaken, IsBookText, printed_book};
+
+use crate::heads::Counts;
+use crate::takes::{read_at_line, take_at, take_counts, take_line, take_mark, take_section};
+use crate::transactions::take_rows;
+use occ_cli::headers::{
+    Header, MAX_KEEP, MAX_QUEUE, count, table_behind, take_count, take_version,
+};
+use occ_cli::input::{Input, Next};
+use occ_cli::tokens::is_word;
+use occ_cli::trouble::Trouble;
+use occ_core::{LogRow, Tables};
+use occ_types::limits::MAX_SESSIONS;
+use occ_types::{Object, Row, Schema, TableDef};
+use std::alloc::Allocator;
+use std::collections::BTreeMap;
+use std::io::Read;
+
+/// What a book tells.
+#[derive(Drop)]
+pub struct Printed<A: Allocator> {
+    /// How the core was opened.
+    pub header: Header<A>,
+    /// The rows that entered, in the order of entry.
+    pub log: Vec<LogRow<A>, A>,
+    /// The closing marks, by session.
+    pub marks: BTreeMap<usize, u64, A>,
+    /// The rows of all tables.
+    pub tables: Tables<A>,
+    /// The transaction counter and the lower end of the window.
+    pub counts: Counts,
+}
+
+/// What a header says beside its tables.
+#[derive(Clone, Copy)]
+struct Settings {
+    sessions: usize,
+    queue: usize,
+    keep: usize,
+}
+
+/// The tables of a header, and how many rows of the log follow.
+#[derive(Drop)]
+struct Opening<A: Allocator> {
+    schema: Schema<A>,
+    rows: u64,
+}
+
+/// What stands behind some tables of a header.
+#[derive(Drop)]
+enum Behind<A: Allocator> {
+    /// One table more.
+    Table(TableDef<A>),
+    /// `log K`
+    Log(u64),
+}
+
+/// Takes the line behind those of some tables: one more table, or `log K`.
+fn take_behind<R: Read, A: Allocator + Copy>(
+    alloc: A,
+    input: &mut Input<A>,
+    reader: &mut R,
+    tables: &[TableDef<A>],
+) -> Result<Behind<A>, Trouble>
+    requires { TablesSoFar (tables_of tables.now) }
+    ensures { IfOk result (λ behind. BehindTaken behind (tables_of tables.now) (prepend_known input.old.unread (R.remaining reader.old)) (prepend_known input.new.unread (R.remaining reader.new))) }
+{
+    take_line(input, reader)?;
+    if let Ok(rows) = count(input.line(), "log", 0, u64::MAX) {
+        return Ok(Behind::Log(rows));
+    }
+    let table = read_at_line(table_behind(alloc, tables, input.line()), input.number())?;
+    Ok(Behind::Table(table))
+}
+
+/// Takes the lines of the tables, and `log K`.
+fn take_opening<R: Read, A: Allocator + Copy>(
+    alloc: A,
+    input: &mut Input<A>,
+    reader: &mut R,
+) -> Result<Opening<A>, Trouble>
+    ensures { IfOk result (λ opening. TakesLines (prepend_known input.old.unread (R.remaining reader.old)) (prepend_known input.new.unread (R.remaining reader.new)) (map table_text opening.schema ++ count_text (codes "log") opening.rows ∷ []) × (check_tables opening.schema ≡ None)) }
+{
+    let mut tables = Vec::new(alloc);
+    loop {
+        match take_behind(alloc, input, reader, tables.as_slice())? {
+            Behind::Table(table) => tables.push(table)?,
+            Behind::Log(rows) => match Schema::new(tables) {
+                Ok(schema) => return Ok(Opening { schema, rows }),
+                Err(_) => return Err(Trouble::Malformed(input.number())),
+            },
+        }
+    }
+}
+
+/// Takes the closing marks, in the order of their sessions.
+fn take_marks<R: Read, A: Allocator + Copy>(
+    alloc: A,
+    input: &mut Input<A>,
+    reader: &mut R,
+    sessions: usize,
+) -> Result<BTreeMap<usize, u64, A>, Trouble>
+    ensures { IfOk result (λ marks. TakesLines (prepend_known input.old.unread (R.remaining reader.old)) (prepend_known input.new.unread (R.remaining reader.new)) (mark_lines (marks_of marks)) × AllByRecursion (EntryFits sessions) (finite.entries (marks_of marks))) }
+{
+    let count = take_section(input, reader, "marks")?;
+    let mut marks = BTreeMap::new(alloc);
+    let mut last = 0;
+    for _ in 0..count {
+        let mark = take_mark(input, reader, sessions, last)?;
+        marks.insert(mark.session, mark.number)?;
+        last = mark.session;
+    }
+    Ok(marks)
+}
+
+/// Takes the rows of all tables, in the order of the tables and then of their keys.
+fn take_state<R: Read, A: Allocator + Copy>(
+    alloc: A,
+    input: &mut Input<A>,
+    reader: &mut R,
+    schema: &Schema<A>,
+) -> Result<Tables<A>, Trouble>
+    ensures { IfOk result (λ tables. TakesLines (prepend_known input.old.unread (R.remaining reader.old)) (prepend_known input.new.unread (R.remaining reader.new)) (state_lines schema.now tables.state) × AllByRecursion (AtFits schema.now) (finite.entries tables.state)) }
+{
+    let count = take_section(input, reader, "state")?;
+    let mut tables = Tables::new(alloc, schema.tables().len())?;
+    let mut last = None;
+    for _ in 0..count {
+        let (object, row) = take_at(alloc, input, reader, schema, &last)?;
+        tables.put(object.table, &object.key, Some(&row))?;
+        last = Some(object);
+    }
+    Ok(tables)
+}
+
+/// Takes what may stand behind a book: one audit line, whatever it says, and then the end.
+fn take_end<R: Read, A: Allocator>(input: &mut Input<A>, reader: &mut R) -> Result<(), Trouble>
+    ensures { IfOk result (λ _. EndTaken (prepend_known input.old.unread (R.remaining reader.old))) }
+{
+    match input.next_line(reader)? {
+        Next::End => return Ok(()),
+        Next::Line => {}
+    }
+    if !is_audit(input.line()) {
+        return Err(Trouble::Malformed(input.number()));
+    }
+    match input.next_line(reader)? {
+        Next::End => Ok(()),
+        Next::Line => Err(Trouble::Malformed(input.number())),
+    }
+}
+
+/// Whether the line is `audit yes` or `audit no`.
+fn is_audit(line: &[u8]) -> bool
+    ensures { result ≡ (bytes_eq line.now (codes "audit yes") || bytes_eq line.now (codes "audit no")) }
+{
+    is_word(line, "audit yes") || is_word(line, "audit no")
+}
+
+/// Takes the first four lines of a book.
+fn take_settings<R: Read, A: Allocator>(
+    input: &mut Input<A>,
+    reader: &mut R,
+) -> Result<Settings, Trouble>
+    requires { input.old.number ≡ 0 }
+    ensures { IfOk result (λ settings. SettingsTaken settings (prepend_known input.old.unread (R.remaining reader.old)) (prepend_known input.new.unread (R.remaining reader.new))) }
+{
+    take_version(input, reader)?;
+    let sessions = take_count(input, reader, "sessions", MAX_SESSIONS as u64)?;
+    let queue = take_count(input, reader, "queue", MAX_QUEUE)?;
+    let keep = take_count(input, reader, "keep", MAX_KEEP)?;
+    Ok(Settings {
+        sessions: sessions as usize,
+        queue: queue as usize,
+        keep: keep as usize,
+    })
+}
+
+/// Takes a whole book, and what may stand behind it, from the beginning of a text to its end.
+///
+/// `Malformed` at the first line that can't stand where it stands, also where the text ends before the book is whole; `Read`
+/// where the reader fails; `Memory` where it was refused. After any of them the input is of no more use.
+pub fn take_book<R: Read, A: Allocator + Copy>(
+    alloc: A,
+    input: &mut Input<A>,
+    reader: &mut R,
+) -> Result<Printed<A>, Trouble>
+    requires { input.old.number ≡ 0 }
+    ensures { IfOk result (λ printed. IsBookText (prepend_known input.old.unread (R.remaining reader.old)) (printed_book printed)) }
+{
+    let settings = take_settings(input, reader)?;
+    let opening = take_opening(alloc, input, reader)?;
+    let schema = opening.schema;
+    let log = take_rows(
+        alloc,
+        input,
+        reader,
+        &schema,
+        settings.sessions,
+        opening.rows,
+    )?;
+    let marks = take_marks(alloc, input, reader, settings.sessions)?;
+    let tables = take_state(alloc, input, reader, &schema)?;
+    let counts = take_counts(input, reader)?;
+    take_end(input, reader)?;
+    let header = Header {
+        sessions: settings.sessions,
+        queue: settings.queue,
+        keep: settings.keep,
+        schema,
+    };
+    Ok(Printed {
+        header,
+        log,
+        marks,
+        tables,
+        counts,
+    })
+}

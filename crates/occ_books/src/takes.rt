@@ -1,0 +1,190 @@
+//! Taking single lines of a book from an input.
+
+ghost use Rattle.std.specs.Prelude.{◌≡◌, ◌<◌, ◌∷◌, [], true, Ok, IfOk, option_map};
+ghost use Rattle.std.specs.Io.KnownBytes.{prepend_known};
+ghost use Rattle.occ_types.specs.Seen.{object_of};
+ghost use Rattle.occ_cli.specs.Headers.{count_text, Within};
+ghost use Rattle.occ_cli.specs.Spelling.{IsToken};
+ghost use Rattle.occ_cli.specs.Books.{pair_line, write_line, at_line};
+ghost use Rattle.occ_books.specs.Heads.{head_text, mark_text, counts_text, HeadFits, MarkFits, CountsFit};
+ghost use Rattle.occ_books.specs.Entries.{asked_of, pair_of, write_of, at_of, asked_text, AskedFits, PairFits, WriteFits, AtFits};
+ghost use Rattle.occ_books.specs.Taking.{TakesLines, is_behind};
+
+use crate::entries::{Asked, read_asked, read_at, read_pair, read_write};
+use crate::heads::{Counts, Head, Mark, read_counts, read_head, read_mark};
+use occ_cli::headers::{count, trouble_at};
+use occ_cli::input::{Input, Next};
+use occ_cli::tokens::Unread;
+use occ_cli::trouble::Trouble;
+use occ_types::{Key, Object, Row, Schema};
+use std::alloc::Allocator;
+use std::io::Read;
+
+/// What a text ends with that stops behind the line of a number: it is malformed at the line after it.
+fn cut_short(number: u64) -> Trouble {
+    match number.checked_add(1) {
+        Some(line) => Trouble::Malformed(line),
+        None => Trouble::Read,
+    }
+}
+
+/// Takes the line that has to stand next.
+pub(crate) fn take_line<R: Read, A: Allocator>(
+    input: &mut Input<A>,
+    reader: &mut R,
+) -> Result<(), Trouble>
+    ensures { IfOk result (λ _. TakesLines (prepend_known input.old.unread (R.remaining reader.old)) (prepend_known input.new.unread (R.remaining reader.new)) (input.new.line ∷ [])) }
+{
+    match input.next_line(reader)? {
+        Next::Line => Ok(()),
+        Next::End => Err(cut_short(input.number())),
+    }
+}
+
+/// What was read of the line of a number.
+pub(crate) fn read_at_line<T: Drop>(read: Result<T, Unread>, number: u64) -> Result<T, Trouble>
+    ensures { IfOk result (λ value. read ≡ Ok value) }
+{
+    match read {
+        Ok(value) => Ok(value),
+        Err(unread) => Err(trouble_at(unread, number)),
+    }
+}
+
+/// Takes a line of a word and a count, which may be any number of 64 bits.
+pub(crate) fn take_section<R: Read, A: Allocator>(
+    input: &mut Input<A>,
+    reader: &mut R,
+    word: &str,
+) -> Result<u64, Trouble>
+    requires { IsToken word.now }
+    ensures { IfOk result (λ n. TakesLines (prepend_known input.old.unread (R.remaining reader.old)) (prepend_known input.new.unread (R.remaining reader.new)) (count_text word.now n ∷ []) × Within 0 u64.MAX n) }
+{
+    take_line(input, reader)?;
+    read_at_line(count(input.line(), word, 0, u64::MAX), input.number())
+}
+
+/// Takes the first line of a row of the log.
+pub(crate) fn take_head<R: Read, A: Allocator>(
+    input: &mut Input<A>,
+    reader: &mut R,
+    sessions: usize,
+) -> Result<Head, Trouble>
+    ensures { IfOk result (λ head. TakesLines (prepend_known input.old.unread (R.remaining reader.old)) (prepend_known input.new.unread (R.remaining reader.new)) (head_text head ∷ []) × HeadFits sessions head) }
+{
+    take_line(input, reader)?;
+    read_at_line(read_head(input.line(), sessions), input.number())
+}
+
+/// Takes the line of a read.
+pub(crate) fn take_asked<R: Read, A: Allocator + Copy>(
+    alloc: A,
+    input: &mut Input<A>,
+    reader: &mut R,
+    schema: &Schema<A>,
+) -> Result<Asked<A>, Trouble>
+    ensures { IfOk result (λ asked. TakesLines (prepend_known input.old.unread (R.remaining reader.old)) (prepend_known input.new.unread (R.remaining reader.new)) (asked_text schema.now (asked_of asked) ∷ []) × AskedFits schema.now (asked_of asked)) }
+{
+    take_line(input, reader)?;
+    read_at_line(read_asked(alloc, schema, input.line()), input.number())
+}
+
+/// Whether a key is above those of some rows that are in order.
+fn is_above<A: Allocator>(rows: &[(Key<A>, Row<A>)], key: &Key<A>) -> bool {
+    match rows.last() {
+        Some((last, _)) => last < key,
+        None => true,
+    }
+}
+
+/// Takes the line of a row that a range answered, behind those of others.
+pub(crate) fn take_pair<R: Read, A: Allocator + Copy>(
+    alloc: A,
+    input: &mut Input<A>,
+    reader: &mut R,
+    schema: &Schema<A>,
+    table: usize,
+    rows: &[(Key<A>, Row<A>)],
+) -> Result<(Key<A>, Row<A>), Trouble>
+    ensures { IfOk result (λ pair. TakesLines (prepend_known input.old.unread (R.remaining reader.old)) (prepend_known input.new.unread (R.remaining reader.new)) (pair_line (pair_of pair) ∷ []) × PairFits schema.now table (pair_of pair)) }
+{
+    take_line(input, reader)?;
+    let (key, row) = read_at_line(
+        read_pair(alloc, schema, table, input.line()),
+        input.number(),
+    )?;
+    if !is_above(rows, &key) {
+        return Err(Trouble::Malformed(input.number()));
+    }
+    Ok((key, row))
+}
+
+/// Takes the line of a write.
+pub(crate) fn take_write<R: Read, A: Allocator + Copy>(
+    alloc: A,
+    input: &mut Input<A>,
+    reader: &mut R,
+    schema: &Schema<A>,
+) -> Result<(Object<A>, Option<Row<A>>), Trouble>
+    ensures { IfOk result (λ write. TakesLines (prepend_known input.old.unread (R.remaining reader.old)) (prepend_known input.new.unread (R.remaining reader.new)) (write_line schema.now (write_of write) ∷ []) × WriteFits schema.now (write_of write)) }
+{
+    take_line(input, reader)?;
+    read_at_line(read_write(alloc, schema, input.line()), input.number())
+}
+
+/// Takes the line of a closing mark, behind that of the session `last`, or none where it is 0.
+pub(crate) fn take_mark<R: Read, A: Allocator>(
+    input: &mut Input<A>,
+    reader: &mut R,
+    sessions: usize,
+    last: usize,
+) -> Result<Mark, Trouble>
+    ensures { IfOk result (λ mark. TakesLines (prepend_known input.old.unread (R.remaining reader.old)) (prepend_known input.new.unread (R.remaining reader.new)) (mark_text mark ∷ []) × MarkFits sessions mark × (last < mark.session)) }
+{
+    take_line(input, reader)?;
+    let mark = read_at_line(read_mark(input.line(), sessions), input.number())?;
+    if mark.session <= last {
+        return Err(Trouble::Malformed(input.number()));
+    }
+    Ok(mark)
+}
+
+/// Whether an object comes behind another one, if there is one.
+fn is_behind<A: Allocator>(last: &Option<Object<A>>, object: &Object<A>) -> bool
+    ensures { result ≡ is_behind (option_map object_of last.now) (object_of object.now) }
+{
+    match last {
+        Some(last) => last < object,
+        None => true,
+    }
+}
+
+/// Takes the line of a row of the state, behind that of the object `last`.
+pub(crate) fn take_at<R: Read, A: Allocator + Copy>(
+    alloc: A,
+    input: &mut Input<A>,
+    reader: &mut R,
+    schema: &Schema<A>,
+    last: &Option<Object<A>>,
+) -> Result<(Object<A>, Row<A>), Trouble>
+    ensures taken { IfOk result (λ entry. TakesLines (prepend_known input.old.unread (R.remaining reader.old)) (prepend_known input.new.unread (R.remaining reader.new)) (at_line schema.now (at_of entry) ∷ []) × AtFits schema.now (at_of entry)) }
+    ensures behind { IfOk result (λ entry. is_behind (option_map object_of last.now) (object_of entry.0) ≡ true) }
+{
+    take_line(input, reader)?;
+    let (object, row) = read_at_line(read_at(alloc, schema, input.line()), input.number())?;
+    if !is_behind(last, &object) {
+        return Err(Trouble::Malformed(input.number()));
+    }
+    Ok((object, row))
+}
+
+/// Takes the last line of a book.
+pub(crate) fn take_counts<R: Read, A: Allocator>(
+    input: &mut Input<A>,
+    reader: &mut R,
+) -> Result<Counts, Trouble>
+    ensures { IfOk result (λ counts. TakesLines (prepend_known input.old.unread (R.remaining reader.old)) (prepend_known input.new.unread (R.remaining reader.new)) (counts_text counts ∷ []) × CountsFit counts) }
+{
+    take_line(input, reader)?;
+    read_at_line(read_counts(input.line()), input.number())
+}

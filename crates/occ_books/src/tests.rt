@@ -1,0 +1,315 @@
+//! Books that are right, wrong and malformed, and devices that fail.
+
+use crate::audit_text;
+use occ_cli::trouble::Trouble;
+use std::alloc::{AllocError, Global};
+use std::io;
+use std::io::{Error, ErrorKind, Read, Write};
+use std::test::Fail;
+
+/// A lost update and its retry. The second transaction of session 2 read what the first one of session 1 left.
+const LOST_UPDATE: &str = "occ 1\nsessions 2\nqueue 4\nkeep 8\ntable t num int\nlog 3\n\
+row 0 1 1 0 0 1 1 done 1\none t 7 none\nput t 7 1\n\
+row 1 2 1 0 1 1 1 conflict\none t 7 none\nput t 7 2\n\
+row 2 2 2 1 1 1 1 done 2\none t 7 1\nput t 7 3\n\
+marks 0\nstate 1\nat t 7 3\ncounter 2 low 0\n";
+
+/// A book with a range, a deletion, rows that are open or writing, and two tables.
+const WIDE: &str =
+    "occ 1\nsessions 3\nqueue 4\nkeep 8\ntable stock text int text\ntable note num text\nlog 4\n\
+row 0 1 1 0 0 0 2 done 1\nput stock 'nut%20mix 2,'\nput stock 'apple 5,'red\n\
+row 1 2 1 1 1 1 2 writing 1\nspan stock 'a 'o 2\npair 'apple 5,'red\npair 'nut%20mix 2,'\ndel stock 'apple\nput note 3 'left\n\
+row 2 1 2 0 1 0 0 tooold\n\
+row 3 3 1 1 1 1 1 open\none note 3 none\nput note 4 'x\n\
+marks 1\nmark 3 2\nstate 1\nat stock 'nut%20mix 2,'\ncounter 1 low 0\n";
+
+/// A reader of a text that fails at its end, where it is to.
+#[derive(Drop)]
+struct Text {
+    bytes: Vec<u8>,
+    at: usize,
+    fails: bool,
+}
+
+impl Read for Text {
+    fn read(&mut self, buf: &mut [u8]) -> io::Result<usize> {
+        let rest = self.bytes.as_slice();
+        let rest = &rest[self.at.min(rest.len())..];
+        let count = buf.len().min(rest.len());
+        if count == 0 && self.fails {
+            return Err(Error::from(ErrorKind::Other));
+        }
+        let (front, _) = rest.split_at(count);
+        buf[..count].copy_from_slice(front);
+        self.at = self.at.saturating_add(count);
+        Ok(count)
+    }
+}
+
+/// A writer that fails where it is to.
+#[derive(Drop)]
+struct Paper {
+    bytes: Vec<u8>,
+    fails: bool,
+}
+
+impl Write for Paper {
+    fn write(&mut self, buf: &[u8]) -> io::Result<usize> {
+        if self.fails {
+            return Err(Error::from(ErrorKind::Other));
+        }
+        self.bytes.extend_from_slice(buf)?;
+        Ok(buf.len())
+    }
+
+    fn flush(&mut self) -> io::Result<()> {
+        Ok(())
+    }
+}
+
+/// What an audit of a text answers, and what it wrote.
+fn audited(alloc: Global, text: &str) -> Result<(Result<bool, Trouble>, Vec<u8>), AllocError> {
+    let mut reader = Text {
+        bytes: Vec::from_slice(alloc, text.as_bytes())?,
+        at: 0,
+        fails: false,
+    };
+    let mut writer = Paper {
+        bytes: Vec::new(alloc),
+        fails: false,
+    };
+    let outcome = audit_text(alloc, &mut reader, &mut writer);
+    Ok((outcome, writer.bytes))
+}
+
+/// The first text with one part replaced.
+fn changed(alloc: Global, text: &str, old: &str, new: &str) -> Result<String, AllocError> {
+    let mut made = String::new(alloc);
+    match text.find(old) {
+        Some(at) => {
+            made.push_str(&text[..at])?;
+            made.push_str(new)?;
+            made.push_str(&text[at + old.len()..])?;
+        }
+        None => made.push_str("no such part")?,
+    }
+    Ok(made)
+}
+
+#[test]
+fn judges_books(rt: HostRuntime) -> Result<(), Fail> {
+    let alloc = rt.alloc();
+    let cases: [(&str, &str, &str, bool); 16] = [
+        (LOST_UPDATE, "occ", "occ", true),
+        (LOST_UPDATE, "low 0\n", "low 0\naudit yes\n", true),
+        (LOST_UPDATE, "low 0\n", "low 0\naudit no\n", true),
+        (
+            LOST_UPDATE,
+            "row 2 2 2 1 1 1 1 done 2",
+            "row 2 2 3 1 1 1 1 done 2",
+            false,
+        ),
+        (LOST_UPDATE, "row 2 2 2", "row 3 2 2", false),
+        (
+            LOST_UPDATE,
+            "row 0 1 1",
+            "row 18446744073709551615 1 1",
+            false,
+        ),
+        (
+            LOST_UPDATE,
+            "row 0 1 1",
+            "row 0 1 18446744073709551615",
+            false,
+        ),
+        (LOST_UPDATE, "one t 7 1", "one t 7 none", false),
+        (LOST_UPDATE, "one t 7 1", "one t 7 2", false),
+        (LOST_UPDATE, "at t 7 3", "at t 7 2", false),
+        (LOST_UPDATE, "state 1\nat t 7 3", "state 0", false),
+        (
+            LOST_UPDATE,
+            "1 1 1 1 done 2",
+            "18446744073709551615 18446744073709551615 1 1 done 18446744073709551615",
+            true,
+        ),
+        (WIDE, "occ", "occ", true),
+        (WIDE, "mark 3 2", "mark 3 3", false),
+        (WIDE, "writing 1", "writing 2", false),
+        (
+            WIDE,
+            "span stock 'a 'o 2\npair 'apple 5,'red\n",
+            "span stock 'a 'o 1\n",
+            false,
+        ),
+    ];
+    for (text, old, new, wanted) in cases {
+        let text = changed(alloc, text, old, new)?;
+        let (outcome, written) = audited(alloc, text.as_str())?;
+        assert!(rt; outcome == Ok(wanted), "{old} to {new}: {outcome:?}");
+        let line = if wanted { "audit yes\n" } else { "audit no\n" };
+        assert!(rt; written.as_slice() == line.as_bytes(), "{old} to {new}");
+    }
+    Ok(())
+}
+
+#[test]
+fn finds_the_malformed_line(rt: HostRuntime) -> Result<(), Fail> {
+    let alloc = rt.alloc();
+    let cases: [(&str, &str, &str, u64); 57] = [
+        (LOST_UPDATE, "occ 1", "occ 2", 1),
+        (LOST_UPDATE, "sessions 2", "sessions 0", 2),
+        (LOST_UPDATE, "sessions 2", "sessions 65", 2),
+        (LOST_UPDATE, "queue 4", "queue 4 ", 3),
+        (LOST_UPDATE, "keep 8\n", "", 4),
+        (LOST_UPDATE, "table t num int\n", "", 5),
+        (LOST_UPDATE, "log 3\n", "steps\n", 6),
+        (LOST_UPDATE, "log 3", "log 03", 6),
+        (LOST_UPDATE, "log 3", "log 18446744073709551616", 6),
+        (LOST_UPDATE, "log 3", "log 18446744073709551615", 16),
+        (LOST_UPDATE, "log 3", "log 4", 16),
+        (LOST_UPDATE, "log 3", "log 2", 13),
+        (LOST_UPDATE, "row 0", "raw 0", 7),
+        (LOST_UPDATE, "row 0 1 1", "row 0 3 1", 7),
+        (LOST_UPDATE, "row 0 1 1", "row 0 0 1", 7),
+        (LOST_UPDATE, "row 0 1 1", "row 18446744073709551616 1 1", 7),
+        (LOST_UPDATE, "0 0 1 1 done 1", "0 0 257 1 done 1", 7),
+        (LOST_UPDATE, "0 0 1 1 done 1", "0 0 1 257 done 1", 7),
+        (LOST_UPDATE, "0 0 1 1 done 1", "0 0 1 1 done", 7),
+        (LOST_UPDATE, "0 0 1 1 done 1", "0 0 1 1 done 1 1", 7),
+        (LOST_UPDATE, "0 0 1 1 done 1", "0 0 1 1 writing 2", 7),
+        (LOST_UPDATE, "0 0 1 1 done 1", "0 0 1 1 open 1", 7),
+        (LOST_UPDATE, "0 0 1 1 done 1", "0 0 2 1 done 1", 9),
+        (LOST_UPDATE, "0 0 1 1 done 1", "0 0 0 1 done 1", 8),
+        (LOST_UPDATE, "0 0 1 1 done 1", "0 0 1 2 done 1", 10),
+        (LOST_UPDATE, "one t 7 none", "one u 7 none", 8),
+        (LOST_UPDATE, "one t 7 none", "one t '7 none", 8),
+        (LOST_UPDATE, "one t 7 none", "one t 7 1,2", 8),
+        (LOST_UPDATE, "one t 7 none", "one t 7 None", 8),
+        (LOST_UPDATE, "one t 7 none", "one t 7", 8),
+        (LOST_UPDATE, "one t 7 none", "span t 7 7 0", 8),
+        (LOST_UPDATE, "one t 7 none", "span t 7 9 1", 9),
+        (
+            LOST_UPDATE,
+            "one t 7 none",
+            "span t 7 9 18446744073709551615",
+            9,
+        ),
+        (LOST_UPDATE, "one t 7 none", "span t * 9 0", 8),
+        (LOST_UPDATE, "put t 7 1", "put t 7 '1", 9),
+        (LOST_UPDATE, "put t 7 1", "del t 7 1", 9),
+        (
+            LOST_UPDATE,
+            "0 0 1 1 done 1\none t 7 none\nput t 7 1",
+            "0 0 1 2 done 1\none t 7 none\nput t 7 1\ndel t 7",
+            10,
+        ),
+        (
+            WIDE,
+            "pair 'apple 5,'red\npair 'nut%20mix 2,'",
+            "pair 'nut%20mix 2,'\npair 'apple 5,'red",
+            14,
+        ),
+        (
+            WIDE,
+            "pair 'apple 5,'red\npair 'nut%20mix 2,'",
+            "pair 'apple 5,'red\npair 'apple 5,'red",
+            14,
+        ),
+        (WIDE, "pair 'nut%20mix 2,'", "pair 'nut%20mix 2", 14),
+        (WIDE, "pair 'nut%20mix 2,'", "pair 7 2,'", 14),
+        (WIDE, "marks 1", "marks 0", 22),
+        (WIDE, "marks 1", "marks 2", 23),
+        (WIDE, "marks 1\nmark 3 2", "marks 2\nmark 3 2\nmark 3 2", 23),
+        (WIDE, "marks 1\nmark 3 2", "marks 2\nmark 3 2\nmark 1 2", 23),
+        (WIDE, "mark 3 2", "mark 4 2", 22),
+        (WIDE, "mark 3 2", "mark 0 2", 22),
+        (WIDE, "state 1\n", "state 2\nat note 1 'x\n", 25),
+        (WIDE, "state 1\n", "state 2\nat stock 'nut%20mix 2,'\n", 25),
+        (WIDE, "state 1\n", "state 2\nat stock 'o 2,'\n", 25),
+        (WIDE, "state 1\n", "state 2\n", 25),
+        (LOST_UPDATE, "counter 2 low 0\n", "", 19),
+        (LOST_UPDATE, "counter 2 low 0\n", "counter 2 low 0", 19),
+        (LOST_UPDATE, "counter 2 low 0\n", "counter 2 low\n", 19),
+        (
+            LOST_UPDATE,
+            "counter 2 low 0\n",
+            "counter 2 low 0\naudit maybe\n",
+            20,
+        ),
+        (
+            LOST_UPDATE,
+            "counter 2 low 0\n",
+            "counter 2 low 0\naudit yes\naudit yes\n",
+            21,
+        ),
+        (
+            LOST_UPDATE,
+            "counter 2 low 0\n",
+            "counter 2 low 0\naudit yes",
+            20,
+        ),
+    ];
+    for (text, old, new, line) in cases {
+        let text = changed(alloc, text, old, new)?;
+        let (outcome, written) = audited(alloc, text.as_str())?;
+        assert!(rt;
+            outcome == Err(Trouble::Malformed(line)),
+            "{old} to {new}: {outcome:?}"
+        );
+        assert!(rt; written.is_empty(), "{old} to {new}");
+    }
+    Ok(())
+}
+
+#[test]
+fn no_line_is_too_long_or_left_out(rt: HostRuntime) -> Result<(), Fail> {
+    let alloc = rt.alloc();
+    let mut text = String::new(alloc);
+    text.push_str("occ 1\nsessions ")?;
+    for _ in 0..8200 {
+        text.push('1')?;
+    }
+    text.push('\n')?;
+    let (outcome, written) = audited(alloc, text.as_str())?;
+    assert!(rt; outcome == Err(Trouble::Malformed(2)) && written.is_empty());
+    // each beginning of whole lines ends behind its last one
+    let mut lines: u64 = 0;
+    let mut front = String::new(alloc);
+    for line in LOST_UPDATE.split('\n') {
+        let (outcome, written) = audited(alloc, front.as_str())?;
+        if lines < 19 {
+            assert!(rt;
+                outcome == Err(Trouble::Malformed(lines + 1)),
+                "{lines} lines: {outcome:?}"
+            );
+            assert!(rt; written.is_empty());
+        } else {
+            assert!(rt; outcome == Ok(true));
+        }
+        front.push_str(line)?;
+        front.push('\n')?;
+        lines = lines.saturating_add(1);
+    }
+    Ok(())
+}
+
+#[test]
+fn devices_that_fail(rt: HostRuntime) -> Result<(), Fail> {
+    let alloc = rt.alloc();
+    let mut reader = Text {
+        bytes: Vec::from_slice(alloc, LOST_UPDATE.as_bytes())?,
+        at: 0,
+        fails: true,
+    };
+    let mut writer = Paper {
+        bytes: Vec::new(alloc),
+        fails: false,
+    };
+    let outcome = audit_text(alloc, &mut reader, &mut writer);
+    assert!(rt; outcome == Err(Trouble::Read) && writer.bytes.is_empty());
+    reader.at = 0;
+    reader.fails = false;
+    writer.fails = true;
+    assert!(rt; audit_text(alloc, &mut reader, &mut writer) == Err(Trouble::Write));
+    Ok(())
+}

@@ -1,0 +1,214 @@
+//! Taking the rows of the log, each with its reads and writes.
+
+ghost use Rattle.std.specs.Prelude.{◌≡◌, ◌++◌, ◌∷◌, [], length, IfOk, OnOk};
+ghost use Rattle.std.specs.Io.KnownBytes.{prepend_known};
+ghost use Rattle.occ_types.specs.Seen.{object_of};
+ghost use Rattle.occ_sets.specs.Seen.{rows_of, observation_of};
+ghost use Rattle.occ_core.specs.Rows.{standing_of, log_row_of, log_of};
+ghost use Rattle.occ_cli.specs.Books.{pair_line, read_lines, write_line, row_lines};
+ghost use Rattle.occ_books.specs.Entries.{PairFits, WriteFits};
+ghost use Rattle.occ_books.specs.Taking.{TakesLines, Gathered, ReadFits, LogRowFits, StandsSo, IsRowOf};
+
+use crate::entries::Asked;
+use crate::heads::{Head, Stand};
+use crate::takes::{take_asked, take_head, take_pair, take_write};
+use occ_case::cases::Case;
+use occ_cli::input::Input;
+use occ_cli::trouble::Trouble;
+use occ_core::rows::OpenCase;
+use occ_core::{LogRow, Standing};
+use occ_sets::{Answer, Observation, ReadSet, SharedReads, SharedWrites, WriteSet};
+use occ_types::{Key, Object, Question, Row, Schema};
+use std::alloc::Allocator;
+use std::io::Read;
+
+/// Takes the rows that a range of a table answered.
+fn take_pairs<R: Read, A: Allocator + Copy>(
+    alloc: A,
+    input: &mut Input<A>,
+    reader: &mut R,
+    schema: &Schema<A>,
+    table: usize,
+    count: u64,
+) -> Result<Vec<(Key<A>, Row<A>), A>, Trouble>
+    ensures { IfOk result (λ rows. Gathered (λ pair. pair_line pair ∷ []) (PairFits schema.now table) (prepend_known input.old.unread (R.remaining reader.old)) (prepend_known input.new.unread (R.remaining reader.new)) (rows_of rows.items) × (length rows.items ≡ count)) }
+{
+    let mut rows = Vec::new(alloc);
+    for _ in 0..count {
+        let pair = take_pair(alloc, input, reader, schema, table, rows.as_slice())?;
+        rows.push(pair)?;
+    }
+    Ok(rows)
+}
+
+/// Takes a read with its answer.
+fn take_read<R: Read, A: Allocator + Copy>(
+    alloc: A,
+    input: &mut Input<A>,
+    reader: &mut R,
+    schema: &Schema<A>,
+) -> Result<Observation<A>, Trouble>
+    ensures { IfOk result (λ read. TakesLines (prepend_known input.old.unread (R.remaining reader.old)) (prepend_known input.new.unread (R.remaining reader.new)) (read_lines schema.now (observation_of read)) × ReadFits schema.now (observation_of read)) }
+{
+    match take_asked(alloc, input, reader, schema)? {
+        Asked::One { object, row } => Ok(Observation {
+            question: Question::One(object),
+            answer: Answer::Found(row),
+        }),
+        Asked::Span { question, count } => {
+            let table = question.table();
+            let rows = take_pairs(alloc, input, reader, schema, table, count)?;
+            Ok(Observation {
+                question,
+                answer: Answer::Rows(rows),
+            })
+        }
+    }
+}
+
+/// Notes a read behind others.
+fn note<A: Allocator>(reads: &mut ReadSet<A>, read: Observation<A>) -> Result<(), Trouble>
+    ensures { OnOk result (reads.new ≡ reads.old ++ observation_of read ∷ []) }
+{
+    let Observation { question, answer } = read;
+    match reads.note(question, answer) {
+        Ok(()) => Ok(()),
+        Err(_refused) => Err(Trouble::Memory),
+    }
+}
+
+/// Takes the reads of a row, up to 256.
+fn take_reads<R: Read, A: Allocator + Copy>(
+    alloc: A,
+    input: &mut Input<A>,
+    reader: &mut R,
+    schema: &Schema<A>,
+    count: usize,
+) -> Result<ReadSet<A>, Trouble>
+    ensures { IfOk result (λ reads. Gathered (read_lines schema.now) (ReadFits schema.now) (prepend_known input.old.unread (R.remaining reader.old)) (prepend_known input.new.unread (R.remaining reader.new)) reads × (length reads ≡ count)) }
+{
+    let mut reads = ReadSet::new(alloc);
+    for _ in 0..count {
+        let read = take_read(alloc, input, reader, schema)?;
+        note(&mut reads, read)?;
+    }
+    Ok(reads)
+}
+
+/// Adds a write of an object that wasn't written before. `Malformed` at its line where it was.
+fn add_write<A: Allocator>(
+    writes: &mut WriteSet<A>,
+    object: Object<A>,
+    row: Option<Row<A>>,
+    number: u64,
+) -> Result<(), Trouble>
+    ensures { OnOk result (writes.new ≡ writes.old ++ (object_of object, row) ∷ []) }
+{
+    if writes.writes(&object) {
+        return Err(Trouble::Malformed(number));
+    }
+    match writes.set(object, row) {
+        Ok(()) => Ok(()),
+        Err(_refused) => Err(Trouble::Memory),
+    }
+}
+
+/// Takes the writes of a row, up to 256, no object twice.
+fn take_writes<R: Read, A: Allocator + Copy>(
+    alloc: A,
+    input: &mut Input<A>,
+    reader: &mut R,
+    schema: &Schema<A>,
+    count: usize,
+) -> Result<WriteSet<A>, Trouble>
+    ensures { IfOk result (λ writes. Gathered (λ write. write_line schema.now write ∷ []) (WriteFits schema.now) (prepend_known input.old.unread (R.remaining reader.old)) (prepend_known input.new.unread (R.remaining reader.new)) writes × (length writes ≡ count)) }
+{
+    let mut writes = WriteSet::new(alloc);
+    for _ in 0..count {
+        let (object, row) = take_write(alloc, input, reader, schema)?;
+        add_write(&mut writes, object, row, input.number())?;
+    }
+    Ok(writes)
+}
+
+/// A case of a row that is open: a book doesn't tell it, and no audit asks for it.
+fn untold<A: Allocator + Copy>(alloc: A) -> Result<OpenCase<A>, Trouble> {
+    let reads = SharedReads::new(alloc, ReadSet::new(alloc))?;
+    let writes = SharedWrites::new(alloc, WriteSet::new(alloc))?;
+    let case = Case::new(0, 0, reads, writes, Vec::new(alloc), Vec::new(alloc));
+    Ok(OpenCase::new(0, case))
+}
+
+/// The standing that a row's first line tells.
+fn standing<A: Allocator + Copy>(alloc: A, stand: Stand) -> Result<Standing<A>, Trouble>
+    ensures { IfOk result (λ standing. StandsSo stand (standing_of standing)) }
+{
+    match stand {
+        Stand::Open => {
+            let case = untold(alloc)?;
+            Ok(Standing::Open(case))
+        }
+        Stand::Writing(done) => Ok(Standing::Writing(done)),
+        Stand::Done(number) => Ok(Standing::Done(number)),
+        Stand::Back(cause) => Ok(Standing::Back(cause)),
+    }
+}
+
+/// The row of a first line, its reads and its writes.
+fn row_of<A: Allocator + Copy>(
+    alloc: A,
+    head: Head,
+    reads: ReadSet<A>,
+    writes: WriteSet<A>,
+) -> Result<LogRow<A>, Trouble>
+    ensures { IfOk result (λ row. IsRowOf head reads writes (log_row_of row)) }
+{
+    let reads = SharedReads::new(alloc, reads)?;
+    let writes = SharedWrites::new(alloc, writes)?;
+    let standing = standing(alloc, head.stand)?;
+    Ok(LogRow {
+        place: head.place,
+        session: head.session,
+        number: head.number,
+        start: head.start,
+        finish: head.finish,
+        reads,
+        writes,
+        standing,
+    })
+}
+
+/// Takes a row of the log.
+fn take_row<R: Read, A: Allocator + Copy>(
+    alloc: A,
+    input: &mut Input<A>,
+    reader: &mut R,
+    schema: &Schema<A>,
+    sessions: usize,
+) -> Result<LogRow<A>, Trouble>
+    ensures { IfOk result (λ row. TakesLines (prepend_known input.old.unread (R.remaining reader.old)) (prepend_known input.new.unread (R.remaining reader.new)) (row_lines schema.now (log_row_of row)) × LogRowFits schema.now sessions (log_row_of row)) }
+{
+    let head = take_head(input, reader, sessions)?;
+    let reads = take_reads(alloc, input, reader, schema, head.reads)?;
+    let writes = take_writes(alloc, input, reader, schema, head.writes)?;
+    row_of(alloc, head, reads, writes)
+}
+
+/// Takes so many rows of the log. Memory is asked for row by row, since the count may be any.
+pub(crate) fn take_rows<R: Read, A: Allocator + Copy>(
+    alloc: A,
+    input: &mut Input<A>,
+    reader: &mut R,
+    schema: &Schema<A>,
+    sessions: usize,
+    count: u64,
+) -> Result<Vec<LogRow<A>, A>, Trouble>
+    ensures { IfOk result (λ log. Gathered (row_lines schema.now) (LogRowFits schema.now sessions) (prepend_known input.old.unread (R.remaining reader.old)) (prepend_known input.new.unread (R.remaining reader.new)) (log_of log.items) × (length log.items ≡ count)) }
+{
+    let mut log = Vec::new(alloc);
+    for _ in 0..count {
+        let row = take_row(alloc, input, reader, schema, sessions)?;
+        log.push(row)?;
+    }
+    Ok(log)
+}
