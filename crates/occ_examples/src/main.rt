@@ -6,7 +6,7 @@ use std::process::ExitCode;
 use std::{fs, io};
 
 /// The schedules, each in a file `NAME.occ` with its text in `NAME.out`.
-const EXAMPLES: [&str; 22] = [
+const EXAMPLES: [&str; 24] = [
     "blind-writes",
     "deletion-of-an-absent-key",
     "entry-between-two-writes",
@@ -26,9 +26,11 @@ const EXAMPLES: [&str; 22] = [
     "read-between-two-writes",
     "refusals",
     "text-keys",
+    "text-lengths",
     "too-old",
     "torn-line",
     "upper-end-of-a-range",
+    "write-phase-left-open",
 ];
 
 fn main(rt: HostRuntime) -> ExitCode {
