@@ -12,7 +12,8 @@ use Rattle.std.specs.FinMap.{get, find, get-empty, get-from_entries}
 use Rattle.occ_model.specs.State.{State}
 use Rattle.occ_model.specs.Log.{LogRow, Audited, Explained, Counts, numbers, serial, settled, last_folded}
 use Rattle.occ_model.specs.World.{empty_base}
-use Rattle.occ_audit.specs.Order.{ArePlaced, AreNumbered, AreClosed, last_of, marks_of}
+use Rattle.occ_core.specs.Core.{marks_of}
+use Rattle.occ_audit.specs.Order.{ArePlaced, AreNumbered, AreClosed, last_of}
 
 find-lookup : (session : ℕ) (es : List (ℕ × ℕ)) → find nat_cmp session es ≡ lookup (λ x. is_eq (nat_cmp session x)) es
 find-lookup session [] = refl

@@ -21,7 +21,3 @@ last_of last session = unwrap_or (get nat_cmp last session) 0
 -- each closing mark is the number after the session's last
 abbrev pub AreClosed : BTreeMap ℕ ℕ → BTreeMap ℕ ℕ → Type 0
 AreClosed marks last = (session mark : ℕ) → get nat_cmp marks session ≡ Some mark → mark ≡ suc (last_of last session)
-
--- the closing marks as plain data
-abbrev pub marks_of : BTreeMap ℕ ℕ → FinMap nat_cmp ℕ
-marks_of marks = finite.from_entries marks.entries

@@ -4,7 +4,7 @@ ghost use Rattle.std.specs.Bool.{Decides};
 ghost use Rattle.occ_core.specs.Rows.{log_of};
 ghost use Rattle.occ_model.specs.Log.{Audited, Explained, settled, serial};
 ghost use Rattle.occ_model.specs.World.{empty_base};
-ghost use Rattle.occ_audit.specs.Order.{marks_of};
+ghost use Rattle.occ_core.specs.Core.{marks_of};
 
 use crate::order::{are_closed, are_placed, last_numbers};
 use crate::replay::{replay, settle};

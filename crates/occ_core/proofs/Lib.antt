@@ -18,3 +18,4 @@ pub mod Absent
 pub mod Copies
 pub mod Nexts
 pub mod Sharing
+pub mod SingleWrites

@@ -49,6 +49,11 @@ single log (Ok (writes.Wrote row write)) = elim (written_in log row write) [ Non
 single log (Ok writes.NoMore) = NoMore
 single log (Err fault) = Refused fault
 
+-- what a single write replies whose object is known beforehand, if one is left
+abbrev pub writing : Option Object → Result SingleWrite Fault → Reply
+writing next (Ok done) = elim next [ None ↦ NoMore | Some object ↦ Wrote object ]
+writing next (Err fault) = Refused fault
+
 -- what a read of one key replies
 abbrev pub reading : Result (Option Row) Fault → Reply
 reading (Ok row) = Answered (Found row)

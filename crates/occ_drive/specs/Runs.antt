@@ -11,16 +11,10 @@ use Rattle.occ_model.specs.Event.{Event, Read, Forget, Enter, Request, Decide, W
 use Rattle.occ_model.specs.Refusal.{refusal}
 use Rattle.occ_model.specs.Step.{Step}
 use Rattle.occ_sets.specs.Seen.{rows_of}
-use Rattle.occ_core.specs.declared.core_state.SingleWrite.{SingleWrite}
 use Rattle.occ_drive.specs.declared.steps.Step as code_step
 use Rattle.occ_drive.specs.declared.steps.Step.TheVariants as steps
 use Rattle.occ_drive.specs.declared.replies.Reply as code_reply
 use Rattle.occ_drive.specs.declared.replies.Reply.TheVariants as replies
-
--- what a single write replies whose object is known beforehand, if one is left
-abbrev pub writing : Option Object → Result SingleWrite Fault → Reply
-writing next (Ok done) = elim next [ None ↦ NoMore | Some object ↦ Wrote object ]
-writing next (Err fault) = Refused fault
 
 module _ {Z : Type 0} where
   -- the event that a step is

@@ -2,8 +2,8 @@
 ghost use Rattle.std.specs.Prelude.{◌≡◌, None, Some, option_map};
 ghost use Rattle.std.specs.Result.{result_err};
 ghost use Rattle.occ_types.specs.Seen.{object_of};
-ghost use Rattle.occ_core.specs.Replies.{reading, scanning, forgetting, entering, decision, finishing, backing};
-ghost use Rattle.occ_drive.specs.Runs.{reply_of, handed_back, writing};
+ghost use Rattle.occ_core.specs.Replies.{reading, scanning, forgetting, entering, decision, finishing, backing, writing};
+ghost use Rattle.occ_drive.specs.Runs.{reply_of, handed_back};
 
 use occ_core::core_entries::{Entered, RefusedEntry};
 use occ_core::core_state::SingleWrite;

@@ -33,7 +33,7 @@ first_true true b e = refl
 first_true false b e = e
 
 -- what is asked for is of the table that is asked
-asks_table : (question : Question) (o : Object) → asks question o ≡ true → o.0 ≡ table_asked question
+pub asks_table : (question : Question) (o : Object) → asks question o ≡ true → o.0 ≡ table_asked question
 unfolding asks
 asks_table (One table key) o e = sym (ap (λ p. p.0) (same_object (table, key) o e))
 asks_table (Span table lower upper) o e = (unsigned_Decides o.0 table).0 (first_true _ _ e)
@@ -46,7 +46,7 @@ get-put state o (Some row) p = get-insert object_cmp_total state o row p
 
 module _ (question : Question) (state : State) (o : Object) (row : Option Row) (p : Object) where
   -- a write that is not asked for changes no answer
-  unasked : asks question o ≡ false → cond (asks question p) (get (put state (o, row)) p) None ≡ cond (asks question p) (get state p) None
+  pub unasked : asks question o ≡ false → cond (asks question p) (get (put state (o, row)) p) None ≡ cond (asks question p) (get state p) None
   unasked out_of_it = by (eq_by_cmp object_cmp p o) refl
     where
       by : (b : Bool) → eq_by_cmp object_cmp p o ≡ b → cond (asks question p) (get (put state (o, row)) p) None ≡ cond (asks question p) (get state p) None
@@ -56,7 +56,7 @@ module _ (question : Question) (state : State) (o : Object) (row : Option Row) (
       by false e = ap (λ r. cond (asks question p) r None) (get-put state o row p ∙ ap (λ b. cond b row (get state p)) e)
 
   -- and one that is asked for is the answer at its object
-  asked : asks question o ≡ true → cond (asks question p) (get (put state (o, row)) p) None ≡ cond (eq_by_cmp object_cmp p o) row (cond (asks question p) (get state p) None)
+  pub asked : asks question o ≡ true → cond (asks question p) (get (put state (o, row)) p) None ≡ cond (eq_by_cmp object_cmp p o) row (cond (asks question p) (get state p) None)
   asked within = by (eq_by_cmp object_cmp p o) refl
     where
       by : (b : Bool) → eq_by_cmp object_cmp p o ≡ b → cond (asks question p) (get (put state (o, row)) p) None ≡ cond (eq_by_cmp object_cmp p o) row (cond (asks question p) (get state p) None)
@@ -76,7 +76,7 @@ unfolding answer
 overlay-Span table lower upper writes rows = refl
 
 -- objects of one table tie where their keys do
-tied_by_key : (t u : ℕ) (k l : Key) → u ≡ t → eq_by_cmp object_cmp (t, k) (u, l) ≡ is_eq (key_cmp l k)
+pub tied_by_key : (t u : ℕ) (k l : Key) → u ≡ t → eq_by_cmp object_cmp (t, k) (u, l) ≡ is_eq (key_cmp l k)
 tied_by_key t u k l e = object_tied t u k l ∙ ap (λ b. b && key_same k l) ((unsigned_Decides t u).1 (sym e)) ∙ key_same_equiv.symm k l
 
 by_table : (b c : Bool) (x r s : Option Row) → r ≡ cond b s None → cond (b && c) x r ≡ cond b (cond c x s) None

@@ -1,3 +1,5 @@
 pub mod Agreement
 pub mod Entries
+pub mod Leading
 pub mod Meetings
+pub mod Merging

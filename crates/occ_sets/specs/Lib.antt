@@ -1,3 +1,4 @@
+pub mod Merging
 pub mod Overlays
 pub mod Seen
 pub mod Sets

@@ -21,6 +21,11 @@ abbrev pub rows_over : Question → List Write → List (Key × Row) → List (K
 rows_over question writes rows =
     map (λ e. (e.0.1, e.1)) (entries (retain_keys (apply (rows_of (table_asked question) rows) writes) (asks question)))
 
+-- what an overlay is of: the question, and the own writes
+pub record Overlaid : Type 0 where
+  pub question : Question
+  pub writes : List Write
+
 module _ {Z : Type 0} where
   -- entries that have, of the keys that are asked for, what a state has
   pub record Agrees (question : Question) (es : List (code_key.Key Z × Row)) (state : State) : Type 0 where

@@ -4,6 +4,7 @@
 pub mod copies;
 pub mod meets;
 mod overlays;
+pub mod prepared;
 pub mod reads;
 pub mod shared;
 #[cfg(test)]
@@ -11,6 +12,7 @@ mod tests;
 pub mod writes;
 
 pub use copies::PrivateCopy;
+pub use prepared::Prepared;
 pub use reads::{Answer, Observation, ReadSet, RefusedObservation};
 pub use shared::{SharedReads, SharedWrites};
 pub use writes::{RefusedWrite, WriteSet};

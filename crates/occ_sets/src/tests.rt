@@ -1,10 +1,19 @@
 //! That calls succeed where there is memory, which no clause says.
+ghost use Rattle.std.specs.Prelude.{◌≡◌, ◌≤◌, Some, length, IfSome};
+ghost use Rattle.occ_types.specs.declared.limits.TheConstants as limit;
+ghost use Rattle.occ_types.specs.Key.{Num};
+ghost use Rattle.occ_types.specs.Question.{Span};
+ghost use Rattle.occ_types.specs.Seen.{question_of};
+ghost use Rattle.occ_model.specs.State.{State, Rows, answer};
+ghost use Rattle.occ_sets.specs.Seen.{rows_of};
+
 use crate::copies::PrivateCopy;
 use crate::meets::{meets_reads, meets_writes};
 use crate::reads::{Answer, ReadSet};
 use crate::shared::SharedWrites;
 use crate::writes::WriteSet;
-use occ_types::{Key, Object, Question};
+use occ_types::limits::{MAX_ANSWER_ROWS, MAX_WRITES};
+use occ_types::{Cell, Key, Object, Question, Row};
 use std::alloc::Global;
 use std::test::Fail;
 
@@ -97,5 +106,150 @@ fn shared(alloc: Global) -> Option<usize> {
 #[test]
 fn owners_see_the_same_set(rt: HostRuntime) -> Result<(), Fail> {
     assert!(rt; shared(rt.alloc()) == Some(1));
+    Ok(())
+}
+
+// The keys of table 0 from 10 on and below 5000.
+fn range() -> Question<Global>
+    ensures { question_of result ≡ Span 0 (Some (Num 10)) (Some (Num 5000)) }
+{
+    Question::Span {
+        table: 0,
+        lower: Some(Key::Num(10)),
+        upper: Some(Key::Num(5000)),
+    }
+}
+
+// A row of one number.
+fn row(alloc: Global, number: i64) -> Option<Row<Global>> {
+    let mut cells = Vec::new(alloc);
+    cells.push(Cell::Int(number)).ok()?;
+    Some(Row::from_cells(cells))
+}
+
+// Rows of one number each, under their keys.
+fn numbered(
+    alloc: Global,
+    numbers: &[(u64, i64)],
+) -> Option<Vec<(Key<Global>, Row<Global>), Global>> {
+    let mut rows = Vec::new(alloc);
+    for (key, number) in numbers {
+        rows.push((Key::Num(*key), row(alloc, *number)?)).ok()?;
+    }
+    Some(rows)
+}
+
+// What a table that has these rows answers to the range.
+fn answered(
+    alloc: Global,
+    rows: Vec<(Key<Global>, Row<Global>), Global>,
+) -> Option<Vec<(Key<Global>, Row<Global>), Global>>
+    ensures { IfSome result (λ rows. ((state : State) × (answer (Span 0 (Some (Num 10)) (Some (Num 5000))) state ≡ Rows (rows_of rows.items))) × (length rows.items ≤ limit.MAX_ANSWER_ROWS)) }
+{
+    let none = PrivateCopy::new(alloc, 1, 0);
+    let question = range();
+    let Ok(given) = none.overlay(&question, Answer::Rows(rows)) else {
+        return None;
+    };
+    match given {
+        Answer::Found(_row) => None,
+        Answer::Rows(seen) => {
+            if seen.len() > MAX_ANSWER_ROWS {
+                return None;
+            }
+            Some(seen)
+        }
+    }
+}
+
+// What a copy, prepared for the range, sees where the table answers these rows.
+fn laid(
+    alloc: Global,
+    copy: &PrivateCopy<Global>,
+    numbers: &[(u64, i64)],
+) -> Option<Vec<(Key<Global>, Row<Global>), Global>> {
+    let question = range();
+    let Ok(prepared) = copy.prepare(&question) else {
+        return None;
+    };
+    let rows = answered(alloc, numbered(alloc, numbers)?)?;
+    Some(prepared.over(rows))
+}
+
+// A copy with these writes; a key without a number is deleted.
+fn written(alloc: Global, writes: &[(u64, Option<i64>)]) -> Option<PrivateCopy<Global>> {
+    let mut copy = PrivateCopy::new(alloc, 1, 0);
+    for (key, number) in writes {
+        match number {
+            None => copy.delete(object(0, *key)).ok()?,
+            Some(number) => copy.put(object(0, *key), row(alloc, *number)?).ok()?,
+        }
+    }
+    Some(copy)
+}
+
+// Whether a copy with these writes sees the wanted rows where the table answers the others.
+fn sees(
+    alloc: Global,
+    numbers: &[(u64, i64)],
+    writes: &[(u64, Option<i64>)],
+    wanted: &[(u64, i64)],
+) -> Option<bool> {
+    let copy = written(alloc, writes)?;
+    let seen = laid(alloc, &copy, numbers)?;
+    if seen.len() != wanted.len() {
+        return Some(false);
+    }
+    for place in 0..seen.len() {
+        let (key, number) = wanted[place];
+        if seen[place].0 != Key::Num(key) || seen[place].1 != row(alloc, number)? {
+            return Some(false);
+        }
+    }
+    Some(true)
+}
+
+#[test]
+fn own_writes_go_over_the_rows(rt: HostRuntime) -> Result<(), Fail> {
+    let alloc = rt.alloc();
+    let rows = [(20, 1), (30, 2), (40, 3)];
+    assert!(rt; sees(alloc, &rows, &[], &rows) == Some(true));
+    assert!(rt; sees(alloc, &[], &[(20, None), (30, Some(5))], &[(30, 5)]) == Some(true));
+    assert!(rt; sees(alloc, &rows, &[(30, None)], &[(20, 1), (40, 3)]) == Some(true));
+    assert!(rt; sees(alloc, &rows, &[(30, Some(7))], &[(20, 1), (30, 7), (40, 3)]) == Some(true));
+    assert!(rt;
+        sees(
+            alloc,
+            &rows,
+            &[
+                (50, Some(9)),
+                (10, Some(5)),
+                (35, Some(8)),
+                (9, Some(1)),
+                (5000, Some(1))
+            ],
+            &[(10, 5), (20, 1), (30, 2), (35, 8), (40, 3), (50, 9)],
+        ) == Some(true)
+    );
+    Ok(())
+}
+
+// How many rows are seen of the most that an answer may have, at even keys, under the most writes that there may be, at odd ones.
+fn sees_most(alloc: Global) -> Option<usize> {
+    let mut rows = Vec::new(alloc);
+    for place in 0..MAX_ANSWER_ROWS {
+        rows.push((10 + 2 * place as u64, 1)).ok()?;
+    }
+    let mut writes = Vec::new(alloc);
+    for place in 0..MAX_WRITES {
+        writes.push((11 + 2 * place as u64, Some(2))).ok()?;
+    }
+    let copy = written(alloc, writes.as_slice())?;
+    Some(laid(alloc, &copy, rows.as_slice())?.len())
+}
+
+#[test]
+fn the_most_rows_and_writes_have_room(rt: HostRuntime) -> Result<(), Fail> {
+    assert!(rt; sees_most(rt.alloc()) == Some(1024 + 256));
     Ok(())
 }

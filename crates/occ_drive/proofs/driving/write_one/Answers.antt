@@ -1,9 +1,9 @@
 use Rattle.std.proofs.Common.{ap, sym, ◌∙◌, Some}
 use Rattle.occ_types.specs.Seen.{object_of}
 use Rattle.occ_drive.specs.declared.steps.Step.TheVariants as steps
-use Rattle.occ_drive.specs.Runs.{writing}
+use Rattle.occ_core.specs.Replies.{writing}
 use Rattle.occ_drive.proofs.Replied.{answered}
-use Rattle.occ_drive.proofs.Writes.{single_is}
+use Rattle.occ_core.proofs.SingleWrites.{single_is}
 use Rattle.occ_drive.proofs.driving.write_one.Goals as goal
 
 pub returns-in_default : goal.returns-in_default
