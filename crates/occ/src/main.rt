@@ -5,7 +5,7 @@ use clap::error::ErrorKind;
 use clap::{Arg, ArgAction, Command};
 use occ_books::audit_text;
 use occ_cli::replay::replay_text;
-use occ_cli::trouble::{Trouble, status_of};
+use occ_text::trouble::{Trouble, status_of};
 use std::alloc::{AllocError, Global};
 use std::fs::File;
 use std::io::ErrorKind as IoErrorKind;

@@ -1,26 +1,25 @@
 -- The lines of keys and rows: what is read is spelled so.
-use Rattle.std.proofs.Common.{◌≡◌, ℕ, ◌^◌, ◌-◌, ◌==◌, ◌<◌, ◌≤◌, Bool, true, false, cond, List, [], ◌∷◌, ◌++◌, Option, Some, None, ◌⊎◌, inl, inr, refl, sym, ap, subst, ◌∙◌, arith, append_assoc}
-use Rattle.std.specs.Prelude.{option_map, option_and_then, codes}
-use Rattle.std.specs.List.{join_with_byte}
+use Rattle.std.proofs.Common.{◌≡◌, ℕ, ◌^◌, ◌-◌, List, [], ◌∷◌, ◌++◌, Option, Some, None, inl, inr, refl, sym, ap, subst, ◌∙◌, append_assoc}
+use Rattle.std.specs.Prelude.{option_map, codes}
 use Rattle.std.specs.Str.{bytes_eq}
 use Rattle.std.specs.Fmt.{decimal}
 use Rattle.occ_types.specs.Key.{Key}
 use Rattle.occ_types.specs.Object.{Object}
 use Rattle.occ_types.specs.Question.{Question, One, Span}
 use Rattle.occ_types.specs.Row.{Row}
-use Rattle.occ_types.specs.Schema.{Schema, check_key, check_row, check_question}
+use Rattle.occ_types.specs.Schema.{Schema, check_question}
 use Rattle.occ_model.specs.State.{Write, Found}
-use Rattle.occ_cli.specs.Spelling.{line_text, key_text, row_text, KeyFits, RowFits}
-use Rattle.occ_cli.specs.Reading.{tokens_of}
-use Rattle.occ_cli.specs.Escapes.{read_key}
-use Rattle.occ_cli.specs.Books.{table_name, answer_text, question_text, pair_line, write_line, at_line}
-use Rattle.occ_cli.proofs.Escapes.{some_is, bind_value, map_value}
-use Rattle.occ_cli.proofs.Words.{tokens_takes}
-use Rattle.occ_cli.proofs.Values.{key_reads}
-use Rattle.occ_cli.proofs.StepLines.{takes, word_is}
-use Rattle.occ_books.specs.Cursors.{Tokens, before, next_token, next_word, next_number, at_end}
-use Rattle.occ_books.specs.Named.{unless_fault, row_in, next_table, next_key, next_row, next_object}
-use Rattle.occ_books.specs.Entries.{Asked, AskedOne, AskedSpan, asked_text, ObjectFits, RowFitsIn, FoundFits, EndsFit, SpanFits, AskedFits, PairFits, WriteFits, AtFits, found_in, next_found, one_behind, next_span, span_behind, asked_behind, asked_in, asked_of_line, pair_in, pair_of_line, put_behind, del_behind, write_behind, write_in, write_of_line, at_in, at_of_line}
+use Rattle.occ_text.specs.Spelling.{line_text, key_text, row_text}
+use Rattle.occ_text.specs.Reading.{tokens_of}
+use Rattle.occ_text.specs.Escapes.{read_key}
+use Rattle.occ_print.specs.Books.{table_name, answer_text, pair_line, write_line, at_line}
+use Rattle.occ_text.proofs.Escapes.{some_is, bind_value, map_value}
+use Rattle.occ_text.proofs.Words.{tokens_takes}
+use Rattle.occ_text.proofs.Values.{key_reads}
+use Rattle.occ_text.proofs.StepLines.{takes, word_is}
+use Rattle.occ_books.specs.Cursors.{Tokens, next_token, next_word, next_number, at_end}
+use Rattle.occ_books.specs.Named.{row_in, next_table, next_key, next_row, next_object}
+use Rattle.occ_books.specs.Entries.{Asked, AskedOne, AskedSpan, asked_text, FoundFits, SpanFits, AskedFits, PairFits, WriteFits, AtFits, found_in, next_found, one_behind, next_span, span_behind, asked_behind, asked_in, asked_of_line, pair_in, pair_of_line, put_behind, del_behind, write_behind, write_in, write_of_line, at_in, at_of_line}
 use Rattle.occ_books.proofs.Lines.{next-takes, token-takes, number-takes, word-takes, end-takes, row_in-takes, table-takes, key-takes, row-takes, object-takes, passes}
 use Rattle.occ_books.proofs.HeadLines.{either}
 
@@ -29,7 +28,7 @@ on x e = ap (λ (l : Tokens). x ∷ l) e
 
 -- ---- answers of a key
 
-abbrev found_text : Option Row → List ℕ
+abbrev pub found_text : Option Row → List ℕ
 found_text row = answer_text (Found row)
 
 record FoundRead (schema : Schema) (table : ℕ) (token : List ℕ) (row : Option Row) : Type 0 where
@@ -55,7 +54,7 @@ next_found-takes schema table tokens p h =
 
 -- ---- reads
 
-abbrev asked_tokens : Schema → Asked → Tokens
+abbrev pub asked_tokens : Schema → Asked → Tokens
 asked_tokens schema (AskedOne object row) = codes "one" ∷ table_name schema object.0 ∷ key_text object.1 ∷ found_text row ∷ []
 asked_tokens schema (AskedSpan (One table key) count) = []
 asked_tokens schema (AskedSpan (Span table None upper) count) = []
@@ -144,7 +143,7 @@ asked-takes schema tokens asked h =
 abbrev spaced : List ℕ → List ℕ → List ℕ
 spaced a b = a ++ 32 ∷ b
 
-asked_spelling : (schema : Schema) (asked : Asked) → AskedFits schema asked → line_text (asked_tokens schema asked) ≡ asked_text schema asked
+pub asked_spelling : (schema : Schema) (asked : Asked) → AskedFits schema asked → line_text (asked_tokens schema asked) ≡ asked_text schema asked
 asked_spelling schema (AskedOne object row) fits =
     let n = table_name schema object.0 in
     let k = key_text object.1 in
@@ -189,7 +188,7 @@ pair_line-takes schema table line pair h =
 
 -- ---- writes
 
-abbrev write_tokens : Schema → Write → Tokens
+abbrev pub write_tokens : Schema → Write → Tokens
 write_tokens schema (object, None) = codes "del" ∷ table_name schema object.0 ∷ key_text object.1 ∷ []
 write_tokens schema (object, Some row) = codes "put" ∷ table_name schema object.0 ∷ key_text object.1 ∷ row_text row ∷ []
 

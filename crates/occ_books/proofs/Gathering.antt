@@ -1,14 +1,11 @@
 -- Lines that are taken one after another.
-use Rattle.std.proofs.Common.{◌≡◌, ℕ, ◌+◌, List, [], ◌∷◌, ◌++◌, map, length, Option, Result, Ok, Err, refl, sym, ap, subst, ◌∙◌, length-append}
-use Rattle.std.specs.Prelude.{IfOk}
+use Rattle.std.proofs.Common.{◌≡◌, ℕ, ◌+◌, List, [], ◌∷◌, ◌++◌, map, length, Option, refl, sym, ap, subst, ◌∙◌, length-append}
 use Rattle.std.specs.List.{AllByRecursion, flat_map}
 use Rattle.std.specs.Io.KnownBytes.{Consumes}
 use Rattle.std.proofs.KnownBytes.{Consumes-nil, Consumes-trans}
 use Rattle.std.proofs.lemmas.List.{append-nil, map-append}
 use Rattle.std.proofs.lemmas.Grind.{flat_map-append}
-use Rattle.occ_cli.specs.declared.tokens.Unread.{Unread}
-use Rattle.occ_cli.specs.declared.trouble.Trouble.{Trouble}
-use Rattle.occ_cli.specs.Printing.{lines_text}
+use Rattle.occ_text.specs.Line.{lines_text}
 use Rattle.occ_books.specs.Taking.{TakesLines, Gathered}
 
 pub one_line : (line : List ℕ) (a b : Option (List ℕ)) → Consumes a b (line ++ 10 ∷ []) → TakesLines a b (line ∷ [])
@@ -17,24 +14,18 @@ one_line line a b taken = subst (Consumes a b) (sym (append-nil (line ++ 10 ∷ 
 pub more_lines : (xs ys : List (List ℕ)) (a b c : Option (List ℕ)) → TakesLines a b xs → TakesLines b c ys → TakesLines a c (xs ++ ys)
 more_lines xs ys a b c p q = subst (Consumes a c) (sym (flat_map-append (λ (l : List ℕ). l ++ 10 ∷ []) xs ys)) (Consumes-trans a b c (lines_text xs) (lines_text ys) p q)
 
--- what was read of a line that was taken
-pub read_taken : {X : Type 0} (spell : X → List ℕ) (fits : X → Type 0) (read : Result X Unread) (x : X) (shown line : List ℕ) (a b : Option (List ℕ))
-    → TakesLines a b (line ∷ []) → shown ≡ line → IfOk read (λ y. (shown ≡ spell y) × fits y) → read ≡ Ok x → TakesLines a b (spell x ∷ []) × fits x
-read_taken spell fits read x shown line a b taken same found is =
-    let f = subst (λ r. IfOk r (λ y. (shown ≡ spell y) × fits y)) is found in
-    (subst (λ (l : List ℕ). TakesLines a b (l ∷ [])) (sym same ∙ f.0) taken, f.1)
-
-pub result_taken : {X : Type 0} (spell : X → List ℕ) (fits : X → Type 0) (read : Result X Unread) (result : Result X Trouble) (shown line : List ℕ) (a b : Option (List ℕ))
-    → TakesLines a b (line ∷ []) → shown ≡ line → IfOk read (λ y. (shown ≡ spell y) × fits y) → IfOk result (λ x. read ≡ Ok x) → IfOk result (λ x. TakesLines a b (spell x ∷ []) × fits x)
-result_taken spell fits read (Ok x) shown line a b taken same found is = read_taken spell fits read x shown line a b taken same found is
-result_taken spell fits read (Err e) shown line a b taken same found is = tt
-
 pub all_more : {Y : Type 0} (P : Y → Type 0) (ys : List Y) (y : Y) → AllByRecursion P ys → P y → AllByRecursion P (ys ++ y ∷ [])
 all_more P [] y all p = (p, tt)
 all_more P (x ∷ xs) y all p = (all.0, all_more P xs y all.1 p)
 
 pub nothing : {Y : Type 0} (lines : Y → List (List ℕ)) (fits : Y → Type 0) (a : Option (List ℕ)) → Gathered lines fits a a []
 nothing lines fits a = record { taken = Consumes-nil a; fit = tt }
+
+pub nothing_yet : {Y : Type 0} (lines : Y → List (List ℕ)) (fits : Y → Type 0) (ys : List Y) (a : Option (List ℕ)) → ys ≡ [] → Gathered lines fits a a ys
+nothing_yet lines fits ys a is = subst (Gathered lines fits a a) (sym is) (nothing lines fits a)
+
+pub nothing_viewed : {X Y : Type 0} (view : X → Y) (lines : Y → List (List ℕ)) (fits : Y → Type 0) (items : List X) (a : Option (List ℕ)) → items ≡ [] → Gathered lines fits a a (map view items)
+nothing_viewed view lines fits items a is = subst (λ l. Gathered lines fits a a (map view l)) (sym is) (nothing lines fits a)
 
 -- one more value
 pub gathered_more : {Y : Type 0} (lines : Y → List (List ℕ)) (fits : Y → Type 0) (ys : List Y) (y : Y) (a b c : Option (List ℕ)) → Gathered lines fits a b ys → TakesLines b c (lines y) → fits y → Gathered lines fits a c (ys ++ y ∷ [])
@@ -61,3 +52,7 @@ pub viewed_next : {X Y : Type 0} (view : X → Y) (lines : Y → List (List ℕ)
     → TakesLines b c (lines (view x)) × fits (view x) → Gathered lines fits a c (map view now)
 viewed_next view lines fits xs now x a b c is so_far next =
     gathered_next lines fits (map view xs) (map view now) (view x) a b c (ap (map view) is ∙ map-append view xs (x ∷ [])) so_far next
+
+-- one more value, as the code has them
+pub viewed_more : {X Y : Type 0} (view : X → Y) (xs now : List X) (x : X) → now ≡ xs ++ x ∷ [] → map view now ≡ map view xs ++ view x ∷ []
+viewed_more view xs now x is = ap (map view) is ∙ map-append view xs (x ∷ [])

@@ -1,15 +1,15 @@
 -- The lines of numbers: what is read is spelled so.
-use Rattle.std.proofs.Common.{◌≡◌, ℕ, zero, suc, ◌^◌, ◌-◌, ◌==◌, ◌<◌, ◌≤◌, Bool, true, false, cond, List, [], ◌∷◌, Option, Some, None, IfSome, ◌⊎◌, inl, inr, refl, sym, ap, subst, ◌∙◌, arith}
-use Rattle.std.specs.Prelude.{option_map, option_and_then, codes}
+use Rattle.std.proofs.Common.{◌≡◌, ℕ, zero, suc, ◌^◌, ◌-◌, ◌==◌, ◌≤◌, Bool, true, false, cond, List, [], ◌∷◌, Option, Some, None, ◌⊎◌, inl, inr, refl, ap, subst, ◌∙◌, arith}
+use Rattle.std.specs.Prelude.{option_map, codes}
 use Rattle.std.specs.Str.{bytes_eq}
 use Rattle.std.specs.Fmt.{decimal}
 use Rattle.occ_model.specs.declared.verdict.Cause.TheVariants.{Conflict, TooOld}
-use Rattle.occ_cli.specs.Spelling.{line_text}
-use Rattle.occ_cli.specs.Reading.{tokens_of, number_of}
-use Rattle.occ_cli.proofs.Numbers.{number_takes}
-use Rattle.occ_cli.proofs.Escapes.{some_is, bind_value, map_value}
-use Rattle.occ_cli.proofs.Words.{tokens_takes}
-use Rattle.occ_cli.proofs.StepLines.{word_is}
+use Rattle.occ_text.specs.Spelling.{line_text}
+use Rattle.occ_text.specs.Reading.{tokens_of, number_of}
+use Rattle.occ_text.proofs.Numbers.{number_takes}
+use Rattle.occ_text.proofs.Escapes.{some_is, bind_value, map_value}
+use Rattle.occ_text.proofs.Words.{tokens_takes}
+use Rattle.occ_text.proofs.StepLines.{word_is}
 use Rattle.occ_books.specs.declared.heads.Stand.{Stand}
 use Rattle.occ_books.specs.declared.heads.Stand.TheVariants.{Open, Writing, Done, Back}
 use Rattle.occ_books.specs.declared.heads.Head.{Head}

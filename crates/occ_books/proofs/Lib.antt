@@ -3,8 +3,16 @@ pub mod HeadLines
 pub mod EntryLines
 pub mod Found
 pub mod Gathering
+pub mod Leading
+pub mod SingleTakes
 pub mod RowTaking
+pub mod RowLeading
 pub mod Rising
 pub mod Sections
+pub mod PartsLeading
 pub mod Telling
 pub mod LinesAgain
+pub mod EntriesAgain
+pub mod LineLengths
+pub mod BookLeads
+pub mod BookLaws

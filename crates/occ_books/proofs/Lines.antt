@@ -1,31 +1,28 @@
 -- What is read of a line is spelled so.
-use Rattle.std.proofs.Common.{◌≡◌, ℕ, ◌^◌, ◌-◌, ◌==◌, ◌<◌, ◌≤◌, Bool, true, false, cond, List, [], ◌∷◌, ◌++◌, length, Option, Some, None, IfSome, ◌⊎◌, inl, inr, refl, sym, ap, subst, ◌∙◌, arith, append_assoc}
-use Rattle.std.specs.Prelude.{option_map, option_and_then, codes, slice_get}
+use Rattle.std.proofs.Common.{◌≡◌, ℕ, ◌≤◌, List, [], ◌∷◌, Option, Some, None, refl, sym, ap, subst, ◌∙◌}
+use Rattle.std.specs.Prelude.{option_and_then}
 use Rattle.std.specs.List.{position}
 use Rattle.std.specs.Str.{bytes_eq}
 use Rattle.std.specs.Fmt.{decimal}
-use Rattle.std.specs.Cmp.Lexicographic.{pointwise}
 use Rattle.std.proofs.lemmas.Option.{slice_get-get_or}
 use Rattle.std.proofs.lemmas.List.Quantifiers.{position-Some}
 use Rattle.std.proofs.lemmas.Slice.Eq.{bytes_eq-Decides}
 use Rattle.occ_types.specs.declared.fault.Fault.{Fault}
 use Rattle.occ_types.specs.Key.{Key}
 use Rattle.occ_types.specs.Object.{Object}
-use Rattle.occ_types.specs.Question.{Question, One, Span}
 use Rattle.occ_types.specs.Row.{Row}
-use Rattle.occ_types.specs.Schema.{Table, Schema, check_key, check_row, check_question}
+use Rattle.occ_types.specs.Schema.{Table, Schema, check_key, check_row}
 use Rattle.occ_types.specs.Fits.{has_name}
-use Rattle.occ_model.specs.State.{Write, Found}
-use Rattle.occ_cli.specs.Spelling.{line_text, key_text, row_text, KeyFits, RowFits}
-use Rattle.occ_cli.specs.Reading.{tokens_of, number_of, name_of}
-use Rattle.occ_cli.specs.Escapes.{read_key, read_row}
-use Rattle.occ_cli.specs.Books.{table_name}
-use Rattle.occ_cli.proofs.Numbers.{number_takes}
-use Rattle.occ_cli.proofs.Escapes.{some_is, bind_value, map_value}
-use Rattle.occ_cli.proofs.HeaderLines.{tested}
-use Rattle.occ_cli.proofs.Words.{tokens_takes, name_reads}
-use Rattle.occ_cli.proofs.Values.{key_reads, row_reads}
-use Rattle.occ_cli.proofs.StepLines.{takes, word_is}
+use Rattle.occ_text.specs.Spelling.{key_text, row_text, KeyFits, RowFits}
+use Rattle.occ_text.specs.Reading.{number_of, name_of}
+use Rattle.occ_text.specs.Escapes.{read_key, read_row}
+use Rattle.occ_print.specs.Books.{table_name}
+use Rattle.occ_text.proofs.Numbers.{number_takes}
+use Rattle.occ_text.proofs.Escapes.{some_is, bind_value, map_value}
+use Rattle.occ_text.proofs.HeaderLines.{tested}
+use Rattle.occ_text.proofs.Words.{name_reads}
+use Rattle.occ_text.proofs.Values.{key_reads, row_reads}
+use Rattle.occ_text.proofs.StepLines.{takes, word_is}
 use Rattle.occ_books.specs.Cursors.{Tokens, before, next_token, the_word, next_word, next_number, at_end}
 use Rattle.occ_books.specs.Named.{unless_fault, place_of, key_in, row_in, next_table, next_key, next_row, next_object}
 

@@ -1,35 +1,28 @@
 -- What is spelled so is read of a line.
-use Rattle.std.proofs.Common.{◌≡◌, ℕ, zero, suc, ◌+◌, ◌^◌, ◌-◌, ◌==◌, ◌<◌, ◌≤◌, Bool, true, false, cond, List, [], ◌∷◌, ◌++◌, length, Option, Some, None, IfSome, ◌⊎◌, inl, inr, lit<, refl, sym, ap, subst, ◌∙◌, arith}
-use Rattle.std.specs.Prelude.{option_map, option_and_then, codes, slice_get, nat_eq}
-use Rattle.std.specs.List.{position, list_any}
-use Rattle.std.specs.Str.{bytes_eq}
+use Rattle.std.proofs.Common.{◌≡◌, ℕ, zero, suc, ◌^◌, ◌-◌, ◌==◌, ◌<◌, ◌≤◌, Bool, true, false, cond, [], ◌∷◌, Option, Some, None, lit<, refl, ap, ◌∙◌, arith}
+use Rattle.std.specs.Prelude.{option_map, option_and_then, codes}
 use Rattle.std.specs.Fmt.{decimal}
 use Rattle.std.proofs.lemmas.Bool.Decides.{Decides-eqb}
-use Rattle.occ_types.specs.declared.fault.Fault.{Fault}
-use Rattle.occ_types.specs.Key.{Key}
-use Rattle.occ_types.specs.Object.{Object}
-use Rattle.occ_types.specs.Row.{Row}
-use Rattle.occ_types.specs.Schema.{Table, Schema, check_key, check_row}
-use Rattle.occ_cli.specs.Spelling.{line_text, key_text, row_text, IsToken, AreTokens, KeyFits, RowFits}
-use Rattle.occ_cli.specs.Reading.{is_token, tokens_of, number_of}
-use Rattle.occ_cli.proofs.Numbers.{number_again}
-use Rattle.occ_cli.proofs.Words.{IsToken-from_test, tokens_again}
-use Rattle.occ_cli.proofs.Spelled.{IsToken-decimal}
-use Rattle.occ_cli.proofs.StepLines.{one_token, more_tokens}
+use Rattle.occ_text.specs.Spelling.{IsToken, AreTokens}
+use Rattle.occ_text.specs.Reading.{is_token}
+use Rattle.occ_text.proofs.Numbers.{number_again}
+use Rattle.occ_text.proofs.Words.{IsToken-from_test, tokens_again}
+use Rattle.occ_text.proofs.Spelled.{IsToken-decimal}
+use Rattle.occ_text.proofs.StepLines.{one_token, more_tokens}
 use Rattle.occ_model.specs.declared.verdict.Cause.TheVariants.{Conflict, TooOld}
 use Rattle.occ_books.specs.declared.heads.Stand.{Stand}
 use Rattle.occ_books.specs.declared.heads.Stand.TheVariants.{Open, Writing, Done, Back}
 use Rattle.occ_books.specs.declared.heads.Head.{Head}
 use Rattle.occ_books.specs.declared.heads.Mark.{Mark}
 use Rattle.occ_books.specs.declared.heads.Counts.{Counts}
-use Rattle.occ_books.specs.Cursors.{Tokens, before, next_token, next_word, next_number, at_end}
+use Rattle.occ_books.specs.Cursors.{Tokens, before, next_word, next_number}
 use Rattle.occ_books.specs.Heads.{stand_tokens, head_tokens, head_text, mark_text, counts_text, IsSession, StandFits, HeadFits, MarkFits, CountsFit, bare_stand, counted_stand, stand_of, unless_zero, next_session, head_of, head_of_line, mark_of, mark_of_line, counts_of, counts_of_line}
 
 pub number-again : (limit n : ℕ) (rest : Tokens) → limit < 2 ^ 64 → n ≤ limit → next_number limit (decimal n ∷ rest) ≡ Some (n, rest)
 unfolding next_number
 number-again limit n rest small fits = ap (before rest) (number_again limit n small fits)
 
-wide : 2 ^ 64 - 1 < 2 ^ 64
+pub wide : 2 ^ 64 - 1 < 2 ^ 64
 wide = lit< tt
 
 unless_zero-again : (n : ℕ) (rest : Tokens) → 1 ≤ n → unless_zero (n, rest) ≡ Some (n, rest)
@@ -66,10 +59,10 @@ head-again sessions head small fits =
       stand-again head.writes head.stand fits.writes fits.stand,
     ) refl
 
-small_number : (n limit : ℕ) → n ≤ limit → limit < 2 ^ 64 → n < 2 ^ 64
+pub small_number : (n limit : ℕ) → n ≤ limit → limit < 2 ^ 64 → n < 2 ^ 64
 small_number n limit le lt = omega arith
 
-token_of : (n : ℕ) → n ≤ 2 ^ 64 - 1 → IsToken (decimal n)
+pub token_of : (n : ℕ) → n ≤ 2 ^ 64 - 1 → IsToken (decimal n)
 token_of n le = IsToken-decimal n (small_number n (2 ^ 64 - 1) le wide)
 
 stand-AreTokens : (writes : ℕ) (stand : Stand) → writes ≤ 256 → StandFits writes stand → AreTokens (stand_tokens stand)
@@ -80,7 +73,7 @@ stand-AreTokens writes (Done number) few fits = more_tokens (codes "done") _ (Is
 stand-AreTokens writes (Back Conflict) few fits = one_token (IsToken-from_test (codes "conflict") refl)
 stand-AreTokens writes (Back TooOld) few fits = one_token (IsToken-from_test (codes "tooold") refl)
 
-head-AreTokens : (sessions : ℕ) (head : Head) → sessions < 2 ^ 64 → HeadFits sessions head → AreTokens (head_tokens head)
+pub head-AreTokens : (sessions : ℕ) (head : Head) → sessions < 2 ^ 64 → HeadFits sessions head → AreTokens (head_tokens head)
 unfolding is_token
 head-AreTokens sessions head small fits =
     more_tokens (codes "row") _ (IsToken-from_test (codes "row") refl)
@@ -98,19 +91,33 @@ unfolding head_of_line
 head_line-again sessions head small fits =
     ap (option_and_then (head_of sessions)) (tokens_again (head_tokens head) (head-AreTokens sessions head small fits)) ∙ head-again sessions head small fits
 
+abbrev pub mark_tokens : Mark → Tokens
+mark_tokens mark = codes "mark" ∷ decimal mark.session ∷ decimal mark.number ∷ []
+
+pub mark_words : (sessions : ℕ) (mark : Mark) → sessions < 2 ^ 64 → MarkFits sessions mark → AreTokens (mark_tokens mark)
+unfolding is_token
+mark_words sessions mark small fits =
+    more_tokens (codes "mark") _ (IsToken-from_test (codes "mark") refl)
+    (more_tokens (decimal mark.session) _ (IsToken-decimal mark.session (small_number mark.session sessions fits.session.last small)) (one_token (token_of mark.number fits.number)))
+
 pub mark_line-again : (sessions : ℕ) (mark : Mark) → sessions < 2 ^ 64 → MarkFits sessions mark → mark_of_line sessions (mark_text mark) ≡ Some mark
-unfolding mark_of_line mark_of next_word is_token
+unfolding mark_of_line mark_of next_word
 mark_line-again sessions mark small fits =
-    ap (option_and_then (mark_of sessions)) (tokens_again (codes "mark" ∷ decimal mark.session ∷ decimal mark.number ∷ [])
-    (more_tokens (codes "mark") _ (IsToken-from_test (codes "mark") refl)
-    (more_tokens (decimal mark.session) _ (IsToken-decimal mark.session (small_number mark.session sessions fits.session.last small)) (one_token (token_of mark.number fits.number)))))
+    ap (option_and_then (mark_of sessions)) (tokens_again (mark_tokens mark) (mark_words sessions mark small fits))
     ∙ rw (session-again sessions mark.session (decimal mark.number ∷ []) small fits.session, number-again (2 ^ 64 - 1) mark.number [] wide fits.number) refl
 
-pub counts_line-again : (counts : Counts) → CountsFit counts → counts_of_line (counts_text counts) ≡ Some counts
-unfolding counts_of_line counts_of next_word is_token
-counts_line-again counts fits =
-    ap (option_and_then counts_of) (tokens_again (codes "counter" ∷ decimal counts.counter ∷ codes "low" ∷ decimal counts.low ∷ [])
-    (more_tokens (codes "counter") _ (IsToken-from_test (codes "counter") refl)
+abbrev pub counts_tokens : Counts → Tokens
+counts_tokens counts = codes "counter" ∷ decimal counts.counter ∷ codes "low" ∷ decimal counts.low ∷ []
+
+pub counts_words : (counts : Counts) → CountsFit counts → AreTokens (counts_tokens counts)
+unfolding is_token
+counts_words counts fits =
+    more_tokens (codes "counter") _ (IsToken-from_test (codes "counter") refl)
     (more_tokens (decimal counts.counter) _ (token_of counts.counter fits.counter)
-    (more_tokens (codes "low") _ (IsToken-from_test (codes "low") refl) (one_token (token_of counts.low fits.low))))))
+    (more_tokens (codes "low") _ (IsToken-from_test (codes "low") refl) (one_token (token_of counts.low fits.low))))
+
+pub counts_line-again : (counts : Counts) → CountsFit counts → counts_of_line (counts_text counts) ≡ Some counts
+unfolding counts_of_line counts_of next_word
+counts_line-again counts fits =
+    ap (option_and_then counts_of) (tokens_again (counts_tokens counts) (counts_words counts fits))
     ∙ rw (number-again (2 ^ 64 - 1) counts.counter (codes "low" ∷ decimal counts.low ∷ []) wide fits.counter, number-again (2 ^ 64 - 1) counts.low [] wide fits.low) refl

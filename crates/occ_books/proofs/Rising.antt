@@ -8,9 +8,9 @@ use Rattle.std.specs.Cmp.{IsTotalOrder, nat_cmp_total, eq_by_cmp_equiv}
 use Rattle.std.specs.Map.{lookup}
 use Rattle.std.specs.BTreeMap as tree
 use Rattle.std.specs.BTreeMap.{BTreeMap}
-use Rattle.std.specs.FinMap.{FinMap, get, insert, entries, entries_sorted, entries-insert, from_entries, get-insert, get-from_entries, same_map, nat_cmp-IsAntisymmetric, find, put, is_sorted}
+use Rattle.std.specs.FinMap.{FinMap, get, insert, entries, entries_sorted, entries-insert, get-insert, get-from_entries, same_map, nat_cmp-IsAntisymmetric, find, put, is_sorted}
 use Rattle.std.specs.FinMap.Entries.{by_order, below_all}
-use Rattle.occ_audit.specs.Order.{marks_of}
+use Rattle.occ_core.specs.Core.{marks_of}
 
 first : (a b : Bool) → T (a && b) → T a
 first true b p = tt

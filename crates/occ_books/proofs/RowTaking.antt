@@ -1,10 +1,9 @@
 -- The rows of the log, from their lines.
-use Rattle.std.proofs.Common.{◌≡◌, ℕ, ◌≤◌, Bool, true, false, cond, List, [], ◌∷◌, ◌++◌, map, length, Option, Some, None, Result, Ok, Err, refl, sym, ap, subst, ◌∙◌}
+use Rattle.std.proofs.Common.{◌≡◌, ℕ, ◌≤◌, ◌^◌, ◌-◌, Bool, true, false, cond, List, [], ◌∷◌, ◌++◌, map, length, Option, Some, None, Result, Ok, Err, refl, sym, ap, subst, ◌∙◌}
 use Rattle.std.specs.Prelude.{IfOk, codes, is_some}
 use Rattle.std.specs.List.{AllByRecursion, flat_map}
 use Rattle.std.specs.Ordering.{eq_by_cmp}
 use Rattle.std.specs.Fmt.{decimal}
-use Rattle.std.proofs.lemmas.List.{append-nil}
 use Rattle.occ_types.specs.Key.{Key}
 use Rattle.occ_types.specs.Object.{Object, object_cmp}
 use Rattle.occ_types.specs.Question.{Question, One, Span}
@@ -13,17 +12,20 @@ use Rattle.occ_types.specs.Schema.{Schema}
 use Rattle.occ_types.specs.Seen.{table_asked}
 use Rattle.occ_model.specs.State.{Write, Observation, Rows}
 use Rattle.occ_model.specs.Overlay.{set, own}
-use Rattle.occ_model.specs.Log.{LogRow, Standing, Open, Writing, Done, Back}
+use Rattle.occ_model.specs.RangeLaws.{IsDistinctWrites}
+use Rattle.occ_model.proofs.RangeLaws.{sets_own}
+use Rattle.occ_model.specs.Log.{LogRow, Standing}
 use Rattle.occ_model.specs.declared.verdict.Cause.TheVariants.{Conflict, TooOld}
-use Rattle.occ_cli.specs.declared.trouble.Trouble.{Trouble}
-use Rattle.occ_cli.specs.Spelling.{line_text}
-use Rattle.occ_cli.specs.Books.{question_text, pair_line, read_lines, write_line, standing_text, row_line, row_lines}
+use Rattle.occ_text.specs.declared.trouble.Trouble.{Trouble}
+use Rattle.occ_text.specs.Spelling.{line_text}
+use Rattle.occ_print.specs.Books.{question_text, pair_line, read_lines, write_line, standing_text, row_line, row_lines}
 use Rattle.occ_books.specs.declared.heads.Stand.{Stand}
 use Rattle.occ_books.specs.declared.heads.Stand.TheVariants as stands
 use Rattle.occ_books.specs.declared.heads.Head.{Head}
 use Rattle.occ_books.specs.Heads.{stand_tokens, head_text, IsSession, StandFits, HeadFits}
-use Rattle.occ_books.specs.Entries.{Asked, AskedSpan, asked_text, AskedFits, PairFits, WriteFits}
-use Rattle.occ_books.specs.Taking.{TakesLines, Gathered, ReadFits, StandingFits, LogRowFits, StandsSo, IsRowOf}
+use Rattle.occ_books.specs.Entries.{AskedSpan, asked_text, AskedFits, PairFits, WriteFits}
+use Rattle.occ_books.specs.Taking.{TakesLines, Gathered, ReadFits, RisesFrom, StandingFits, LogRowFits, StandsSo, IsRowOf}
+use Rattle.occ_books.specs.Places.{IsAbove, last_key}
 use Rattle.occ_books.proofs.Gathering.{more_lines, single_lines}
 
 -- ---- writes
@@ -39,19 +41,46 @@ set-absent (write ∷ writes) object row h =
     let a = absent (eq_by_cmp object_cmp object write.0) write.1 (own writes object) h in
     ap (λ (b : Bool). cond b ((write.0, row) ∷ writes) (write ∷ set writes object row)) a.0 ∙ ap (λ (l : List Write). write ∷ l) (set-absent writes object row a.1)
 
+-- so no object is written twice
+pub distinct-more : (writes now : List Write) (object : Object) (row : Option Row) → own writes object ≡ None → now ≡ writes ++ (object, row) ∷ [] → IsDistinctWrites writes → IsDistinctWrites now
+distinct-more writes now object row h is so_far = subst IsDistinctWrites (set-absent writes object row h ∙ sym is) ((sets_own writes object row).distinct so_far)
+
 -- ---- ranges
 
+-- the last key of some rows behind another one
+abbrev last_behind : Option Key → List (Key × Row) → Option Key
+last_behind last [] = last
+last_behind last (row ∷ rows) = last_behind (Some row.0) rows
+
+last_behind-is : (last : Option Key) (row : Key × Row) (rows : List (Key × Row)) → last_behind last (row ∷ rows) ≡ last_key (row ∷ rows)
+last_behind-is last row [] = refl
+last_behind-is last row (next ∷ rows) = last_behind-is (Some row.0) next rows
+
+last_of : (rows : List (Key × Row)) → last_key rows ≡ last_behind None rows
+last_of [] = refl
+last_of (row ∷ rows) = sym (last_behind-is None row rows)
+
+rises_behind : (last : Option Key) (rows : List (Key × Row)) (pair : Key × Row) → IsAbove (last_behind last rows) pair.0 → RisesFrom last rows → RisesFrom last (rows ++ pair ∷ [])
+rises_behind None [] pair above rises = tt
+rises_behind (Some last) [] pair above rises = (above, tt)
+rises_behind None (row ∷ rows) pair above rises = rises_behind (Some row.0) rows pair above rises
+rises_behind (Some last) (row ∷ rows) pair above rises = (rises.0, rises_behind (Some row.0) rows pair above rises.1)
+
+-- a key above the last one rises too
+pub rises-more : (rows now : List (Key × Row)) (pair : Key × Row) → now ≡ rows ++ pair ∷ [] → IsAbove (last_key rows) pair.0 → RisesFrom None rows → RisesFrom None now
+rises-more rows now pair is above so_far = subst (RisesFrom None) (sym is) (rises_behind None rows pair (subst (λ (k : Option Key). IsAbove k pair.0) (last_of rows) above) so_far)
+
 pub span_taken : (schema : Schema) (question : Question) (rows : List (Key × Row)) (n table : ℕ) (a b c : Option (List ℕ)) → TakesLines a b (asked_text schema (AskedSpan question n) ∷ []) × AskedFits schema (AskedSpan question n)
-    → table ≡ table_asked question → Gathered (λ (pair : Key × Row). pair_line pair ∷ []) (PairFits schema table) b c rows → length rows ≡ n
+    → table ≡ table_asked question → Gathered (λ (pair : Key × Row). pair_line pair ∷ []) (PairFits schema table) b c rows → length rows ≡ n → RisesFrom None rows
     → TakesLines a c (read_lines schema (question, Rows rows)) × ReadFits schema (question, Rows rows)
-span_taken schema (One t key) rows n table a b c head same pairs count = absurd head.1.0.ends
-span_taken schema (Span t lower upper) rows n table a b c head same pairs count =
+span_taken schema (One t key) rows n table a b c head same pairs count rises = absurd head.1.0.ends
+span_taken schema (Span t lower upper) rows n table a b c head same pairs count rises =
     let question = Span t lower upper in
     let first : TakesLines a b (line_text (question_text schema question ∷ decimal (length rows) ∷ []) ∷ []) =
     subst (λ (k : ℕ). TakesLines a b (line_text (question_text schema question ∷ decimal k ∷ []) ∷ [])) (sym count) head.0 in
     let rest : TakesLines b c (map pair_line rows) = subst (TakesLines b c) (single_lines pair_line rows) pairs.taken in
     let g = subst (λ (k : ℕ). Gathered (λ (pair : Key × Row). pair_line pair ∷ []) (PairFits schema k) b c rows) same pairs in
-    (more_lines (line_text (question_text schema question ∷ decimal (length rows) ∷ []) ∷ []) (map pair_line rows) a b c first rest, (head.1.0, g.fit))
+    (more_lines (line_text (question_text schema question ∷ decimal (length rows) ∷ []) ∷ []) (map pair_line rows) a b c first rest, (head.1.0, g.fit, rises, subst (λ (k : ℕ). k ≤ 2 ^ 64 - 1) (sym count) head.1.1))
 
 -- ---- rows
 
@@ -80,10 +109,10 @@ stand_spelling (stands.Back TooOld) standing h = ap standing_text (sym h)
 standing_fits : (writes : ℕ) (stand : Stand) (standing : Standing) → StandsSo stand standing → StandFits writes stand → StandingFits writes standing
 standing_fits writes stands.Open standing h f = subst (StandingFits writes) (sym h.2) tt
 standing_fits writes (stands.Writing done) standing h f = subst (StandingFits writes) (sym h) f
-standing_fits writes (stands.Done tn) standing h f = subst (StandingFits writes) (sym h) tt
+standing_fits writes (stands.Done tn) standing h f = subst (StandingFits writes) (sym h) f
 standing_fits writes (stands.Back cause) standing h f = subst (StandingFits writes) (sym h) tt
 
-head_line : (head : Head) (reads : List Observation) (writes : List Write) (row : LogRow) → length reads ≡ head.reads → length writes ≡ head.writes → IsRowOf head reads writes row → head_text head ≡ row_line row
+pub head_line : (head : Head) (reads : List Observation) (writes : List Write) (row : LogRow) → length reads ≡ head.reads → length writes ≡ head.writes → IsRowOf head reads writes row → head_text head ≡ row_line row
 head_line head reads writes row r w is =
     let rs : head.reads ≡ length row.reads = sym (ap length is.read ∙ r) in
     let ws : head.writes ≡ length row.writes = sym (ap length is.written ∙ w) in
@@ -93,7 +122,7 @@ head_line head reads writes row r w is =
 row_taken : (schema : Schema) (sessions : ℕ) (head : Head) (reads : List Observation) (writes : List Write) (row : LogRow) (a b c d : Option (List ℕ))
     → TakesLines a b (head_text head ∷ []) × HeadFits sessions head
     → Gathered (read_lines schema) (ReadFits schema) b c reads × (length reads ≡ head.reads)
-    → Gathered (λ (write : Write). write_line schema write ∷ []) (WriteFits schema) c d writes × (length writes ≡ head.writes)
+    → Gathered (λ (write : Write). write_line schema write ∷ []) (WriteFits schema) c d writes × (length writes ≡ head.writes) × IsDistinctWrites writes
     → IsRowOf head reads writes row → TakesLines a d (row_lines schema row) × LogRowFits schema sessions row
 row_taken schema sessions head reads writes row a b c d first read written is =
     let first_line : TakesLines a b (row_line row ∷ []) = subst (λ (l : List ℕ). TakesLines a b (l ∷ [])) (head_line head reads writes row read.1 written.1 is) first.0 in
@@ -103,19 +132,24 @@ row_taken schema sessions head reads writes row a b c d first read written is =
       more_lines (row_line row ∷ flat_map (read_lines schema) row.reads) (map (write_line schema) row.writes) a c d
           (more_lines (row_line row ∷ []) (flat_map (read_lines schema) row.reads) a b c first_line of_reads) of_writes,
       record {
+        place = subst (λ (k : ℕ). k ≤ 2 ^ 64 - 1) (sym is.place) first.1.place;
         session = subst (IsSession sessions) (sym is.session) first.1.session;
+        number = subst (λ (k : ℕ). k ≤ 2 ^ 64 - 1) (sym is.number) first.1.number;
+        start = subst (λ (k : ℕ). k ≤ 2 ^ 64 - 1) (sym is.start) first.1.start;
+        finish = subst (λ (k : ℕ). k ≤ 2 ^ 64 - 1) (sym is.finish) first.1.finish;
         few_reads = subst (λ (k : ℕ). k ≤ 256) (sym (ap length is.read ∙ read.1)) first.1.reads;
         few_writes = subst (λ (k : ℕ). k ≤ 256) (sym (ap length is.written ∙ written.1)) first.1.writes;
         done = standing_fits (length row.writes) head.stand row.standing is.stands (subst (λ (k : ℕ). StandFits k head.stand) (sym (ap length is.written ∙ written.1)) first.1.stand);
         reads = subst (AllByRecursion (ReadFits schema)) (sym is.read) read.0.fit;
         writes = subst (AllByRecursion (WriteFits schema)) (sym is.written) written.0.fit;
+        distinct = subst IsDistinctWrites (sym is.written) written.2;
       },
     )
 
 pub row_result : {X : Type 0} (view : X → LogRow) (result : Result X Trouble) (schema : Schema) (sessions : ℕ) (head : Head) (reads : List Observation) (writes : List Write) (a b c d : Option (List ℕ))
     → TakesLines a b (head_text head ∷ []) × HeadFits sessions head
     → Gathered (read_lines schema) (ReadFits schema) b c reads × (length reads ≡ head.reads)
-    → Gathered (λ (write : Write). write_line schema write ∷ []) (WriteFits schema) c d writes × (length writes ≡ head.writes)
+    → Gathered (λ (write : Write). write_line schema write ∷ []) (WriteFits schema) c d writes × (length writes ≡ head.writes) × IsDistinctWrites writes
     → IfOk result (λ x. IsRowOf head reads writes (view x)) → IfOk result (λ x. TakesLines a d (row_lines schema (view x)) × LogRowFits schema sessions (view x))
 row_result view (Ok x) schema sessions head reads writes a b c d first read written is = row_taken schema sessions head reads writes (view x) a b c d first read written is
 row_result view (Err e) schema sessions head reads writes a b c d first read written is = tt

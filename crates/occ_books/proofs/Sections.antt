@@ -1,17 +1,17 @@
 -- The parts of a book: its tables, its closing marks, its state and its end.
-use Rattle.std.proofs.Common.{◌≡◌, ℕ, zero, suc, ◌+◌, ◌-◌, ◌^◌, ◌<◌, ◌≤◌, Bool, true, false, cond, ◌||◌, List, [], ◌∷◌, ◌++◌, map, length, Option, Some, None, Result, Ok, Err, ◌⊎◌, inl, inr, refl, sym, ap, subst, ◌∙◌, arith, length-append, append_assoc}
-use Rattle.std.specs.Prelude.{not, IfOk, IfSome, codes, slice_get, min}
+use Rattle.std.proofs.Common.{◌≡◌, ℕ, zero, suc, ◌+◌, ◌-◌, ◌^◌, ◌<◌, ◌≤◌, Bool, true, false, cond, ◌||◌, List, [], ◌∷◌, ◌++◌, map, length, Option, Some, None, Result, Ok, inl, inr, refl, sym, ap, subst, ◌∙◌, arith, append_assoc}
+use Rattle.std.specs.Prelude.{IfSome, codes, slice_get}
 use Rattle.std.specs.List.{AllByRecursion, flat_map}
 use Rattle.std.specs.Str.{bytes_eq}
 use Rattle.std.specs.declared.cmp.Ordering.{Ordering}
 use Rattle.std.specs.declared.cmp.Ordering.TheVariants.{Less, Equal, Greater}
 use Rattle.std.specs.Ordering.{nat_cmp, is_lt, is_eq}
 use Rattle.std.specs.FinMap as finite
-use Rattle.std.specs.FinMap.{FinMap, entries, insert, len, empty, from_entries, get-from_entries, get-empty, same_map, nat_cmp-IsAntisymmetric, len-entries, len-empty}
+use Rattle.std.specs.FinMap.{FinMap, entries, insert, len, empty, get-from_entries, get-empty, same_map, nat_cmp-IsAntisymmetric, len-entries, len-empty}
 use Rattle.std.specs.Cmp.{nat_cmp_total}
 use Rattle.std.specs.BTreeMap as tree
 use Rattle.std.specs.BTreeMap.{BTreeMap}
-use Rattle.std.specs.Io.KnownBytes.{Consumes, Keeps, IsAtEnd}
+use Rattle.std.specs.Io.KnownBytes.{Consumes, IsAtEnd}
 use Rattle.std.proofs.KnownBytes.{Consumes-nil, Consumes-trans}
 use Rattle.std.proofs.lemmas.Cmp.{ranked}
 use Rattle.std.proofs.lemmas.List.{nil_from_length, map-append, append-nil}
@@ -22,18 +22,18 @@ use Rattle.occ_types.specs.declared.fault.Fault.TheVariants.{NoTable}
 use Rattle.occ_types.specs.Schema.{Table, Schema, check_key, check_key_in, check_tables}
 use Rattle.occ_model.specs.Log.{LogRow}
 use Rattle.occ_model.specs.State.{State, put}
-use Rattle.occ_audit.specs.Order.{marks_of}
-use Rattle.occ_cli.specs.declared.tokens.Unread.{Unread}
-use Rattle.occ_cli.specs.Escapes.{Gives}
-use Rattle.occ_cli.specs.Headers.{table_text, count_text, Within}
-use Rattle.occ_cli.specs.HeaderTaking.{TablesSoFar, table_behind}
-use Rattle.occ_cli.specs.Printing.{lines_text}
-use Rattle.occ_cli.specs.Books.{row_lines, mark_line, mark_lines, at_line, row_count, state_lines}
-use Rattle.occ_cli.proofs.SchemaLines.{table_next}
-use Rattle.occ_cli.proofs.StepLines.{word_is}
+use Rattle.occ_core.specs.Core.{marks_of}
+use Rattle.occ_text.specs.declared.tokens.Unread.{Unread}
+use Rattle.occ_text.specs.Escapes.{Gives}
+use Rattle.occ_text.specs.Headers.{table_text, count_text}
+use Rattle.occ_text.specs.HeaderTaking.{TablesSoFar, table_behind}
+use Rattle.occ_text.specs.Line.{lines_text}
+use Rattle.occ_print.specs.Books.{row_lines, mark_line, mark_lines, at_line, row_count, state_lines}
+use Rattle.occ_text.proofs.SchemaLines.{table_next}
+use Rattle.occ_text.proofs.StepLines.{word_is}
 use Rattle.occ_books.specs.declared.heads.Mark.{Mark}
-use Rattle.occ_books.specs.Heads.{mark_text, counts_text, IsSession, MarkFits}
-use Rattle.occ_books.specs.Entries.{ObjectFits, AtFits}
+use Rattle.occ_books.specs.Heads.{mark_text, counts_text, MarkFits, CountsFit}
+use Rattle.occ_books.specs.Entries.{AtFits}
 use Rattle.occ_books.specs.Taking.{TakesLines, Gathered, LogRowFits, is_behind}
 use Rattle.occ_books.specs.Printed.{IsEnding, EndTaken, EntryFits, SettingsTaken, IsBookText}
 use Rattle.occ_books.specs.declared.printed.Settings.{Settings}
@@ -113,7 +113,7 @@ marks_next sessions last count m n mark a b c so_far next is =
     let more : entries (marks_of n) ≡ entries (marks_of m) ++ (mark.session, mark.number) ∷ [] =
     ap entries (marks-insert m n mark.session mark.number is) ∙ insert_last nat_cmp nat_cmp_total (last_session last) (marks_of m) mark.session mark.number so_far.ends (session_above last mark.session next.2) in
     record {
-      taken = gathered_next _ (EntryFits sessions) (entries (marks_of m)) (entries (marks_of n)) (mark.session, mark.number) a b c more so_far.taken (next.0, next.1.session);
+      taken = gathered_next _ (EntryFits sessions) (entries (marks_of m)) (entries (marks_of n)) (mark.session, mark.number) a b c more so_far.taken (next.0, (next.1.session, next.1.number));
       number = count_more (entries (marks_of m)) (entries (marks_of n)) (mark.session, mark.number) count more so_far.number;
       ends = subst (λ (o : Option ℕ). LastIs o (entries (marks_of n))) (sym (is_last mark.session next.1.session.first)) (entries (marks_of m), mark.number, more);
     }
@@ -183,7 +183,7 @@ state_next schema last count tables after state new entry a b c so_far next up i
     }
 
 pub state_end : (schema : Schema) (last : Option Object) (n i tables : ℕ) (state : State) (a b c : Option (List ℕ)) → TakesLines a b (count_text (codes "state") n ∷ []) → n ≤ 2 ^ 64 - 1 → StateSoFar schema last i tables state b c → i ≡ n
-    → TakesLines a c (state_lines schema state) × AllByRecursion (AtFits schema) (entries state)
+    → TakesLines a c (state_lines schema state) × AllByRecursion (AtFits schema) (entries state) × (len state ≤ 2 ^ 64 - 1)
 state_end schema last n i tables state a b c first small so_far all =
     let is : n ≡ len state = sym all ∙ sym so_far.number ∙ sym (len-entries state) in
     let count : n ≡ row_count state = is ∙ sym (min-eq_left (subst (λ (k : ℕ). k ≤ 2 ^ 64 - 1) is small)) in (
@@ -191,6 +191,7 @@ state_end schema last n i tables state a b c first small so_far all =
           (subst (λ (k : ℕ). TakesLines a b (count_text (codes "state") k ∷ [])) count first)
           (subst (TakesLines b c) (single_lines (at_line schema) (entries state)) so_far.taken.taken),
       so_far.taken.fit,
+      subst (λ (k : ℕ). k ≤ 2 ^ 64 - 1) is small,
     )
 
 -- ---- the end
@@ -233,12 +234,12 @@ all_of (Some x) (Some y) bs p q = p ∙ ap (λ (l : List ℕ). bs ++ l) q ∙ ap
 
 pub whole_book : (settings : Settings) (tables : Schema) (rows entered : ℕ) (log : List LogRow) (marks : FinMap nat_cmp ℕ) (state : State) (counts : Counts) (a b c d e f g : Option (List ℕ))
     → SettingsTaken settings a b → TakesLines b c (map table_text tables ++ count_text (codes "log") rows ∷ []) × (check_tables tables ≡ None)
-    → Gathered (row_lines tables) (LogRowFits tables settings.sessions) c d log → length log ≡ entered → entered ≡ rows
+    → Gathered (row_lines tables) (LogRowFits tables settings.sessions) c d log → length log ≡ entered → entered ≡ rows → rows ≤ 2 ^ 64 - 1
     → TakesLines d e (mark_lines marks) × AllByRecursion (EntryFits settings.sessions) (entries marks)
-    → TakesLines e f (state_lines tables state) × AllByRecursion (AtFits tables) (entries state)
-    → TakesLines f g (counts_text counts ∷ []) → EndTaken g
+    → TakesLines e f (state_lines tables state) × AllByRecursion (AtFits tables) (entries state) × (len state ≤ 2 ^ 64 - 1)
+    → TakesLines f g (counts_text counts ∷ []) × CountsFit counts → EndTaken g
     → IsBookText a (record { header = record { sessions = settings.sessions; queue = settings.queue; keep = settings.keep; tables = tables }; log = log; marks = marks; state = state; counter = counts.counter; low = counts.low })
-whole_book settings tables rows entered log marks state counts a b c d e f g first opening gathered count same marked stated counted end =
+whole_book settings tables rows entered log marks state counts a b c d e f g first opening gathered count same few marked stated counted end =
     let s = codes "occ 1" ∷ count_text (codes "sessions") settings.sessions ∷ count_text (codes "queue") settings.queue ∷ count_text (codes "keep") settings.keep ∷ [] in
     let t = map table_text tables in
     let l = count_text (codes "log") (length log) in
@@ -249,15 +250,18 @@ whole_book settings tables rows entered log marks state counts a b c d e f g fir
     let front = (s ++ t) ++ (l ∷ r) in
     let upto_marks = more_lines front (mark_lines marks) a d e (subst (TakesLines a d) turned logged) marked.0 in
     let upto_state = more_lines (front ++ mark_lines marks) (state_lines tables state) a e f upto_marks stated.0 in
-    let upto_counts = more_lines ((front ++ mark_lines marks) ++ state_lines tables state) (counts_text counts ∷ []) a f g upto_state counted in
+    let upto_counts = more_lines ((front ++ mark_lines marks) ++ state_lines tables state) (counts_text counts ∷ []) a f g upto_state counted.0 in
     record {
       lines = end.lines;
       ending = end.ending;
       whole = all_of a end.rest _ (Consumes-trans a g end.rest _ (lines_text end.lines) upto_counts end.taken) end.whole;
       fits = record {
         header = record { sessions = first.sessions_fit; queue = first.queue_fits; keep = first.keep_fits; tables = opening.1 };
+        rows = subst (λ (k : ℕ). k ≤ 2 ^ 64 - 1) (sym (count ∙ same)) few;
         log = gathered.fit;
         marks = marked.1;
+        objects = stated.2;
         state = stated.1;
+        counts = counted.1;
       };
     }

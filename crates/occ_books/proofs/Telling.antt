@@ -1,11 +1,12 @@
 -- Telling a verdict, and what an audit leaves.
-use Rattle.std.proofs.Common.{◌≡◌, ℕ, Bool, true, false, List, [], ◌∷◌, ◌++◌, Option, Some, None, Result, Ok, Err, refl, sym, ap, subst, ◌∙◌, append_assoc}
-use Rattle.std.specs.Io.KnownBytes.{Appends, Keeps, prepend_known}
-use Rattle.std.proofs.KnownBytes.{Appends-nil, Appends-trans, Keeps-refl}
-use Rattle.occ_cli.specs.declared.trouble.Trouble.{Trouble}
-use Rattle.occ_cli.specs.declared.trouble.Trouble.TheVariants as troubles
-use Rattle.occ_cli.specs.Books.{Book}
-use Rattle.occ_cli.specs.Sending.{Sends, PushGives, FlushGives}
+use Rattle.std.proofs.Common.{◌≡◌, ℕ, Bool, List, [], ◌++◌, Option, Some, None, Result, Ok, Err, refl, sym, ap, subst, ◌∙◌, append_assoc}
+use Rattle.std.specs.Io.KnownBytes.{Appends, prepend_known}
+use Rattle.std.proofs.KnownBytes.{Appends-trans, Keeps-refl}
+use Rattle.occ_text.specs.declared.trouble.Trouble.{Trouble}
+use Rattle.occ_text.specs.declared.trouble.Trouble.TheVariants as troubles
+use Rattle.occ_print.specs.Books.{Book}
+use Rattle.occ_text.specs.Sending.{Sends, PushGives, FlushGives}
+use Rattle.occ_books.specs.Places.{Version, EndsFrom}
 use Rattle.occ_books.specs.Printed.{verdict_text, ToldFront, TellGives, AuditGives, IsBookText}
 
 front_of : (verdict : Bool) (a b : Option (List ℕ)) (bytes held : List ℕ) → bytes ≡ verdict_text verdict → Sends a b bytes held → ToldFront a b
@@ -35,26 +36,32 @@ flushed done (Err troubles.Memory) verdict a b c bytes old held new is none p f 
 flushed done (Err troubles.Read) verdict a b c bytes old held new is none p f = absurd f
 flushed done (Err (troubles.Malformed n)) verdict a b c bytes old held new is none p f = absurd f
 
--- nothing was written yet
-untouched : (e : Trouble) (text a : Option (List ℕ)) → AuditGives (Err e) text a a
-untouched (troubles.Malformed n) text a = Keeps-refl a
-untouched troubles.Read text a = Keeps-refl a
-untouched troubles.Memory text a = Keeps-refl a
-untouched troubles.Write text a = record { verdict = true; front = []; rest = verdict_text true; whole = refl; told = Appends-nil a }
+-- nothing was read ahead
+known_nil : (known : Option (List ℕ)) → prepend_known [] known ≡ known
+known_nil None = refl
+known_nil (Some bytes) = refl
 
-pub stopped : (result : Result Bool Trouble) (e : Trouble) (text a : Option (List ℕ)) → result ≡ Err e → AuditGives result text a a
-stopped result e text a is = subst (λ (r : Result Bool Trouble). AuditGives r text a a) (sym is) (untouched e text a)
+-- memory was refused before anything was written
+pub refused : (result : Result Bool Trouble) (e d : Trouble) (text a : Option (List ℕ)) → result ≡ Err d → d ≡ e → e ≡ troubles.Memory → AuditGives result text a a
+refused result e d text a is same memory = subst (λ (r : Result Bool Trouble). AuditGives r text a a) (sym (is ∙ ap Err (same ∙ memory))) (Keeps-refl a)
+
+-- the text is none of a book, or wasn't read, or memory was refused for it: nothing was written yet
+untouched : (X : Type 0) (e : Trouble) (text after a : Option (List ℕ)) → EndsFrom {X = X} (Err e) Version text after 0 → AuditGives (Err e) text a a
+untouched X (troubles.Malformed n) text after a t = (Keeps-refl a, t)
+untouched X troubles.Read text after a t = (Keeps-refl a, (after, t))
+untouched X troubles.Write text after a t = absurd t
+untouched X troubles.Memory text after a t = Keeps-refl a
+
+pub stopped : (X : Type 0) (result : Result Bool Trouble) (e d : Trouble) (unread : List ℕ) (n : ℕ) (text after a : Option (List ℕ)) → result ≡ Err d → d ≡ e → unread ≡ [] → n ≡ 0 → EndsFrom {X = X} (Err e) Version (prepend_known unread text) after n → AuditGives result text a a
+stopped X result e d unread n text after a is same none start t =
+    subst (λ (r : Result Bool Trouble). AuditGives r text a a) (sym (is ∙ ap Err same)) (untouched X e text after a
+    (subst (λ (known : Option (List ℕ)). EndsFrom {X = X} (Err e) Version known after 0) (ap (λ (l : List ℕ). prepend_known l text) none ∙ known_nil text) (subst (EndsFrom {X = X} (Err e) Version (prepend_known unread text) after) start t)))
 
 pub told : (result : Result Bool Trouble) (d e : Trouble) (verdict : Bool) (text a b : Option (List ℕ)) → result ≡ Err d → d ≡ e → TellGives {X = Unit {0}} (Err e) verdict a b → AuditGives result text a b
 told result d troubles.Write verdict text a b was same g = subst (λ (r : Result Bool Trouble). AuditGives r text a b) (sym (was ∙ ap Err same)) g
 told result d troubles.Memory verdict text a b was same g = subst (λ (r : Result Bool Trouble). AuditGives r text a b) (sym (was ∙ ap Err same)) g
 told result d troubles.Read verdict text a b was same g = absurd g
 told result d (troubles.Malformed n) verdict text a b was same g = absurd g
-
--- nothing was read ahead
-known_nil : (known : Option (List ℕ)) → prepend_known [] known ≡ known
-known_nil None = refl
-known_nil (Some bytes) = refl
 
 pub from_start : (unread : List ℕ) (known : Option (List ℕ)) (book : Book) → unread ≡ [] → IsBookText (prepend_known unread known) book → IsBookText known book
 from_start unread known book none is = subst (λ (text : Option (List ℕ)). IsBookText text book) (ap (λ (l : List ℕ). prepend_known l known) none ∙ known_nil known) is

@@ -1,9 +1,9 @@
 -- Reading the tokens of a line, one after another: what is read of a token, and what stands behind it.
 use Rattle.std.specs.Prelude.{◌≡◌, ℕ, List, [], ◌∷◌, Option, Some, None, Result, Ok, Err, if◌then◌else◌, option_map, option_and_then}
 use Rattle.std.specs.Str.{bytes_eq}
-use Rattle.occ_cli.specs.declared.tokens.Unread.{Unread}
-use Rattle.occ_cli.specs.declared.tokens.Unread.TheVariants.{Malformed, Memory}
-use Rattle.occ_cli.specs.Reading.{number_of}
+use Rattle.occ_text.specs.declared.tokens.Unread.{Unread}
+use Rattle.occ_text.specs.declared.tokens.Unread.TheVariants.{Malformed, Memory}
+use Rattle.occ_text.specs.Reading.{number_of}
 
 abbrev pub Tokens : Type 0
 Tokens = List (List ℕ)

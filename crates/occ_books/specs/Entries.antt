@@ -11,11 +11,11 @@ use Rattle.occ_types.specs.Seen.{key_of, object_of, question_of}
 use Rattle.occ_types.specs.declared.keys.Key as code_key
 use Rattle.occ_types.specs.declared.objects.Object as code_object
 use Rattle.occ_model.specs.State.{Write, Found}
-use Rattle.occ_cli.specs.Spelling.{line_text, KeyFits, RowFits}
-use Rattle.occ_cli.specs.Reading.{tokens_of}
-use Rattle.occ_cli.specs.Escapes.{read_key}
-use Rattle.occ_cli.specs.StepReading.{◌>>=◌}
-use Rattle.occ_cli.specs.Books.{question_text, read_line, pair_line, write_line, at_line}
+use Rattle.occ_text.specs.Spelling.{line_text, KeyFits, RowFits}
+use Rattle.occ_text.specs.Reading.{tokens_of}
+use Rattle.occ_text.specs.Escapes.{read_key}
+use Rattle.occ_text.specs.StepReading.{◌>>=◌}
+use Rattle.occ_print.specs.Books.{question_text, read_line}
 use Rattle.occ_books.specs.declared.entries.Asked as code_asked
 use Rattle.occ_books.specs.declared.entries.Asked.TheVariants as asked
 use Rattle.occ_books.specs.Cursors.{Tokens, before, next_token, next_word, next_number, at_end}

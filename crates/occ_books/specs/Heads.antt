@@ -1,12 +1,12 @@
 -- Lines that have numbers alone: the first one of a row, that of a closing mark, and the last one of a book.
-use Rattle.std.specs.Prelude.{◌≡◌, ◌≤◌, ◌<◌, ◌^◌, ◌-◌, ◌==◌, ℕ, List, [], ◌∷◌, Option, Some, None, if◌then◌else◌, option_map, option_and_then, codes}
+use Rattle.std.specs.Prelude.{◌≤◌, ◌^◌, ◌-◌, ◌==◌, ℕ, List, [], ◌∷◌, Option, Some, None, if◌then◌else◌, option_map, option_and_then, codes}
 use Rattle.std.specs.Str.{bytes_eq}
 use Rattle.std.specs.Fmt.{decimal}
 use Rattle.occ_model.specs.declared.verdict.Cause.TheVariants.{Conflict, TooOld}
-use Rattle.occ_cli.specs.Spelling.{line_text}
-use Rattle.occ_cli.specs.Reading.{tokens_of, number_of}
-use Rattle.occ_cli.specs.StepReading.{◌>>=◌}
-use Rattle.occ_cli.specs.Books.{mark_line, counter_line}
+use Rattle.occ_text.specs.Spelling.{line_text}
+use Rattle.occ_text.specs.Reading.{tokens_of, number_of}
+use Rattle.occ_text.specs.StepReading.{◌>>=◌}
+use Rattle.occ_print.specs.Books.{mark_line, counter_line}
 use Rattle.occ_books.specs.declared.heads.Stand.{Stand}
 use Rattle.occ_books.specs.declared.heads.Stand.TheVariants.{Open, Writing, Done, Back}
 use Rattle.occ_books.specs.declared.heads.Head.{Head}

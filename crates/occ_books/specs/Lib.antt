@@ -3,4 +3,5 @@ pub mod Named
 pub mod Heads
 pub mod Entries
 pub mod Taking
+pub mod Places
 pub mod Printed

@@ -1,5 +1,5 @@
 -- Reading what a line names under a schema: tables, and keys and rows that fit them.
-use Rattle.std.specs.Prelude.{ℕ, List, [], ◌∷◌, Option, Some, None, option_map, option_and_then}
+use Rattle.std.specs.Prelude.{ℕ, List, Option, Some, None, option_and_then}
 use Rattle.std.specs.List.{position}
 use Rattle.occ_types.specs.declared.fault.Fault.{Fault}
 use Rattle.occ_types.specs.Key.{Key}
@@ -7,9 +7,9 @@ use Rattle.occ_types.specs.Object.{Object}
 use Rattle.occ_types.specs.Row.{Row}
 use Rattle.occ_types.specs.Schema.{Schema, check_key, check_row}
 use Rattle.occ_types.specs.Fits.{has_name}
-use Rattle.occ_cli.specs.Reading.{name_of}
-use Rattle.occ_cli.specs.Escapes.{read_key, read_row}
-use Rattle.occ_cli.specs.StepReading.{◌>>=◌}
+use Rattle.occ_text.specs.Reading.{name_of}
+use Rattle.occ_text.specs.Escapes.{read_key, read_row}
+use Rattle.occ_text.specs.StepReading.{◌>>=◌}
 use Rattle.occ_books.specs.Cursors.{Tokens, before, next_token}
 
 -- what has a fault is not read

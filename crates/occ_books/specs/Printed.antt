@@ -1,27 +1,25 @@
 -- What a book tells, and that a text is the text of a book.
-use Rattle.std.specs.Prelude.{◌≡◌, ◌≤◌, ◌<◌, ◌^◌, ◌-◌, ◌⊎◌, ℕ, Bool, true, false, List, [], ◌∷◌, ◌++◌, map, length, Option, Some, None, Result, Ok, Err, IfSome, codes}
+use Rattle.std.specs.Prelude.{◌≡◌, ◌≤◌, ◌^◌, ◌-◌, ◌⊎◌, ℕ, Bool, true, false, List, [], ◌∷◌, ◌++◌, length, Option, Result, Ok, Err, IfSome, codes}
 use Rattle.std.specs.Bool.{Decides}
 use Rattle.std.specs.List.{AllByRecursion}
-use Rattle.std.specs.Ordering.{nat_cmp}
-use Rattle.std.specs.FinMap.{FinMap, entries}
-use Rattle.std.specs.Io.KnownBytes.{Consumes, IsAtEnd, Appends, Keeps}
+use Rattle.std.specs.FinMap.{entries, len}
+use Rattle.std.specs.Io.KnownBytes.{IsAtEnd, Appends, Keeps}
 use Rattle.occ_model.specs.Log.{Audited}
 use Rattle.occ_model.specs.World.{empty_base}
-use Rattle.occ_types.specs.Object.{Object}
 use Rattle.occ_core.specs.Rows.{log_of}
-use Rattle.occ_audit.specs.Order.{marks_of}
-use Rattle.occ_cli.specs.declared.trouble.Trouble.{Trouble}
-use Rattle.occ_cli.specs.declared.trouble.Trouble.TheVariants.{Read, Write, Memory, Malformed}
-use Rattle.occ_cli.specs.Printing.{lines_text}
-use Rattle.occ_cli.specs.Headers.{Within, HeaderFits, count_text}
-use Rattle.occ_cli.specs.HeaderTaking.{header_of}
-use Rattle.occ_cli.specs.Books.{Book, book_text}
-use Rattle.occ_cli.specs.Sending.{Sends}
+use Rattle.occ_core.specs.Core.{marks_of}
+use Rattle.occ_text.specs.declared.trouble.Trouble.{Trouble}
+use Rattle.occ_text.specs.declared.trouble.Trouble.TheVariants.{Read, Write, Memory, Malformed}
+use Rattle.occ_text.specs.Line.{lines_text}
+use Rattle.occ_text.specs.Headers.{Within, HeaderFits, count_text}
+use Rattle.occ_text.specs.HeaderTaking.{header_of}
+use Rattle.occ_print.specs.Books.{Book, book_text, audit_line}
 use Rattle.occ_books.specs.declared.printed.Printed as code_printed
 use Rattle.occ_books.specs.declared.printed.Settings.{Settings}
-use Rattle.occ_books.specs.Heads.{IsSession}
+use Rattle.occ_books.specs.Heads.{IsSession, CountsFit}
 use Rattle.occ_books.specs.Entries.{AtFits}
 use Rattle.occ_books.specs.Taking.{TakesLines, LogRowFits}
+use Rattle.occ_books.specs.Places.{Version, Stopped, Unread}
 
 -- the first four lines of a header were taken
 pub record SettingsTaken (settings : Settings) (before after : Option (List ℕ)) : Type 0 where
@@ -42,16 +40,19 @@ pub record EndTaken (before : Option (List ℕ)) : Type 0 where
   pub taken : TakesLines before rest lines
   pub whole : IsAtEnd rest
 
--- a closing mark of a session of the header
+-- a closing mark of a session of the header, at a number of 64 bits
 abbrev pub EntryFits : ℕ → ℕ × ℕ → Type 0
-EntryFits sessions mark = IsSession sessions mark.0
+EntryFits sessions mark = IsSession sessions mark.0 × (mark.1 ≤ 2 ^ 64 - 1)
 
--- all of a book fits its own header
+-- all of a book fits its own header, and each count and number has 64 bits
 pub record BookFits (book : Book) : Type 0 where
   pub header : HeaderFits book.header
+  pub rows : length book.log ≤ 2 ^ 64 - 1
   pub log : AllByRecursion (LogRowFits book.header.tables book.header.sessions) book.log
   pub marks : AllByRecursion (EntryFits book.header.sessions) (entries book.marks)
+  pub objects : len book.state ≤ 2 ^ 64 - 1
   pub state : AllByRecursion (AtFits book.header.tables) (entries book.state)
+  pub counts : CountsFit (record { counter = book.counter; low = book.low })
 
 -- a text, where it is known, is that of a book which fits its header, and perhaps an audit line behind it
 pub record IsBookText (text : Option (List ℕ)) (book : Book) : Type 0 where
@@ -62,8 +63,7 @@ pub record IsBookText (text : Option (List ℕ)) (book : Book) : Type 0 where
 
 -- the line of a verdict
 abbrev pub verdict_text : Bool → List ℕ
-verdict_text true = codes "audit yes\n"
-verdict_text false = codes "audit no\n"
+verdict_text verdict = lines_text (audit_line verdict ∷ [])
 
 -- what telling a verdict leaves at the writer, where it fails: a beginning of the line, or nothing
 pub record ToldFront (old new : Option (List ℕ)) : Type 0 where
@@ -90,8 +90,10 @@ pub record Judged (verdict : Bool) (text : Option (List ℕ)) : Type 0 where
 -- what the audit of a text leaves, by its outcome, where the writer's bytes were old and are new
 abbrev pub AuditGives : Result Bool Trouble → Option (List ℕ) → Option (List ℕ) → Option (List ℕ) → Type 0
 AuditGives (Ok verdict) text old new = Judged verdict text × Appends old new (verdict_text verdict)
-AuditGives (Err (Malformed line)) text old new = Keeps old new
-AuditGives (Err Read) text old new = Keeps old new
+-- nothing was written, and the line is the first one that can't stand where it stands
+AuditGives (Err (Malformed line)) text old new = Keeps old new × Stopped Version text 0 line
+-- nothing was written, and a read failed behind lines that lead on
+AuditGives (Err Read) text old new = Keeps old new × ((after : Option (List ℕ)) × Unread Version text after)
 AuditGives (Err Memory) text old new = Keeps old new
 AuditGives (Err Write) text old new = ToldFront old new
 

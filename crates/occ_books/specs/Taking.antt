@@ -1,19 +1,22 @@
 -- Taking the lines of a book from an input.
-use Rattle.std.specs.Prelude.{◌≡◌, ◌≤◌, ◌⊎◌, ℕ, Bool, true, List, [], ◌∷◌, ◌++◌, map, length, Option, Some, None, codes}
+use Rattle.std.specs.Prelude.{◌≡◌, ◌≤◌, ◌^◌, ◌-◌, ℕ, Bool, true, List, [], ◌∷◌, ◌++◌, length, Option, Some, None, Result, Ok, Err, codes}
 use Rattle.std.specs.List.{AllByRecursion, flat_map}
 use Rattle.std.specs.Io.KnownBytes.{Consumes}
-use Rattle.occ_types.specs.Key.{Key}
+use Rattle.occ_types.specs.Key.{Key, key_cmp}
 use Rattle.std.specs.Ordering.{is_lt}
 use Rattle.occ_types.specs.Object.{Object, object_cmp}
-use Rattle.occ_types.specs.Question.{Question, One, Span}
+use Rattle.occ_types.specs.Question.{One, Span}
 use Rattle.occ_types.specs.Row.{Row}
 use Rattle.occ_types.specs.Schema.{Table, Schema}
 use Rattle.occ_types.specs.Seen.{table_of}
 use Rattle.occ_model.specs.State.{Observation, Write, Found, Rows}
+use Rattle.occ_model.specs.RangeLaws.{IsDistinctWrites}
 use Rattle.occ_model.specs.Log.{Case, LogRow, Standing, Open, Writing, Done, Back}
-use Rattle.occ_cli.specs.Printing.{lines_text}
-use Rattle.occ_cli.specs.Headers.{table_text, count_text}
-use Rattle.occ_cli.specs.HeaderTaking.{TablesSoFar}
+use Rattle.occ_text.specs.declared.tokens.Unread.{Unread}
+use Rattle.occ_text.specs.declared.trouble.Trouble.{Trouble}
+use Rattle.occ_text.specs.Line.{lines_text}
+use Rattle.occ_text.specs.Headers.{table_text, count_text, Within}
+use Rattle.occ_text.specs.HeaderTaking.{TablesSoFar, trouble_at}
 use Rattle.occ_books.specs.declared.heads.Head.{Head}
 use Rattle.occ_books.specs.declared.heads.Stand.{Stand}
 use Rattle.occ_books.specs.declared.heads.Stand.TheVariants as stands
@@ -26,6 +29,11 @@ use Rattle.occ_books.specs.Entries.{ObjectFits, FoundFits, SpanFits, PairFits, W
 abbrev pub TakesLines : Option (List ℕ) → Option (List ℕ) → List (List ℕ) → Type 0
 TakesLines before after lines = Consumes before after (lines_text lines)
 
+-- what was read of the line of a number, or what it ends with
+abbrev pub told : {X : Type 0} → Result X Unread → ℕ → Result X Trouble
+told (Ok x) number = Ok x
+told (Err why) number = Err (trouble_at why number)
+
 -- an object comes behind another one, if there is one
 abbrev pub is_behind : Option Object → Object → Bool
 is_behind None object = true
@@ -33,28 +41,39 @@ is_behind (Some last) object = is_lt (object_cmp last object)
 
 -- ---- what fits a header
 
--- a read that a book may have: a row of its table, or rows of it for a range with both ends
+-- keys that rise, from the one before them if there is one
+abbrev pub RisesFrom : Option Key → List (Key × Row) → Type 0
+RisesFrom last [] = Unit {0}
+RisesFrom None (pair ∷ pairs) = RisesFrom (Some pair.0) pairs
+RisesFrom (Some last) (pair ∷ pairs) = (is_lt (key_cmp last pair.0) ≡ true) × RisesFrom (Some pair.0) pairs
+
+-- a read that a book may have: a row of its table, or rows of it, by rising keys, for a range with both ends
 abbrev pub ReadFits : Schema → Observation → Type 0
 ReadFits schema (One table key, Found row) = ObjectFits schema (table, key) × FoundFits schema table row
 ReadFits schema (One table key, Rows rows) = ⊥
 ReadFits schema (Span table lower upper, Found row) = ⊥
-ReadFits schema (Span table lower upper, Rows rows) = SpanFits schema (Span table lower upper) × AllByRecursion (PairFits schema table) rows
+ReadFits schema (Span table lower upper, Rows rows) = SpanFits schema (Span table lower upper) × AllByRecursion (PairFits schema table) rows × RisesFrom None rows × (length rows ≤ 2 ^ 64 - 1)
 
--- no more writes are done than there are
+-- no more writes are done than there are, and a number has 64 bits
 abbrev pub StandingFits : ℕ → Standing → Type 0
 StandingFits writes (Open index case) = Unit {0}
 StandingFits writes (Writing done) = done ≤ writes
-StandingFits writes (Done number) = Unit {0}
+StandingFits writes (Done number) = number ≤ 2 ^ 64 - 1
 StandingFits writes (Back cause) = Unit {0}
 
--- a row of the log that a book of this header may have
+-- a row of the log that a book of this header may have: numbers of 64 bits, up to 256 reads, and up to 256 writes that write no object twice
 pub record LogRowFits (schema : Schema) (sessions : ℕ) (row : LogRow) : Type 0 where
+  pub place : row.place ≤ 2 ^ 64 - 1
   pub session : IsSession sessions row.session
+  pub number : row.number ≤ 2 ^ 64 - 1
+  pub start : row.start ≤ 2 ^ 64 - 1
+  pub finish : row.finish ≤ 2 ^ 64 - 1
   pub few_reads : length row.reads ≤ 256
   pub few_writes : length row.writes ≤ 256
   pub done : StandingFits (length row.writes) row.standing
   pub reads : AllByRecursion (ReadFits schema) row.reads
   pub writes : AllByRecursion (WriteFits schema) row.writes
+  pub distinct : IsDistinctWrites row.writes
 
 -- ---- many of a kind
 
@@ -63,7 +82,24 @@ pub record Gathered {Y : Type 0} (lines : Y → List (List ℕ)) (fits : Y → T
   pub taken : TakesLines before after (flat_map lines ys)
   pub fit : AllByRecursion fits ys
 
+-- what the line behind those of tables tells: one table more, or how many rows of the log follow
+pub data Further : Type 0 where
+  OneTable : Table → Further
+  LogOf : ℕ → Further
+
+abbrev pub further_text : Further → List ℕ
+further_text (OneTable table) = table_text table
+further_text (LogOf rows) = count_text (codes "log") rows
+
+abbrev pub FurtherFits : List Table → Further → Type 0
+FurtherFits tables (OneTable table) = TablesSoFar (tables ++ table ∷ [])
+FurtherFits tables (LogOf rows) = Within 0 (2 ^ 64 - 1) rows
+
 module _ {Z : Type 0} where
+  abbrev pub further_of : code_behind.Behind Z → Further
+  further_of (behind.Table table) = OneTable (table_of table)
+  further_of (behind.Log rows) = LogOf rows
+
   -- the line behind those of tables
   abbrev pub BehindTaken : code_behind.Behind Z → List Table → Option (List ℕ) → Option (List ℕ) → Type 0
   BehindTaken (behind.Table table) tables before after = TakesLines before after (table_text (table_of table) ∷ []) × TablesSoFar (tables ++ table_of table ∷ [])

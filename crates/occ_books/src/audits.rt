@@ -1,16 +1,17 @@
 //! The audit of a printed book.
 
-ghost use Rattle.std.specs.Prelude.{◌≡◌, IfOk};
+ghost use Rattle.std.specs.Prelude.{◌≡◌, IfOk, IfErr};
 ghost use Rattle.std.specs.Bool.{Decides};
 ghost use Rattle.occ_model.specs.Log.{Audited};
 ghost use Rattle.occ_model.specs.World.{empty_base};
-ghost use Rattle.occ_books.specs.Printed.{AuditGives, TellGives, verdict_text, printed_book};
+ghost use Rattle.occ_books.specs.Printed.{AuditGives, TellGives, printed_book};
 
 use crate::printed::{Printed, take_book};
 use occ_audit::{Book, audit_rows};
-use occ_cli::input::Input;
-use occ_cli::output::Output;
-use occ_cli::trouble::Trouble;
+use occ_print::lines::audit_line;
+use occ_text::input::Input;
+use occ_text::output::Output;
+use occ_text::trouble::Trouble;
 use std::alloc::Allocator;
 use std::io::{Read, Write};
 
@@ -36,7 +37,8 @@ pub fn audit_text<R: Read, W: Write, A: Allocator + Copy>(
 
 /// Whether the audit of a book holds.
 fn judge<A: Allocator + Copy>(alloc: A, printed: &Printed<A>) -> Result<bool, Trouble>
-    ensures { IfOk result (λ verdict. Decides verdict (Audited empty_base (printed_book printed.now).marks (printed_book printed.now).state (printed_book printed.now).log)) }
+    ensures ok { IfOk result (λ verdict. Decides verdict (Audited empty_base (printed_book printed.now).marks (printed_book printed.now).state (printed_book printed.now).log)) }
+    ensures err { IfErr result (λ trouble. trouble ≡ Trouble.Memory) }
 {
     let book = Book {
         log: printed.log.as_slice(),
@@ -47,18 +49,11 @@ fn judge<A: Allocator + Copy>(alloc: A, printed: &Printed<A>) -> Result<bool, Tr
     Ok(verdict)
 }
 
-/// The line of a verdict, with its line feed.
-fn verdict_line(verdict: bool) -> &'static str
-    ensures { result.now ≡ verdict_text verdict }
-{
-    if verdict { "audit yes\n" } else { "audit no\n" }
-}
-
 /// Writes the line of a verdict.
 fn tell<W: Write, A: Allocator>(alloc: A, writer: &mut W, verdict: bool) -> Result<(), Trouble>
     ensures { TellGives result verdict (W.contents writer.old) (W.contents writer.new) }
 {
     let mut output = Output::new(alloc);
-    output.push(writer, verdict_line(verdict).as_bytes())?;
+    output.push(writer, audit_line(verdict).as_bytes())?;
     output.flush(writer)
 }

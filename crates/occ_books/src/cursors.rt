@@ -1,11 +1,11 @@
 //! Readers of the tokens of a line, one after another.
 
 ghost use Rattle.std.specs.Prelude.{◌≡◌};
-ghost use Rattle.occ_cli.specs.Escapes.{Gives};
+ghost use Rattle.occ_text.specs.Escapes.{Gives};
 ghost use Rattle.occ_books.specs.Cursors.{GivesNext, next_token, next_word, next_number, at_end};
 
-use occ_cli::parts::Parts;
-use occ_cli::tokens::{Unread, is_word, number};
+use occ_text::parts::Parts;
+use occ_text::tokens::{Unread, is_word, number};
 
 /// The next token.
 pub(crate) fn next_token<'a>(parts: &mut Parts<'a>) -> Result<&'a [u8], Unread>

@@ -1,17 +1,21 @@
 //! Lines that have keys and rows: of a read, of a row that a range answered, of a write, and of a row of the state.
 
-ghost use Rattle.std.specs.Prelude.{◌≡◌, IfOk};
+ghost use Rattle.std.specs.Prelude.{◌≡◌, IfOk, Some};
+ghost use Rattle.occ_types.specs.Key.{Key as PlainKey};
+ghost use Rattle.occ_types.specs.Object.{Object as PlainObject};
+ghost use Rattle.occ_types.specs.Row.{Row as PlainRow};
 ghost use Rattle.occ_types.specs.Seen.{question_of};
-ghost use Rattle.occ_cli.specs.Escapes.{Gives};
-ghost use Rattle.occ_cli.specs.Books.{pair_line, write_line, at_line};
+ghost use Rattle.occ_model.specs.State.{Write as PlainWrite};
+ghost use Rattle.occ_text.specs.Escapes.{Gives};
+ghost use Rattle.occ_print.specs.Books.{pair_line, write_line, at_line};
 ghost use Rattle.occ_books.specs.Cursors.{GivesNext};
-ghost use Rattle.occ_books.specs.Entries.{asked_text, AskedFits, PairFits, WriteFits, AtFits, asked_of, pair_of, write_of, at_of, found_in, next_found, one_behind, next_span, span_behind, asked_in, asked_of_line, pair_in, pair_of_line, put_behind, del_behind, write_in, write_of_line, at_in, at_of_line};
+ghost use Rattle.occ_books.specs.Entries.{Asked as PlainAsked, asked_text, AskedFits, PairFits, WriteFits, AtFits, asked_of, pair_of, write_of, at_of, found_in, next_found, one_behind, next_span, span_behind, asked_in, asked_of_line, pair_in, pair_of_line, put_behind, del_behind, write_in, write_of_line, at_in, at_of_line};
 
 use crate::cursors::{at_end, next_number, next_token, next_word};
 use crate::named::{next_key, next_object, next_row, next_table, row_in, unless_fault};
-use occ_cli::parts::Parts;
-use occ_cli::texts;
-use occ_cli::tokens::{Unread, is_word, tokens};
+use occ_text::parts::Parts;
+use occ_text::texts;
+use occ_text::tokens::{Unread, is_word, tokens};
 use occ_types::{Key, Object, Question, Row, Schema};
 use std::alloc::Allocator;
 
@@ -157,7 +161,10 @@ pub fn read_asked<A: Allocator + Copy>(
 ) -> Result<Asked<A>, Unread>
     ensures exact { Gives asked_of result (asked_of_line schema.now line.now) }
     ensures found { IfOk result (λ x. (line.now ≡ asked_text schema.now (asked_of x)) × AskedFits schema.now (asked_of x)) }
+    ensures again { (asked : PlainAsked) → AskedFits schema.now asked → line.now ≡ asked_text schema.now asked → Gives asked_of result (Some asked) }
 {
+    // its tables make a schema, so a table's name finds its place again
+    let _tables = schema.tables();
     asked_value(alloc, schema, line)
 }
 
@@ -200,6 +207,7 @@ pub fn read_pair<A: Allocator + Copy>(
 ) -> Result<(Key<A>, Row<A>), Unread>
     ensures exact { Gives pair_of result (pair_of_line schema.now table line.now) }
     ensures found { IfOk result (λ x. (line.now ≡ pair_line (pair_of x)) × PairFits schema.now table (pair_of x)) }
+    ensures again { (pair : PlainKey × PlainRow) → PairFits schema.now table pair → line.now ≡ pair_line pair → Gives pair_of result (Some pair) }
 {
     pair_value(alloc, schema, table, line)
 }
@@ -272,7 +280,10 @@ pub fn read_write<A: Allocator + Copy>(
 ) -> Result<(Object<A>, Option<Row<A>>), Unread>
     ensures exact { Gives write_of result (write_of_line schema.now line.now) }
     ensures found { IfOk result (λ x. (line.now ≡ write_line schema.now (write_of x)) × WriteFits schema.now (write_of x)) }
+    ensures again { (write : PlainWrite) → WriteFits schema.now write → line.now ≡ write_line schema.now write → Gives write_of result (Some write) }
 {
+    // its tables make a schema, so a table's name finds its place again
+    let _tables = schema.tables();
     write_value(alloc, schema, line)
 }
 
@@ -311,6 +322,9 @@ pub fn read_at<A: Allocator + Copy>(
 ) -> Result<(Object<A>, Row<A>), Unread>
     ensures exact { Gives at_of result (at_of_line schema.now line.now) }
     ensures found { IfOk result (λ x. (line.now ≡ at_line schema.now (at_of x)) × AtFits schema.now (at_of x)) }
+    ensures again { (entry : PlainObject × PlainRow) → AtFits schema.now entry → line.now ≡ at_line schema.now entry → Gives at_of result (Some entry) }
 {
+    // its tables make a schema, so a table's name finds its place again
+    let _tables = schema.tables();
     at_value(alloc, schema, line)
 }

@@ -1,7 +1,7 @@
 //! Lines that have numbers alone: the first one of a row of the log, that of a closing mark, and the last one of a book.
 
 ghost use Rattle.std.specs.Prelude.{◌≡◌, IfOk, Some};
-ghost use Rattle.occ_cli.specs.Escapes.{Gives};
+ghost use Rattle.occ_text.specs.Escapes.{Gives};
 ghost use Rattle.occ_books.specs.Cursors.{GivesNext};
 ghost use Rattle.occ_books.specs.declared.heads.Head as plain_head;
 ghost use Rattle.occ_books.specs.declared.heads.Mark as plain_mark;
@@ -9,9 +9,9 @@ ghost use Rattle.occ_books.specs.declared.heads.Counts as plain_counts;
 ghost use Rattle.occ_books.specs.Heads.{mark_text, counts_text, head_text, HeadFits, MarkFits, CountsFit, bare_stand, counted_stand, stand_of, next_session, mark_of, mark_of_line, counts_of, counts_of_line, head_of, head_of_line};
 
 use crate::cursors::{at_end, next_number, next_token, next_word};
-use occ_cli::parts::Parts;
-use occ_cli::tokens::{Unread, is_word, number, tokens};
 use occ_model::verdict::Cause;
+use occ_text::parts::Parts;
+use occ_text::tokens::{Unread, is_word, number, tokens};
 use occ_types::limits::{MAX_QUESTIONS, MAX_WRITES};
 
 /// How far a row has come, as its first line says it.

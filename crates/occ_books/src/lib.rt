@@ -5,6 +5,7 @@ pub mod audits;
 mod cursors;
 pub mod entries;
 pub mod heads;
+pub mod laws;
 mod named;
 pub mod printed;
 mod takes;

@@ -3,14 +3,14 @@
 ghost use Rattle.std.specs.Prelude.{◌≡◌};
 ghost use Rattle.std.specs.Result.{result_err};
 ghost use Rattle.occ_types.specs.Seen.{key_of, object_of};
-ghost use Rattle.occ_cli.specs.Escapes.{Gives};
+ghost use Rattle.occ_text.specs.Escapes.{Gives};
 ghost use Rattle.occ_books.specs.Cursors.{GivesNext};
 ghost use Rattle.occ_books.specs.Named.{unless_fault, place_of, key_in, row_in, next_table, next_key, next_row, next_object};
 
 use crate::cursors::next_token;
-use occ_cli::parts::Parts;
-use occ_cli::texts;
-use occ_cli::tokens::{Unread, name};
+use occ_text::parts::Parts;
+use occ_text::texts;
+use occ_text::tokens::{Unread, name};
 use occ_types::fault::Fault;
 use occ_types::{Key, Object, Row, Schema};
 use std::alloc::Allocator;

@@ -1,30 +1,31 @@
 //! Taking a whole book from an input.
 
-ghost use Rattle.std.specs.Prelude.{◌≡◌, ◌++◌, ◌∷◌, [], ◌||◌, IfOk, None, map, codes};
+ghost use Rattle.std.specs.Prelude.{ℕ, List, ◌≡◌, ◌≤◌, ◌^◌, ◌-◌, ◌++◌, ◌∷◌, [], ◌||◌, IfOk, None, map, codes};
 ghost use Rattle.std.specs.FinMap as finite;
 ghost use Rattle.std.specs.List.{AllByRecursion};
 ghost use Rattle.std.specs.Str.{bytes_eq};
 ghost use Rattle.std.specs.Io.KnownBytes.{prepend_known};
-ghost use Rattle.occ_types.specs.Schema.{check_tables};
+ghost use Rattle.occ_types.specs.Schema.{Table, check_tables};
 ghost use Rattle.occ_types.specs.Seen.{tables_of};
-ghost use Rattle.occ_audit.specs.Order.{marks_of};
-ghost use Rattle.occ_cli.specs.Headers.{table_text, count_text};
-ghost use Rattle.occ_cli.specs.HeaderTaking.{TablesSoFar};
-ghost use Rattle.occ_cli.specs.Books.{mark_lines, state_lines};
+ghost use Rattle.occ_core.specs.Core.{marks_of};
+ghost use Rattle.occ_text.specs.Headers.{table_text, count_text};
+ghost use Rattle.occ_text.specs.HeaderTaking.{Taken, TablesSoFar};
+ghost use Rattle.occ_print.specs.Books.{mark_lines, state_lines};
 ghost use Rattle.occ_books.specs.Entries.{AtFits};
-ghost use Rattle.occ_books.specs.Taking.{TakesLines, BehindTaken};
+ghost use Rattle.occ_books.specs.Taking.{TakesLines, BehindTaken, FurtherFits, further_of, further_text};
+ghost use Rattle.occ_books.specs.Places.{Version, Tables as TablesAt, Marks, State, Counter, Audit, rows_to_come, TakesFrom, EndsFrom};
 ghost use Rattle.occ_books.specs.Printed.{SettingsTaken, EntryFits, EndTaken, IsBookText, printed_book};
 
 use crate::heads::Counts;
 use crate::takes::{read_at_line, take_at, take_counts, take_line, take_mark, take_section};
 use crate::transactions::take_rows;
-use occ_cli::headers::{
+use occ_core::{LogRow, Tables};
+use occ_text::headers::{
     Header, MAX_KEEP, MAX_QUEUE, count, table_behind, take_count, take_version,
 };
-use occ_cli::input::{Input, Next};
-use occ_cli::tokens::is_word;
-use occ_cli::trouble::Trouble;
-use occ_core::{LogRow, Tables};
+use occ_text::input::{Input, Next};
+use occ_text::tokens::is_word;
+use occ_text::trouble::Trouble;
 use occ_types::limits::MAX_SESSIONS;
 use occ_types::{Object, Row, Schema, TableDef};
 use std::alloc::Allocator;
@@ -78,7 +79,8 @@ fn take_behind<R: Read, A: Allocator + Copy>(
     tables: &[TableDef<A>],
 ) -> Result<Behind<A>, Trouble>
     requires { TablesSoFar (tables_of tables.now) }
-    ensures { IfOk result (λ behind. BehindTaken behind (tables_of tables.now) (prepend_known input.old.unread (R.remaining reader.old)) (prepend_known input.new.unread (R.remaining reader.new))) }
+    ensures taken { IfOk result (λ behind. BehindTaken behind (tables_of tables.now) (prepend_known input.old.unread (R.remaining reader.old)) (prepend_known input.new.unread (R.remaining reader.new))) }
+    ensures led { Taken further_of further_text (FurtherFits (tables_of tables.now)) result (prepend_known input.old.unread (R.remaining reader.old)) (prepend_known input.new.unread (R.remaining reader.new)) input.old.number input.new.number }
 {
     take_line(input, reader)?;
     if let Ok(rows) = count(input.line(), "log", 0, u64::MAX) {
@@ -94,7 +96,8 @@ fn take_opening<R: Read, A: Allocator + Copy>(
     input: &mut Input<A>,
     reader: &mut R,
 ) -> Result<Opening<A>, Trouble>
-    ensures { IfOk result (λ opening. TakesLines (prepend_known input.old.unread (R.remaining reader.old)) (prepend_known input.new.unread (R.remaining reader.new)) (map table_text opening.schema ++ count_text (codes "log") opening.rows ∷ []) × (check_tables opening.schema ≡ None)) }
+    ensures taken { IfOk result (λ opening. TakesLines (prepend_known input.old.unread (R.remaining reader.old)) (prepend_known input.new.unread (R.remaining reader.new)) (map table_text opening.schema ++ count_text (codes "log") opening.rows ∷ []) × (check_tables opening.schema ≡ None)) }
+    ensures led { (sessions : ℕ) → TakesFrom result (TablesAt sessions []) (λ opening. rows_to_come (record { schema = opening.schema; sessions = sessions }) opening.rows) (prepend_known input.old.unread (R.remaining reader.old)) (prepend_known input.new.unread (R.remaining reader.new)) input.old.number input.new.number }
 {
     let mut tables = Vec::new(alloc);
     loop {
@@ -115,7 +118,8 @@ fn take_marks<R: Read, A: Allocator + Copy>(
     reader: &mut R,
     sessions: usize,
 ) -> Result<BTreeMap<usize, u64, A>, Trouble>
-    ensures { IfOk result (λ marks. TakesLines (prepend_known input.old.unread (R.remaining reader.old)) (prepend_known input.new.unread (R.remaining reader.new)) (mark_lines (marks_of marks)) × AllByRecursion (EntryFits sessions) (finite.entries (marks_of marks))) }
+    ensures taken { IfOk result (λ marks. TakesLines (prepend_known input.old.unread (R.remaining reader.old)) (prepend_known input.new.unread (R.remaining reader.new)) (mark_lines (marks_of marks)) × AllByRecursion (EntryFits sessions) (finite.entries (marks_of marks))) }
+    ensures led { (schema : List Table) → TakesFrom result (Marks (record { schema = schema; sessions = sessions })) (λ _. State (record { schema = schema; sessions = sessions })) (prepend_known input.old.unread (R.remaining reader.old)) (prepend_known input.new.unread (R.remaining reader.new)) input.old.number input.new.number }
 {
     let count = take_section(input, reader, "marks")?;
     let mut marks = BTreeMap::new(alloc);
@@ -135,7 +139,8 @@ fn take_state<R: Read, A: Allocator + Copy>(
     reader: &mut R,
     schema: &Schema<A>,
 ) -> Result<Tables<A>, Trouble>
-    ensures { IfOk result (λ tables. TakesLines (prepend_known input.old.unread (R.remaining reader.old)) (prepend_known input.new.unread (R.remaining reader.new)) (state_lines schema.now tables.state) × AllByRecursion (AtFits schema.now) (finite.entries tables.state)) }
+    ensures taken { IfOk result (λ tables. TakesLines (prepend_known input.old.unread (R.remaining reader.old)) (prepend_known input.new.unread (R.remaining reader.new)) (state_lines schema.now tables.state) × AllByRecursion (AtFits schema.now) (finite.entries tables.state) × (finite.len tables.state ≤ 2 ^ 64 - 1)) }
+    ensures led { (sessions : ℕ) → TakesFrom result (State (record { schema = schema.now; sessions = sessions })) (λ _. Counter) (prepend_known input.old.unread (R.remaining reader.old)) (prepend_known input.new.unread (R.remaining reader.new)) input.old.number input.new.number }
 {
     let count = take_section(input, reader, "state")?;
     let mut tables = Tables::new(alloc, schema.tables().len())?;
@@ -150,7 +155,8 @@ fn take_state<R: Read, A: Allocator + Copy>(
 
 /// Takes what may stand behind a book: one audit line, whatever it says, and then the end.
 fn take_end<R: Read, A: Allocator>(input: &mut Input<A>, reader: &mut R) -> Result<(), Trouble>
-    ensures { IfOk result (λ _. EndTaken (prepend_known input.old.unread (R.remaining reader.old))) }
+    ensures taken { IfOk result (λ _. EndTaken (prepend_known input.old.unread (R.remaining reader.old))) }
+    ensures led { EndsFrom result Audit (prepend_known input.old.unread (R.remaining reader.old)) (prepend_known input.new.unread (R.remaining reader.new)) input.old.number }
 {
     match input.next_line(reader)? {
         Next::End => return Ok(()),
@@ -178,7 +184,8 @@ fn take_settings<R: Read, A: Allocator>(
     reader: &mut R,
 ) -> Result<Settings, Trouble>
     requires { input.old.number ≡ 0 }
-    ensures { IfOk result (λ settings. SettingsTaken settings (prepend_known input.old.unread (R.remaining reader.old)) (prepend_known input.new.unread (R.remaining reader.new))) }
+    ensures taken { IfOk result (λ settings. SettingsTaken settings (prepend_known input.old.unread (R.remaining reader.old)) (prepend_known input.new.unread (R.remaining reader.new))) }
+    ensures led { TakesFrom result Version (λ settings. TablesAt settings.sessions []) (prepend_known input.old.unread (R.remaining reader.old)) (prepend_known input.new.unread (R.remaining reader.new)) input.old.number input.new.number }
 {
     take_version(input, reader)?;
     let sessions = take_count(input, reader, "sessions", MAX_SESSIONS as u64)?;
@@ -201,7 +208,8 @@ pub fn take_book<R: Read, A: Allocator + Copy>(
     reader: &mut R,
 ) -> Result<Printed<A>, Trouble>
     requires { input.old.number ≡ 0 }
-    ensures { IfOk result (λ printed. IsBookText (prepend_known input.old.unread (R.remaining reader.old)) (printed_book printed)) }
+    ensures taken { IfOk result (λ printed. IsBookText (prepend_known input.old.unread (R.remaining reader.old)) (printed_book printed)) }
+    ensures led { EndsFrom result Version (prepend_known input.old.unread (R.remaining reader.old)) (prepend_known input.new.unread (R.remaining reader.new)) input.old.number }
 {
     let settings = take_settings(input, reader)?;
     let opening = take_opening(alloc, input, reader)?;

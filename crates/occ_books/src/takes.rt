@@ -1,27 +1,34 @@
 //! Taking single lines of a book from an input.
 
-ghost use Rattle.std.specs.Prelude.{◌≡◌, ◌<◌, ◌∷◌, [], true, Ok, IfOk, option_map};
+ghost use Rattle.std.specs.Prelude.{◌≡◌, ◌<◌, ◌+◌, ◌∷◌, ◌↔◌, [], true, Ok, IfOk, IsTrue, option_map};
 ghost use Rattle.std.specs.Io.KnownBytes.{prepend_known};
-ghost use Rattle.occ_types.specs.Seen.{object_of};
-ghost use Rattle.occ_cli.specs.Headers.{count_text, Within};
-ghost use Rattle.occ_cli.specs.Spelling.{IsToken};
-ghost use Rattle.occ_cli.specs.Books.{pair_line, write_line, at_line};
+ghost use Rattle.occ_types.specs.Seen.{key_of, object_of};
+ghost use Rattle.occ_sets.specs.Seen.{rows_of};
+ghost use Rattle.occ_text.specs.Headers.{count_text, Within};
+ghost use Rattle.occ_text.specs.Line.{IsLine};
+ghost use Rattle.occ_text.specs.HeaderTaking.{LineTaken, Taken};
+ghost use Rattle.occ_text.specs.Spelling.{IsToken};
+ghost use Rattle.occ_print.specs.Books.{pair_line, write_line, at_line};
 ghost use Rattle.occ_books.specs.Heads.{head_text, mark_text, counts_text, HeadFits, MarkFits, CountsFit};
 ghost use Rattle.occ_books.specs.Entries.{asked_of, pair_of, write_of, at_of, asked_text, AskedFits, PairFits, WriteFits, AtFits};
-ghost use Rattle.occ_books.specs.Taking.{TakesLines, is_behind};
+ghost use Rattle.occ_books.specs.Places.{IsAbove, last_key};
+ghost use Rattle.occ_books.specs.Taking.{TakesLines, is_behind, told};
 
 use crate::entries::{Asked, read_asked, read_at, read_pair, read_write};
 use crate::heads::{Counts, Head, Mark, read_counts, read_head, read_mark};
-use occ_cli::headers::{count, trouble_at};
-use occ_cli::input::{Input, Next};
-use occ_cli::tokens::Unread;
-use occ_cli::trouble::Trouble;
+use occ_text::headers::{count, trouble_at};
+use occ_text::input::{Input, Next};
+use occ_text::tokens::Unread;
+use occ_text::trouble::Trouble;
 use occ_types::{Key, Object, Row, Schema};
 use std::alloc::Allocator;
 use std::io::Read;
 
 /// What a text ends with that stops behind the line of a number: it is malformed at the line after it.
-fn cut_short(number: u64) -> Trouble {
+fn cut_short(number: u64) -> Trouble
+    ensures malformed { number < u64.MAX → result ≡ Trouble.Malformed (number + 1) }
+    ensures out_of_numbers { number ≡ u64.MAX → result ≡ Trouble.Read }
+{
     match number.checked_add(1) {
         Some(line) => Trouble::Malformed(line),
         None => Trouble::Read,
@@ -33,7 +40,8 @@ pub(crate) fn take_line<R: Read, A: Allocator>(
     input: &mut Input<A>,
     reader: &mut R,
 ) -> Result<(), Trouble>
-    ensures { IfOk result (λ _. TakesLines (prepend_known input.old.unread (R.remaining reader.old)) (prepend_known input.new.unread (R.remaining reader.new)) (input.new.line ∷ [])) }
+    ensures lines { IfOk result (λ _. TakesLines (prepend_known input.old.unread (R.remaining reader.old)) (prepend_known input.new.unread (R.remaining reader.new)) (input.new.line ∷ [])) }
+    ensures exact { LineTaken result (prepend_known input.old.unread (R.remaining reader.old)) (prepend_known input.new.unread (R.remaining reader.new)) input.old input.new }
 {
     match input.next_line(reader)? {
         Next::Line => Ok(()),
@@ -43,7 +51,8 @@ pub(crate) fn take_line<R: Read, A: Allocator>(
 
 /// What was read of the line of a number.
 pub(crate) fn read_at_line<T: Drop>(read: Result<T, Unread>, number: u64) -> Result<T, Trouble>
-    ensures { IfOk result (λ value. read ≡ Ok value) }
+    ensures taken { IfOk result (λ value. read ≡ Ok value) }
+    ensures exact { result ≡ told read number }
 {
     match read {
         Ok(value) => Ok(value),
@@ -58,7 +67,8 @@ pub(crate) fn take_section<R: Read, A: Allocator>(
     word: &str,
 ) -> Result<u64, Trouble>
     requires { IsToken word.now }
-    ensures { IfOk result (λ n. TakesLines (prepend_known input.old.unread (R.remaining reader.old)) (prepend_known input.new.unread (R.remaining reader.new)) (count_text word.now n ∷ []) × Within 0 u64.MAX n) }
+    ensures taken { IfOk result (λ n. TakesLines (prepend_known input.old.unread (R.remaining reader.old)) (prepend_known input.new.unread (R.remaining reader.new)) (count_text word.now n ∷ []) × Within 0 u64.MAX n) }
+    ensures led { Taken (λ n. n) (count_text word.now) (Within 0 u64.MAX) result (prepend_known input.old.unread (R.remaining reader.old)) (prepend_known input.new.unread (R.remaining reader.new)) input.old.number input.new.number }
 {
     take_line(input, reader)?;
     read_at_line(count(input.line(), word, 0, u64::MAX), input.number())
@@ -70,7 +80,8 @@ pub(crate) fn take_head<R: Read, A: Allocator>(
     reader: &mut R,
     sessions: usize,
 ) -> Result<Head, Trouble>
-    ensures { IfOk result (λ head. TakesLines (prepend_known input.old.unread (R.remaining reader.old)) (prepend_known input.new.unread (R.remaining reader.new)) (head_text head ∷ []) × HeadFits sessions head) }
+    ensures taken { IfOk result (λ head. TakesLines (prepend_known input.old.unread (R.remaining reader.old)) (prepend_known input.new.unread (R.remaining reader.new)) (head_text head ∷ []) × HeadFits sessions head) }
+    ensures led { Taken (λ head. head) head_text (HeadFits sessions) result (prepend_known input.old.unread (R.remaining reader.old)) (prepend_known input.new.unread (R.remaining reader.new)) input.old.number input.new.number }
 {
     take_line(input, reader)?;
     read_at_line(read_head(input.line(), sessions), input.number())
@@ -83,14 +94,17 @@ pub(crate) fn take_asked<R: Read, A: Allocator + Copy>(
     reader: &mut R,
     schema: &Schema<A>,
 ) -> Result<Asked<A>, Trouble>
-    ensures { IfOk result (λ asked. TakesLines (prepend_known input.old.unread (R.remaining reader.old)) (prepend_known input.new.unread (R.remaining reader.new)) (asked_text schema.now (asked_of asked) ∷ []) × AskedFits schema.now (asked_of asked)) }
+    ensures taken { IfOk result (λ asked. TakesLines (prepend_known input.old.unread (R.remaining reader.old)) (prepend_known input.new.unread (R.remaining reader.new)) (asked_text schema.now (asked_of asked) ∷ []) × AskedFits schema.now (asked_of asked)) }
+    ensures led { Taken asked_of (asked_text schema.now) (AskedFits schema.now) result (prepend_known input.old.unread (R.remaining reader.old)) (prepend_known input.new.unread (R.remaining reader.new)) input.old.number input.new.number }
 {
     take_line(input, reader)?;
     read_at_line(read_asked(alloc, schema, input.line()), input.number())
 }
 
 /// Whether a key is above those of some rows that are in order.
-fn is_above<A: Allocator>(rows: &[(Key<A>, Row<A>)], key: &Key<A>) -> bool {
+fn is_above<A: Allocator>(rows: &[(Key<A>, Row<A>)], key: &Key<A>) -> bool
+    ensures { IsTrue result ↔ IsAbove (last_key (rows_of rows.now)) (key_of key.now) }
+{
     match rows.last() {
         Some((last, _)) => last < key,
         None => true,
@@ -106,7 +120,8 @@ pub(crate) fn take_pair<R: Read, A: Allocator + Copy>(
     table: usize,
     rows: &[(Key<A>, Row<A>)],
 ) -> Result<(Key<A>, Row<A>), Trouble>
-    ensures { IfOk result (λ pair. TakesLines (prepend_known input.old.unread (R.remaining reader.old)) (prepend_known input.new.unread (R.remaining reader.new)) (pair_line (pair_of pair) ∷ []) × PairFits schema.now table (pair_of pair)) }
+    ensures taken { IfOk result (λ pair. TakesLines (prepend_known input.old.unread (R.remaining reader.old)) (prepend_known input.new.unread (R.remaining reader.new)) (pair_line (pair_of pair) ∷ []) × PairFits schema.now table (pair_of pair)) }
+    ensures led { Taken pair_of pair_line (λ pair. PairFits schema.now table pair × IsAbove (last_key (rows_of rows.now)) pair.0) result (prepend_known input.old.unread (R.remaining reader.old)) (prepend_known input.new.unread (R.remaining reader.new)) input.old.number input.new.number }
 {
     take_line(input, reader)?;
     let (key, row) = read_at_line(
@@ -126,7 +141,9 @@ pub(crate) fn take_write<R: Read, A: Allocator + Copy>(
     reader: &mut R,
     schema: &Schema<A>,
 ) -> Result<(Object<A>, Option<Row<A>>), Trouble>
-    ensures { IfOk result (λ write. TakesLines (prepend_known input.old.unread (R.remaining reader.old)) (prepend_known input.new.unread (R.remaining reader.new)) (write_line schema.now (write_of write) ∷ []) × WriteFits schema.now (write_of write)) }
+    ensures taken { IfOk result (λ write. TakesLines (prepend_known input.old.unread (R.remaining reader.old)) (prepend_known input.new.unread (R.remaining reader.new)) (write_line schema.now (write_of write) ∷ []) × WriteFits schema.now (write_of write)) }
+    ensures line { IfOk result (λ write. IsLine (write_line schema.now (write_of write))) }
+    ensures led { Taken write_of (write_line schema.now) (WriteFits schema.now) result (prepend_known input.old.unread (R.remaining reader.old)) (prepend_known input.new.unread (R.remaining reader.new)) input.old.number input.new.number }
 {
     take_line(input, reader)?;
     read_at_line(read_write(alloc, schema, input.line()), input.number())
@@ -139,7 +156,8 @@ pub(crate) fn take_mark<R: Read, A: Allocator>(
     sessions: usize,
     last: usize,
 ) -> Result<Mark, Trouble>
-    ensures { IfOk result (λ mark. TakesLines (prepend_known input.old.unread (R.remaining reader.old)) (prepend_known input.new.unread (R.remaining reader.new)) (mark_text mark ∷ []) × MarkFits sessions mark × (last < mark.session)) }
+    ensures taken { IfOk result (λ mark. TakesLines (prepend_known input.old.unread (R.remaining reader.old)) (prepend_known input.new.unread (R.remaining reader.new)) (mark_text mark ∷ []) × MarkFits sessions mark × (last < mark.session)) }
+    ensures led { Taken (λ mark. mark) mark_text (λ mark. MarkFits sessions mark × (last < mark.session)) result (prepend_known input.old.unread (R.remaining reader.old)) (prepend_known input.new.unread (R.remaining reader.new)) input.old.number input.new.number }
 {
     take_line(input, reader)?;
     let mark = read_at_line(read_mark(input.line(), sessions), input.number())?;
@@ -169,6 +187,7 @@ pub(crate) fn take_at<R: Read, A: Allocator + Copy>(
 ) -> Result<(Object<A>, Row<A>), Trouble>
     ensures taken { IfOk result (λ entry. TakesLines (prepend_known input.old.unread (R.remaining reader.old)) (prepend_known input.new.unread (R.remaining reader.new)) (at_line schema.now (at_of entry) ∷ []) × AtFits schema.now (at_of entry)) }
     ensures behind { IfOk result (λ entry. is_behind (option_map object_of last.now) (object_of entry.0) ≡ true) }
+    ensures led { Taken at_of (at_line schema.now) (λ entry. AtFits schema.now entry × (is_behind (option_map object_of last.now) entry.0 ≡ true)) result (prepend_known input.old.unread (R.remaining reader.old)) (prepend_known input.new.unread (R.remaining reader.new)) input.old.number input.new.number }
 {
     take_line(input, reader)?;
     let (object, row) = read_at_line(read_at(alloc, schema, input.line()), input.number())?;
@@ -183,7 +202,8 @@ pub(crate) fn take_counts<R: Read, A: Allocator>(
     input: &mut Input<A>,
     reader: &mut R,
 ) -> Result<Counts, Trouble>
-    ensures { IfOk result (λ counts. TakesLines (prepend_known input.old.unread (R.remaining reader.old)) (prepend_known input.new.unread (R.remaining reader.new)) (counts_text counts ∷ []) × CountsFit counts) }
+    ensures taken { IfOk result (λ counts. TakesLines (prepend_known input.old.unread (R.remaining reader.old)) (prepend_known input.new.unread (R.remaining reader.new)) (counts_text counts ∷ []) × CountsFit counts) }
+    ensures led { Taken (λ counts. counts) counts_text CountsFit result (prepend_known input.old.unread (R.remaining reader.old)) (prepend_known input.new.unread (R.remaining reader.new)) input.old.number input.new.number }
 {
     take_line(input, reader)?;
     read_at_line(read_counts(input.line()), input.number())

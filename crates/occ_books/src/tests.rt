@@ -1,10 +1,9 @@
 //! Books that are right, wrong and malformed, and devices that fail.
 
 use crate::audit_text;
-use occ_cli::trouble::Trouble;
+use occ_devices::Device;
+use occ_text::trouble::Trouble;
 use std::alloc::{AllocError, Global};
-use std::io;
-use std::io::{Error, ErrorKind, Read, Write};
 use std::test::Fail;
 
 /// A lost update and its retry. The second transaction of session 2 read what the first one of session 1 left.
@@ -23,61 +22,11 @@ row 2 1 2 0 1 0 0 tooold\n\
 row 3 3 1 1 1 1 1 open\none note 3 none\nput note 4 'x\n\
 marks 1\nmark 3 2\nstate 1\nat stock 'nut%20mix 2,'\ncounter 1 low 0\n";
 
-/// A reader of a text that fails at its end, where it is to.
-#[derive(Drop)]
-struct Text {
-    bytes: Vec<u8>,
-    at: usize,
-    fails: bool,
-}
-
-impl Read for Text {
-    fn read(&mut self, buf: &mut [u8]) -> io::Result<usize> {
-        let rest = self.bytes.as_slice();
-        let rest = &rest[self.at.min(rest.len())..];
-        let count = buf.len().min(rest.len());
-        if count == 0 && self.fails {
-            return Err(Error::from(ErrorKind::Other));
-        }
-        let (front, _) = rest.split_at(count);
-        buf[..count].copy_from_slice(front);
-        self.at = self.at.saturating_add(count);
-        Ok(count)
-    }
-}
-
-/// A writer that fails where it is to.
-#[derive(Drop)]
-struct Paper {
-    bytes: Vec<u8>,
-    fails: bool,
-}
-
-impl Write for Paper {
-    fn write(&mut self, buf: &[u8]) -> io::Result<usize> {
-        if self.fails {
-            return Err(Error::from(ErrorKind::Other));
-        }
-        self.bytes.extend_from_slice(buf)?;
-        Ok(buf.len())
-    }
-
-    fn flush(&mut self) -> io::Result<()> {
-        Ok(())
-    }
-}
-
 /// What an audit of a text answers, and what it wrote.
 fn audited(alloc: Global, text: &str) -> Result<(Result<bool, Trouble>, Vec<u8>), AllocError> {
-    let mut reader = Text {
-        bytes: Vec::from_slice(alloc, text.as_bytes())?,
-        at: 0,
-        fails: false,
-    };
-    let mut writer = Paper {
-        bytes: Vec::new(alloc),
-        fails: false,
-    };
+    let bytes = Vec::from_slice(alloc, text.as_bytes())?;
+    let mut reader = Device::new(bytes, 4096, usize::MAX);
+    let mut writer = Device::new(Vec::new(alloc), 4096, usize::MAX);
     let outcome = audit_text(alloc, &mut reader, &mut writer);
     Ok((outcome, writer.bytes))
 }
@@ -296,20 +245,21 @@ fn no_line_is_too_long_or_left_out(rt: HostRuntime) -> Result<(), Fail> {
 #[test]
 fn devices_that_fail(rt: HostRuntime) -> Result<(), Fail> {
     let alloc = rt.alloc();
-    let mut reader = Text {
-        bytes: Vec::from_slice(alloc, LOST_UPDATE.as_bytes())?,
-        at: 0,
-        fails: true,
-    };
-    let mut writer = Paper {
-        bytes: Vec::new(alloc),
-        fails: false,
-    };
-    let outcome = audit_text(alloc, &mut reader, &mut writer);
-    assert!(rt; outcome == Err(Trouble::Read) && writer.bytes.is_empty());
-    reader.at = 0;
-    reader.fails = false;
-    writer.fails = true;
-    assert!(rt; audit_text(alloc, &mut reader, &mut writer) == Err(Trouble::Write));
+    for (reads, writes) in [(0, 9), (1, 9), (5, 9), (9, 0), (9, 1), (9, 4), (9, 9)] {
+        let bytes = Vec::from_slice(alloc, LOST_UPDATE.as_bytes())?;
+        let mut reader = Device::new(bytes, 60, reads);
+        let mut writer = Device::new(Vec::new(alloc), 3, writes);
+        let outcome = audit_text(alloc, &mut reader, &mut writer);
+        let wanted = if reads < 9 {
+            Err(Trouble::Read)
+        } else if writes < 9 {
+            Err(Trouble::Write)
+        } else {
+            Ok(true)
+        };
+        assert!(rt; outcome == wanted, "{reads}, {writes}: {outcome:?}");
+        assert!(rt; b"audit yes\n".starts_with(writer.bytes.as_slice()));
+        assert!(rt; reads == 9 || writer.bytes.is_empty());
+    }
     Ok(())
 }

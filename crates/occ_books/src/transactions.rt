@@ -1,23 +1,27 @@
 //! Taking the rows of the log, each with its reads and writes.
 
-ghost use Rattle.std.specs.Prelude.{◌≡◌, ◌++◌, ◌∷◌, [], length, IfOk, OnOk};
+ghost use Rattle.std.specs.Prelude.{◌≡◌, ◌++◌, ◌∷◌, ◌⊎◌, ℕ, true, false, None, [], length, is_some, IfOk, IfErr, OnOk};
 ghost use Rattle.std.specs.Io.KnownBytes.{prepend_known};
 ghost use Rattle.occ_types.specs.Seen.{object_of};
+ghost use Rattle.occ_model.specs.Overlay.{own};
+ghost use Rattle.occ_model.specs.RangeLaws.{IsDistinctWrites};
 ghost use Rattle.occ_sets.specs.Seen.{rows_of, observation_of};
 ghost use Rattle.occ_core.specs.Rows.{standing_of, log_row_of, log_of};
-ghost use Rattle.occ_cli.specs.Books.{pair_line, read_lines, write_line, row_lines};
+ghost use Rattle.occ_print.specs.Books.{pair_line, read_lines, write_line, row_lines};
 ghost use Rattle.occ_books.specs.Entries.{PairFits, WriteFits};
-ghost use Rattle.occ_books.specs.Taking.{TakesLines, Gathered, ReadFits, LogRowFits, StandsSo, IsRowOf};
+ghost use Rattle.occ_books.specs.Places as places;
+ghost use Rattle.occ_books.specs.Places.{InRow, ReadOf, Marks, frame_of, rows_to_come, writes_to_come, reads_to_come, pairs_to_come, TakesFrom};
+ghost use Rattle.occ_books.specs.Taking.{TakesLines, Gathered, RisesFrom, ReadFits, LogRowFits, StandsSo, IsRowOf};
 
 use crate::entries::Asked;
 use crate::heads::{Head, Stand};
 use crate::takes::{take_asked, take_head, take_pair, take_write};
 use occ_case::cases::Case;
-use occ_cli::input::Input;
-use occ_cli::trouble::Trouble;
 use occ_core::rows::OpenCase;
 use occ_core::{LogRow, Standing};
 use occ_sets::{Answer, Observation, ReadSet, SharedReads, SharedWrites, WriteSet};
+use occ_text::input::Input;
+use occ_text::trouble::Trouble;
 use occ_types::{Key, Object, Question, Row, Schema};
 use std::alloc::Allocator;
 use std::io::Read;
@@ -31,7 +35,8 @@ fn take_pairs<R: Read, A: Allocator + Copy>(
     table: usize,
     count: u64,
 ) -> Result<Vec<(Key<A>, Row<A>), A>, Trouble>
-    ensures { IfOk result (λ rows. Gathered (λ pair. pair_line pair ∷ []) (PairFits schema.now table) (prepend_known input.old.unread (R.remaining reader.old)) (prepend_known input.new.unread (R.remaining reader.new)) (rows_of rows.items) × (length rows.items ≡ count)) }
+    ensures taken { IfOk result (λ rows. Gathered (λ pair. pair_line pair ∷ []) (PairFits schema.now table) (prepend_known input.old.unread (R.remaining reader.old)) (prepend_known input.new.unread (R.remaining reader.new)) (rows_of rows.items) × (length rows.items ≡ count) × RisesFrom None (rows_of rows.items)) }
+    ensures led { (row : InRow) → row.frame.schema ≡ schema.now → (reads : ℕ) → TakesFrom result (pairs_to_come row reads table count None) (λ _. reads_to_come row reads) (prepend_known input.old.unread (R.remaining reader.old)) (prepend_known input.new.unread (R.remaining reader.new)) input.old.number input.new.number }
 {
     let mut rows = Vec::new(alloc);
     for _ in 0..count {
@@ -48,7 +53,8 @@ fn take_read<R: Read, A: Allocator + Copy>(
     reader: &mut R,
     schema: &Schema<A>,
 ) -> Result<Observation<A>, Trouble>
-    ensures { IfOk result (λ read. TakesLines (prepend_known input.old.unread (R.remaining reader.old)) (prepend_known input.new.unread (R.remaining reader.new)) (read_lines schema.now (observation_of read)) × ReadFits schema.now (observation_of read)) }
+    ensures taken { IfOk result (λ read. TakesLines (prepend_known input.old.unread (R.remaining reader.old)) (prepend_known input.new.unread (R.remaining reader.new)) (read_lines schema.now (observation_of read)) × ReadFits schema.now (observation_of read)) }
+    ensures led { (row : InRow) → row.frame.schema ≡ schema.now → (reads : ℕ) → TakesFrom result (ReadOf row reads) (λ _. reads_to_come row reads) (prepend_known input.old.unread (R.remaining reader.old)) (prepend_known input.new.unread (R.remaining reader.new)) input.old.number input.new.number }
 {
     match take_asked(alloc, input, reader, schema)? {
         Asked::One { object, row } => Ok(Observation {
@@ -68,7 +74,8 @@ fn take_read<R: Read, A: Allocator + Copy>(
 
 /// Notes a read behind others.
 fn note<A: Allocator>(reads: &mut ReadSet<A>, read: Observation<A>) -> Result<(), Trouble>
-    ensures { OnOk result (reads.new ≡ reads.old ++ observation_of read ∷ []) }
+    ensures ok { OnOk result (reads.new ≡ reads.old ++ observation_of read ∷ []) }
+    ensures err { IfErr result (λ trouble. trouble ≡ Trouble.Memory) }
 {
     let Observation { question, answer } = read;
     match reads.note(question, answer) {
@@ -85,7 +92,8 @@ fn take_reads<R: Read, A: Allocator + Copy>(
     schema: &Schema<A>,
     count: usize,
 ) -> Result<ReadSet<A>, Trouble>
-    ensures { IfOk result (λ reads. Gathered (read_lines schema.now) (ReadFits schema.now) (prepend_known input.old.unread (R.remaining reader.old)) (prepend_known input.new.unread (R.remaining reader.new)) reads × (length reads ≡ count)) }
+    ensures taken { IfOk result (λ reads. Gathered (read_lines schema.now) (ReadFits schema.now) (prepend_known input.old.unread (R.remaining reader.old)) (prepend_known input.new.unread (R.remaining reader.new)) reads × (length reads ≡ count)) }
+    ensures led { (row : InRow) → row.frame.schema ≡ schema.now → TakesFrom result (reads_to_come row count) (λ _. writes_to_come row row.head.writes []) (prepend_known input.old.unread (R.remaining reader.old)) (prepend_known input.new.unread (R.remaining reader.new)) input.old.number input.new.number }
 {
     let mut reads = ReadSet::new(alloc);
     for _ in 0..count {
@@ -102,7 +110,9 @@ fn add_write<A: Allocator>(
     row: Option<Row<A>>,
     number: u64,
 ) -> Result<(), Trouble>
-    ensures { OnOk result (writes.new ≡ writes.old ++ (object_of object, row) ∷ []) }
+    ensures ok { OnOk result (writes.new ≡ writes.old ++ (object_of object, row) ∷ []) }
+    ensures unwritten { IfOk result (λ _. is_some (own writes.old (object_of object)) ≡ false) }
+    ensures err { IfErr result (λ trouble. (trouble ≡ Trouble.Memory) ⊎ ((trouble ≡ Trouble.Malformed number) × (is_some (own writes.old (object_of object)) ≡ true))) }
 {
     if writes.writes(&object) {
         return Err(Trouble::Malformed(number));
@@ -121,8 +131,11 @@ fn take_writes<R: Read, A: Allocator + Copy>(
     schema: &Schema<A>,
     count: usize,
 ) -> Result<WriteSet<A>, Trouble>
-    ensures { IfOk result (λ writes. Gathered (λ write. write_line schema.now write ∷ []) (WriteFits schema.now) (prepend_known input.old.unread (R.remaining reader.old)) (prepend_known input.new.unread (R.remaining reader.new)) writes × (length writes ≡ count)) }
+    ensures taken { IfOk result (λ writes. Gathered (λ write. write_line schema.now write ∷ []) (WriteFits schema.now) (prepend_known input.old.unread (R.remaining reader.old)) (prepend_known input.new.unread (R.remaining reader.new)) writes × (length writes ≡ count) × IsDistinctWrites writes) }
+    ensures led { (row : InRow) → row.frame.schema ≡ schema.now → TakesFrom result (writes_to_come row count []) (λ _. rows_to_come row.frame row.rows) (prepend_known input.old.unread (R.remaining reader.old)) (prepend_known input.new.unread (R.remaining reader.new)) input.old.number input.new.number }
 {
+    // its tables make a schema, so no other write has the line of one
+    let _tables = schema.tables();
     let mut writes = WriteSet::new(alloc);
     for _ in 0..count {
         let (object, row) = take_write(alloc, input, reader, schema)?;
@@ -132,7 +145,9 @@ fn take_writes<R: Read, A: Allocator + Copy>(
 }
 
 /// A case of a row that is open: a book doesn't tell it, and no audit asks for it.
-fn untold<A: Allocator + Copy>(alloc: A) -> Result<OpenCase<A>, Trouble> {
+fn untold<A: Allocator + Copy>(alloc: A) -> Result<OpenCase<A>, Trouble>
+    ensures { IfErr result (λ trouble. trouble ≡ Trouble.Memory) }
+{
     let reads = SharedReads::new(alloc, ReadSet::new(alloc))?;
     let writes = SharedWrites::new(alloc, WriteSet::new(alloc))?;
     let case = Case::new(0, 0, reads, writes, Vec::new(alloc), Vec::new(alloc));
@@ -141,7 +156,8 @@ fn untold<A: Allocator + Copy>(alloc: A) -> Result<OpenCase<A>, Trouble> {
 
 /// The standing that a row's first line tells.
 fn standing<A: Allocator + Copy>(alloc: A, stand: Stand) -> Result<Standing<A>, Trouble>
-    ensures { IfOk result (λ standing. StandsSo stand (standing_of standing)) }
+    ensures ok { IfOk result (λ standing. StandsSo stand (standing_of standing)) }
+    ensures err { IfErr result (λ trouble. trouble ≡ Trouble.Memory) }
 {
     match stand {
         Stand::Open => {
@@ -161,7 +177,8 @@ fn row_of<A: Allocator + Copy>(
     reads: ReadSet<A>,
     writes: WriteSet<A>,
 ) -> Result<LogRow<A>, Trouble>
-    ensures { IfOk result (λ row. IsRowOf head reads writes (log_row_of row)) }
+    ensures ok { IfOk result (λ row. IsRowOf head reads writes (log_row_of row)) }
+    ensures err { IfErr result (λ trouble. trouble ≡ Trouble.Memory) }
 {
     let reads = SharedReads::new(alloc, reads)?;
     let writes = SharedWrites::new(alloc, writes)?;
@@ -186,7 +203,8 @@ fn take_row<R: Read, A: Allocator + Copy>(
     schema: &Schema<A>,
     sessions: usize,
 ) -> Result<LogRow<A>, Trouble>
-    ensures { IfOk result (λ row. TakesLines (prepend_known input.old.unread (R.remaining reader.old)) (prepend_known input.new.unread (R.remaining reader.new)) (row_lines schema.now (log_row_of row)) × LogRowFits schema.now sessions (log_row_of row)) }
+    ensures taken { IfOk result (λ row. TakesLines (prepend_known input.old.unread (R.remaining reader.old)) (prepend_known input.new.unread (R.remaining reader.new)) (row_lines schema.now (log_row_of row)) × LogRowFits schema.now sessions (log_row_of row)) }
+    ensures led { (rows : ℕ) → TakesFrom result (places.LogRow (frame_of schema.now sessions) rows) (λ _. rows_to_come (frame_of schema.now sessions) rows) (prepend_known input.old.unread (R.remaining reader.old)) (prepend_known input.new.unread (R.remaining reader.new)) input.old.number input.new.number }
 {
     let head = take_head(input, reader, sessions)?;
     let reads = take_reads(alloc, input, reader, schema, head.reads)?;
@@ -203,7 +221,8 @@ pub(crate) fn take_rows<R: Read, A: Allocator + Copy>(
     sessions: usize,
     count: u64,
 ) -> Result<Vec<LogRow<A>, A>, Trouble>
-    ensures { IfOk result (λ log. Gathered (row_lines schema.now) (LogRowFits schema.now sessions) (prepend_known input.old.unread (R.remaining reader.old)) (prepend_known input.new.unread (R.remaining reader.new)) (log_of log.items) × (length log.items ≡ count)) }
+    ensures taken { IfOk result (λ log. Gathered (row_lines schema.now) (LogRowFits schema.now sessions) (prepend_known input.old.unread (R.remaining reader.old)) (prepend_known input.new.unread (R.remaining reader.new)) (log_of log.items) × (length log.items ≡ count)) }
+    ensures led { TakesFrom result (rows_to_come (frame_of schema.now sessions) count) (λ _. Marks (frame_of schema.now sessions)) (prepend_known input.old.unread (R.remaining reader.old)) (prepend_known input.new.unread (R.remaining reader.new)) input.old.number input.new.number }
 {
     let mut log = Vec::new(alloc);
     for _ in 0..count {

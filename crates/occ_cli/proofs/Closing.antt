@@ -9,14 +9,15 @@ use Rattle.occ_types.specs.Schema.{Schema}
 use Rattle.occ_model.specs.Log.{LogRow, Audited}
 use Rattle.occ_model.specs.State.{State}
 use Rattle.occ_model.specs.World.{empty_base}
-use Rattle.occ_cli.specs.declared.trouble.Trouble.{Trouble}
-use Rattle.occ_cli.specs.declared.trouble.Trouble.TheVariants as troubles
-use Rattle.occ_cli.specs.Books.{Book, book_lines, book_text}
-use Rattle.occ_cli.specs.Printing.{lines_text, Pushed, PushedFront}
-use Rattle.occ_cli.specs.Schedules.{IsAudited, audit_line}
-use Rattle.occ_cli.specs.Sending.{PushGives}
+use Rattle.occ_text.specs.declared.trouble.Trouble.{Trouble}
+use Rattle.occ_text.specs.declared.trouble.Trouble.TheVariants as troubles
+use Rattle.occ_print.specs.Books.{Book, book_lines, book_text, audit_line}
+use Rattle.occ_text.specs.Line.{lines_text}
+use Rattle.occ_text.specs.Printing.{Pushed, PushedFront}
+use Rattle.occ_cli.specs.Schedules.{IsAudited}
+use Rattle.occ_text.specs.Sending.{PushGives}
 use Rattle.occ_cli.specs.Turns.{AuditGives, ClosingGives}
-use Rattle.occ_cli.proofs.Printing.{lines_then}
+use Rattle.occ_print.proofs.Printing.{lines_then}
 use Rattle.occ_cli.proofs.Schedules.{front_no_more}
 
 nothing_pushed : (a b : Option (List ℕ)) (old new : List ℕ) → Keeps a b → new ≡ old → PushedFront a b old new []

@@ -1,7 +1,8 @@
 -- Exits and calls of a replay, over plain data.
 use Rattle.std.proofs.Common.{◌≡◌, ℕ, zero, suc, ◌-◌, ◌<◌, ◌⊎◌, ◌≤◌, List, [], ◌∷◌, length, get_or, Option, Some, None, Result, Ok, Err, refl, sym, ap, subst, ◌∙◌, inl, inr, arith}
-use Rattle.std.specs.Prelude.{Bool, true, false, cond, slice_get, slice_set, filter, MatchOption}
+use Rattle.std.specs.Prelude.{Bool, true, false, cond, ◌≢◌, slice_get, slice_set, drop, filter, MatchOption, MatchResult, IfOk, OnErr}
 use Rattle.std.specs.Option.{ok_or}
+use Rattle.std.proofs.lemmas.List.{set-get_or}
 use Rattle.occ_types.specs.Key.{Key}
 use Rattle.occ_types.specs.declared.fault.Fault.{Fault}
 use Rattle.occ_types.specs.declared.fault.Fault.TheVariants as faults
@@ -12,17 +13,22 @@ use Rattle.occ_model.specs.Event as events
 use Rattle.occ_model.specs.Step.{Step}
 use Rattle.occ_sets.specs.Sets.{Copied}
 use Rattle.occ_core.specs.Rows.{standing_of, log_row_of, log_of}
+use Rattle.occ_core.specs.Replies.{single, next_object, writing}
+use Rattle.occ_core.specs.declared.core_state.SingleWrite.{SingleWrite}
+use Rattle.occ_core.proofs.SingleWrites.{single_is}
 use Rattle.occ_core.specs.declared.rows.LogRow as code_row
+use Rattle.occ_types.specs.Object.{Object}
 use Rattle.occ_types.specs.Question.{Question, One}
 use Rattle.occ_types.specs.Row.{Row}
 use Rattle.occ_model.specs.Overlay.{own}
-use Rattle.occ_cli.specs.Steps as steps
-use Rattle.occ_cli.specs.declared.steps.Act.TheVariants as acts
+use Rattle.occ_text.specs.Steps as steps
+use Rattle.occ_text.specs.declared.steps.Act.TheVariants as acts
 use Rattle.occ_sets.specs.declared.reads.Answer as code_seen
-use Rattle.occ_cli.specs.declared.answers.Answer as code_answer
-use Rattle.occ_cli.specs.Answers.{Answer}
-use Rattle.occ_cli.specs.Answers as says
-use Rattle.occ_cli.specs.Replaying.{AtMostOneStep, PlayedIn, Plays, Begins, Submits, Writes, Gets, GetsIn, Scans, next_item, still_waiting, kept_after, copy_of, object_named, Client, Replayed, Given, client_of, span_named, Tells, ScansIn, ByStore, ByClient, ByAsking, Enters, told, overlaid, replied, played, Played}
+use Rattle.occ_text.specs.declared.answers.Answer as code_answer
+use Rattle.occ_text.specs.Answers.{Answer, answer_of}
+use Rattle.occ_text.specs.Answers as says
+use Rattle.occ_cli.specs.Waiting.{Waiting}
+use Rattle.occ_cli.specs.Replaying.{AtMostOneStep, PlayedIn, PlayedBy, PlayedWith, Starved, takes_memory, Plays, Begins, Submits, Writes, Gets, GetsIn, Scans, next_item, still_waiting, kept_after, copy_of, object_named, Client, Replayed, Given, client_of, span_named, Tells, ScansIn, ByStore, ByClient, ByAsking, Enters, told, overlaid, replied, played, Played}
 
 -- At most one step.
 
@@ -125,19 +131,71 @@ module _ {Z : Type 0} where
       asked (events.Refused f, step, refl)))
 
   -- what is played so is also played otherwise
-  pub played_as : {P Q : Answer → Type 0} (old new : World) (r : Result (code_answer.Answer Z) Fault) → ((answer : Answer) → P answer → Q answer) → PlayedIn old new r P → PlayedIn old new r Q
+  pub played_as : {S : Type 0} {P Q : Answer → Type 0} (old new : S) (r : Result (code_answer.Answer Z) Fault) → ((answer : Answer) → P answer → Q answer) → PlayedIn old new r P → PlayedIn old new r Q
   played_as old new r f (inl memory) = inl memory
   played_as old new r f (inr so) = inr (f (played r) so)
 
-  -- what a client plays alone leaves the store
-  pub played_alone : (P : Answer → Type 0) (world : World) (r : Result (code_answer.Answer Z) Fault) → Played r P → PlayedIn world world r P
-  played_alone P world r (inl memory) = inl (memory, inl refl)
-  played_alone P world r (inr so) = inr so
+  -- a step was refused for want of memory
+  pub starves : (b : Bool) (old : Replayed) (step : steps.Step) (new : Replayed) (r : Result (code_answer.Answer Z) Fault) → b ≡ takes_memory step → r ≡ Err faults.Memory
+      → PlayedBy b old new r (λ answer. Plays old step answer new) → Starved old step new
+  starves true old step new r takes is (inl memory) = inl (sym takes, memory.1)
+  starves true old step new r takes is (inr so) = inr (subst (λ (x : Result (code_answer.Answer Z) Fault). Plays old step (played x) new) is so)
+  starves false old step new r takes is so = inr (subst (λ (x : Result (code_answer.Answer Z) Fault). Plays old step (played x) new) is so)
 
-  -- the store did at most one step
-  pub halted : (old : Replayed) (step : steps.Step) (new : Replayed) (r : Result (code_answer.Answer Z) Fault) → PlayedIn old.world new.world r (λ answer. Plays old step answer new) → AtMostOneStep old.world new.world
-  halted old step new r (inl memory) = memory.1
-  halted old step new r (inr so) = plays_steps old step (played r) new so
+module _ {Z : Type 0} where
+  -- a call that failed
+  abbrev fails : Fault → Result (code_answer.Answer Z) Fault
+  fails fault = Err fault
+
+  -- a step was refused otherwise
+  pub refuses : (b : Bool) (old : Replayed) (step : steps.Step) (new : Replayed) (r : Result (code_answer.Answer Z) Fault) (fault : Fault) → r ≡ Err fault → (fault ≡ faults.Memory → ⊥)
+      → PlayedBy b old new r (λ answer. Plays old step answer new) → Plays old step (says.Refused fault) new
+  refuses true old step new r fault is other (inl (memory, kept)) =
+      let same : fault ≡ faults.Memory = cc in
+      absurd (other same)
+  refuses true old step new r fault is other (inr so) = subst (λ (x : Result (code_answer.Answer Z) Fault). Plays old step (played x) new) is so
+  refuses false old step new r fault is other so = subst (λ (x : Result (code_answer.Answer Z) Fault). Plays old step (played x) new) is so
+
+-- a single write that isn't refused is told by the object that was next
+pub wrote_as : (old new : World) (session : ℕ) (done : SingleWrite) (next : Option Object) (answer : Answer) → next ≡ next_object old session → Step old (events.WriteOne session) (single new.log (Ok done)) new
+    → told old.settings.schema (writing next (Ok done)) ≡ Some answer → Tells old (events.WriteOne session) answer new
+wrote_as old new session done next answer is step tells =
+    let same : single new.log (Ok done) ≡ writing next (Ok done) = single_is old session (Ok done) new step ∙ ap (λ n. writing n (Ok done)) (sym is) in
+    (single new.log (Ok done), step, ap (told old.settings.schema) same ∙ tells)
+
+-- what was taken from a queue and put back waits as it did
+first_again : (items : List Copied) (x : Copied) → Some x ≡ slice_get items 0 → x ∷ drop 1 items ≡ items
+first_again [] x is = cc
+first_again (y ∷ ys) x is = ap (λ (z : Copied). z ∷ ys) (some_same x y is)
+  where
+    some_same : (a b : Copied) → Some a ≡ Some b → a ≡ b
+    some_same a b e = cc
+
+-- a client with this queue
+abbrev waiting : Option Copied → ℕ → Waiting → Option Copied → Client
+waiting copy pushed queue kept = record { copy = copy; pushed = pushed; queue = queue.items; limit = queue.limit; kept = kept }
+
+pub waits_again : (copy : Option Copied) (pushed : ℕ) (old taken new : Waiting) (was kept : Option Copied) (x y : Copied) → taken ≡ record old { items = drop 1 old.items } → Some x ≡ slice_get old.items 0 → y ≡ x
+    → new ≡ record taken { items = y ∷ taken.items } → None ≡ was → kept ≡ None
+    → waiting copy pushed new kept ≡ waiting copy pushed old was
+waits_again copy pushed old taken new was kept x y left first same back none empty =
+    let items : y ∷ drop 1 old.items ≡ old.items = ap (λ (z : Copied). z ∷ drop 1 old.items) same ∙ first_again old.items x first in
+    let queue : new ≡ old = back ∙ ap (λ (q : Waiting). record q { items = y ∷ q.items }) left ∙ ap (λ (l : List Copied). record old { items = l }) items in
+    ap (λ (q : Waiting). waiting copy pushed q kept) queue ∙ ap (waiting copy pushed old) (empty ∙ none)
+
+module _ {Z : Type 0} where
+  -- what a fault ends a step with
+  pub ends_ok : {E : Type 0} (b : Bool) (old : Replayed) (step : steps.Step) (new : Replayed) (fault : Fault) (result : Result (code_answer.Answer Z) E)
+      → MatchResult result (λ answer. (fault ≢ faults.Memory) × (answer_of answer ≡ says.Refused fault)) (λ e. fault ≡ faults.Memory)
+      → PlayedBy {Z = Z} b old new (fails fault) (λ answer. Plays old step answer new) → IfOk result (λ answer. Plays old step (answer_of answer) new)
+  ends_ok b old step new fault (Ok answer) is so = subst (λ (a : Answer). Plays old step a new) (sym is.1) (refuses b old step new (fails fault) fault refl is.0 so)
+  ends_ok b old step new fault (Err e) is so = tt
+
+  pub ends_err : {E : Type 0} (old : Replayed) (step : steps.Step) (new : Replayed) (fault : Fault) (result : Result (code_answer.Answer Z) E)
+      → MatchResult result (λ answer. (fault ≢ faults.Memory) × (answer_of answer ≡ says.Refused fault)) (λ e. fault ≡ faults.Memory)
+      → PlayedBy {Z = Z} (takes_memory step) old new (fails fault) (λ answer. Plays old step answer new) → OnErr result (Starved old step new)
+  ends_err old step new fault (Ok answer) is so = tt
+  ends_err old step new fault (Err e) is so = starves (takes_memory step) old step new (fails fault) refl (ap fails is) so
 
 -- an element stands at its place
 pub found_at : {X : Type 0} (xs : List X) (place : ℕ) (x : X) → place < length xs → x ≡ get_or xs place x → slice_get xs place ≡ Some x
@@ -176,43 +234,60 @@ client_at clients (suc p) place client is lt at =
     let same : p ≡ place = omega arith in
     ap (λ (k : ℕ). ok_or (slice_get clients k) faults.NoSession) same ∙ ap (λ (o : Option Client). ok_or o faults.NoSession) (found_at clients place client lt at)
 
+-- a client in its own place changes nothing
+set_same : (clients : List Client) (place : ℕ) (client next : Client) → client ≡ get_or clients place client → next ≡ client → slice_set clients place next ≡ clients
+set_same clients place client next at same = ap (λ (c : Client). slice_set clients place c) (same ∙ at) ∙ set-get_or clients place client
+
 module _ {Z : Type 0} (world : World) (clients : List Client) (self : Replayed) (view : record { world = world; clients = clients } ≡ self) (r : Result (code_answer.Answer Z) Fault) where
-  -- a step of the store alone
-  pub by_store : (event : Event) (next : World) (reply : Reply) → Step world event reply next → told world.settings.schema reply ≡ Some (played r)
-      → PlayedIn self.world next r (λ answer. ByStore self event answer (record { world = next; clients = clients }))
-  by_store event next reply step tells =
-      subst (λ (s : Replayed). PlayedIn s.world next r (λ answer. ByStore s event answer (record { world = next; clients = clients }))) view (inr ((reply, step, tells), refl))
-
-  -- a step of the store alone that is refused
-  pub store_refused : (event : Event) (next : World) (e f : Fault) → r ≡ Err e → e ≡ f → Step world event (events.Refused f) next
-      → PlayedIn self.world next r (λ answer. ByStore self event answer (record { world = next; clients = clients }))
-  store_refused event next e f is same step =
-      by_store event next (events.Refused f) step (ap (λ (x : Result (code_answer.Answer Z) Fault). Some (played x)) (sym (is ∙ ap Err same)))
-
   -- what the lemmas start from
   abbrev before : Replayed
   before = record { world = world; clients = clients }
 
+  -- a step of the store alone
+  pub by_store : (event : Event) (next : World) (reply : Reply) → Step world event reply next → told world.settings.schema reply ≡ Some (played r)
+      → ByStore self event (played r) (record { world = next; clients = clients })
+  by_store event next reply step tells =
+      subst (λ (s : Replayed). ByStore s event (played r) (record { world = next; clients = clients })) view ((reply, step, tells), refl)
+
+  -- a step of the store alone that is refused
+  pub store_refused : (event : Event) (next : World) (e f : Fault) → r ≡ Err e → e ≡ f → Step world event (events.Refused f) next
+      → ByStore self event (played r) (record { world = next; clients = clients })
+  store_refused event next e f is same step =
+      by_store event next (events.Refused f) step (ap (λ (x : Result (code_answer.Answer Z) Fault). Some (played x)) (sym (is ∙ ap Err same)))
+
+  -- a step of the store alone that may take memory
+  pub by_starved_store : (event : Event) (next : World) → PlayedIn world next r (λ answer. Tells world event answer next)
+      → PlayedIn self (record { world = next; clients = clients }) r (λ answer. ByStore self event answer (record { world = next; clients = clients }))
+  by_starved_store event next (inl memory) = inl (memory.0, ap (λ (w : World). record { world = w; clients = clients }) memory.1 ∙ view)
+  by_starved_store event next (inr so) = inr (subst (λ (s : Replayed). ByStore s event (played r) (record { world = next; clients = clients })) view (so, refl))
+
   -- there is no such session
-  pub no_seat : (shown : List Client) (session : ℕ) (e f : Fault) (P : Answer → Client → Type 0) → shown ≡ clients → r ≡ Err e → e ≡ f → client_of shown session ≡ Err f
-      → PlayedIn self.world self.world r (λ answer. Given (client_of self.clients session) self answer self (P answer))
+  no_seat : (shown : List Client) (session : ℕ) (e f : Fault) (P : Answer → Client → Type 0) → shown ≡ clients → r ≡ Err e → e ≡ f → client_of shown session ≡ Err f
+      → Given (client_of self.clients session) self (played r) self (P (played r))
   no_seat shown session e f P showing is same none =
       let seen : shown ≡ self.clients = showing ∙ ap (λ (s : Replayed). s.clients) view in
       let at : client_of self.clients session ≡ Err f = sym (ap (λ (l : List Client). client_of l session) seen) ∙ none in
       let refused : Given (client_of self.clients session) self (says.Refused f) self (P (says.Refused f)) =
       subst (λ (g : Result Client Fault). Given g self (says.Refused f) self (P (says.Refused f))) (sym at) (refl, refl) in
-      subst (λ (x : Result (code_answer.Answer Z) Fault). PlayedIn self.world self.world x (λ answer. Given (client_of self.clients session) self answer self (P answer))) (sym (is ∙ ap Err same)) (inr refused)
+      subst (λ (x : Result (code_answer.Answer Z) Fault). Given (client_of self.clients session) self (played x) self (P (played x))) (sym (is ∙ ap Err same)) refused
 
   -- a client that asks the store isn't there
   pub no_asker : (shown : List Client) (session : ℕ) (e f : Fault) (Asks : Answer → Client → Type 0) → shown ≡ clients → r ≡ Err e → e ≡ f → client_of shown session ≡ Err f
-      → PlayedIn self.world self.world r (λ answer. ByAsking self session answer self (Asks answer))
-  no_asker shown session e f Asks showing is same none = no_seat shown session e f (λ answer c. Asks answer c × (self.clients ≡ self.clients)) showing is same none
+      → PlayedIn self self r (λ answer. ByAsking self session answer self (Asks answer))
+  no_asker shown session e f Asks showing is same none = inr (no_seat shown session e f (λ answer c. Asks answer c × (self.clients ≡ self.clients)) showing is same none)
 
   -- a client that moves alone isn't there
   pub no_mover : (shown : List Client) (session : ℕ) (e f : Fault) (Moves : Answer → Client → Client → Type 0) → shown ≡ clients → r ≡ Err e → e ≡ f → client_of shown session ≡ Err f
-      → PlayedIn self.world self.world r (λ answer. ByClient self session answer self (Moves answer))
+      → ByClient self session (played r) self (Moves (played r))
   no_mover shown session e f Moves showing is same none =
       no_seat shown session e f (λ answer c. (n : Client) × Moves answer c n × (self ≡ record self { clients = slice_set self.clients (session - 1) n })) showing is same none
+
+  -- a client that enters the store isn't there
+  pub no_enterer : (shown : List Client) (session : ℕ) (e f : Fault) → shown ≡ clients → r ≡ Err e → e ≡ f → client_of shown session ≡ Err f
+      → PlayedIn self self r (λ answer. Given (client_of self.clients session) self answer self
+      (λ c. (n : Client) × Enters self.world session c answer n self.world × (self.clients ≡ slice_set self.clients (session - 1) n)))
+  no_enterer shown session e f showing is same none =
+      inr (no_seat shown session e f (λ answer c. (n : Client) × Enters self.world session c answer n self.world × (self.clients ≡ slice_set self.clients (session - 1) n)) showing is same none)
 
   module _ (shown : List Client) (showing : shown ≡ clients) (session place : ℕ) (there : (session ≡ suc place) × (place < length shown)) (client : Client) (at : client ≡ get_or clients place client) where
     is_seated : client_of clients session ≡ Ok client
@@ -222,33 +297,39 @@ module _ {Z : Type 0} (world : World) (clients : List Client) (self : Replayed) 
     is_place = let is : session ≡ suc place = there.0 in omega arith
 
     -- there is a client, and the call does what it does with it
-    seated : (new : Replayed) (P : Replayed → Answer → Client → Type 0) → PlayedIn world new.world r (λ answer. P (record { world = world; clients = clients }) answer client)
-        → PlayedIn self.world new.world r (λ answer. Given (client_of self.clients session) self answer new (P self answer))
+    seated : (new : Replayed) (P : Replayed → Answer → Client → Type 0) → P before (played r) client → Given (client_of self.clients session) self (played r) new (P self (played r))
     seated new P does =
-        subst (λ (s : Replayed). PlayedIn s.world new.world r (λ answer. Given (client_of s.clients session) s answer new (P s answer))) view
-        (played_as world new.world r (λ answer so. subst (λ (g : Result Client Fault). Given g (record { world = world; clients = clients }) answer new (P (record { world = world; clients = clients }) answer)) (sym is_seated) so) does)
+        subst (λ (s : Replayed). Given (client_of s.clients session) s (played r) new (P s (played r))) view
+        (subst (λ (g : Result Client Fault). Given g before (played r) new (P before (played r))) (sym is_seated) does)
+
+    -- a step of one client alone that takes no memory
+    pub by_sure_client : (next : Client) (Moves : World → Answer → Client → Client → Type 0) → Moves world (played r) client next
+        → ByClient self session (played r) (record { world = world; clients = slice_set clients place next }) (Moves self.world (played r))
+    by_sure_client next Moves does =
+        let after : Replayed = record { world = world; clients = slice_set clients place next } in
+        let moved : after ≡ record before { clients = slice_set clients (session - 1) next } = ap (λ (k : ℕ). record before { clients = slice_set clients k next }) is_place in
+        seated after (λ old answer c. (n : Client) × Moves old.world answer c n × (after ≡ record old { clients = slice_set old.clients (session - 1) n })) (next, does, moved)
 
     -- a step of one client alone
-    pub by_client : (next : Client) (Moves : World → Answer → Client → Client → Type 0) → Played r (λ answer. Moves world answer client next)
-        → PlayedIn self.world world r (λ answer. ByClient self session answer (record { world = world; clients = slice_set clients place next }) (Moves self.world answer))
-    by_client next Moves does =
-        let after : Replayed = record { world = world; clients = slice_set clients place next } in
-        let P : Replayed → Answer → Client → Type 0 = λ old answer c. (n : Client) × Moves old.world answer c n × (after ≡ record old { clients = slice_set old.clients (session - 1) n }) in
-        let moved : after ≡ record before { clients = slice_set clients (session - 1) next } = ap (λ (k : ℕ). record before { clients = slice_set clients k next }) is_place in
-        seated after P (played_as {P = λ answer. Moves world answer client next} {Q = λ answer. P before answer client} world world r (λ answer so. (next, so, moved)) (played_alone (λ answer. Moves world answer client next) world r does))
+    pub by_client : (next : Client) (Moves : World → Answer → Client → Client → Type 0) → PlayedIn client next r (λ answer. Moves world answer client next)
+        → PlayedIn self (record { world = world; clients = slice_set clients place next }) r (λ answer. ByClient self session answer (record { world = world; clients = slice_set clients place next }) (Moves self.world answer))
+    by_client next Moves (inl memory) = inl (memory.0, ap (λ (l : List Client). record { world = world; clients = l }) (set_same clients place client next at memory.1) ∙ view)
+    by_client next Moves (inr does) = inr (by_sure_client next Moves does)
 
     -- a step of a client that asks the store
     pub by_asking : (next : World) (Asks : World → Answer → Client → Type 0) → PlayedIn world next r (λ answer. Asks world answer client)
-        → PlayedIn self.world next r (λ answer. ByAsking self session answer (record { world = next; clients = clients }) (Asks self.world answer))
-    by_asking next Asks does =
-        let P : Replayed → Answer → Client → Type 0 = λ old answer c. Asks old.world answer c × (clients ≡ old.clients) in
-        seated (record { world = next; clients = clients }) P (played_as {P = λ answer. Asks world answer client} {Q = λ answer. P before answer client} world next r (λ answer so. (so, refl)) does)
+        → PlayedIn self (record { world = next; clients = clients }) r (λ answer. ByAsking self session answer (record { world = next; clients = clients }) (Asks self.world answer))
+    by_asking next Asks (inl memory) = inl (memory.0, ap (λ (w : World). record { world = w; clients = clients }) memory.1 ∙ view)
+    by_asking next Asks (inr does) = inr (seated (record { world = next; clients = clients }) (λ old answer c. Asks old.world answer c × (clients ≡ old.clients)) (does, refl))
 
     -- a step of a client that enters the store
-    pub by_entering : (next : Client) (later : World) → PlayedIn world later r (λ answer. Enters world session client answer next later)
-        → PlayedIn self.world later r (λ answer. Given (client_of self.clients session) self answer (record { world = later; clients = slice_set clients place next })
+    pub by_entering : (next : Client) (later : World) → PlayedWith world client later next r (λ answer. Enters world session client answer next later)
+        → PlayedIn self (record { world = later; clients = slice_set clients place next }) r (λ answer. Given (client_of self.clients session) self answer (record { world = later; clients = slice_set clients place next })
         (λ c. (n : Client) × Enters self.world session c answer n later × (slice_set clients place next ≡ slice_set self.clients (session - 1) n)))
-    by_entering next later does =
-        let P : Replayed → Answer → Client → Type 0 = λ old answer c. (n : Client) × Enters old.world session c answer n later × (slice_set clients place next ≡ slice_set old.clients (session - 1) n) in
+    by_entering next later (inl memory) =
+        let same : slice_set clients place next ≡ clients = set_same clients place client next at memory.2 in
+        inl (memory.0, ap (λ (w : World). record { world = w; clients = slice_set clients place next }) memory.1 ∙ ap (λ (l : List Client). record { world = world; clients = l }) same ∙ view)
+    by_entering next later (inr does) =
         let moved : slice_set clients place next ≡ slice_set clients (session - 1) next = ap (λ (k : ℕ). slice_set clients k next) is_place in
-        seated (record { world = later; clients = slice_set clients place next }) P (played_as {P = λ answer. Enters world session client answer next later} {Q = λ answer. P before answer client} world later r (λ answer so. (next, so, moved)) does)
+        inr (seated (record { world = later; clients = slice_set clients place next })
+        (λ old answer c. (n : Client) × Enters old.world session c answer n later × (slice_set clients place next ≡ slice_set old.clients (session - 1) n)) (next, does, moved))

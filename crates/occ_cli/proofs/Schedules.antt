@@ -5,16 +5,17 @@ use Rattle.std.proofs.KnownBytes.{Consumes-nil, Consumes-trans}
 use Rattle.std.proofs.lemmas.List.{map-append}
 use Rattle.std.proofs.lemmas.List.Elements.{All-nil, All-cons, All-append}
 use Rattle.occ_types.specs.declared.fault.Fault.TheVariants as faults
-use Rattle.occ_cli.specs.declared.trouble.Trouble.{Trouble}
-use Rattle.occ_cli.specs.declared.trouble.Trouble.TheVariants as troubles
-use Rattle.occ_cli.specs.Answers as says
-use Rattle.occ_cli.specs.Answers.{Answer, answer_text}
-use Rattle.occ_cli.specs.Printing.{lines_text, Pushed, PushedFront}
+use Rattle.occ_text.specs.declared.trouble.Trouble.{Trouble}
+use Rattle.occ_text.specs.declared.trouble.Trouble.TheVariants as troubles
+use Rattle.occ_text.specs.Answers as says
+use Rattle.occ_text.specs.Answers.{Answer, answer_text}
+use Rattle.occ_text.specs.Line.{IsLine, lines_text}
+use Rattle.occ_text.specs.Printing.{Pushed, PushedFront}
 use Rattle.occ_cli.specs.Replaying.{Replayed, Plays}
 use Rattle.occ_cli.specs.Schedules.{Turn, PlaysAll, step_lines, answer_lines, LineOfNoStep}
-use Rattle.occ_cli.specs.Steps.{Step, StepFits, step_text}
+use Rattle.occ_text.specs.Steps.{Step, StepFits, step_text}
 use Rattle.occ_cli.specs.Turns.{IsTurn, IsHalfTurn, AreTurns, AreHalfSaid, StepAt, TurnGives, TurnsGive}
-use Rattle.occ_cli.proofs.Printing.{Pushed-nothing, Pushed-then, front_none, front_then, lines_text-append, lines_then}
+use Rattle.occ_print.proofs.Printing.{Pushed-nothing, Pushed-then, front_none, front_then, lines_text-append, lines_then}
 
 -- ---- one turn more
 
@@ -81,13 +82,13 @@ quietly quiet step answer old new w held is plays fed =
 
 -- the line is that of no step, or memory was refused for it
 pub turn_unread : {X : Type 0} (view : X → Step) (result : Result Bool Trouble) (trouble why : Trouble) (quiet : Bool) (a b w : Option (List ℕ)) (held shown line : List ℕ) (n first last : ℕ) (now : Replayed) → result ≡ Err trouble → trouble ≡ why
-    → Consumes a b (line ++ 10 ∷ []) → last ≡ first + 1 → shown ≡ line → n ≡ last → StepAt view (Err why) shown n → TurnGives quiet (Pushed w w held held) (PushedFront w w held held) result a b first last now now
-turn_unread view result trouble (troubles.Malformed k) quiet a b w held shown line n first last now is same taken next shows here none =
+    → Consumes a b (line ++ 10 ∷ []) → IsLine line → last ≡ first + 1 → shown ≡ line → n ≡ last → StepAt view (Err why) shown n → TurnGives quiet (Pushed w w held held) (PushedFront w w held held) result a b first last now now
+turn_unread view result trouble (troubles.Malformed k) quiet a b w held shown line n first last now is same taken alone next shows here none =
     subst (λ (r : Result Bool Trouble). TurnGives quiet (Pushed w w held held) (PushedFront w w held held) r a b first last now now) (sym (is ∙ ap (λ (t : Trouble). Err t) same))
-    (LineOfNoStep line b taken (λ step fits e. none.0 step fits (shows ∙ e)), none.1 ∙ here ∙ next, Pushed-nothing w held)
-turn_unread view result trouble troubles.Read quiet a b w held shown line n first last now is same taken next shows here none = absurd none
-turn_unread view result trouble troubles.Write quiet a b w held shown line n first last now is same taken next shows here none = absurd none
-turn_unread view result trouble troubles.Memory quiet a b w held shown line n first last now is same taken next shows here none =
+    (LineOfNoStep line b taken alone (λ step fits e. none.0 step fits (shows ∙ e)), none.1 ∙ here ∙ next, Pushed-nothing w held)
+turn_unread view result trouble troubles.Read quiet a b w held shown line n first last now is same taken alone next shows here none = absurd none
+turn_unread view result trouble troubles.Write quiet a b w held shown line n first last now is same taken alone next shows here none = absurd none
+turn_unread view result trouble troubles.Memory quiet a b w held shown line n first last now is same taken alone next shows here none =
     subst (λ (r : Result Bool Trouble). TurnGives quiet (Pushed w w held held) (PushedFront w w held held) r a b first last now now) (sym (is ∙ ap (λ (t : Trouble). Err t) same))
     (inl (front_none w held []))
 

@@ -4,18 +4,19 @@ use Rattle.std.specs.Io.KnownBytes.{Consumes, Appends, Keeps, IsAtEnd, prepend_k
 use Rattle.std.proofs.KnownBytes.{Consumes-trans, Appends-trans, prepend_known-nil}
 use Rattle.std.proofs.lemmas.List.{length-map}
 use Rattle.occ_model.specs.World.{Settings}
-use Rattle.occ_cli.specs.declared.trouble.Trouble.{Trouble}
-use Rattle.occ_cli.specs.declared.trouble.Trouble.TheVariants as troubles
-use Rattle.occ_cli.specs.Books.{book_lines}
-use Rattle.occ_cli.specs.Headers.{Header, HeaderFits, header_text}
-use Rattle.occ_cli.specs.HeaderTaking.{HeaderTaken}
-use Rattle.occ_cli.specs.Printing.{lines_text, Pushed, PushedFront}
+use Rattle.occ_text.specs.declared.trouble.Trouble.{Trouble}
+use Rattle.occ_text.specs.declared.trouble.Trouble.TheVariants as troubles
+use Rattle.occ_print.specs.Books.{book_lines}
+use Rattle.occ_text.specs.Headers.{Header, HeaderFits, header_text}
+use Rattle.occ_text.specs.HeaderTaking.{HeaderTaken}
+use Rattle.occ_text.specs.Line.{lines_text}
+use Rattle.occ_text.specs.Printing.{Pushed, PushedFront}
 use Rattle.occ_cli.specs.Replaying.{Replayed}
 use Rattle.occ_cli.specs.Schedules.{Turn, Schedule, IsReplayed, opened_by, step_lines, schedule_lines, answer_lines, book_at, book_after, closing_lines, replay_lines, IsMalformedAt, MalformedHeader, MalformedStep, IsUnreadable, UnreadHeader, UnreadStep, IsCutShort, CutBefore, CutAmid, CutInBook, CutInAudit, ReplayGives, AppendsFront}
-use Rattle.occ_cli.specs.Sending.{Sends, FlushGives}
-use Rattle.occ_cli.specs.Steps.{step_text}
+use Rattle.occ_text.specs.Sending.{Sends, FlushGives}
+use Rattle.occ_text.specs.Steps.{step_text}
 use Rattle.occ_cli.specs.Turns.{AreTurns, TurnsGive, ClosingGives, is_cut_short}
-use Rattle.occ_cli.proofs.Printing.{Pushed-nothing, front_none, lines_text-append, lines_then}
+use Rattle.occ_print.proofs.Printing.{Pushed-nothing, front_none, lines_text-append, lines_then}
 use Rattle.occ_cli.proofs.Settings.{plays_all_keep}
 
 -- ---- a header and the steps behind it

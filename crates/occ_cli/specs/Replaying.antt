@@ -1,5 +1,5 @@
 -- What a replay does with one step of a schedule (our own choice).
-use Rattle.std.specs.Prelude.{◌≡◌, ℕ, zero, suc, ◌+◌, ◌-◌, ◌^◌, ◌⊎◌, min, nat_le, List, [], ◌∷◌, ◌++◌, length, replicate, drop, Option, None, Some, is_some, Result, Ok, Err, MatchOption, slice_get, slice_set}
+use Rattle.std.specs.Prelude.{◌≡◌, ℕ, Bool, true, false, zero, suc, ◌+◌, ◌-◌, ◌^◌, ◌≤◌, ◌⊎◌, min, nat_le, List, [], ◌∷◌, ◌++◌, length, replicate, drop, Option, None, Some, is_some, Result, Ok, Err, MatchOption, slice_get, slice_set}
 use Rattle.std.specs.List.{position}
 use Rattle.std.specs.Option.{ok_or}
 use Rattle.std.specs.FinMap as finite
@@ -10,6 +10,7 @@ use Rattle.occ_types.specs.Row.{Row}
 use Rattle.occ_types.specs.Schema.{Schema, fault_if, first_fault, check_key, check_row, check_question}
 use Rattle.occ_types.specs.Fits.{has_name}
 use Rattle.occ_types.specs.declared.fault.Fault.{Fault}
+use Rattle.occ_types.specs.declared.limits.TheConstants.{MAX_ANSWER_ROWS}
 use Rattle.occ_types.specs.declared.fault.Fault.TheVariants as faults
 use Rattle.occ_model.specs.State.{Write}
 use Rattle.occ_model.specs.State as states
@@ -22,12 +23,12 @@ use Rattle.occ_model.specs.Step as model
 use Rattle.occ_sets.specs.Sets.{Copied, is_full_for}
 use Rattle.occ_sets.specs.Seen as sets
 use Rattle.occ_sets.specs.declared.reads.Answer as code_seen
-use Rattle.occ_cli.specs.declared.steps.Act.TheVariants as acts
-use Rattle.occ_cli.specs.declared.answers.Answer as code_answer
-use Rattle.occ_cli.specs.Steps.{Step, Does, Get, Scan, Put, Delete, Show}
-use Rattle.occ_cli.specs.Answers.{Answer, answer_of}
-use Rattle.occ_cli.specs.Answers as says
-use Rattle.occ_cli.specs.declared.answers.Counts.{Counts}
+use Rattle.occ_text.specs.declared.steps.Act.TheVariants as acts
+use Rattle.occ_text.specs.declared.answers.Answer as code_answer
+use Rattle.occ_text.specs.Steps.{Step, Does, Get, Scan, Put, Delete, Show}
+use Rattle.occ_text.specs.Answers.{Answer, answer_of}
+use Rattle.occ_text.specs.Answers as says
+use Rattle.occ_text.specs.declared.answers.Counts.{Counts}
 
 -- One client: its open transaction, the number of the last item that it pushed, the items that wait to be entered (the first one first, and at most `limit` of them), and an item that was taken to be entered and refused.
 pub record Client : Type 0 where
@@ -174,6 +175,16 @@ abbrev pub overlaid : Question → List Write → Reply → Reply
 overlaid question writes (events.Answered given) = events.Answered (overlay question writes given)
 overlaid question writes reply = reply
 
+-- what a table may answer to a range: of no more rows than an answer may have
+pub record MayAnswer (question : Question) (given : states.Answer) : Type 0 where
+  pub table : ℕ
+  pub lower : Option Key
+  pub upper : Option Key
+  pub is_range : question ≡ Span table lower upper
+  pub state : states.State
+  pub answers : states.answer question state ≡ given
+  pub few : states.answer_size given ≤ MAX_ANSWER_ROWS
+
 -- `scan` in an open transaction: what the store answers, with the own writes over it
 abbrev pub ScansIn : World → ℕ → List ℕ → Key → Key → Copied → Answer → World → Type 0
 ScansIn old session name lower upper copy answer new = Given (span_named old.settings.schema name lower upper) old answer new (λ question.
@@ -229,6 +240,21 @@ counts_of world = record {
   active = active_count world;
 }
 
+-- whether a step may take memory
+abbrev pub takes_memory : Step → Bool
+takes_memory (Does acts.Begin session) = false
+takes_memory (Does acts.Submit session) = false
+takes_memory (Does acts.Enter session) = true
+takes_memory (Does acts.Decide session) = false
+takes_memory (Does acts.Write session) = true
+takes_memory (Does acts.Finish session) = false
+takes_memory (Does acts.BackUp session) = false
+takes_memory (Get session name key) = true
+takes_memory (Scan session name lower upper) = true
+takes_memory (Put session name key row) = true
+takes_memory (Delete session name key) = true
+takes_memory Show = false
+
 -- the store stands as it was, or has done one step
 abbrev pub AtMostOneStep : World → World → Type 0
 AtMostOneStep old new = (new ≡ old) ⊎ ((event : Event) × (reply : Reply) × model.Step old event reply new)
@@ -254,6 +280,10 @@ Plays old (Delete session name key) answer new =
     ByClient old session answer new (λ client next. Writes old.world.settings.schema name key None client answer next)
 Plays old Show answer new = (answer ≡ says.Counted (counts_of old.world)) × (new ≡ old)
 
+-- what want of memory leaves of a step that may take some: nothing changed, or the store refused it for want of memory, and it was played as any refusal (an item that was refused is kept)
+abbrev pub Starved : Replayed → Step → Replayed → Type 0
+Starved old step new = ((takes_memory step ≡ true) × (new ≡ old)) ⊎ Plays old step (says.Refused faults.Memory) new
+
 module _ {Z : Type 0} where
   -- the answer of a call; a fault is answered as a refusal
   abbrev pub played : Result (code_answer.Answer Z) Fault → Answer
@@ -265,10 +295,19 @@ module _ {Z : Type 0} where
   replied (Ok seen) = events.Answered (sets.answer_of seen)
   replied (Err fault) = events.Refused fault
 
-  -- a call is played so, or memory was refused
+  -- a call is played so, or memory was refused; of a call that changes nothing
   abbrev pub Played : Result (code_answer.Answer Z) Fault → (Answer → Type 0) → Type 0
   Played result Is = (result ≡ Err faults.Memory) ⊎ Is (played result)
 
-  -- the same of a call that may ask the store; where memory was refused, the store has done at most one step
-  abbrev pub PlayedIn : World → World → Result (code_answer.Answer Z) Fault → (Answer → Type 0) → Type 0
-  PlayedIn old new result Is = ((result ≡ Err faults.Memory) × AtMostOneStep old new) ⊎ Is (played result)
+  -- the same of a call that may change something; where memory was refused, nothing changed
+  abbrev pub PlayedIn : {S : Type 0} → S → S → Result (code_answer.Answer Z) Fault → (Answer → Type 0) → Type 0
+  PlayedIn old new result Is = ((result ≡ Err faults.Memory) × (new ≡ old)) ⊎ Is (played result)
+
+  -- the same of a call that may change the store and a client
+  abbrev pub PlayedWith : World → Client → World → Client → Result (code_answer.Answer Z) Fault → (Answer → Type 0) → Type 0
+  PlayedWith old client new next result Is = ((result ≡ Err faults.Memory) × (new ≡ old) × (next ≡ client)) ⊎ Is (played result)
+
+  -- the same of a call that may take memory or may not
+  abbrev pub PlayedBy : {S : Type 0} → Bool → S → S → Result (code_answer.Answer Z) Fault → (Answer → Type 0) → Type 0
+  PlayedBy true old new result Is = PlayedIn old new result Is
+  PlayedBy false old new result Is = Is (played result)

@@ -6,17 +6,16 @@ use Rattle.std.specs.Io.KnownBytes.{Consumes, Keeps, Appends, IsAtEnd}
 use Rattle.occ_types.specs.declared.fault.Fault.TheVariants as faults
 use Rattle.occ_model.specs.Log.{Audited}
 use Rattle.occ_model.specs.World.{World, empty_base, low}
-use Rattle.occ_cli.specs.declared.trouble.Trouble.{Trouble}
-use Rattle.occ_cli.specs.declared.trouble.Trouble.TheVariants.{Read, Write, Memory, Malformed}
-use Rattle.occ_cli.specs.Answers.{Answer, answer_text}
-use Rattle.occ_cli.specs.Answers as says
-use Rattle.occ_cli.specs.Books.{Book, book_lines}
-use Rattle.occ_cli.specs.Headers.{Header, HeaderFits, header_text}
-use Rattle.occ_cli.specs.HeaderTaking.{CannotStand, BeginsHeader}
-use Rattle.occ_cli.specs.Line.{IsLine, BeginsNoLine}
-use Rattle.occ_cli.specs.Printing.{lines_text}
+use Rattle.occ_text.specs.declared.trouble.Trouble.{Trouble}
+use Rattle.occ_text.specs.declared.trouble.Trouble.TheVariants.{Read, Write, Memory, Malformed}
+use Rattle.occ_text.specs.Answers.{Answer, answer_text}
+use Rattle.occ_text.specs.Answers as says
+use Rattle.occ_print.specs.Books.{Book, book_lines, audit_line}
+use Rattle.occ_text.specs.Headers.{Header, HeaderFits, header_text}
+use Rattle.occ_text.specs.HeaderTaking.{CannotStand, BeginsHeader}
+use Rattle.occ_text.specs.Line.{IsLine, BeginsNoLine, lines_text}
 use Rattle.occ_cli.specs.Replaying.{Replayed, Plays, started}
-use Rattle.occ_cli.specs.Steps.{Step, StepFits, step_text}
+use Rattle.occ_text.specs.Steps.{Step, StepFits, step_text}
 
 -- one step of a schedule, with its answer
 abbrev pub Turn : Type 0
@@ -72,10 +71,6 @@ book_after schedule = book_at schedule.header schedule.state.world
 abbrev pub IsAudited : Book → Type 0
 IsAudited book = Audited empty_base book.marks book.state book.log
 
-abbrev pub audit_line : Bool → List ℕ
-audit_line true = codes "audit yes"
-audit_line false = codes "audit no"
-
 -- what is written behind the answers
 abbrev pub closing_lines : Book → Bool → List (List ℕ)
 closing_lines book holds = book_lines book ++ audit_line holds ∷ []
@@ -87,7 +82,7 @@ replay_lines quiet schedule holds = answer_lines quiet schedule.turns ++ closing
 -- what stands next is no line of a step: no line stands there, or another one
 pub data IsNoStep (rest : Option (List ℕ)) : Type 0 where
   NoLineThere : IfSome rest BeginsNoLine → IsNoStep rest
-  LineOfNoStep : (line : List ℕ) (after : Option (List ℕ)) → Consumes rest after (line ++ 10 ∷ []) → ((step : Step) → StepFits step → line ≢ step_text step) → IsNoStep rest
+  LineOfNoStep : (line : List ℕ) (after : Option (List ℕ)) → Consumes rest after (line ++ 10 ∷ []) → IsLine line → ((step : Step) → StepFits step → line ≢ step_text step) → IsNoStep rest
 
 -- The text of a reader, by where its replay ended. `Wrote` tells what was written, `WroteFront` of what text a beginning was.
 module _ (quiet : Bool) (before : Option (List ℕ)) (Wrote WroteFront : List ℕ → Type 0) where

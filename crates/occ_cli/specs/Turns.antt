@@ -3,16 +3,15 @@ use Rattle.std.specs.Prelude.{◌≡◌, ◌≢◌, ◌+◌, ◌⊎◌, ℕ, Boo
 use Rattle.std.specs.Bool.{Decides}
 use Rattle.std.specs.Io.KnownBytes.{Consumes, Keeps, IsAtEnd}
 use Rattle.occ_types.specs.declared.fault.Fault.TheVariants as faults
-use Rattle.occ_cli.specs.declared.trouble.Trouble.{Trouble}
-use Rattle.occ_cli.specs.declared.trouble.Trouble.TheVariants.{Read, Write, Memory, Malformed}
-use Rattle.occ_cli.specs.Answers.{Answer}
-use Rattle.occ_cli.specs.Answers as says
-use Rattle.occ_cli.specs.Books.{Book, book_lines}
-use Rattle.occ_cli.specs.Line.{IsLine}
-use Rattle.occ_cli.specs.Printing.{lines_text}
+use Rattle.occ_text.specs.declared.trouble.Trouble.{Trouble}
+use Rattle.occ_text.specs.declared.trouble.Trouble.TheVariants.{Read, Write, Memory, Malformed}
+use Rattle.occ_text.specs.Answers.{Answer}
+use Rattle.occ_text.specs.Answers as says
+use Rattle.occ_print.specs.Books.{Book, book_lines, audit_line}
+use Rattle.occ_text.specs.Line.{IsLine, lines_text}
 use Rattle.occ_cli.specs.Replaying.{Replayed, Plays}
-use Rattle.occ_cli.specs.Schedules.{Turn, PlaysAll, step_lines, answer_lines, IsAudited, audit_line, closing_lines, IsNoStep}
-use Rattle.occ_cli.specs.Steps.{Step, StepFits, step_text}
+use Rattle.occ_cli.specs.Schedules.{Turn, PlaysAll, step_lines, answer_lines, IsAudited, closing_lines, IsNoStep}
+use Rattle.occ_text.specs.Steps.{Step, StepFits, step_text}
 
 -- whether no more is written: the writer failed, or memory was refused
 abbrev pub is_cut_short : {T : Type 0} → Result T Trouble → Bool

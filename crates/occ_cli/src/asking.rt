@@ -5,15 +5,16 @@ ghost use Rattle.std.specs.Option.{option_copied};
 ghost use Rattle.occ_types.specs.Question.{One};
 ghost use Rattle.occ_types.specs.Seen.{key_of, object_of, question_of};
 ghost use Rattle.occ_model.specs.Event as events;
+ghost use Rattle.occ_model.specs.Overlay.{overlay};
 ghost use Rattle.occ_model.specs.Step.{Step};
 ghost use Rattle.occ_sets.specs.Seen as sets;
-ghost use Rattle.occ_cli.specs.Answers.{answer_of, Found};
-ghost use Rattle.occ_cli.specs.Replaying.{GetsIn, ScansIn, Tells, shown, replied, Played, PlayedIn};
+ghost use Rattle.occ_text.specs.Answers.{answer_of, Found};
+ghost use Rattle.occ_cli.specs.Replaying.{GetsIn, MayAnswer, ScansIn, Tells, shown, replied, Played, PlayedIn};
 
-use crate::answers::Answer;
 use crate::clients::{object_named, span_named};
 use occ_core::core_state::Core;
-use occ_sets::{Answer as Seen, PrivateCopy};
+use occ_sets::{Answer as Seen, Prepared, PrivateCopy};
+use occ_text::answers::Answer;
 use occ_types::fault::Fault;
 use occ_types::{Key, Object, Question, Row};
 use std::alloc::Allocator;
@@ -61,7 +62,7 @@ fn read<A: Allocator + Copy>(
     Ok(Answer::Found(row))
 }
 
-/// `scan` in an open transaction: what the store answers, with the own writes over it. Refused with `NoTable`, `WrongKind`, `TooLong` or `EmptyRange`, and then as the store refuses a read.
+/// `scan` in an open transaction: what the store answers, with the own writes over it. All memory that these need is taken before the store is asked. Refused with `NoTable`, `WrongKind`, `TooLong` or `EmptyRange`, with `Memory`, and then as the store refuses a read.
 pub fn scan<A: Allocator + Copy>(
     copy: &PrivateCopy<A>,
     core: &mut Core<A>,
@@ -73,10 +74,21 @@ pub fn scan<A: Allocator + Copy>(
     ensures { PlayedIn core.old.world core.new.world result (λ answer. ScansIn core.old.world session table.now (key_of lower) (key_of upper) copy.now answer core.new.world) }
 {
     let question = span_named(core.schema(), table, lower, upper)?;
+    let Ok(prepared) = copy.prepare(&question) else {
+        return Err(Fault::Memory);
+    };
     let given = ask(core, session, copy, &question)?;
-    match copy.overlay(&question, given) {
-        Ok(seen) => Ok(shown(seen)),
-        Err(_refused) => Err(Fault::Memory),
+    Ok(over(prepared, given))
+}
+
+// What the store answers to a range, with the own writes over it.
+fn over<A: Allocator>(prepared: Prepared<'_, A>, given: Seen<A>) -> Answer<A>
+    requires { MayAnswer prepared.question (sets.answer_of given) }
+    ensures { answer_of result ≡ shown (overlay prepared.entry.question prepared.entry.writes (sets.answer_of given)) }
+{
+    match given {
+        Seen::Found(row) => Answer::Found(row),
+        Seen::Rows(rows) => Answer::Rows(prepared.over(rows)),
     }
 }
 
@@ -102,15 +114,5 @@ fn ask<A: Allocator + Copy>(
             let rows = core.scan(session, copy.number(), copy.start(), *table, lower, upper)?;
             Ok(Seen::Rows(rows))
         }
-    }
-}
-
-// What was seen, as an answer of the replay.
-fn shown<A: Allocator>(seen: Seen<A>) -> Answer<A>
-    ensures { answer_of result ≡ shown (sets.answer_of seen) }
-{
-    match seen {
-        Seen::Found(row) => Answer::Found(row),
-        Seen::Rows(rows) => Answer::Rows(rows),
     }
 }

@@ -10,15 +10,15 @@ ghost use Rattle.occ_model.specs.Overlay.{set};
 ghost use Rattle.occ_model.specs.Step.{Step};
 ghost use Rattle.occ_sets.specs.Sets.{is_full_for};
 ghost use Rattle.occ_types.specs.Seen.{key_of, object_of, question_of};
-ghost use Rattle.occ_cli.specs.Answers.{Done};
-ghost use Rattle.occ_cli.specs.Replaying.{fresh, Begins, Writes, WritesCopy, Submits, Gets, Scans, Enters, next_item, still_waiting, kept_after, told, Given, unless, check_written, object_named, span_named, played, Played, PlayedIn};
+ghost use Rattle.occ_text.specs.Answers.{Done};
+ghost use Rattle.occ_cli.specs.Replaying.{fresh, Begins, Writes, WritesCopy, Submits, Gets, Scans, Enters, next_item, still_waiting, kept_after, told, Given, unless, check_written, object_named, span_named, played, PlayedIn, PlayedWith};
 
-use crate::answers::Answer;
 use crate::asking;
 use crate::queues::Queue;
-use crate::requests::Request;
+use crate::requests::{Request, Submitted};
 use occ_core::core_state::Core;
 use occ_sets::PrivateCopy;
+use occ_text::answers::Answer;
 use occ_types::fault::Fault;
 use occ_types::limits::MAX_NUMBER;
 use occ_types::{Key, Object, Question, Row, Schema};
@@ -58,7 +58,7 @@ impl<A: Allocator> Client<A> {
 
     /// `submit`: the open transaction waits from now on, which takes no memory. Refused with `NoReadOpen` or `QueueFull`.
     pub fn submit(&mut self) -> Result<Answer<A>, Fault>
-        ensures { Played result (λ answer. Submits self.old answer self.new) }
+        ensures { Submits self.old (played result) self.new }
     {
         let full = self.queue.is_full();
         let Some(copy) = self.copy.take() else {
@@ -70,7 +70,7 @@ impl<A: Allocator> Client<A> {
         }
         let number = copy.number();
         self.pushed = number;
-        self.queue.push(copy);
+        self.queue.push(Submitted::of_copy(copy));
         Ok(Answer::Queued(number))
     }
 
@@ -82,7 +82,7 @@ impl<A: Allocator> Client<A> {
         key: Key<A>,
         row: Option<Row<A>>,
     ) -> Result<Answer<A>, Fault>
-        ensures { Played result (λ answer. Writes schema.now table.now (key_of key) row self.old answer self.new) }
+        ensures { PlayedIn self.old self.new result (λ answer. Writes schema.now table.now (key_of key) row self.old answer self.new) }
     {
         match &mut self.copy {
             None => Err(Fault::NoReadOpen),
@@ -125,14 +125,14 @@ impl<A: Allocator + Copy> Client<A> {
         }
     }
 
-    /// `enter`: what the store refused before, or else what waits first, enters the store. Where the store refuses it, it is kept for the next time.
+    /// `enter`: what the store refused before, or else what waits first, enters the store. Where the store refuses it, it is kept for the next time; where there is no memory to hand it to the store, it waits where it did.
     pub fn enter(
         &mut self,
         alloc: A,
         core: &mut Core<A>,
         session: usize,
     ) -> Result<Answer<A>, Fault>
-        ensures { PlayedIn core.old.world core.new.world result (λ answer. Enters core.old.world session self.old answer self.new core.new.world) }
+        ensures { PlayedWith core.old.world self.old core.new.world self.new result (λ answer. Enters core.old.world session self.old answer self.new core.new.world) }
     {
         let Some(request) = self.next_request(alloc)? else {
             return Ok(Answer::Empty);
@@ -142,23 +142,29 @@ impl<A: Allocator + Copy> Client<A> {
         answer
     }
 
-    // Takes what is to be entered next.
+    // Takes what is to be entered next; where there is no memory for that, it waits where it did.
     fn next_request(&mut self, alloc: A) -> Result<Option<Request<A>>, Fault>
         ensures ok { IfOk result (λ request. (request ≡ next_item self.old) × (self.new ≡ record self.old { queue = still_waiting self.old; kept = None })) }
-        ensures err { IfErr result (λ fault. fault ≡ faults.Memory) }
+        ensures err { IfErr result (λ fault. (fault ≡ faults.Memory) × (self.new ≡ self.old)) }
     {
         if let Some(request) = self.kept.take() {
             return Ok(Some(request));
         }
-        match self.queue.take() {
-            None => Ok(None),
-            Some(copy) => Ok(Some(Request::of_copy(alloc, copy)?)),
+        let Some(first) = self.queue.take() else {
+            return Ok(None);
+        };
+        match Request::of_submitted(alloc, first) {
+            Ok(request) => Ok(Some(request)),
+            Err(first) => {
+                self.queue.put_back(first);
+                Err(Fault::Memory)
+            }
         }
     }
 
     /// `begin`: opens a transaction with the next number, which starts at this counter. Refused with `ReadOpen`, and with `NumbersExhausted` where only the number of the closing mark is left.
     pub fn begin(&mut self, alloc: A, counter: u64) -> Result<Answer<A>, Fault>
-        ensures { Played result (λ answer. Begins counter self.old answer self.new) }
+        ensures { Begins counter self.old (played result) self.new }
     {
         if self.copy.is_some() {
             return Err(Fault::ReadOpen);
@@ -202,7 +208,7 @@ fn write_copy<A: Allocator>(
     key: Key<A>,
     row: Option<Row<A>>,
 ) -> Result<Answer<A>, Fault>
-    ensures { Played result (λ answer. WritesCopy schema.now table.now (key_of key) row copy.old answer copy.new) }
+    ensures { PlayedIn copy.old copy.new result (λ answer. WritesCopy schema.now table.now (key_of key) row copy.old answer copy.new) }
 {
     let object = object_named(schema, table, key)?;
     check_written(schema, object.table, &row)?;
@@ -229,7 +235,7 @@ fn put_or_delete<A: Allocator>(
     object: Object<A>,
     row: Option<Row<A>>,
 ) -> Result<Answer<A>, Fault>
-    ensures { Played result (λ answer. Given (unless (fault_if (is_full_for copy.old.writes (object_of object)) faults.SetFull) copy.old) copy.old answer copy.new
+    ensures { PlayedIn copy.old copy.new result (λ answer. Given (unless (fault_if (is_full_for copy.old.writes (object_of object)) faults.SetFull) copy.old) copy.old answer copy.new
         (λ old. (answer ≡ Done) × (copy.new ≡ record old { writes = set old.writes (object_of object) row }))) }
 {
     let written = match row {

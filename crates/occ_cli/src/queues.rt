@@ -1,8 +1,8 @@
 //! Queues of transactions that wait to be entered.
 
-ghost use Rattle.std.specs.Prelude.{◌≡◌, ◌<◌, ◌++◌, [], ◌∷◌, length, drop, nat_le, slice_get, IfOk};
+ghost use Rattle.std.specs.Prelude.{◌≡◌, ◌<◌, ◌++◌, [], ◌∷◌, length, drop, nat_le, slice_get, IfOk, IsSome};
 
-use occ_sets::PrivateCopy;
+use crate::requests::Submitted;
 use std::alloc::{AllocError, Allocator};
 use std::collections::VecDeque;
 use std::marker::Model;
@@ -10,7 +10,7 @@ use std::marker::Model;
 /// The transactions of one session that wait to be entered, the first one first, and how many there may be. Its room is taken when it is made.
 #[derive(Drop)]
 pub struct Queue<A: Allocator> {
-    items: VecDeque<PrivateCopy<A>, A>,
+    items: VecDeque<Submitted<A>, A>,
     limit: usize,
 }
 
@@ -24,7 +24,9 @@ impl<A: Allocator> Model for Queue<A> {
 
     ghost view = { λ q. record { items = q.items.items; limit = q.limit } };
 
-    ghost invariant = { λ q. q.limit ≤ deque_capacity q.items };
+    ghost use Rattle.std.specs.Prelude.{length};
+
+    ghost invariant = { λ q. (q.limit ≤ deque_capacity q.items) × (length q.items.items ≤ q.limit) };
 }
 
 impl<A: Allocator> Queue<A> {
@@ -44,18 +46,27 @@ impl<A: Allocator> Queue<A> {
     }
 
     /// A transaction goes to the end, which takes no memory.
-    pub fn push(&mut self, copy: PrivateCopy<A>)
+    pub fn push(&mut self, item: Submitted<A>)
         requires { length self.old.items < self.old.limit }
-        ensures { self.new ≡ record self.old { items = self.old.items ++ copy ∷ [] } }
+        ensures { self.new ≡ record self.old { items = self.old.items ++ item ∷ [] } }
     {
-        self.items.push_back_reserved(copy);
+        self.items.push_back_reserved(item);
     }
 
     /// Takes the first one.
-    pub fn take(&mut self) -> Option<PrivateCopy<A>>
+    pub fn take(&mut self) -> Option<Submitted<A>>
         ensures first { result ≡ slice_get self.old.items 0 }
         ensures rest { self.new ≡ record self.old { items = drop 1 self.old.items } }
+        ensures room { IsSome result → length self.new.items < self.new.limit }
     {
         self.items.pop_front()
+    }
+
+    /// A transaction goes before all others, where it was taken from. It takes no memory.
+    pub fn put_back(&mut self, item: Submitted<A>)
+        requires { length self.old.items < self.old.limit }
+        ensures { self.new ≡ record self.old { items = item ∷ self.old.items } }
+    {
+        self.items.push_front_reserved(item);
     }
 }

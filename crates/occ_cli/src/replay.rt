@@ -4,24 +4,26 @@ ghost use Rattle.std.specs.Prelude.{◌≡◌, ◌<◌, ◌^◌, ◌∷◌, [], 
 ghost use Rattle.std.specs.Bool.{Decides};
 ghost use Rattle.std.specs.Io.KnownBytes.{Appends, prepend_known};
 ghost use Rattle.occ_types.specs.declared.fault.Fault.TheVariants as faults;
-ghost use Rattle.occ_cli.specs.Answers as says;
-ghost use Rattle.occ_cli.specs.Answers.{answer_of, answer_text};
-ghost use Rattle.occ_cli.specs.Printing.{lines_text, Pushed, PushedFront, PrintGives};
-ghost use Rattle.occ_cli.specs.Books.{book_of};
-ghost use Rattle.occ_cli.specs.Schedules.{ReplayGives, AppendsFront, audit_line, book_at};
-ghost use Rattle.occ_cli.specs.Steps.{step_of};
+ghost use Rattle.occ_text.specs.Answers as says;
+ghost use Rattle.occ_text.specs.Answers.{answer_of, answer_text};
+ghost use Rattle.occ_text.specs.Line.{lines_text};
+ghost use Rattle.occ_text.specs.Printing.{Pushed, PushedFront, PrintGives};
+ghost use Rattle.occ_print.specs.Books.{book_of};
+ghost use Rattle.occ_cli.specs.Schedules.{ReplayGives, AppendsFront, book_at};
+ghost use Rattle.occ_text.specs.Steps.{step_of};
 ghost use Rattle.occ_cli.specs.Turns.{StepAt, AnswerGives, TurnGives, TurnsGive, ClosingGives, AuditGives, is_cut_short};
 
-use crate::answers::{Answer, write_answer};
-use crate::books::{Book, push_line, write_book};
-use crate::headers::read_header;
-use crate::input::{Input, Next};
-use crate::output::Output;
 use crate::replays::Replay;
-use crate::steps::{Step, read_step};
-use crate::tokens::Unread;
-use crate::trouble::Trouble;
 use occ_audit::audit_rows;
+use occ_print::books::{Book, push_line, write_book};
+use occ_print::lines::audit_line;
+use occ_text::answers::{Answer, write_answer};
+use occ_text::headers::read_header;
+use occ_text::input::{Input, Next};
+use occ_text::output::Output;
+use occ_text::steps::{Step, read_step};
+use occ_text::tokens::Unread;
+use occ_text::trouble::Trouble;
 use occ_types::fault::Fault;
 use std::alloc::Allocator;
 use std::collections::BTreeMap;
@@ -244,11 +246,4 @@ fn write_audit<W: Write, A: Allocator + Copy>(
     };
     let holds = audit_rows(alloc, &audited)?;
     output.push(writer, audit_line(holds).as_bytes())
-}
-
-// The line of an audit, with its line feed.
-fn audit_line(holds: bool) -> &'static str
-    ensures { result.now ≡ lines_text (audit_line holds ∷ []) }
-{
-    if holds { "audit yes\n" } else { "audit no\n" }
 }

@@ -1,21 +1,21 @@
 //! A replay of a schedule, step by step.
 
-ghost use Rattle.std.specs.Prelude.{◌≡◌, ◌<◌, suc, Some, None, Ok, Err, length, replicate, IfOk, OnErr, MatchResult};
-ghost use Rattle.occ_types.specs.Seen.{key_of};
+ghost use Rattle.std.specs.Prelude.{◌≡◌, ◌≢◌, ◌<◌, suc, Some, None, Ok, Err, length, replicate, IfOk, OnErr, MatchResult};
+ghost use Rattle.occ_types.specs.Seen.{key_of, object_of};
 ghost use Rattle.occ_model.specs.Event as events;
-ghost use Rattle.occ_cli.specs.declared.steps.Act.TheVariants as acts;
-ghost use Rattle.occ_core.specs.Replies.{single};
-ghost use Rattle.occ_core.specs.declared.core_state.SingleWrite.TheVariants as kinds;
-ghost use Rattle.occ_cli.specs.Answers.{answer_of};
-ghost use Rattle.occ_cli.specs.Steps.{step_of, Does, Get, Scan, Show};
-ghost use Rattle.occ_cli.specs.Replaying.{started, fresh, client_of, counts_of, name_at, told, ByClient, Tells, Writes, Plays, PlayedIn, AtMostOneStep};
+ghost use Rattle.occ_text.specs.declared.steps.Act.TheVariants as acts;
+ghost use Rattle.occ_types.specs.declared.fault.Fault.TheVariants as faults;
+ghost use Rattle.occ_text.specs.Answers.{answer_of};
+ghost use Rattle.occ_text.specs.Answers as says;
+ghost use Rattle.occ_text.specs.Steps.{step_of, Does, Get, Scan, Show};
+ghost use Rattle.occ_cli.specs.Replaying.{started, fresh, client_of, counts_of, name_at, told, ByClient, Tells, Writes, Plays, PlayedIn, PlayedBy, Starved, takes_memory, played};
 
-use crate::answers::{Answer, Counts};
 use crate::clients::Client;
-use crate::steps::{Act, Step};
-use occ_core::core_state::{Core, SingleWrite};
+use occ_core::core_state::Core;
+use occ_text::answers::{Answer, Counts};
+use occ_text::steps::{Act, Step};
 use occ_types::fault::Fault;
-use occ_types::{Key, Row, Schema, Text};
+use occ_types::{Key, Object, Row, Schema, Text};
 use std::alloc::{AllocError, Allocator};
 use std::marker::Model;
 
@@ -59,21 +59,20 @@ impl<A: Allocator + Copy> Replay<A> {
         })
     }
 
-    /// Does a step, and answers it. It is an error where memory is refused: the replay is over then, and its store has done at most one step.
+    /// Does a step, and answers it. It is an error where memory is refused, as it can be for `enter`, `write`, `get`, `scan`, `put` and `delete` alone: nothing has changed then, but that what the store refused to enter is kept for the next time, as after any refusal.
     pub fn answer(&mut self, step: Step<'_, A>) -> Result<Answer<A>, AllocError>
         ensures ok { IfOk result (λ answer. Plays self.old (step_of step.entry) (answer_of answer) self.new) }
-        ensures err { OnErr result (AtMostOneStep self.old.world self.new.world) }
+        ensures err { OnErr result (Starved self.old (step_of step.entry) self.new) }
     {
         match self.play(step) {
             Ok(answer) => Ok(answer),
-            Err(Fault::Memory) => Err(AllocError),
-            Err(fault) => Ok(Answer::Refused(fault)),
+            Err(fault) => refused(fault),
         }
     }
 
     // Does a step; every refusal is an error.
     fn play(&mut self, step: Step<'_, A>) -> Result<Answer<A>, Fault>
-        ensures { PlayedIn self.old.world self.new.world result (λ answer. Plays self.old (step_of step.entry) answer self.new) }
+        ensures { PlayedBy (takes_memory (step_of step.entry)) self.old self.new result (λ answer. Plays self.old (step_of step.entry) answer self.new) }
     {
         match step {
             Step::Does { act, session } => self.act(act, session),
@@ -105,7 +104,7 @@ impl<A: Allocator + Copy> Replay<A> {
 
     // A step that names a session and nothing else.
     fn act(&mut self, act: Act, session: usize) -> Result<Answer<A>, Fault>
-        ensures { PlayedIn self.old.world self.new.world result (λ answer. Plays self.old (Does act session) answer self.new) }
+        ensures { PlayedBy (takes_memory (Does act session)) self.old self.new result (λ answer. Plays self.old (Does act session) answer self.new) }
     {
         match act {
             Act::Begin => self.begin(session),
@@ -119,7 +118,7 @@ impl<A: Allocator + Copy> Replay<A> {
     }
 
     fn begin(&mut self, session: usize) -> Result<Answer<A>, Fault>
-        ensures { PlayedIn self.old.world self.new.world result (λ answer. Plays self.old (Does acts.Begin session) answer self.new) }
+        ensures { Plays self.old (Does acts.Begin session) (played result) self.new }
     {
         let place = place_of(self.clients.as_slice(), session)?;
         let counter = self.core.counter();
@@ -128,7 +127,7 @@ impl<A: Allocator + Copy> Replay<A> {
     }
 
     fn submit(&mut self, session: usize) -> Result<Answer<A>, Fault>
-        ensures { PlayedIn self.old.world self.new.world result (λ answer. Plays self.old (Does acts.Submit session) answer self.new) }
+        ensures { Plays self.old (Does acts.Submit session) (played result) self.new }
     {
         let place = place_of(self.clients.as_slice(), session)?;
         let client = &mut self.clients[place];
@@ -136,7 +135,7 @@ impl<A: Allocator + Copy> Replay<A> {
     }
 
     fn enter(&mut self, session: usize) -> Result<Answer<A>, Fault>
-        ensures { PlayedIn self.old.world self.new.world result (λ answer. Plays self.old (Does acts.Enter session) answer self.new) }
+        ensures { PlayedIn self.old self.new result (λ answer. Plays self.old (Does acts.Enter session) answer self.new) }
     {
         let place = place_of(self.clients.as_slice(), session)?;
         let client = &mut self.clients[place];
@@ -144,7 +143,7 @@ impl<A: Allocator + Copy> Replay<A> {
     }
 
     fn get(&mut self, session: usize, table: &str, key: Key<A>) -> Result<Answer<A>, Fault>
-        ensures { PlayedIn self.old.world self.new.world result (λ answer. Plays self.old (Get session table.now (key_of key)) answer self.new) }
+        ensures { PlayedIn self.old self.new result (λ answer. Plays self.old (Get session table.now (key_of key)) answer self.new) }
     {
         let place = place_of(self.clients.as_slice(), session)?;
         let client = &self.clients[place];
@@ -158,7 +157,7 @@ impl<A: Allocator + Copy> Replay<A> {
         lower: Key<A>,
         upper: Key<A>,
     ) -> Result<Answer<A>, Fault>
-        ensures { PlayedIn self.old.world self.new.world result (λ answer. Plays self.old (Scan session table.now (key_of lower) (key_of upper)) answer self.new) }
+        ensures { PlayedIn self.old self.new result (λ answer. Plays self.old (Scan session table.now (key_of lower) (key_of upper)) answer self.new) }
     {
         let place = place_of(self.clients.as_slice(), session)?;
         let client = &self.clients[place];
@@ -173,7 +172,7 @@ impl<A: Allocator + Copy> Replay<A> {
         key: Key<A>,
         row: Option<Row<A>>,
     ) -> Result<Answer<A>, Fault>
-        ensures { PlayedIn self.old.world self.new.world result (λ answer. ByClient self.old session answer self.new (λ client next. Writes self.old.world.settings.schema table.now (key_of key) row client answer next)) }
+        ensures { PlayedIn self.old self.new result (λ answer. ByClient self.old session answer self.new (λ client next. Writes self.old.world.settings.schema table.now (key_of key) row client answer next)) }
     {
         let place = place_of(self.clients.as_slice(), session)?;
         let client = &mut self.clients[place];
@@ -181,7 +180,7 @@ impl<A: Allocator + Copy> Replay<A> {
     }
 
     fn write_one(&mut self, session: usize) -> Result<Answer<A>, Fault>
-        ensures { PlayedIn self.old.world self.new.world result (λ answer. Plays self.old (Does acts.Write session) answer self.new) }
+        ensures { PlayedIn self.old self.new result (λ answer. Plays self.old (Does acts.Write session) answer self.new) }
     {
         write_one(self.alloc, &mut self.core, session)
     }
@@ -196,21 +195,21 @@ impl<A: Allocator> Replay<A> {
     }
 
     fn decide(&mut self, session: usize) -> Result<Answer<A>, Fault>
-        ensures { PlayedIn self.old.world self.new.world result (λ answer. Plays self.old (Does acts.Decide session) answer self.new) }
+        ensures { Plays self.old (Does acts.Decide session) (played result) self.new }
     {
         let verdict = self.core.decide(session)?;
         Ok(Answer::Decided(verdict))
     }
 
     fn finish(&mut self, session: usize) -> Result<Answer<A>, Fault>
-        ensures { PlayedIn self.old.world self.new.world result (λ answer. Plays self.old (Does acts.Finish session) answer self.new) }
+        ensures { Plays self.old (Does acts.Finish session) (played result) self.new }
     {
         let number = self.core.finish(session)?;
         Ok(Answer::Finished(number))
     }
 
     fn back_up(&mut self, session: usize) -> Result<Answer<A>, Fault>
-        ensures { PlayedIn self.old.world self.new.world result (λ answer. Plays self.old (Does acts.BackUp session) answer self.new) }
+        ensures { Plays self.old (Does acts.BackUp session) (played result) self.new }
     {
         let number = self.core.back_up(session)?;
         Ok(Answer::BackedUp(number))
@@ -227,6 +226,18 @@ impl<A: Allocator> Replay<A> {
             state: self.core.tables().len(),
             active: self.core.active(),
         }
+    }
+}
+
+// What a fault is answered by: a refusal, but for a want of memory.
+fn refused<A: Allocator>(fault: Fault) -> Result<Answer<A>, AllocError>
+    ensures { MatchResult result
+        (λ answer. (fault ≢ faults.Memory) × (answer_of answer ≡ says.Refused fault))
+        (λ _. fault ≡ faults.Memory) }
+{
+    match fault {
+        Fault::Memory => Err(AllocError),
+        fault => Ok(Answer::Refused(fault)),
     }
 }
 
@@ -257,7 +268,7 @@ fn place_of<A: Allocator>(clients: &[Client<A>], session: usize) -> Result<usize
     Ok(session - 1)
 }
 
-// A single write of the store, told by its table's name and its key.
+// A single write of the store, told by its table's name and its key, which are copied before it is done.
 fn write_one<A: Allocator + Copy>(
     alloc: A,
     core: &mut Core<A>,
@@ -265,28 +276,26 @@ fn write_one<A: Allocator + Copy>(
 ) -> Result<Answer<A>, Fault>
     ensures { PlayedIn core.old.world core.new.world result (λ answer. Tells core.old.world (events.WriteOne session) answer core.new.world) }
 {
-    match core.write_one(session)? {
-        SingleWrite::NoMore => Ok(Answer::NoMore),
-        SingleWrite::Wrote { row, write } => match written(alloc, core, row, write) {
-            Ok(answer) => Ok(answer),
-            Err(_refused) => Err(Fault::Memory),
-        },
-    }
-}
-
-// The write at its places in the log, as an answer.
-fn written<A: Allocator + Copy>(
-    alloc: A,
-    core: &Core<A>,
-    row: usize,
-    write: usize,
-) -> Result<Answer<A>, AllocError>
-    ensures { IfOk result (λ answer. told core.now.world.settings.schema (single core.now.world.log (Ok (kinds.Wrote row write))) ≡ Some (answer_of answer)) }
-{
-    let Some(object) = core.written(row, write) else {
+    let Some(next) = core.next_write(session) else {
+        core.write_one(session)?;
         return Ok(Answer::NoMore);
     };
-    let table = table_name(alloc, core.schema(), object.table)?;
+    let Ok(answer) = written(alloc, core.schema(), next) else {
+        return Err(Fault::Memory);
+    };
+    core.write_one(session)?;
+    Ok(answer)
+}
+
+// The answer to the write of an object.
+fn written<A: Allocator + Copy>(
+    alloc: A,
+    schema: &Schema<A>,
+    object: &Object<A>,
+) -> Result<Answer<A>, AllocError>
+    ensures { IfOk result (λ answer. told schema.now (events.Wrote (object_of object.now)) ≡ Some (answer_of answer)) }
+{
+    let table = table_name(alloc, schema, object.table)?;
     let key = object.key.clone()?;
     Ok(Answer::Wrote { table, key })
 }

@@ -1,14 +1,42 @@
-//! Requests to enter, with their writes shared.
+//! Transactions that wait to be entered, and the requests that they are handed to the store as.
 
 ghost use Rattle.std.specs.Prelude.{◌≡◌, IfOk, IfErr};
-ghost use Rattle.occ_types.specs.declared.fault.Fault.TheVariants as faults;
 
-use occ_sets::{PrivateCopy, SharedWrites};
-use occ_types::fault::Fault;
+use occ_sets::{PrivateCopy, SharedWrites, WriteSet};
 use std::alloc::Allocator;
 use std::marker::Model;
 
-/// What is handed to the store for a transaction to enter: its number, the counter as it began, and its writes. Clauses see it as the transaction's private copy.
+/// A transaction that was submitted: its number, the counter as it began, and its writes. Clauses see it as the transaction's private copy.
+#[derive(Drop)]
+pub struct Submitted<A: Allocator> {
+    number: u64,
+    start: u64,
+    writes: WriteSet<A>,
+}
+
+impl<A: Allocator> Model for Submitted<A> {
+    ghost use Rattle.occ_sets.specs.Sets.{Copied};
+
+    ghost Value = { Copied };
+
+    ghost view = { λ item. record { number = item.number; start = item.start; writes = item.writes } };
+}
+
+impl<A: Allocator> Submitted<A> {
+    /// The transaction of a private copy. It takes no memory.
+    pub fn of_copy(copy: PrivateCopy<A>) -> Submitted<A>
+        ensures { result ≡ copy }
+    {
+        let (number, start, writes) = copy.into_request();
+        Submitted {
+            number,
+            start,
+            writes,
+        }
+    }
+}
+
+/// What is handed to the store for a transaction to enter: its number, the counter as it began, and its writes, which several owners may share. Clauses see it as the transaction's private copy.
 #[derive(Drop)]
 pub struct Request<A: Allocator> {
     number: u64,
@@ -47,18 +75,24 @@ impl<A: Allocator> Request<A> {
         } = self;
         (number, start, writes)
     }
-}
 
-impl<A: Allocator + Copy> Request<A> {
-    /// The request of a transaction, whose writes are shared from now on. Refused with `Memory` where there is none for it.
-    pub fn of_copy(alloc: A, copy: PrivateCopy<A>) -> Result<Request<A>, Fault>
-        ensures ok { IfOk result (λ request. request ≡ copy) }
-        ensures err { IfErr result (λ fault. fault ≡ faults.Memory) }
+    /// The request of a transaction, whose writes are shared from now on. The transaction is handed back where there is no memory for it.
+    pub fn of_submitted(alloc: A, item: Submitted<A>) -> Result<Request<A>, Submitted<A>>
+        ensures ok { IfOk result (λ request. request ≡ item) }
+        ensures handed_back { IfErr result (λ refused. refused ≡ item) }
     {
-        let (number, start, writes) = copy.into_request();
+        let Submitted {
+            number,
+            start,
+            writes,
+        } = item;
         match SharedWrites::new(alloc, writes) {
             Ok(writes) => Ok(Request::new(number, start, writes)),
-            Err(_refused) => Err(Fault::Memory),
+            Err(refused) => Err(Submitted {
+                number,
+                start,
+                writes: refused.value,
+            }),
         }
     }
 }

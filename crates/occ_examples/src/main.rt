@@ -1,7 +1,14 @@
-//! Replays each example, and tells of each how it ended and whether its text is the one that lies beside it.
+//! Replays each example, and tells of each how it ended, whether its text is the one that lies beside it, and what the audit of its book says. Then it audits books that lie there alone.
 #![tactic(auto)]
 
+#[cfg(test)]
+mod device_tests;
+#[cfg(test)]
+mod text_tests;
+
+use occ_books::audit_text;
 use occ_cli::replay::replay_text;
+use occ_text::trouble::status_of;
 use std::process::ExitCode;
 use std::{fs, io};
 
@@ -33,13 +40,25 @@ const EXAMPLES: [&str; 24] = [
     "write-phase-left-open",
 ];
 
+/// The books, each in a file `NAME.book`.
+const BOOKS: [&str; 2] = ["changed-book", "unchanged-book"];
+
 fn main(rt: HostRuntime) -> ExitCode {
-    for name in EXAMPLES {
-        if tell(&rt, name).is_err() {
-            return ExitCode::FAILURE;
-        }
+    match tell_all(&rt) {
+        Ok(()) => ExitCode::SUCCESS,
+        Err(_) => ExitCode::FAILURE,
     }
-    ExitCode::SUCCESS
+}
+
+/// Prints a line for each example, and one for each book.
+fn tell_all(rt: &HostRuntime) -> io::Result<()> {
+    for name in EXAMPLES {
+        tell(rt, name)?;
+    }
+    for name in BOOKS {
+        tell_book(rt, name)?;
+    }
+    Ok(())
 }
 
 /// Prints the line of one example.
@@ -51,8 +70,40 @@ fn tell(rt: &HostRuntime, name: &str) -> io::Result<()> {
     let ended = replay_text(rt.alloc(), &mut reader, &mut written, false);
     let same = written.as_slice() == wanted.as_bytes();
     match (ended, same) {
-        (Ok(()), true) => println!(rt; "{name}: as written"),
+        (Ok(()), true) => {
+            let verdict = verdict(rt, schedule.as_str());
+            println!(rt; "{name}: as written, {verdict}")
+        }
         (Err(trouble), true) => println!(rt; "{name}: {trouble}, as written"),
         (_, false) => println!(rt; "{name}: another text"),
     }
+}
+
+/// What the audit says of the book that the replay of a schedule prints.
+fn verdict(rt: &HostRuntime, schedule: &str) -> &'static str {
+    let mut book = Vec::new(rt.alloc());
+    let mut reader = schedule.as_bytes();
+    if replay_text(rt.alloc(), &mut reader, &mut book, true).is_err() {
+        return "no book";
+    }
+    let mut reader = book.as_slice();
+    let mut written = Vec::new(rt.alloc());
+    match audit_text(rt.alloc(), &mut reader, &mut written) {
+        Ok(true) => "audit yes",
+        Ok(false) => "audit no",
+        Err(_) => "no audit",
+    }
+}
+
+/// Prints the line of one book: what its audit wrote, and the status that the program ends with.
+fn tell_book(rt: &HostRuntime, name: &str) -> io::Result<()> {
+    let book = fs::read_to_string(rt, format!(in rt.alloc(); "{name}.book")?.as_str())?;
+    let mut reader = book.as_bytes();
+    let mut written = Vec::new(rt.alloc());
+    let ended = audit_text(rt.alloc(), &mut reader, &mut written);
+    let line = match str::from_utf8(written.as_slice()) {
+        Ok(line) => line.trim_end(),
+        Err(_) => "",
+    };
+    println!(rt; "{name}: {line}, status {}", status_of(&ended))
 }

@@ -1,5 +1,5 @@
 use Rattle.std.proofs.Common.{◌∙◌, ap, subst}
-use Rattle.occ_cli.specs.Escapes.{Gives}
+use Rattle.occ_text.specs.Escapes.{Gives}
 use Rattle.occ_books.proofs.LinesAgain.{mark_line-again}
 use Rattle.occ_books.specs.Heads.{mark_of_line}
 use Rattle.occ_books.specs.declared.heads.Mark.{Mark}

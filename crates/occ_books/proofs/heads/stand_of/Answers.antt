@@ -1,6 +1,6 @@
 use Rattle.std.proofs.Common.{ℕ, List, ap, sym, subst}
-use Rattle.occ_cli.specs.Escapes.{Gives}
-use Rattle.occ_cli.proofs.StepLines.{behind}
+use Rattle.occ_text.specs.Escapes.{Gives}
+use Rattle.occ_text.proofs.StepLines.{behind}
 use Rattle.occ_books.specs.Heads.{stand_of}
 use Rattle.occ_books.specs.declared.heads.Stand.{Stand}
 use Rattle.occ_books.proofs.heads.stand_of.Goals as goal

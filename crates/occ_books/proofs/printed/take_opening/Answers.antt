@@ -1,17 +1,46 @@
-use Rattle.std.proofs.Common.{codes}
+use Rattle.std.proofs.Common.{◌∙◌, Err, ap, codes}
+use Rattle.std.proofs.lemmas.Result.{err_from_is_err_and}
 use Rattle.occ_types.specs.Seen.{table_of, tables_of}
-use Rattle.occ_cli.specs.Headers.{count_text}
+use Rattle.occ_text.specs.Headers.{count_text}
+use Rattle.occ_books.specs.Places.{rows_to_come}
+use Rattle.occ_books.specs.Taking.{further_of}
 use Rattle.occ_books.proofs.Sections.{tables_next, tables_end}
+use Rattle.occ_books.proofs.PartsLeading.{no_tables_led, no_tables_taken, table_led, opening_led, opening_barred, opening_fault}
 use Rattle.occ_books.proofs.printed.take_opening.Goals as goal
+
+pub loop-tables-init : goal.loop-tables-init
+loop-tables-init g c =
+    let n = no_tables_taken (table_of {Z = g.row.A.Denot}) c.new-tables.result.items _ c.new-tables.ensures.items in
+    record { taken = n.0; so_far = n.1; led = λ sessions. no_tables_led (table_of {Z = g.row.A.Denot}) c.new-tables.result.items sessions _ _ c.new-tables.ensures.items }
 
 pub loop-tables-preserved : goal.loop-tables-preserved
 loop-tables-preserved g c =
     let n = rw c.in-Table.is at c.in_ok-table.ensures in
     let i = c.loop-tables.invariant in
-    let p = tables_next (table_of {Z = g.row.A.Denot}) c.loop-tables.tables.items c.as_slice.result.now c.push.new.self.items c.in-Table.table _ _ _ c.in_ok-push-in-Table.ensures.items c.as_slice.ensures.value i.taken n in
-    record { taken = p.0; so_far = p.1 }
+    let p = tables_next (table_of {Z = g.row.A.Denot}) c.loop-tables.tables.items c.as_slice.result.now c.push.new.self.items c.in-Table.table _ _ _ c.in_ok-push-in-Table.ensures.items c.as_slice.ensures.value i.taken n.taken in
+    record {
+      taken = p.0;
+      so_far = p.1;
+      led = λ sessions. table_led (table_of {Z = g.row.A.Denot}) c.loop-tables.tables.items c.as_slice.result.now c.push.new.self.items c.in-Table.table sessions _ _ _ _ _ _ c.in_ok-push-in-Table.ensures.items c.as_slice.ensures.value (i.led sessions) n.led;
+    }
 
-pub returns-in-Ok : goal.returns-in-Ok
-returns-in-Ok g c =
+pub returns-in-Ok-clause-taken : goal.returns-in-Ok-clause-taken
+returns-in-Ok-clause-taken g c =
     let n = rw c.in-Log.is at c.in_ok-table.ensures in
-    tables_end (tables_of c.loop-tables.tables.items) c.in-Ok.schema (count_text (codes "log") c.in-Log.rows) _ _ _ c.loop-tables.invariant.taken n c.in-Ok.ensures
+    tables_end (tables_of c.loop-tables.tables.items) c.in-Ok.schema (count_text (codes "log") c.in-Log.rows) _ _ _ c.loop-tables.invariant.taken n.taken c.in-Ok.ensures
+
+pub returns-in-Ok-clause-led : goal.returns-in-Ok-clause-led
+returns-in-Ok-clause-led g c = λ sessions.
+    let n = rw c.in-Log.is at c.in_ok-table.ensures in
+    opening_led (tables_of c.loop-tables.tables.items) c.in-Ok.schema c.in-Log.rows sessions _ _ _ _ _ _ (c.loop-tables.invariant.led sessions) n.led c.in-Ok.ensures
+
+pub returns-in_err-table-clause-led : goal.returns-in_err-table-clause-led
+returns-in_err-table-clause-led g c = λ sessions.
+    let h = err_from_is_err_and c.from_residual.result c.from_residual.ensures.1 in
+    opening_fault (further_of {Z = g.row.A.Denot}) c.in_err-table.field-0.0 c.from_residual.result (λ opening. rows_to_come (record { schema = opening.schema; sessions = sessions }) opening.rows) (tables_of c.loop-tables.tables.items)
+    (tables_of c.as_slice.result.now) sessions _ _ _ _ _ _ _ (h.1 ∙ ap Err h.2) (ap tables_of c.as_slice.ensures.value) (c.loop-tables.invariant.led sessions) c.in_err-table.ensures.led
+
+pub returns-in-Err-clause-led : goal.returns-in-Err-clause-led
+returns-in-Err-clause-led g c = λ sessions.
+    let n = rw c.in-Log.is at c.in_ok-table.ensures in
+    opening_barred (tables_of c.loop-tables.tables.items) c.in-Err.field-0.fault c.in-Log.rows sessions _ _ _ _ _ _ c.number.result (c.loop-tables.invariant.led sessions) n.led c.in-Err.ensures.0 c.number.ensures

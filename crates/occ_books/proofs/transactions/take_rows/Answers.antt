@@ -1,11 +1,39 @@
+use Rattle.std.proofs.Common.{◌+◌, ◌-◌, Ok, Err, length, ap, ◌∙◌}
+use Rattle.std.proofs.lemmas.Result.{err_from_is_err_and}
 use Rattle.occ_core.specs.Rows.{log_row_of}
-use Rattle.occ_cli.specs.Books.{row_lines}
+use Rattle.occ_print.specs.Books.{row_lines}
 use Rattle.occ_books.specs.Taking.{LogRowFits}
-use Rattle.occ_books.proofs.Gathering.{viewed_next, count_more}
+use Rattle.occ_books.specs.Places.{Marks, frame_of, rows_to_come}
+use Rattle.occ_books.proofs.Gathering.{nothing_viewed, viewed_next, count_more}
+use Rattle.occ_books.proofs.Leading.{begun, turn, turn_fault, turned}
 use Rattle.occ_books.proofs.transactions.take_rows.Goals as goal
+
+pub loop-init : goal.loop-init
+loop-init g c = record {
+  taken = nothing_viewed (log_row_of {Z = g.row.A.Denot}) (row_lines c.args.schema.now) (LogRowFits c.args.schema.now c.args.sessions) c.new-log.result.items _ c.new-log.ensures.items;
+  count = ap length c.new-log.ensures.items;
+  led = begun (rows_to_come (frame_of c.args.schema.now c.args.sessions)) _ c.args.input.now.number c.args.count;
+}
 
 pub loop-preserved : goal.loop-preserved
 loop-preserved g c = record {
-  taken = viewed_next (log_row_of {Z = g.row.A.Denot}) (row_lines c.args.schema.now) (LogRowFits c.args.schema.now c.args.sessions) c.loop.log.items c.push.new.self.items c.in_ok-row.row _ _ _ c.in_ok-push.ensures.items c.loop.invariant.taken c.in_ok-row.ensures;
+  taken = viewed_next (log_row_of {Z = g.row.A.Denot}) (row_lines c.args.schema.now) (LogRowFits c.args.schema.now c.args.sessions) c.loop.log.items c.push.new.self.items c.in_ok-row.row _ _ _ c.in_ok-push.ensures.items c.loop.invariant.taken c.in_ok-row.ensures.taken;
   count = count_more c.loop.log.items c.push.new.self.items c.in_ok-row.row c.loop.counter c.in_ok-push.ensures.items c.loop.invariant.count;
+  led =
+      let at = rows_to_come (frame_of c.args.schema.now c.args.sessions) in
+      let more = c.args.count - (c.loop.counter + 1) in
+      turn at (Ok c.in_ok-row.row) (at c.args.count) (λ _. at more) _ _ _ _ _ _ c.args.count c.loop.counter c.loop-test.true c.loop.invariant.led (c.in_ok-row.ensures.led more);
 }
+
+pub returns-in_err-row-clause-led : goal.returns-in_err-row-clause-led
+returns-in_err-row-clause-led g c =
+    let h = err_from_is_err_and c.from_residual.result c.from_residual.ensures.1 in
+    let frame = frame_of c.args.schema.now c.args.sessions in
+    let more = c.args.count - (c.loop.counter + 1) in
+    turn_fault (rows_to_come frame) c.in_err-row.field-0.0 c.from_residual.result (rows_to_come frame c.args.count) (λ _. rows_to_come frame more) (λ _. Marks frame) _ _ _ _ _ c.take_row.new.input.number _ c.args.count c.loop.counter
+    (h.1 ∙ ap Err h.2) c.loop-test.true c.loop.invariant.led (c.in_err-row.ensures.led more)
+
+pub returns-clause-led : goal.returns-clause-led
+returns-clause-led g c =
+    let frame = frame_of c.args.schema.now c.args.sessions in
+    turned (rows_to_come frame) (rows_to_come frame c.args.count) _ _ _ _ c.args.count c.loop.counter c.loop-test.false c.loop.invariant.led

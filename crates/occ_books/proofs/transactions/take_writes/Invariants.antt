@@ -1,8 +1,10 @@
-use Rattle.std.proofs.Common.{◌≡◌, [], ◌∷◌, length}
+use Rattle.std.proofs.Common.{◌≡◌, ◌-◌, [], ◌∷◌, map, length}
 use Rattle.std.specs.Io.KnownBytes.{prepend_known}
-use Rattle.occ_cli.specs.Books.{write_line}
+use Rattle.occ_model.specs.RangeLaws.{IsDistinctWrites}
+use Rattle.occ_print.specs.Books.{write_line}
 use Rattle.occ_books.specs.Entries.{WriteFits}
-use Rattle.occ_books.specs.Taking.{Gathered, ReadFits, LogRowFits}
+use Rattle.occ_books.specs.Taking.{Gathered}
+use Rattle.occ_books.specs.Places.{InRow, Led, writes_to_come}
 use Rattle.occ_books.proofs.transactions.take_writes.Given as goal
 
 -- what was taken so far
@@ -10,4 +12,7 @@ abbrev pub invariant-loop : goal.invariant-loop
 invariant-loop g l = record {
   taken : Gathered (λ write. write_line l.schema write ∷ []) (WriteFits l.schema) (prepend_known l.fn.input.unread (g.R.Read.remaining l.fn.reader)) (prepend_known l.input.unread (g.R.Read.remaining l.reader)) l.writes;
   count : length l.writes ≡ l.counter;
+  distinct : IsDistinctWrites l.writes;
+  led : (row : InRow) → row.frame.schema ≡ l.schema
+      → Led (writes_to_come row l.count []) (writes_to_come row (l.count - l.counter) (map (λ write. write.0) l.writes)) (prepend_known l.fn.input.unread (g.R.Read.remaining l.fn.reader)) (prepend_known l.input.unread (g.R.Read.remaining l.reader)) l.fn.input.number l.input.number;
 }

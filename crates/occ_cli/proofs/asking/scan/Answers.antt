@@ -1,8 +1,11 @@
-use Rattle.std.proofs.Common.{ap, ◌∙◌}
+use Rattle.std.proofs.Common.{subst, sym, ap, ◌∙◌}
 use Rattle.std.proofs.lemmas.Result.{err_from_is_err_and}
 use Rattle.occ_types.specs.Seen.{key_of, question_of}
-use Rattle.occ_cli.specs.Replaying.{span_named}
+use Rattle.occ_cli.specs.Replaying.{MayAnswer, shown, span_named}
+use Rattle.occ_model.specs.Overlay.{overlay}
+use Rattle.occ_sets.specs.Seen as sets
 use Rattle.occ_cli.proofs.Replaying.{scan_refused}
+use Rattle.occ_cli.proofs.Scanning.{answered, is_range, scan_answered}
 use Rattle.occ_cli.proofs.asking.scan.Goals as goal
 
 pub returns-in_err-given : goal.returns-in_err-given
@@ -12,3 +15,25 @@ returns-in_err-given g c =
     c.from_residual-in_err-given.result p.0 c.in_err-given.field-0.0
     (c.in_ok-question.ensures ∙ ap (λ s. span_named s c.args.table.now (key_of c.args.lower) (key_of c.args.upper)) c.schema.ensures)
     p.1 p.2 c.in_err-given.ensures
+
+-- what the store answers may go under the own writes
+pub over-requires : goal.over-requires
+over-requires g c =
+    let lower = key_of c.args.lower in
+    let upper = key_of c.args.upper in
+    let asked = c.in_ok-question.ensures ∙ ap (λ s. span_named s c.args.table.now lower upper) c.schema.ensures in
+    let question = question_of c.in_ok-question.question in
+    let given = sets.answer_of c.in_ok-given.given in
+    let range = is_range c.args.core.now.world.settings.schema c.args.table.now lower upper question asked in
+    subst (λ q. MayAnswer q given) (sym (ap (λ p. p.question) c.in-Ok.ensures))
+    (answered c.args.core.now.world c.args.session c.args.copy.now.number c.args.copy.now.start range.0 _ _ question given c.ask.new.core.world range.1 c.in_ok-given.ensures)
+
+-- they go over it
+pub returns : goal.returns
+returns g c =
+    let lower = key_of c.args.lower in
+    let upper = key_of c.args.upper in
+    let asked = c.in_ok-question.ensures ∙ ap (λ s. span_named s c.args.table.now lower upper) c.schema.ensures in
+    let given = sets.answer_of c.in_ok-given.given in
+    scan_answered c.args.core.now.world c.args.session c.args.table.now lower upper c.args.copy.now (question_of c.in_ok-question.question) given c.ask.new.core.world c.over.result
+    asked c.in_ok-given.ensures (c.over.ensures ∙ ap (λ p. shown (overlay p.question p.writes given)) c.in-Ok.ensures)

@@ -1,6 +1,6 @@
 use Rattle.std.proofs.Common.{◌≡◌, ◌∙◌, true, false, sym}
-use Rattle.occ_cli.specs.Answers.{answer_of}
-use Rattle.occ_cli.specs.Steps.{step_of}
+use Rattle.occ_text.specs.Answers.{answer_of}
+use Rattle.occ_text.specs.Steps.{step_of}
 use Rattle.occ_cli.proofs.Schedules.{quietly}
 use Rattle.occ_cli.proofs.replay.answer_step.Goals as goal
 

@@ -1,6 +1,6 @@
 use Rattle.std.proofs.Common.{Err, ◌∙◌, ap}
 use Rattle.std.proofs.lemmas.Result.{err_from_is_err_and}
-use Rattle.occ_cli.specs.HeaderTaking.{header_of}
+use Rattle.occ_text.specs.HeaderTaking.{header_of}
 use Rattle.occ_cli.proofs.WholeReplay.{header_stopped, turns_stopped, all_closed}
 use Rattle.occ_cli.proofs.replay.replay_lines.Goals as goal
 

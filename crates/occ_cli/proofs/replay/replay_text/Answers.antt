@@ -1,6 +1,6 @@
 use Rattle.std.proofs.Common.{◌∙◌, ap, sym}
 use Rattle.std.proofs.lemmas.Result.{err_from_is_err_and}
-use Rattle.occ_cli.specs.Line.{Source}
+use Rattle.occ_text.specs.Line.{Source}
 use Rattle.occ_cli.proofs.WholeReplay.{ended_unflushed, ended_flushed, ended_amid_flush}
 use Rattle.occ_cli.proofs.replay.replay_text.Goals as goal
 

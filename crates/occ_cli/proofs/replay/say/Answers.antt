@@ -1,5 +1,5 @@
 use Rattle.std.proofs.lemmas.Result.{err_from_is_err_and}
-use Rattle.occ_cli.proofs.Printing.{printed_nothing}
+use Rattle.occ_print.proofs.Printing.{printed_nothing}
 use Rattle.occ_cli.proofs.replay.say.Goals as goal
 
 pub returns-in_err-write_answer : goal.returns-in_err-write_answer

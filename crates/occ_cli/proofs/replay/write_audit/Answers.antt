@@ -1,6 +1,6 @@
 use Rattle.std.proofs.Common.{◌∙◌, ap}
 use Rattle.std.specs.FinMap as finite
-use Rattle.occ_cli.specs.Books.{book_of}
+use Rattle.occ_print.specs.Books.{book_of}
 use Rattle.occ_cli.proofs.Closing.{audit_said}
 use Rattle.occ_cli.proofs.replay.write_audit.Goals as goal
 

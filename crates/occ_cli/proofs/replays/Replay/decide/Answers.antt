@@ -1,7 +1,7 @@
 use Rattle.std.proofs.Common.{refl, Ok}
 use Rattle.std.proofs.lemmas.Result.{err_from_is_err_and}
 use Rattle.occ_model.specs.Event as events
-use Rattle.occ_cli.specs.declared.answers.Answer.TheVariants as answers
+use Rattle.occ_text.specs.declared.answers.Answer.TheVariants as answers
 use Rattle.occ_cli.proofs.Replaying.{by_store, store_refused}
 use Rattle.occ_cli.proofs.replays.Replay.decide.Goals as goal
 
@@ -13,5 +13,5 @@ returns-in_err-verdict g c =
 
 pub returns : goal.returns
 returns g c =
-    by_store c.self.inside.core.world c.self.inside.clients.items c.args.self.now c.self.view_is (Ok (answers.Decided c.in_ok-verdict.verdict))
+    by_store {Z = g.row.A.Denot} c.self.inside.core.world c.self.inside.clients.items c.args.self.now c.self.view_is (Ok (answers.Decided c.in_ok-verdict.verdict))
     (events.Decide c.args.session) c.decide.new.self.world _ c.in_ok-verdict.ensures refl

@@ -1,0 +1,373 @@
+-- Which line leads on from a place, and that no text of a book is malformed.
+use Rattle.std.proofs.Common.{◌≡◌, ◌≢◌, ℕ, zero, suc, ◌*◌, ◌^◌, ◌-◌, ◌<◌, ◌≤◌, List, [], ◌∷◌, ◌++◌, map, length, Option, Some, None, ◌⊎◌, inl, inr, lit<, refl, sym, ap, subst, ◌∙◌, arith, length-append, append_assoc}
+use Rattle.std.specs.Prelude.{codes}
+use Rattle.std.specs.List.{All, AllByRecursion}
+use Rattle.std.specs.Io.KnownBytes.{Consumes, IsAtEnd}
+use Rattle.std.proofs.lemmas.Grind.{flat_map-append}
+use Rattle.std.proofs.lemmas.List.Elements.{All-head, All-tail}
+use Rattle.occ_types.specs.declared.kind.Kind.{Kind}
+use Rattle.occ_types.specs.declared.kind.Kind.TheVariants as cells
+use Rattle.occ_types.specs.declared.kind.KeyKind.{KeyKind}
+use Rattle.occ_types.specs.declared.kind.KeyKind.TheVariants as kinds
+use Rattle.occ_types.specs.Key.{Key}
+use Rattle.occ_types.specs.Object.{Object}
+use Rattle.occ_types.specs.Schema.{Table, check_tables}
+use Rattle.occ_types.specs.Seen.{table_asked}
+use Rattle.occ_text.specs.Spelling.{IsToken}
+use Rattle.occ_text.specs.Reading.{is_token, tokens_of}
+use Rattle.occ_text.specs.Line.{IsLine, HasNoFeed, lines_text}
+use Rattle.occ_text.specs.Headers.{TableFits, count_text, key_kind_word, kind_word, table_tokens, table_text}
+use Rattle.occ_text.specs.HeaderReading.{table_of_tokens, table_of_line}
+use Rattle.occ_text.specs.HeaderTaking.{CannotStand, AtEnd, NoLine, OtherLine, TablesSoFar}
+use Rattle.occ_text.proofs.Escapes.{some_is, bind_value}
+use Rattle.occ_text.proofs.Words.{IsToken-from_test, tokens_takes}
+use Rattle.occ_text.proofs.StepLines.{two_tokens}
+use Rattle.occ_text.proofs.HeaderLines.{count_reads, table_reads}
+use Rattle.occ_text.proofs.SchemaLines.{each_fits}
+use Rattle.occ_print.specs.Books.{Book, book_lines, book_text}
+use Rattle.occ_books.specs.Heads.{head_of_line, mark_of_line}
+use Rattle.occ_books.specs.Entries.{Asked, AskedOne, AskedSpan, asked_of_line, pair_of_line, write_of_line, at_of_line}
+use Rattle.occ_books.specs.Places.{Frame, InRow, Place, rows_to_come, writes_to_come, reads_to_come, pairs_to_come, marks_to_come, state_to_come, behind_read, Counted, Leads, LeadOn, MayEnd, Stopped}
+use Rattle.occ_books.specs.Places as places
+use Rattle.occ_books.specs.Printed.{BookFits, IsEnding}
+use Rattle.occ_books.proofs.LinesAgain.{wide, head_line-again, mark_line-again}
+use Rattle.occ_books.proofs.EntriesAgain.{asked_line-again, pair_line-again, write_line-again, at_line-again}
+use Rattle.occ_books.proofs.LineLengths.{width, joined_width, words_have_no_feed, line_of_words, asked_is_line, pair_is_line, write_is_line, at_is_line, head_is_line, mark_is_line, counts_is_line, count_is_line}
+use Rattle.occ_books.proofs.Leading.{lead_on}
+use Rattle.occ_books.proofs.BookLeads.{book_leads, ending_leads}
+
+-- ---- what holds of each place that lines lead to
+
+record IsFrame (frame : Frame) : Type 0 where
+  tables : check_tables frame.schema ≡ None
+  sessions : frame.sessions ≤ 64
+
+abbrev Sound : Place → Type 0
+Sound places.Version = Unit {0}
+Sound places.Sessions = Unit {0}
+Sound (places.Queue sessions) = sessions ≤ 64
+Sound (places.Keep sessions) = sessions ≤ 64
+Sound (places.Tables sessions tables) = (sessions ≤ 64) × TablesSoFar tables
+Sound (places.LogRow frame rows) = IsFrame frame
+Sound (places.ReadOf row reads) = IsFrame row.frame
+Sound (places.PairOf row reads table pairs last) = IsFrame row.frame
+Sound (places.WriteOf row writes written) = IsFrame row.frame
+Sound (places.Marks frame) = IsFrame frame
+Sound (places.MarkOf frame marks last) = IsFrame frame
+Sound (places.State frame) = IsFrame frame
+Sound (places.RowAt frame rows last) = IsFrame frame
+Sound places.Counter = Unit {0}
+Sound places.Audit = Unit {0}
+Sound places.End = Unit {0}
+
+sound_rows : (frame : Frame) (n : ℕ) → IsFrame frame → Sound (rows_to_come frame n)
+sound_rows frame zero h = h
+sound_rows frame (suc n) h = h
+
+sound_writes : (row : InRow) (n : ℕ) (written : List Object) → IsFrame row.frame → Sound (writes_to_come row n written)
+sound_writes row zero written h = sound_rows row.frame row.rows h
+sound_writes row (suc n) written h = h
+
+sound_reads : (row : InRow) (n : ℕ) → IsFrame row.frame → Sound (reads_to_come row n)
+sound_reads row zero h = sound_writes row row.head.writes [] h
+sound_reads row (suc n) h = h
+
+sound_pairs : (row : InRow) (reads table n : ℕ) (last : Option Key) → IsFrame row.frame → Sound (pairs_to_come row reads table n last)
+sound_pairs row reads table zero last h = sound_reads row reads h
+sound_pairs row reads table (suc n) last h = h
+
+sound_behind : (row : InRow) (reads : ℕ) (asked : Asked) → IsFrame row.frame → Sound (behind_read row reads asked)
+sound_behind row reads (AskedOne object found) h = sound_reads row reads h
+sound_behind row reads (AskedSpan question count) h = sound_pairs row reads (table_asked question) count None h
+
+sound_marks : (frame : Frame) (n last : ℕ) → IsFrame frame → Sound (marks_to_come frame n last)
+sound_marks frame zero last h = h
+sound_marks frame (suc n) last h = h
+
+sound_state : (frame : Frame) (n : ℕ) (last : Option Object) → IsFrame frame → Sound (state_to_come frame n last)
+sound_state frame zero last h = tt
+sound_state frame (suc n) last h = h
+
+-- it holds of the next place too
+sound_next : (p q : Place) (line : List ℕ) → Sound p → Leads p line q → Sound q
+sound_next places.Version q line s h = subst Sound (sym h.1) tt
+sound_next places.Sessions q line s h = subst Sound (sym h.3) h.1.most_count
+sound_next (places.Queue sessions) q line s h = subst Sound (sym h.3) s
+sound_next (places.Keep sessions) q line s h = subst Sound (sym h.3) (s, record { few = omega arith; each = refl })
+sound_next (places.Tables sessions tables) q line s (inl h) = subst Sound (sym h.3) (s.0, h.1)
+sound_next (places.Tables sessions tables) q line s (inr h) = subst Sound (sym h.1.3) (sound_rows (record { schema = tables; sessions = sessions }) h.1.0 (record { tables = h.0; sessions = s.0 }))
+sound_next (places.LogRow frame rows) q line s h = subst Sound (sym h.3) (sound_reads (record { frame = frame; rows = rows; head = h.0 }) h.0.reads s)
+sound_next (places.ReadOf row reads) q line s h = subst Sound (sym h.3) (sound_behind row reads h.0 s)
+sound_next (places.PairOf row reads table pairs last) q line s h = subst Sound (sym h.4) (sound_pairs row reads table pairs (Some h.0.0) s)
+sound_next (places.WriteOf row writes written) q line s h = subst Sound (sym h.4) (sound_writes row writes (written ++ h.0.0 ∷ []) s)
+sound_next (places.Marks frame) q line s h = subst Sound (sym h.3) (sound_marks frame h.0 0 s)
+sound_next (places.MarkOf frame marks last) q line s h = subst Sound (sym h.4) (sound_marks frame marks h.0.session s)
+sound_next (places.State frame) q line s h = subst Sound (sym h.3) (sound_state frame h.0 None s)
+sound_next (places.RowAt frame rows last) q line s h = subst Sound (sym h.4) (sound_state frame rows (Some h.0.0) s)
+sound_next places.Counter q line s h = subst Sound (sym h.3) tt
+sound_next places.Audit q line s h = subst Sound (sym h.1) tt
+sound_next places.End q line s h = absurd h
+
+sound_on : (lines : List (List ℕ)) (p q : Place) → Sound p → LeadOn p lines q → Sound q
+sound_on [] p q s h = subst Sound (sym h) s
+sound_on (line ∷ lines) p q s h = sound_on lines h.0 q (sound_next p h.0 line s h.1) h.2
+
+-- ---- one line leads to one place
+
+-- a line tells one value
+one_value : {X : Type 0} (read : List ℕ → Option X) (line a b : List ℕ) (x y : X) → line ≡ a → line ≡ b → read a ≡ Some x → read b ≡ Some y → x ≡ y
+one_value read line a b x y p q r t = some_is x y (sym r ∙ ap read (sym p ∙ q) ∙ t)
+
+one_count : (word : List ℕ) (least most : ℕ) (line : List ℕ) (q r : Place) (to : ℕ → Place) → IsToken word → most < 2 ^ 64 → Counted word least most line q to → Counted word least most line r to → q ≡ r
+one_count word least most line q r to token small h k =
+    let reads = count_reads word least most line small token in
+    let same = some_is h.0 k.0 (sym (reads.again h.0 h.1 h.2) ∙ reads.again k.0 k.1 k.2) in
+    h.3 ∙ ap to same ∙ sym k.3
+
+IsToken-sessions : IsToken (codes "sessions")
+unfolding is_token
+IsToken-sessions = IsToken-from_test (codes "sessions") refl
+
+IsToken-queue : IsToken (codes "queue")
+unfolding is_token
+IsToken-queue = IsToken-from_test (codes "queue") refl
+
+IsToken-keep : IsToken (codes "keep")
+unfolding is_token
+IsToken-keep = IsToken-from_test (codes "keep") refl
+
+IsToken-log : IsToken (codes "log")
+unfolding is_token
+IsToken-log = IsToken-from_test (codes "log") refl
+
+IsToken-marks : IsToken (codes "marks")
+unfolding is_token
+IsToken-marks = IsToken-from_test (codes "marks") refl
+
+IsToken-state : IsToken (codes "state")
+unfolding is_token
+IsToken-state = IsToken-from_test (codes "state") refl
+
+all_last : {X : Type 0} (P : X → Type 0) (xs : List X) (x : X) → All P (xs ++ x ∷ []) → P x
+all_last P [] x h = All-head P x [] h
+all_last P (y ∷ ys) x h = all_last P ys x (All-tail P y (ys ++ x ∷ []) h)
+
+last_table : (tables : List Table) (table : Table) → TablesSoFar (tables ++ table ∷ []) → TableFits table
+last_table tables table h = all_last TableFits tables table (each_fits (tables ++ table ∷ []) h.each)
+
+table_again : (table : Table) → TableFits table → table_of_line (table_text table) ≡ Some table
+table_again table fits = (table_reads (table_text table)).again table fits refl
+
+abbrev first_byte : List ℕ → ℕ
+first_byte [] = 0
+first_byte (byte ∷ bytes) = byte
+
+abbrev later_bytes : List ℕ → List ℕ
+later_bytes [] = []
+later_bytes (byte ∷ bytes) = bytes
+
+t_is_no_l : ◌≡◌ {A = ℕ} 116 108 → ⊥
+t_is_no_l e = absurd (omega arith)
+
+table_is_no_log : (table : Table) (n : ℕ) → table_text table ≡ count_text (codes "log") n → ⊥
+table_is_no_log table n e = t_is_no_l (ap first_byte e)
+
+small_sessions : (n : ℕ) → n ≤ 64 → n < 2 ^ 64
+small_sessions n le = omega arith
+
+only_next : (p q r : Place) (line : List ℕ) → Sound p → Leads p line q → Leads p line r → q ≡ r
+only_next places.Version q r line s h k = h.1 ∙ sym k.1
+only_next places.Sessions q r line s h k = one_count (codes "sessions") 1 64 line q r places.Queue IsToken-sessions (lit< tt) h k
+only_next (places.Queue sessions) q r line s h k = h.3 ∙ sym k.3
+only_next (places.Keep sessions) q r line s h k = h.3 ∙ sym k.3
+only_next (places.Tables sessions tables) q r line s (inl h) (inl k) =
+    let same = one_value table_of_line line (table_text h.0) (table_text k.0) h.0 k.0 h.2 k.2 (table_again h.0 (last_table tables h.0 h.1)) (table_again k.0 (last_table tables k.0 k.1)) in
+    h.3 ∙ ap (λ (t : Table). places.Tables sessions (tables ++ t ∷ [])) same ∙ sym k.3
+only_next (places.Tables sessions tables) q r line s (inl h) (inr k) = absurd (table_is_no_log h.0 k.1.0 (sym h.2 ∙ k.1.2))
+only_next (places.Tables sessions tables) q r line s (inr h) (inl k) = absurd (table_is_no_log k.0 h.1.0 (sym k.2 ∙ h.1.2))
+only_next (places.Tables sessions tables) q r line s (inr h) (inr k) =
+    one_count (codes "log") 0 (2 ^ 64 - 1) line q r (rows_to_come (record { schema = tables; sessions = sessions })) IsToken-log wide h.1 k.1
+only_next (places.LogRow frame rows) q r line s h k =
+    let small = small_sessions frame.sessions s.sessions in
+    let same = one_value (head_of_line frame.sessions) line _ _ h.0 k.0 h.2 k.2 (head_line-again frame.sessions h.0 small h.1) (head_line-again frame.sessions k.0 small k.1) in
+    h.3 ∙ ap (λ head. reads_to_come (record { frame = frame; rows = rows; head = head }) head.reads) same ∙ sym k.3
+only_next (places.ReadOf row reads) q r line s h k =
+    let same = one_value (asked_of_line row.frame.schema) line _ _ h.0 k.0 h.2 k.2 (asked_line-again row.frame.schema h.0 s.tables h.1) (asked_line-again row.frame.schema k.0 s.tables k.1) in
+    h.3 ∙ ap (behind_read row reads) same ∙ sym k.3
+only_next (places.PairOf row reads table pairs last) q r line s h k =
+    let same = one_value (pair_of_line row.frame.schema table) line _ _ h.0 k.0 h.3 k.3 (pair_line-again row.frame.schema table h.0 h.1) (pair_line-again row.frame.schema table k.0 k.1) in
+    h.4 ∙ ap (λ pair. pairs_to_come row reads table pairs (Some pair.0)) same ∙ sym k.4
+only_next (places.WriteOf row writes written) q r line s h k =
+    let same = one_value (write_of_line row.frame.schema) line _ _ h.0 k.0 h.3 k.3 (write_line-again row.frame.schema h.0 s.tables h.1) (write_line-again row.frame.schema k.0 s.tables k.1) in
+    h.4 ∙ ap (λ write. writes_to_come row writes (written ++ write.0 ∷ [])) same ∙ sym k.4
+only_next (places.Marks frame) q r line s h k = one_count (codes "marks") 0 (2 ^ 64 - 1) line q r (λ n. marks_to_come frame n 0) IsToken-marks wide h k
+only_next (places.MarkOf frame marks last) q r line s h k =
+    let small = small_sessions frame.sessions s.sessions in
+    let same = one_value (mark_of_line frame.sessions) line _ _ h.0 k.0 h.3 k.3 (mark_line-again frame.sessions h.0 small h.1) (mark_line-again frame.sessions k.0 small k.1) in
+    h.4 ∙ ap (λ mark. marks_to_come frame marks mark.session) same ∙ sym k.4
+only_next (places.State frame) q r line s h k = one_count (codes "state") 0 (2 ^ 64 - 1) line q r (λ n. state_to_come frame n None) IsToken-state wide h k
+only_next (places.RowAt frame rows last) q r line s h k =
+    let same = one_value (at_of_line frame.schema) line _ _ h.0 k.0 h.3 k.3 (at_line-again frame.schema h.0 s.tables h.1) (at_line-again frame.schema k.0 s.tables k.1) in
+    h.4 ∙ ap (λ entry. state_to_come frame rows (Some entry.0)) same ∙ sym k.4
+only_next places.Counter q r line s h k = h.3 ∙ sym k.3
+only_next places.Audit q r line s h k = h.1 ∙ sym k.1
+only_next places.End q r line s h k = absurd h
+
+only_place : (lines : List (List ℕ)) (p q r : Place) → Sound p → LeadOn p lines q → LeadOn p lines r → q ≡ r
+only_place [] p q r s h k = h ∙ sym k
+only_place (line ∷ lines) p q r s h k =
+    let same = only_next p h.0 k.0 line s h.1 k.1 in
+    only_place lines h.0 q r (sound_next p h.0 line s h.1) h.2 (subst (λ (x : Place). LeadOn x lines r) (sym same) k.2)
+
+-- lines lead from the beginning to one place at most
+pub leads_to_one : (lines : List (List ℕ)) (p q : Place) → LeadOn places.Version lines p → LeadOn places.Version lines q → p ≡ q
+leads_to_one lines p q h k = only_place lines places.Version p q tt h k
+
+-- ---- each of them is a line
+
+key_kind_width : (kind : KeyKind) → length (key_kind_word kind) ≤ 4
+key_kind_width kinds.Num = omega arith
+key_kind_width kinds.Text = omega arith
+
+kinds_width : (columns : List Kind) → width (map kind_word columns) ≤ 5 * length columns
+kinds_width [] = omega arith
+kinds_width (cells.Int ∷ columns) = let rest = kinds_width columns in omega arith
+kinds_width (cells.Text ∷ columns) = let rest = kinds_width columns in omega arith
+
+table_is_line : (table : Table) → TableFits table → IsLine (table_text table)
+unfolding table_of_line
+table_is_line table fits =
+    let t = bind_value (tokens_of (table_text table)) table_of_tokens table (table_again table fits) in
+    let are = tokens_takes (table_text table) t.0 t.1 in
+    let name = fits.name.short in
+    let few = fits.few in
+    let kind = key_kind_width table.key in
+    let columns = kinds_width table.columns in
+    let joined = joined_width 32 (table_tokens table) in
+    record { no_feed = subst HasNoFeed (sym are.0) (words_have_no_feed t.0 are.1.some are.1.each); short = omega arith }
+
+version_is_line : IsLine (codes "occ 1")
+unfolding is_token
+version_is_line = line_of_words (codes "occ" ∷ codes "1" ∷ []) (two_tokens (IsToken-from_test (codes "occ") refl) (IsToken-from_test (codes "1") refl)) (omega arith)
+
+audit_is_line : (line : List ℕ) → (line ≡ codes "audit yes") ⊎ (line ≡ codes "audit no") → IsLine line
+unfolding is_token
+audit_is_line line (inl h) = subst IsLine (sym h) (line_of_words (codes "audit" ∷ codes "yes" ∷ []) (two_tokens (IsToken-from_test (codes "audit") refl) (IsToken-from_test (codes "yes") refl)) (omega arith))
+audit_is_line line (inr h) = subst IsLine (sym h) (line_of_words (codes "audit" ∷ codes "no" ∷ []) (two_tokens (IsToken-from_test (codes "audit") refl) (IsToken-from_test (codes "no") refl)) (omega arith))
+
+counted_is_line : (word : List ℕ) (least most : ℕ) (line : List ℕ) (q : Place) (to : ℕ → Place) → IsToken word → length word ≤ 100 → most < 2 ^ 64 → Counted word least most line q to → IsLine line
+counted_is_line word least most line q to token short small h = subst IsLine (sym h.2) (count_is_line word least most h.0 token short small h.1)
+
+is_line : (p q : Place) (line : List ℕ) → Sound p → Leads p line q → IsLine line
+is_line places.Version q line s h = subst IsLine (sym h.0) version_is_line
+is_line places.Sessions q line s h = counted_is_line (codes "sessions") 1 64 line q _ IsToken-sessions (omega arith) (lit< tt) h
+is_line (places.Queue sessions) q line s h = counted_is_line (codes "queue") 1 1024 line q _ IsToken-queue (omega arith) (lit< tt) h
+is_line (places.Keep sessions) q line s h = counted_is_line (codes "keep") 1 4096 line q _ IsToken-keep (omega arith) (lit< tt) h
+is_line (places.Tables sessions tables) q line s (inl h) = subst IsLine (sym h.2) (table_is_line h.0 (last_table tables h.0 h.1))
+is_line (places.Tables sessions tables) q line s (inr h) = counted_is_line (codes "log") 0 (2 ^ 64 - 1) line q _ IsToken-log (omega arith) wide h.1
+is_line (places.LogRow frame rows) q line s h = subst IsLine (sym h.2) (head_is_line frame.sessions h.0 (small_sessions frame.sessions s.sessions) h.1)
+is_line (places.ReadOf row reads) q line s h = subst IsLine (sym h.2) (asked_is_line row.frame.schema h.0 s.tables h.1)
+is_line (places.PairOf row reads table pairs last) q line s h = subst IsLine (sym h.3) (pair_is_line row.frame.schema table h.0 s.tables h.1)
+is_line (places.WriteOf row writes written) q line s h = subst IsLine (sym h.3) (write_is_line row.frame.schema h.0 s.tables h.1)
+is_line (places.Marks frame) q line s h = counted_is_line (codes "marks") 0 (2 ^ 64 - 1) line q _ IsToken-marks (omega arith) wide h
+is_line (places.MarkOf frame marks last) q line s h = subst IsLine (sym h.3) (mark_is_line frame.sessions h.0 (small_sessions frame.sessions s.sessions) h.1)
+is_line (places.State frame) q line s h = counted_is_line (codes "state") 0 (2 ^ 64 - 1) line q _ IsToken-state (omega arith) wide h
+is_line (places.RowAt frame rows last) q line s h = subst IsLine (sym h.3) (at_is_line frame.schema h.0 s.tables h.1)
+is_line places.Counter q line s h = subst IsLine (sym h.2) (counts_is_line h.0 h.1)
+is_line places.Audit q line s h = audit_is_line line h.0
+is_line places.End q line s h = absurd h
+
+are_lines : (lines : List (List ℕ)) (p q : Place) → Sound p → LeadOn p lines q → AllByRecursion IsLine lines
+are_lines [] p q s h = tt
+are_lines (line ∷ lines) p q s h = (is_line p h.0 line s h.1, are_lines lines h.0 q (sound_next p h.0 line s h.1) h.2)
+
+-- ---- texts of lines
+
+-- what stands before the first line feed is one line
+cut_at_feed : (x y a b : List ℕ) → HasNoFeed x → HasNoFeed y → x ++ 10 ∷ a ≡ y ++ 10 ∷ b → (x ≡ y) × (a ≡ b)
+cut_at_feed [] [] a b p q e = (refl, ap later_bytes e)
+cut_at_feed [] (c ∷ y) a b p q e = absurd (All-head (λ (byte : ℕ). byte ≢ 10) c y q (sym (ap first_byte e)))
+cut_at_feed (c ∷ x) [] a b p q e = absurd (All-head (λ (byte : ℕ). byte ≢ 10) c x p (ap first_byte e))
+cut_at_feed (c ∷ x) (d ∷ y) a b p q e =
+    let rest = cut_at_feed x y a b (All-tail (λ (byte : ℕ). byte ≢ 10) c x p) (All-tail (λ (byte : ℕ). byte ≢ 10) d y q) (ap later_bytes e) in
+    let first : c ≡ d = ap first_byte e in
+    ((λ i. first i ∷ rest.0 i), rest.1)
+
+-- bytes without a line feed are no more than a line that begins there
+within_line : (front rest line more : List ℕ) → HasNoFeed front → front ++ rest ≡ line ++ 10 ∷ more → length front ≤ length line
+within_line [] rest line more p e = omega arith
+within_line (c ∷ front) rest [] more p e = absurd (All-head (λ (byte : ℕ). byte ≢ 10) c front p (ap first_byte e))
+within_line (c ∷ front) rest (d ∷ line) more p e = let n = within_line front rest line more (All-tail (λ (byte : ℕ). byte ≢ 10) c front p) (ap later_bytes e) in omega arith
+
+-- the lines behind others, of a text that begins with them
+record Behind (xs ys : List (List ℕ)) (rest : List ℕ) : Type 0 where
+  more : List (List ℕ)
+  whole : xs ≡ ys ++ more
+  left : rest ≡ lines_text more
+
+one_more : (line : List ℕ) (lines : List (List ℕ)) (rest : List ℕ) → lines_text (line ∷ lines) ++ rest ≡ line ++ 10 ∷ (lines_text lines ++ rest)
+one_more line lines rest = append_assoc (line ++ 10 ∷ []) (lines_text lines) rest ∙ append_assoc line (10 ∷ []) (lines_text lines ++ rest)
+
+begins_line : (line : List ℕ) (lines : List (List ℕ)) → lines_text (line ∷ lines) ≡ line ++ 10 ∷ lines_text lines
+begins_line line lines = append_assoc line (10 ∷ []) (lines_text lines)
+
+nothing_is_no_line : (line : List ℕ) (more : List ℕ) → [] ≡ line ++ 10 ∷ more → ⊥
+nothing_is_no_line line more e = let n = ap length e in absurd (omega (arith, length-append line (10 ∷ more)))
+
+lines_behind : (xs ys : List (List ℕ)) (rest : List ℕ) → AllByRecursion IsLine xs → AllByRecursion IsLine ys → lines_text xs ≡ lines_text ys ++ rest → Behind xs ys rest
+lines_behind xs [] rest p q e = record { more = xs; whole = refl; left = sym e }
+lines_behind [] (y ∷ ys) rest p q e = absurd (nothing_is_no_line y (lines_text ys ++ rest) (e ∙ one_more y ys rest))
+lines_behind (x ∷ xs) (y ∷ ys) rest p q e =
+    let c = cut_at_feed x y (lines_text xs) (lines_text ys ++ rest) p.0.no_feed q.0.no_feed (sym (begins_line x xs) ∙ e ∙ one_more y ys rest) in
+    let r = lines_behind xs ys rest p.1 q.1 c.1 in
+    record { more = r.more; whole = λ i. c.0 i ∷ r.whole i; left = r.left }
+
+-- ---- no text of a book is malformed
+
+-- where lines lead on lie two parts of them
+led_apart : (xs ys : List (List ℕ)) (p q : Place) → LeadOn p (xs ++ ys) q → (mid : Place) × LeadOn p xs mid × LeadOn mid ys q
+led_apart [] ys p q h = (p, refl, h)
+led_apart (x ∷ xs) ys p q h = let r = led_apart xs ys h.0 q h.2 in (r.0, (h.0, h.1, r.1), r.2)
+
+-- a line that leads on may stand
+can_stand : (place next : Place) (line : List ℕ) (lines : List (List ℕ)) (rest : List ℕ) → IsLine line → Leads place line next → rest ≡ line ++ 10 ∷ lines_text lines → CannotStand (λ l. (x : Place) × Leads place l x) (Some rest) → ⊥
+can_stand place next line lines rest alone leads is (AtEnd ended) = nothing_is_no_line line (lines_text lines) (sym ended ∙ is)
+can_stand place next line lines rest alone leads is (NoLine none) = by none.long_or_torn
+  where
+    by : (8192 < length none.front) ⊎ ((0 < length none.front) × (none.rest ≡ [])) → ⊥
+    by (inl long) =
+        let n = within_line none.front none.rest line (lines_text lines) none.no_feed (sym none.parts ∙ is) in
+        let short = alone.short in
+        absurd (omega arith)
+    by (inr torn) =
+        let n = within_line none.front none.rest line (lines_text lines) none.no_feed (sym none.parts ∙ is) in
+        let e = ap length (sym none.parts ∙ is) in
+        let f = ap length torn.1 in
+        absurd (omega (arith, length-append none.front none.rest, length-append line (10 ∷ lines_text lines)))
+can_stand place next line lines rest alone leads is (OtherLine other None taken single never) = absurd taken
+can_stand place next line lines rest alone leads is (OtherLine other (Some after) taken single never) =
+    let c = cut_at_feed line other (lines_text lines) after alone.no_feed single.no_feed (sym is ∙ taken ∙ append_assoc other (10 ∷ []) after) in
+    never (next, subst (λ (l : List ℕ). Leads place l next) c.0 leads)
+
+never_stops : (lines : List (List ℕ)) (p to : Place) → Sound p → LeadOn p lines to → MayEnd to → (first number : ℕ) → Stopped p (Some (lines_text lines)) first number → ⊥
+never_stops lines p to s led may first number h = by h.rest h.taken h.stuck h.unended
+  where
+    after : (place : Place) (more : List (List ℕ)) (rest : List ℕ) → Sound place → LeadOn place more to → rest ≡ lines_text more → CannotStand (λ l. (x : Place) × Leads place l x) (Some rest) → (IsAtEnd (Some rest) → MayEnd place → ⊥) → ⊥
+    after place [] rest sound leads is stuck unended = unended is (subst MayEnd leads may)
+    after place (line ∷ more) rest sound leads is stuck unended =
+        can_stand place leads.0 line more rest (is_line place leads.0 line sound leads.1) leads.1 (is ∙ begins_line line more) stuck
+
+    by : (rest : Option (List ℕ)) → Consumes (Some (lines_text lines)) rest (lines_text h.lines) → CannotStand (λ l. (x : Place) × Leads h.place l x) rest → places.Unended rest h.place → ⊥
+    by None taken stuck unended = absurd taken
+    by (Some rest) taken stuck unended =
+        let b = lines_behind lines h.lines rest (are_lines lines p to s led) (are_lines h.lines p h.place s h.led) taken in
+        let parts = led_apart h.lines b.more p to (subst (λ (l : List (List ℕ)). LeadOn p l to) b.whole led) in
+        let here = only_place h.lines p parts.0 h.place s parts.1 h.led in
+        after h.place b.more rest (sound_on h.lines p h.place s h.led) (subst (λ (x : Place). LeadOn x b.more to) here parts.2) b.left stuck unended
+
+pub book_never_stops : (book : Book) → BookFits book → (lines : List (List ℕ)) → IsEnding lines → (number : ℕ) → Stopped places.Version (Some (book_text book ++ lines_text lines)) 0 number → ⊥
+book_never_stops book fits lines ending number h =
+    let e = ending_leads lines ending in
+    let all = lead_on (book_lines book) lines places.Version places.Audit e.0 (book_leads book fits) e.1 in
+    never_stops (book_lines book ++ lines) places.Version e.0 tt all e.2 0 number
+    (subst (λ (text : List ℕ). Stopped places.Version (Some text) 0 number) (sym (flat_map-append (λ (l : List ℕ). l ++ 10 ∷ []) (book_lines book) lines)) h)

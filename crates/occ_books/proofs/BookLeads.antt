@@ -1,0 +1,330 @@
+-- The lines of a book that fits lead from the beginning to where it may end.
+use Rattle.std.proofs.Common.{◌≡◌, ℕ, ◌^◌, ◌-◌, ◌<◌, ◌≤◌, Bool, true, false, cond, ◌&&◌, ◌||◌, not, T, List, [], ◌∷◌, ◌++◌, map, length, Option, Some, None, inl, inr, refl, sym, ap, subst, ◌∙◌, arith, length-append, append_assoc}
+use Rattle.std.specs.Prelude.{nat_eq, nat_le}
+use Rattle.std.specs.List.{AllByRecursion, flat_map, list_any}
+use Rattle.std.specs.Cmp.{eq_by_cmp_equiv}
+use Rattle.std.specs.Cmp.Lexicographic.{pointwise}
+use Rattle.std.specs.declared.cmp.Ordering.{Ordering}
+use Rattle.std.specs.declared.cmp.Ordering.TheVariants.{Less, Equal, Greater}
+use Rattle.std.specs.Ordering.{is_lt, eq_by_cmp, nat_cmp}
+use Rattle.std.specs.FinMap.{FinMap, entries, len, entries_sorted, is_sorted, len-entries}
+use Rattle.std.proofs.lemmas.Cmp.{ranked}
+use Rattle.std.proofs.lemmas.List.{map-append, append-nil}
+use Rattle.std.proofs.lemmas.List.Folds.{list_any-append}
+use Rattle.std.proofs.Math.Nat.{min-eq_left}
+use Rattle.occ_types.specs.Key.{Key}
+use Rattle.occ_types.specs.Object.{Object, object_cmp, object_cmp_total}
+use Rattle.occ_types.specs.Question.{One, Span}
+use Rattle.occ_types.specs.Row.{Row}
+use Rattle.occ_types.specs.Schema.{Table, Schema, are_tables, is_name}
+use Rattle.occ_model.specs.State.{State, Write, Observation, Found, Rows}
+use Rattle.occ_model.specs.Overlay.{own}
+use Rattle.occ_model.specs.RangeLaws.{IsDistinctWrites}
+use Rattle.occ_model.specs.Log.{LogRow, Standing, Open, Writing, Done, Back}
+use Rattle.occ_text.specs.Headers.{Header, HeaderFits, table_text}
+use Rattle.occ_text.specs.HeaderTaking.{TablesSoFar}
+use Rattle.occ_text.proofs.Words.{both}
+use Rattle.occ_text.proofs.SchemaLines.{IsSchema-from_check}
+use Rattle.occ_print.specs.Books.{Book, settings_lines, header_lines, pair_line, read_lines, write_line, row_line, row_lines, log_lines, mark_line, mark_lines, at_line, row_count, state_lines, counter_line, book_lines}
+use Rattle.occ_books.specs.declared.heads.Head.{Head}
+use Rattle.occ_books.specs.declared.heads.Stand.{Stand}
+use Rattle.occ_books.specs.declared.heads.Stand.TheVariants as stands
+use Rattle.occ_books.specs.Heads.{head_text, StandFits, HeadFits}
+use Rattle.occ_books.specs.Entries.{AskedOne, AskedSpan, PairFits, WriteFits, AtFits}
+use Rattle.occ_books.specs.Taking.{is_behind, RisesFrom, ReadFits, StandingFits, LogRowFits, StandsSo}
+use Rattle.occ_books.specs.Places.{Frame, InRow, frame_of, in_row, Place, rows_to_come, writes_to_come, reads_to_come, pairs_to_come, marks_to_come, state_to_come, IsAbove, Leads, LeadOn, MayEnd}
+use Rattle.occ_books.specs.Places as places
+use Rattle.occ_books.specs.Printed.{EntryFits, BookFits, IsEnding}
+use Rattle.occ_books.proofs.Leading.{lead_on}
+use Rattle.occ_books.proofs.RowTaking.{head_line}
+
+-- one line leads on
+one : (p q : Place) (line : List ℕ) → Leads p line q → LeadOn p (line ∷ []) q
+one p q line leads = (q, leads, refl)
+
+-- ---- tables
+
+-- a part of the tables of a schema is so far right
+begins_well : (tables more : List Table) → are_tables (tables ++ more) ≡ true → are_tables tables ≡ true
+begins_well [] more h = refl
+begins_well (first ∷ tables) more h =
+    let test : Table → Bool = λ other. pointwise nat_eq first.name other.name in
+    let few = nat_le 1 (length first.columns) && nat_le (length first.columns) 8 in
+    let p = both ((is_name first.name && not (list_any test (tables ++ more))) && few) (are_tables (tables ++ more)) h in
+    let q = both (is_name first.name && not (list_any test (tables ++ more))) few p.0 in
+    let n = both (is_name first.name) (not (list_any test (tables ++ more))) q.0 in
+    let own = none_before (list_any test tables) (list_any test more) (sym (ap not (list_any-append test tables more)) ∙ n.1) in
+    all_hold (is_name first.name) (list_any test tables) few (are_tables tables) n.0 own q.1 (begins_well tables more p.1)
+  where
+    none_before : (a b : Bool) → not (a || b) ≡ true → a ≡ false
+    none_before true b h = absurd cc
+    none_before false b h = refl
+
+    all_hold : (a b c d : Bool) → a ≡ true → b ≡ false → c ≡ true → d ≡ true → (((a && not b) && c) && d) ≡ true
+    all_hold a b c d p q r s = rw (p, q, r, s) refl
+
+so_far : (tables more : List Table) → TablesSoFar (tables ++ more) → TablesSoFar tables
+so_far tables more h = let few = h.few in record { few = omega (arith, length-append tables more); each = begins_well tables more h.each }
+
+tables_lead : (sessions : ℕ) (before after : List Table) → TablesSoFar (before ++ after) → LeadOn (places.Tables sessions before) (map table_text after) (places.Tables sessions (before ++ after))
+tables_lead sessions before [] h = ap (places.Tables sessions) (append-nil before)
+tables_lead sessions before (table ∷ after) h =
+    let turned = append_assoc before (table ∷ []) after in
+    let whole = subst TablesSoFar (sym turned) h in (
+      places.Tables sessions (before ++ table ∷ []),
+      inl (table, so_far (before ++ table ∷ []) after whole, refl, refl),
+      subst (λ (all : List Table). LeadOn (places.Tables sessions (before ++ table ∷ [])) (map table_text after) (places.Tables sessions all)) turned (tables_lead sessions (before ++ table ∷ []) after whole),
+    )
+
+-- ---- reads
+
+pairs_lead : (row : InRow) (reads table : ℕ) (last : Option Key) (pairs : List (Key × Row)) → AllByRecursion (PairFits row.frame.schema table) pairs → RisesFrom last pairs
+    → LeadOn (pairs_to_come row reads table (length pairs) last) (map pair_line pairs) (reads_to_come row reads)
+pairs_lead row reads table last [] fits rises = refl
+pairs_lead row reads table None (pair ∷ pairs) fits rises =
+    (pairs_to_come row reads table (length pairs) (Some pair.0), (pair, fits.0, tt, refl, refl), pairs_lead row reads table (Some pair.0) pairs fits.1 rises)
+pairs_lead row reads table (Some last) (pair ∷ pairs) fits rises =
+    (pairs_to_come row reads table (length pairs) (Some pair.0), (pair, fits.0, rises.0, refl, refl), pairs_lead row reads table (Some pair.0) pairs fits.1 rises.1)
+
+read_leads : (row : InRow) (reads : ℕ) (read : Observation) → ReadFits row.frame.schema read → LeadOn (places.ReadOf row reads) (read_lines row.frame.schema read) (reads_to_come row reads)
+read_leads row reads (One table key, Found found) fits = (reads_to_come row reads, (AskedOne (table, key) found, fits, refl, refl), refl)
+read_leads row reads (One table key, Rows rows) fits = absurd fits
+read_leads row reads (Span table lower upper, Found found) fits = absurd fits
+read_leads row reads (Span table lower upper, Rows rows) fits =
+    (pairs_to_come row reads table (length rows) None, (AskedSpan (Span table lower upper) (length rows), (fits.0, fits.3), refl, refl), pairs_lead row reads table None rows fits.1 fits.2)
+
+reads_lead : (row : InRow) (reads : List Observation) → AllByRecursion (ReadFits row.frame.schema) reads → LeadOn (reads_to_come row (length reads)) (flat_map (read_lines row.frame.schema) reads) (writes_to_come row row.head.writes [])
+reads_lead row [] fits = refl
+reads_lead row (read ∷ reads) fits =
+    lead_on (read_lines row.frame.schema read) (flat_map (read_lines row.frame.schema) reads) (places.ReadOf row (length reads)) (reads_to_come row (length reads)) (writes_to_come row row.head.writes [])
+    (read_leads row (length reads) read fits.0) (reads_lead row reads fits.1)
+
+-- ---- writes
+
+not_there : (b : Bool) (x : Option Row) (o : Option (Option Row)) → cond b (Some x) o ≡ None → (b ≡ false) × (o ≡ None)
+not_there true x o h = absurd cc
+not_there false x o h = (refl, h)
+
+unwritten : (writes : List Write) (write : Write) (more : List Write) (object : Object) → own (writes ++ write ∷ more) object ≡ None → eq_by_cmp object_cmp object write.0 ≡ false
+unwritten [] write more object h = (not_there _ write.1 (own more object) h).0
+unwritten (first ∷ writes) write more object h = unwritten writes write more object (not_there _ first.1 (own (writes ++ write ∷ more) object) h).1
+
+-- no write before another one has its object
+written_anew : (writes : List Write) (write : Write) (more : List Write) → IsDistinctWrites (writes ++ write ∷ more) → list_any (eq_by_cmp object_cmp write.0) (map (λ (w : Write). w.0) writes) ≡ false
+written_anew [] write more h = refl
+written_anew (first ∷ writes) write more h =
+    let apart = (eq_by_cmp_equiv object_cmp_total).symm write.0 first.0 ∙ unwritten writes write more first.0 h.0 in
+    neither (eq_by_cmp object_cmp write.0 first.0) (list_any (eq_by_cmp object_cmp write.0) (map (λ (w : Write). w.0) writes)) apart (written_anew writes write more h.1)
+  where
+    neither : (a b : Bool) → a ≡ false → b ≡ false → (a || b) ≡ false
+    neither a b p q = rw (p, q) refl
+
+writes_lead : (row : InRow) (before after : List Write) → IsDistinctWrites (before ++ after) → AllByRecursion (WriteFits row.frame.schema) after
+    → LeadOn (writes_to_come row (length after) (map (λ (w : Write). w.0) before)) (map (write_line row.frame.schema) after) (rows_to_come row.frame row.rows)
+writes_lead row before [] distinct fits = refl
+writes_lead row before (write ∷ after) distinct fits =
+    let objects : List Write → List Object = map (λ (w : Write). w.0) in
+    let named : objects (before ++ write ∷ []) ≡ objects before ++ write.0 ∷ [] = map-append (λ (w : Write). w.0) before (write ∷ []) in (
+      writes_to_come row (length after) (objects before ++ write.0 ∷ []),
+      (write, fits.0, written_anew before write after distinct, refl, refl),
+      subst (λ (os : List Object). LeadOn (writes_to_come row (length after) os) (map (write_line row.frame.schema) after) (rows_to_come row.frame row.rows)) named
+          (writes_lead row (before ++ write ∷ []) after (subst IsDistinctWrites (sym (append_assoc before (write ∷ []) after)) distinct) fits.1),
+    )
+
+-- ---- rows of the log
+
+-- how a standing is told; a case is not told
+abbrev stand_told : Standing → Stand
+stand_told (Open index case) = stands.Open
+stand_told (Writing done) = stands.Writing done
+stand_told (Done number) = stands.Done number
+stand_told (Back cause) = stands.Back cause
+
+told_so : (standing : Standing) → StandsSo (stand_told standing) standing
+told_so (Open index case) = (index, case, refl)
+told_so (Writing done) = refl
+told_so (Done number) = refl
+told_so (Back cause) = refl
+
+stand_fits : (writes : ℕ) (standing : Standing) → StandingFits writes standing → StandFits writes (stand_told standing)
+stand_fits writes (Open index case) fits = tt
+stand_fits writes (Writing done) fits = fits
+stand_fits writes (Done number) fits = fits
+stand_fits writes (Back cause) fits = tt
+
+-- the first line of a row
+abbrev head_told : LogRow → Head
+head_told row = record {
+  place = row.place;
+  session = row.session;
+  number = row.number;
+  start = row.start;
+  finish = row.finish;
+  reads = length row.reads;
+  writes = length row.writes;
+  stand = stand_told row.standing;
+}
+
+head_fits : (schema : Schema) (sessions : ℕ) (row : LogRow) → LogRowFits schema sessions row → HeadFits sessions (head_told row)
+head_fits schema sessions row fits = record {
+  place = fits.place;
+  session = fits.session;
+  number = fits.number;
+  start = fits.start;
+  finish = fits.finish;
+  reads = fits.few_reads;
+  writes = fits.few_writes;
+  stand = stand_fits (length row.writes) row.standing fits.done;
+}
+
+head_spelled : (row : LogRow) → head_text (head_told row) ≡ row_line row
+head_spelled row = head_line (head_told row) row.reads row.writes row refl refl (record { place = refl; session = refl; number = refl; start = refl; finish = refl; read = refl; written = refl; stands = told_so row.standing })
+
+row_leads : (schema : Schema) (sessions rows : ℕ) (row : LogRow) → LogRowFits schema sessions row → LeadOn (places.LogRow (frame_of schema sessions) rows) (row_lines schema row) (rows_to_come (frame_of schema sessions) rows)
+row_leads schema sessions rows row fits =
+    let here = in_row (frame_of schema sessions) rows (head_told row) in
+    let behind = lead_on (flat_map (read_lines schema) row.reads) (map (write_line schema) row.writes) (reads_to_come here (length row.reads)) (writes_to_come here (length row.writes) []) (rows_to_come (frame_of schema sessions) rows)
+    (reads_lead here row.reads fits.reads) (writes_lead here [] row.writes fits.distinct fits.writes) in
+    (reads_to_come here (length row.reads), (head_told row, head_fits schema sessions row fits, sym (head_spelled row), refl), behind)
+
+rows_lead : (schema : Schema) (sessions : ℕ) (log : List LogRow) → AllByRecursion (LogRowFits schema sessions) log → LeadOn (rows_to_come (frame_of schema sessions) (length log)) (flat_map (row_lines schema) log) (places.Marks (frame_of schema sessions))
+rows_lead schema sessions [] fits = refl
+rows_lead schema sessions (row ∷ log) fits =
+    lead_on (row_lines schema row) (flat_map (row_lines schema) log) (places.LogRow (frame_of schema sessions) (length log)) (rows_to_come (frame_of schema sessions) (length log)) (places.Marks (frame_of schema sessions))
+    (row_leads schema sessions (length log) row fits.0) (rows_lead schema sessions log fits.1)
+
+-- ---- entries in their order
+
+first_of : (a b : Bool) → T (a && b) → T a
+first_of true b p = tt
+first_of false b p = p
+
+second_of : (a b : Bool) → T (a && b) → T b
+second_of true b p = p
+second_of false b p = absurd p
+
+less_is : (o : Ordering) → T (is_lt o) → o ≡ Less
+less_is Less p = refl
+less_is Equal p = absurd p
+less_is Greater p = absurd p
+
+-- the first of some entries comes behind a key
+abbrev IsAhead : {K X : Type 0} → (K → K → Ordering) → K → List (K × X) → Type 0
+IsAhead R last [] = Unit {0}
+IsAhead R last (e ∷ es) = R last e.0 ≡ Less
+
+ahead : {K X : Type 0} (R : K → K → Ordering) (e : K × X) (es : List (K × X)) → T (is_sorted R (e ∷ es)) → IsAhead R e.0 es
+ahead R e [] sorted = tt
+ahead R e (f ∷ es) sorted = less_is (R e.0 f.0) (first_of _ _ (first_of _ _ sorted))
+
+-- ---- closing marks
+
+above_number : (a b : ℕ) → nat_cmp a b ≡ Less → a < b
+above_number a b h = ranked a b Less (sym h)
+
+abbrev IsNext : ℕ → List (ℕ × ℕ) → Type 0
+IsNext last [] = Unit {0}
+IsNext last (e ∷ es) = last < e.0
+
+is_next : (last : ℕ) (es : List (ℕ × ℕ)) → IsAhead nat_cmp last es → IsNext last es
+is_next last [] h = tt
+is_next last (e ∷ es) h = above_number last e.0 h
+
+is_first : (sessions : ℕ) (es : List (ℕ × ℕ)) → AllByRecursion (EntryFits sessions) es → IsNext 0 es
+is_first sessions [] fits = tt
+is_first sessions (e ∷ es) fits = let first = fits.0.0.first in omega arith
+
+marks_lead : (frame : Frame) (last : ℕ) (es : List (ℕ × ℕ)) → AllByRecursion (EntryFits frame.sessions) es → T (is_sorted nat_cmp es) → IsNext last es → LeadOn (marks_to_come frame (length es) last) (map mark_line es) (places.State frame)
+marks_lead frame last [] fits sorted next = refl
+marks_lead frame last (e ∷ es) fits sorted next = (
+  marks_to_come frame (length es) e.0,
+  (record { session = e.0; number = e.1 }, record { session = fits.0.0; number = fits.0.1 }, next, refl, refl),
+  marks_lead frame e.0 es fits.1 (second_of _ _ sorted) (is_next e.0 es (ahead nat_cmp e es sorted)),
+)
+
+-- closing marks of sessions are no more than there are sessions
+few_marks : (sessions last : ℕ) (es : List (ℕ × ℕ)) → AllByRecursion (EntryFits sessions) es → T (is_sorted nat_cmp es) → IsNext last es → length es ≤ sessions - last
+few_marks sessions last [] fits sorted next = omega arith
+few_marks sessions last (e ∷ es) fits sorted next =
+    let rest : length es ≤ sessions - e.0 = few_marks sessions e.0 es fits.1 (second_of _ _ sorted) (is_next e.0 es (ahead nat_cmp e es sorted)) in
+    let top = fits.0.0.last in
+    omega arith
+
+-- ---- the state
+
+comes_behind : (last object : Object) → object_cmp last object ≡ Less → is_behind (Some last) object ≡ true
+comes_behind last object h = ap is_lt h
+
+abbrev IsBehindAll : Option Object → List (Object × Row) → Type 0
+IsBehindAll last [] = Unit {0}
+IsBehindAll last (e ∷ es) = is_behind last e.0 ≡ true
+
+behind_all : (last : Object) (es : List (Object × Row)) → IsAhead object_cmp last es → IsBehindAll (Some last) es
+behind_all last [] h = tt
+behind_all last (e ∷ es) h = comes_behind last e.0 h
+
+nothing_before : (es : List (Object × Row)) → IsBehindAll None es
+nothing_before [] = tt
+nothing_before (e ∷ es) = refl
+
+state_leads : (frame : Frame) (last : Option Object) (es : List (Object × Row)) → AllByRecursion (AtFits frame.schema) es → T (is_sorted object_cmp es) → IsBehindAll last es
+    → LeadOn (state_to_come frame (length es) last) (map (at_line frame.schema) es) places.Counter
+state_leads frame last [] fits sorted behind = refl
+state_leads frame last (e ∷ es) fits sorted behind =
+    (state_to_come frame (length es) (Some e.0), (e, fits.0, behind, refl, refl), state_leads frame (Some e.0) es fits.1 (second_of _ _ sorted) (behind_all e.0 es (ahead object_cmp e es sorted)))
+
+-- ---- the whole
+
+header_leads : (header : Header) → HeaderFits header → LeadOn places.Version (header_lines header) (places.Tables header.sessions header.tables)
+header_leads header fits =
+    lead_on (settings_lines header) (map table_text header.tables) places.Version (places.Tables header.sessions []) (places.Tables header.sessions header.tables)
+    (places.Sessions, (refl, refl), (places.Queue header.sessions, (header.sessions, fits.sessions, refl, refl), (places.Keep header.sessions, (header.queue, fits.queue, refl, refl), (places.Tables header.sessions [], (header.keep, fits.keep, refl, refl), refl))))
+    (tables_lead header.sessions [] header.tables (IsSchema-from_check header.tables fits.tables).so_far)
+
+log_leads : (header : Header) (log : List LogRow) → HeaderFits header → length log ≤ 2 ^ 64 - 1 → AllByRecursion (LogRowFits header.tables header.sessions) log
+    → LeadOn (places.Tables header.sessions header.tables) (log_lines header.tables log) (places.Marks (frame_of header.tables header.sessions))
+log_leads header log fits few rows =
+    let frame = frame_of header.tables header.sessions in
+    (rows_to_come frame (length log), inr (fits.tables, (length log, record { least_count = omega arith; most_count = few }, refl, refl)), rows_lead header.tables header.sessions log rows)
+
+closing_leads : (frame : Frame) (marks : FinMap nat_cmp ℕ) → frame.sessions ≤ 64 → AllByRecursion (EntryFits frame.sessions) (entries marks) → LeadOn (places.Marks frame) (mark_lines marks) (places.State frame)
+closing_leads frame marks sessions fits =
+    let n = len-entries marks in
+    let first = is_first frame.sessions (entries marks) fits in
+    let few = few_marks frame.sessions 0 (entries marks) fits (entries_sorted marks) first in (
+      marks_to_come frame (len marks) 0,
+      (len marks, record { least_count = omega arith; most_count = omega arith }, refl, refl),
+      subst (λ (k : ℕ). LeadOn (marks_to_come frame k 0) (map mark_line (entries marks)) (places.State frame)) (sym n) (marks_lead frame 0 (entries marks) fits (entries_sorted marks) first),
+    )
+
+table_leads : (frame : Frame) (state : State) → len state ≤ 2 ^ 64 - 1 → AllByRecursion (AtFits frame.schema) (entries state) → LeadOn (places.State frame) (state_lines frame.schema state) places.Counter
+table_leads frame state few fits =
+    let n = len-entries state in
+    let counted : row_count state ≡ len state = min-eq_left few in (
+      state_to_come frame (row_count state) None,
+      (row_count state, record { least_count = omega arith; most_count = subst (λ (k : ℕ). k ≤ 2 ^ 64 - 1) (sym counted) few }, refl, refl),
+      subst (λ (k : ℕ). LeadOn (state_to_come frame k None) (map (at_line frame.schema) (entries state)) places.Counter) (sym (counted ∙ n))
+          (state_leads frame None (entries state) fits (entries_sorted state) (nothing_before (entries state))),
+    )
+
+-- the lines of a book that fits lead to where it is whole
+pub book_leads : (book : Book) → BookFits book → LeadOn places.Version (book_lines book) places.Audit
+book_leads book fits =
+    let header = book.header in
+    let frame = frame_of header.tables header.sessions in
+    let h = header_lines header in
+    let l = log_lines header.tables book.log in
+    let m = mark_lines book.marks in
+    let s = state_lines header.tables book.state in
+    let c = counter_line book.counter book.low in
+    let upto_log = lead_on h l places.Version (places.Tables header.sessions header.tables) (places.Marks frame) (header_leads header fits.header) (log_leads header book.log fits.header fits.rows fits.log) in
+    let upto_marks = lead_on (h ++ l) m places.Version (places.Marks frame) (places.State frame) upto_log (closing_leads frame book.marks fits.header.sessions.most_count fits.marks) in
+    let upto_state = lead_on ((h ++ l) ++ m) s places.Version (places.State frame) places.Counter upto_marks (table_leads frame book.state fits.objects fits.state) in
+    lead_on (((h ++ l) ++ m) ++ s) (c ∷ []) places.Version places.Counter places.Audit upto_state
+    (one places.Counter places.Audit c (record { counter = book.counter; low = book.low }, fits.counts, refl, refl))
+
+-- what may stand behind a book leads to where a text may end
+pub ending_leads : (lines : List (List ℕ)) → IsEnding lines → (to : Place) × LeadOn places.Audit lines to × MayEnd to
+ending_leads lines (inl none) = (places.Audit, subst (λ (l : List (List ℕ)). LeadOn places.Audit l places.Audit) (sym none) refl, tt)
+ending_leads lines (inr (inl yes_line)) = (places.End, subst (λ (l : List (List ℕ)). LeadOn places.Audit l places.End) (sym yes_line) (places.End, (inl refl, refl), refl), tt)
+ending_leads lines (inr (inr no_line)) = (places.End, subst (λ (l : List (List ℕ)). LeadOn places.Audit l places.End) (sym no_line) (places.End, (inr refl, refl), refl), tt)

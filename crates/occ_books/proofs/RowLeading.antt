@@ -1,0 +1,183 @@
+-- The lines of a row of the log, and where they lead.
+use Rattle.std.proofs.Common.{◌≡◌, ℕ, suc, ◌+◌, ◌-◌, ◌<◌, Bool, true, false, cond, List, [], ◌∷◌, ◌++◌, map, length, Option, Some, None, Result, Ok, Err, ◌||◌, ◌⊎◌, inl, inr, refl, sym, ap, subst, ◌∙◌, arith}
+use Rattle.std.specs.Prelude.{slice_get, IsTrue, ◌↔◌, is_some}
+use Rattle.std.specs.List.{list_any}
+use Rattle.std.specs.Io.KnownBytes.{Consumes}
+use Rattle.std.specs.Ordering.{is_lt, eq_by_cmp}
+use Rattle.std.proofs.lemmas.List.{map-append}
+use Rattle.occ_types.specs.Key.{Key, key_cmp}
+use Rattle.occ_types.specs.Object.{Object, object_cmp}
+use Rattle.occ_types.specs.Question.{Question}
+use Rattle.occ_types.specs.Row.{Row}
+use Rattle.occ_types.specs.Schema.{Schema, check_tables}
+use Rattle.occ_types.specs.Seen.{table_asked}
+use Rattle.occ_model.specs.State.{Write}
+use Rattle.occ_model.specs.Overlay.{own}
+use Rattle.occ_text.specs.declared.trouble.Trouble.{Trouble}
+use Rattle.occ_text.specs.declared.trouble.Trouble.TheVariants as troubles
+use Rattle.occ_text.specs.Line.{IsLine}
+use Rattle.occ_text.specs.HeaderTaking.{Taken}
+use Rattle.occ_print.specs.Books.{pair_line, write_line}
+use Rattle.occ_books.specs.declared.heads.Head.{Head}
+use Rattle.occ_books.specs.Heads.{HeadFits, head_text}
+use Rattle.occ_books.specs.Entries.{Asked, AskedSpan, asked_text, AskedFits, PairFits, WriteFits, write_of_line}
+use Rattle.occ_books.specs.Places.{Place, InRow, LogRow, ReadOf, PairOf, WriteOf, Led, TakesFrom, IsAbove, last_key, frame_of, in_row, behind_read, pairs_to_come, reads_to_come, writes_to_come}
+use Rattle.occ_books.proofs.Leading.{LeadsOn, led_line, led_then, line_refused, taken_fault, taken_led, memory_fault, fault_on, begun, turn}
+use Rattle.occ_books.proofs.EntriesAgain.{write_line-again}
+
+-- ---- keys of a range, each above the one before
+
+last_viewed : {X : Type 0} (view : X → Key × Row) (xs : List X) (x : X) → Some x ≡ slice_get xs (length xs - 1) → last_key (map view xs) ≡ Some (view x).0
+last_viewed view [] x e = absurd cc
+last_viewed view (y ∷ []) x e = let f : x ≡ y = cc e in ap (λ z. Some (view z).0) (sym f)
+last_viewed view (y ∷ z ∷ xs) x e =
+    let n : length (y ∷ z ∷ xs) - 1 ≡ suc (length (z ∷ xs) - 1) = omega arith in
+    last_viewed view (z ∷ xs) x (e ∙ ap (slice_get (y ∷ z ∷ xs)) n)
+
+-- whether a key is above the last one
+pub above_last : {X : Type 0} (view : X → Key × Row) (xs : List X) (x : X) (key : Key) (test : Bool) → Some x ≡ slice_get xs (length xs - 1) → test ≡ is_lt (key_cmp (view x).0 key) → IsTrue test ↔ IsAbove (last_key (map view xs)) key
+above_last view xs x key test e is =
+    let l = last_viewed view xs x e in
+    (λ t. subst (λ o. IsAbove o key) (sym l) (sym is ∙ t), λ a. is ∙ subst (λ o. IsAbove o key) l a)
+
+-- the last key behind one more row
+pub last_more : {X : Type 0} (view : X → Key × Row) (xs now : List X) (x : X) → now ≡ xs ++ x ∷ [] → last_key (map view now) ≡ Some (view x).0
+last_more view xs now x is = ap (λ l. last_key (map view l)) is ∙ by xs
+  where
+    by : (xs : _) → last_key (map view (xs ++ x ∷ [])) ≡ Some (view x).0
+    by [] = refl
+    by (y ∷ []) = refl
+    by (y ∷ z ∷ xs) = by (z ∷ xs)
+
+pair_turn : {X : Type 0} (view : X → Key × Row) (result : Result X Trouble) (row : InRow) (schema : Schema) (reads table count counter : ℕ) (last : Option Key) (p : Place) (a b c : Option (List ℕ)) (first mid end : ℕ)
+    → row.frame.schema ≡ schema → counter < count → Led p (pairs_to_come row reads table (count - counter) last) a b first mid
+    → Taken view pair_line (λ pair. PairFits schema table pair × IsAbove last pair.0) result b c mid end
+    → TakesFrom result p (λ x. pairs_to_come row reads table (count - (counter + 1)) (Some (view x).0)) a c first end
+pair_turn view result row schema reads table count counter last p a b c first mid end same lt led taken =
+    let more = count - (counter + 1) in
+    turn (λ k. pairs_to_come row reads table k last) result p (λ x. pairs_to_come row reads table more (Some (view x).0)) a b c first mid end count counter lt led
+    (taken_led view pair_line (λ pair. PairFits schema table pair × IsAbove last pair.0) result (PairOf row reads table more last) (λ x. pairs_to_come row reads table more (Some (view x).0)) b c mid end (λ may. may)
+    (λ x fits. (view x, subst (λ s. PairFits s table (view x)) (sym same) fits.0, fits.1, refl, refl))
+    (λ line leads. (leads.1.0, (subst (λ s. PairFits s table leads.1.0) same leads.1.1, leads.1.2), leads.1.3)) taken)
+
+-- no pair was taken yet
+pub pairs_begun : {X : Type 0} (view : X → Key × Row) (items : List X) (row : InRow) (reads table count : ℕ) (a : Option (List ℕ)) (n : ℕ) → items ≡ []
+    → Led (pairs_to_come row reads table count None) (pairs_to_come row reads table (count - 0) (last_key (map view items))) a a n n
+pairs_begun view items row reads table count a n is =
+    subst (λ l. Led (pairs_to_come row reads table count None) (pairs_to_come row reads table (count - 0) (last_key (map view l))) a a n n) (sym is) (begun (λ k. pairs_to_come row reads table k None) a n count)
+
+-- one more pair
+pub pairs_more : {X : Type 0} (view : X → Key × Row) (items shown now : List X) (x : X) (row : InRow) (schema : Schema) (reads table count counter : ℕ) (p : Place) (a b c : Option (List ℕ)) (first mid end : ℕ)
+    → now ≡ items ++ x ∷ [] → shown ≡ items → row.frame.schema ≡ schema → counter < count → Led p (pairs_to_come row reads table (count - counter) (last_key (map view items))) a b first mid
+    → Taken view pair_line (λ pair. PairFits schema table pair × IsAbove (last_key (map view shown)) pair.0) (Ok x) b c mid end
+    → Led p (pairs_to_come row reads table (count - (counter + 1)) (last_key (map view now))) a c first end
+pairs_more view items shown now x row schema reads table count counter p a b c first mid end is all same lt led taken =
+    subst (λ o. Led p (pairs_to_come row reads table (count - (counter + 1)) o) a c first end) (sym (last_more view items now x is))
+    (pair_turn view (Ok x) row schema reads table count counter (last_key (map view items)) p a b c first mid end same lt led
+    (subst (λ l. Taken view pair_line (λ pair. PairFits schema table pair × IsAbove (last_key (map view l)) pair.0) (Ok x) b c mid end) all taken))
+
+pub pairs_fault : {X Z : Type 0} (view : X → Key × Row) (trouble : Trouble) (result : Result Z Trouble) (items shown : List X) (row : InRow) (schema : Schema) (reads table count counter : ℕ) (p : Place) (to : Z → Place) (a b c : Option (List ℕ))
+    (first mid last end : ℕ) → result ≡ Err trouble → shown ≡ items → row.frame.schema ≡ schema → counter < count → Led p (pairs_to_come row reads table (count - counter) (last_key (map view items))) a b first mid
+    → Taken view pair_line (λ pair. PairFits schema table pair × IsAbove (last_key (map view shown)) pair.0) (Err trouble) b c mid last → TakesFrom result p to a c first end
+pairs_fault view trouble result items shown row schema reads table count counter p to a b c first mid last end is all same lt led taken =
+    fault_on trouble result p (λ x. pairs_to_come row reads table (count - (counter + 1)) (Some (view x).0)) to a c first last end is
+    (pair_turn view (Err trouble) row schema reads table count counter (last_key (map view items)) p a b c first mid last same lt led
+    (subst (λ l. Taken view pair_line (λ pair. PairFits schema table pair × IsAbove (last_key (map view l)) pair.0) (Err trouble) b c mid last) all taken))
+
+-- ---- reads
+
+pub asked_fault : {X Z : Type 0} (view : X → Asked) (trouble : Trouble) (result : Result Z Trouble) (row : InRow) (schema : Schema) (reads : ℕ) (to : Z → Place) (a b : Option (List ℕ)) (first last end : ℕ)
+    → row.frame.schema ≡ schema → result ≡ Err trouble → Taken view (asked_text schema) (AskedFits schema) (Err trouble) a b first last → TakesFrom result (ReadOf row reads) to a b first end
+asked_fault view trouble result row schema reads to a b first last end same is taken =
+    let own = row.frame.schema in
+    taken_fault view (asked_text own) (AskedFits own) trouble result (ReadOf row reads) to a b first last end (λ may. may) (λ line leads. (leads.1.0, leads.1.1, leads.1.2)) is
+    (subst (λ s. Taken view (asked_text s) (AskedFits s) (Err trouble) a b first last) (sym same) taken)
+
+pub asked_led : (asked : Asked) (row : InRow) (schema : Schema) (reads : ℕ) (a b : Option (List ℕ)) (first last : ℕ) → row.frame.schema ≡ schema
+    → Consumes a b (asked_text schema asked ++ 10 ∷ []) × AskedFits schema asked × (last ≡ first + 1) → Led (ReadOf row reads) (behind_read row reads asked) a b first last
+asked_led asked row schema reads a b first last same taken =
+    led_line (ReadOf row reads) (behind_read row reads asked) (asked_text schema asked) a b first last
+    (asked, subst (λ s. AskedFits s asked) (sym same) taken.1, ap (λ s. asked_text s asked) (sym same), refl) taken.0 taken.2
+
+-- a range, and then the rows that it had
+pub span_led : {X : Type 0} (result : Result X Trouble) (question : Question) (count table : ℕ) (row : InRow) (schema : Schema) (reads : ℕ) (a b c : Option (List ℕ)) (first mid last : ℕ) → row.frame.schema ≡ schema → table ≡ table_asked question
+    → Consumes a b (asked_text schema (AskedSpan question count) ++ 10 ∷ []) × AskedFits schema (AskedSpan question count) × (mid ≡ first + 1)
+    → TakesFrom result (pairs_to_come row reads table count None) (λ _. reads_to_come row reads) b c mid last → TakesFrom result (ReadOf row reads) (λ _. reads_to_come row reads) a c first last
+span_led result question count table row schema reads a b c first mid last same is asked rows =
+    led_then result (ReadOf row reads) (pairs_to_come row reads (table_asked question) count None) (λ _. reads_to_come row reads) a b c first mid last
+    (asked_led (AskedSpan question count) row schema reads a b first mid same asked)
+    (subst (λ t. TakesFrom result (pairs_to_come row reads t count None) (λ _. reads_to_come row reads) b c mid last) is rows)
+
+-- ---- writes
+
+either : (b : Bool) (x : Option Row) (o : Option (Option Row)) (test : Bool) → is_some o ≡ test → is_some (cond b (Some x) o) ≡ (b || test)
+either true x o test e = refl
+either false x o test e = e
+
+-- an object is written where a write is its own
+pub written : (writes : List Write) (object : Object) → list_any (eq_by_cmp object_cmp object) (map (λ (w : Write). w.0) writes) ≡ is_some (own writes object)
+written [] object = refl
+written (write ∷ writes) object = sym (either (eq_by_cmp object_cmp object write.0) write.1 (own writes object) (list_any (eq_by_cmp object_cmp object) (map (λ (w : Write). w.0) writes)) (sym (written writes object)))
+
+pub write_fault : {X Z : Type 0} (view : X → Write) (trouble : Trouble) (result : Result Z Trouble) (row : InRow) (schema : Schema) (count counter : ℕ) (objects : List Object) (p : Place) (to : Z → Place) (a b c : Option (List ℕ)) (first mid last end : ℕ)
+    → row.frame.schema ≡ schema → counter < count → result ≡ Err trouble → Led p (writes_to_come row (count - counter) objects) a b first mid
+    → Taken view (write_line schema) (WriteFits schema) (Err trouble) b c mid last → TakesFrom result p to a c first end
+write_fault view trouble result row schema count counter objects p to a b c first mid last end same lt is led taken =
+    let own = row.frame.schema in
+    turn (λ k. writes_to_come row k objects) result p to a b c first mid end count counter lt led
+    (taken_fault view (write_line own) (WriteFits own) trouble result (WriteOf row (count - (counter + 1)) objects) to b c mid last end (λ may. may) (λ line leads. (leads.1.0, leads.1.1, leads.1.3)) is
+    (subst (λ s. Taken view (write_line s) (WriteFits s) (Err trouble) b c mid last) (sym same) taken))
+
+-- no write was taken yet
+pub writes_begun : (writes : List Write) (row : InRow) (count : ℕ) (a : Option (List ℕ)) (n : ℕ) → writes ≡ [] → Led (writes_to_come row count []) (writes_to_come row (count - 0) (map (λ (w : Write). w.0) writes)) a a n n
+writes_begun writes row count a n is =
+    subst (λ l. Led (writes_to_come row count []) (writes_to_come row (count - 0) (map (λ (w : Write). w.0) l)) a a n n) (sym is) (begun (λ k. writes_to_come row k []) a n count)
+
+-- the lines of no two writes are the same
+same_write : (schema : Schema) (v w : Write) → check_tables schema ≡ None → WriteFits schema v → WriteFits schema w → write_line schema v ≡ write_line schema w → v ≡ w
+same_write schema v w good f g e =
+    let h : Some v ≡ Some w = sym (write_line-again schema v good f) ∙ ap (write_of_line schema) e ∙ write_line-again schema w good g in
+    cc h
+
+-- an object isn't written twice
+pub write_twice : {Z : Type 0} (write : Write) (trouble : Trouble) (result : Result Z Trouble) (row : InRow) (schema : Schema) (count counter number : ℕ) (writes : List Write) (p : Place) (to : Z → Place) (a b c : Option (List ℕ))
+    (first mid last end : ℕ) → check_tables schema ≡ None → row.frame.schema ≡ schema → counter < count → result ≡ Err trouble
+    → Led p (writes_to_come row (count - counter) (map (λ (w : Write). w.0) writes)) a b first mid → Consumes b c (write_line schema write ++ 10 ∷ []) × WriteFits schema write × (last ≡ mid + 1) → IsLine (write_line schema write) → number ≡ last
+    → (trouble ≡ troubles.Memory) ⊎ ((trouble ≡ troubles.Malformed number) × (is_some (own writes write.0) ≡ true)) → TakesFrom result p to a c first end
+write_twice write trouble result row schema count counter number writes p to a b c first mid last end good same lt is led taken line here (inl memory) = memory_fault result p to a c first end (is ∙ ap Err memory)
+write_twice write trouble result row schema count counter number writes p to a b c first mid last end good same lt is led taken line here (inr twice) =
+    let objects = map (λ (w : Write). w.0) writes in
+    let from = WriteOf row (count - (counter + 1)) objects in
+    let other : LeadsOn from (write_line schema write) → ⊥ = λ leads.
+    let one = leads.1.0 in
+    let w : write ≡ one = same_write schema write one good taken.1 (subst (λ s. WriteFits s one) same leads.1.1) (leads.1.3 ∙ ap (λ s. write_line s one) same) in
+    let e : false ≡ true = sym leads.1.2 ∙ ap (λ (v : Write). list_any (eq_by_cmp object_cmp v.0) objects) (sym w) ∙ written writes write.0 ∙ twice.1 in
+    cc e in
+    turn (λ k. writes_to_come row k objects) result p to a b c first mid end count counter lt led
+    (subst (λ r. TakesFrom r from to b c mid end) (sym (is ∙ ap Err twice.0)) (line_refused from (write_line schema write) b c mid last number (λ may. may) (taken.0, taken.2, line) other here))
+
+-- one more write
+pub write_more : (write : Write) (row : InRow) (schema : Schema) (count counter : ℕ) (writes now : List Write) (p : Place) (a b c : Option (List ℕ)) (first mid last : ℕ) → row.frame.schema ≡ schema → counter < count
+    → Led p (writes_to_come row (count - counter) (map (λ (w : Write). w.0) writes)) a b first mid → Consumes b c (write_line schema write ++ 10 ∷ []) × WriteFits schema write × (last ≡ mid + 1)
+    → is_some (own writes write.0) ≡ false → now ≡ writes ++ write ∷ [] → Led p (writes_to_come row (count - (counter + 1)) (map (λ (w : Write). w.0) now)) a c first last
+write_more write row schema count counter writes now p a b c first mid last same lt led taken fresh is =
+    let objects = map (λ (w : Write). w.0) writes in
+    let more = count - (counter + 1) in
+    let all : map (λ (w : Write). w.0) now ≡ objects ++ write.0 ∷ [] = ap (map (λ (w : Write). w.0)) is ∙ map-append (λ (w : Write). w.0) writes (write ∷ []) in
+    let next : Led (WriteOf row more objects) (writes_to_come row more (objects ++ write.0 ∷ [])) b c mid last =
+    led_line (WriteOf row more objects) (writes_to_come row more (objects ++ write.0 ∷ [])) (write_line schema write) b c mid last
+    (write, subst (λ s. WriteFits s write) (sym same) taken.1, written writes write.0 ∙ fresh, ap (λ s. write_line s write) (sym same), refl) taken.0 taken.2 in
+    subst (λ l. Led p (writes_to_come row more l) a c first last) (sym all)
+    (turn (λ k. writes_to_come row k objects) (Ok write) p (λ _. writes_to_come row more (objects ++ write.0 ∷ [])) a b c first mid last count counter lt led next)
+
+-- ---- rows
+
+pub head_fault : {X Z : Type 0} (view : X → Head) (trouble : Trouble) (result : Result Z Trouble) (schema : Schema) (sessions rows : ℕ) (to : Z → Place) (a b : Option (List ℕ)) (first last end : ℕ)
+    → result ≡ Err trouble → Taken view head_text (HeadFits sessions) (Err trouble) a b first last → TakesFrom result (LogRow (frame_of schema sessions) rows) to a b first end
+head_fault view trouble result schema sessions rows to a b first last end is taken =
+    taken_fault view head_text (HeadFits sessions) trouble result (LogRow (frame_of schema sessions) rows) to a b first last end (λ may. may) (λ line leads. (leads.1.0, leads.1.1, leads.1.2)) is taken
+
+pub head_led : (head : Head) (schema : Schema) (sessions rows : ℕ) (a b : Option (List ℕ)) (first last : ℕ) → Consumes a b (head_text head ++ 10 ∷ []) × HeadFits sessions head × (last ≡ first + 1)
+    → Led (LogRow (frame_of schema sessions) rows) (reads_to_come (in_row (frame_of schema sessions) rows head) head.reads) a b first last
+head_led head schema sessions rows a b first last taken =
+    led_line (LogRow (frame_of schema sessions) rows) (reads_to_come (in_row (frame_of schema sessions) rows head) head.reads) (head_text head) a b first last (head, taken.1, refl, refl) taken.0 taken.2

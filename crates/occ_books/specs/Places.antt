@@ -1,0 +1,209 @@
+-- Where a book stands behind some of its lines, and which lines may come next there (our own choice; decided line by line, so that a count that doesn't fit is found at the first line that can't stand).
+use Rattle.std.specs.Prelude.{◌≡◌, ◌^◌, ◌-◌, ◌+◌, ◌<◌, ◌⊎◌, ℕ, zero, suc, true, false, List, [], ◌∷◌, ◌++◌, length, Option, Some, None, Result, Ok, Err, IfSome, codes}
+use Rattle.std.specs.List.{list_any}
+use Rattle.std.specs.Io.KnownBytes.{Consumes, IsAtEnd}
+use Rattle.std.specs.Ordering.{eq_by_cmp, is_lt}
+use Rattle.occ_types.specs.Key.{Key, key_cmp}
+use Rattle.occ_types.specs.Object.{Object, object_cmp}
+use Rattle.occ_types.specs.Row.{Row}
+use Rattle.occ_types.specs.Schema.{Table, Schema, check_tables}
+use Rattle.occ_types.specs.Seen.{table_asked}
+use Rattle.occ_model.specs.State.{Write}
+use Rattle.occ_text.specs.declared.trouble.Trouble.{Trouble}
+use Rattle.occ_text.specs.declared.trouble.Trouble.TheVariants as troubles
+use Rattle.occ_text.specs.Line.{IsLine, lines_text}
+use Rattle.occ_text.specs.Headers.{Within, count_text, table_text}
+use Rattle.occ_text.specs.HeaderTaking.{CannotStand, TablesSoFar}
+use Rattle.occ_print.specs.Books.{pair_line, write_line, at_line}
+use Rattle.occ_books.specs.declared.heads.Head.{Head}
+use Rattle.occ_books.specs.declared.heads.Mark.{Mark}
+use Rattle.occ_books.specs.declared.heads.Counts.{Counts}
+use Rattle.occ_books.specs.Heads.{HeadFits, MarkFits, CountsFit, head_text, mark_text, counts_text}
+use Rattle.occ_books.specs.Entries.{Asked, AskedOne, AskedSpan, AskedFits, PairFits, WriteFits, AtFits, asked_text}
+use Rattle.occ_books.specs.Taking.{is_behind}
+
+-- what a header tells that the lines behind it have to fit
+pub record Frame : Type 0 where
+  pub schema : Schema
+  pub sessions : ℕ
+
+-- a row of the log whose first line stands, and how many rows come behind it
+pub record InRow : Type 0 where
+  pub frame : Frame
+  pub rows : ℕ
+  pub head : Head
+
+abbrev pub frame_of : Schema → ℕ → Frame
+frame_of schema sessions = record { schema = schema; sessions = sessions }
+
+abbrev pub in_row : Frame → ℕ → Head → InRow
+in_row frame rows head = record { frame = frame; rows = rows; head = head }
+
+-- what comes next; a number of lines, rows, reads or pairs is how many more come behind the next one
+pub data Place : Type 0 where
+  Version : Place
+  Sessions : Place
+  Queue : (sessions : ℕ) → Place
+  Keep : (sessions : ℕ) → Place
+  Tables : (sessions : ℕ) → (tables : List Table) → Place
+  LogRow : Frame → (rows : ℕ) → Place
+  ReadOf : InRow → (reads : ℕ) → Place
+  PairOf : InRow → (reads : ℕ) → (table : ℕ) → (pairs : ℕ) → (last : Option Key) → Place
+  WriteOf : InRow → (writes : ℕ) → (written : List Object) → Place
+  Marks : Frame → Place
+  MarkOf : Frame → (marks : ℕ) → (last : ℕ) → Place
+  State : Frame → Place
+  RowAt : Frame → (rows : ℕ) → (last : Option Object) → Place
+  Counter : Place
+  -- the book is whole; the line of an audit may stand behind it
+  Audit : Place
+  End : Place
+
+-- ---- where one stands when so many are still to come
+
+abbrev pub rows_to_come : Frame → ℕ → Place
+rows_to_come frame zero = Marks frame
+rows_to_come frame (suc more) = LogRow frame more
+
+abbrev pub writes_to_come : InRow → ℕ → List Object → Place
+writes_to_come row zero written = rows_to_come row.frame row.rows
+writes_to_come row (suc more) written = WriteOf row more written
+
+abbrev pub reads_to_come : InRow → ℕ → Place
+reads_to_come row zero = writes_to_come row row.head.writes []
+reads_to_come row (suc more) = ReadOf row more
+
+abbrev pub pairs_to_come : InRow → ℕ → ℕ → ℕ → Option Key → Place
+pairs_to_come row reads table zero last = reads_to_come row reads
+pairs_to_come row reads table (suc more) last = PairOf row reads table more last
+
+abbrev pub marks_to_come : Frame → ℕ → ℕ → Place
+marks_to_come frame zero last = State frame
+marks_to_come frame (suc more) last = MarkOf frame more last
+
+abbrev pub state_to_come : Frame → ℕ → Option Object → Place
+state_to_come frame zero last = Counter
+state_to_come frame (suc more) last = RowAt frame more last
+
+-- behind the line of a read
+abbrev pub behind_read : InRow → ℕ → Asked → Place
+behind_read row reads (AskedOne object found) = reads_to_come row reads
+behind_read row reads (AskedSpan question count) = pairs_to_come row reads (table_asked question) count None
+
+-- ---- which line leads on, and where to
+
+-- a key comes behind another one, if there is one
+abbrev pub IsAbove : Option Key → Key → Type 0
+IsAbove None key = Unit {0}
+IsAbove (Some last) key = is_lt (key_cmp last key) ≡ true
+
+-- the key of the last row, if there is one
+abbrev pub last_key : List (Key × Row) → Option Key
+last_key [] = None
+last_key (row ∷ []) = Some row.0
+last_key (row ∷ next ∷ rows) = last_key (next ∷ rows)
+
+-- a count of a header
+abbrev pub Counted : List ℕ → ℕ → ℕ → List ℕ → Place → (ℕ → Place) → Type 0
+Counted word least most line next to = (n : ℕ) × Within least most n × (line ≡ count_text word n) × (next ≡ to n)
+
+abbrev pub OneMoreTable : ℕ → List Table → List ℕ → Place → Type 0
+OneMoreTable sessions tables line next = (table : Table) × TablesSoFar (tables ++ table ∷ []) × (line ≡ table_text table) × (next ≡ Tables sessions (tables ++ table ∷ []))
+
+abbrev pub LogBegins : ℕ → List Table → List ℕ → Place → Type 0
+LogBegins sessions tables line next =
+    (check_tables tables ≡ None) × Counted (codes "log") 0 (2 ^ 64 - 1) line next (rows_to_come (record { schema = tables; sessions = sessions }))
+
+abbrev pub Leads : Place → List ℕ → Place → Type 0
+Leads Version line next = (line ≡ codes "occ 1") × (next ≡ Sessions)
+Leads Sessions line next = Counted (codes "sessions") 1 64 line next Queue
+Leads (Queue sessions) line next = Counted (codes "queue") 1 1024 line next (λ n. Keep sessions)
+Leads (Keep sessions) line next = Counted (codes "keep") 1 4096 line next (λ n. Tables sessions [])
+Leads (Tables sessions tables) line next = OneMoreTable sessions tables line next ⊎ LogBegins sessions tables line next
+Leads (LogRow frame rows) line next = (head : Head) × HeadFits frame.sessions head × (line ≡ head_text head)
+    × (next ≡ reads_to_come (record { frame = frame; rows = rows; head = head }) head.reads)
+Leads (ReadOf row reads) line next = (asked : Asked) × AskedFits row.frame.schema asked × (line ≡ asked_text row.frame.schema asked)
+    × (next ≡ behind_read row reads asked)
+Leads (PairOf row reads table pairs last) line next = (pair : Key × Row) × PairFits row.frame.schema table pair × IsAbove last pair.0 × (line ≡ pair_line pair)
+    × (next ≡ pairs_to_come row reads table pairs (Some pair.0))
+Leads (WriteOf row writes written) line next = (write : Write) × WriteFits row.frame.schema write × (list_any (eq_by_cmp object_cmp write.0) written ≡ false)
+    × (line ≡ write_line row.frame.schema write) × (next ≡ writes_to_come row writes (written ++ write.0 ∷ []))
+Leads (Marks frame) line next = Counted (codes "marks") 0 (2 ^ 64 - 1) line next (λ n. marks_to_come frame n 0)
+Leads (MarkOf frame marks last) line next = (mark : Mark) × MarkFits frame.sessions mark × (last < mark.session) × (line ≡ mark_text mark)
+    × (next ≡ marks_to_come frame marks mark.session)
+Leads (State frame) line next = Counted (codes "state") 0 (2 ^ 64 - 1) line next (λ n. state_to_come frame n None)
+Leads (RowAt frame rows last) line next = (entry : Object × Row) × AtFits frame.schema entry × (is_behind last entry.0 ≡ true) × (line ≡ at_line frame.schema entry)
+    × (next ≡ state_to_come frame rows (Some entry.0))
+Leads Counter line next = (counts : Counts) × CountsFit counts × (line ≡ counts_text counts) × (next ≡ Audit)
+Leads Audit line next = ((line ≡ codes "audit yes") ⊎ (line ≡ codes "audit no")) × (next ≡ End)
+Leads End line next = ⊥
+
+-- some lines lead from a place to another one
+abbrev pub LeadOn : Place → List (List ℕ) → Place → Type 0
+LeadOn from [] to = to ≡ from
+LeadOn from (line ∷ lines) to = (next : Place) × Leads from line next × LeadOn next lines to
+
+-- a text may end here
+abbrev pub MayEnd : Place → Type 0
+MayEnd Audit = Unit {0}
+MayEnd End = Unit {0}
+MayEnd place = ⊥
+
+-- where the text is known, it doesn't end where it may end
+abbrev pub Unended : Option (List ℕ) → Place → Type 0
+Unended rest place = IfSome rest (λ bytes. bytes ≡ [] → MayEnd place → ⊥)
+
+-- ---- what taking lines leaves
+
+-- some lines lead from a place to another one, at which no line of a book stands next, so that the text is malformed at it; lines are numbered on from those before
+pub record Stopped (from : Place) (before : Option (List ℕ)) (first number : ℕ) : Type 0 where
+  pub lines : List (List ℕ)
+  pub place : Place
+  pub rest : Option (List ℕ)
+  pub taken : Consumes before rest (lines_text lines)
+  pub led : LeadOn from lines place
+  pub stuck : CannotStand (λ line. (next : Place) × Leads place line next) rest
+  pub unended : Unended rest place
+  pub here : number ≡ first + length lines + 1
+
+-- a read failed behind some lines that lead on and a part of another
+pub record Unread (from : Place) (before after : Option (List ℕ)) : Type 0 where
+  pub lines : List (List ℕ)
+  pub part : List ℕ
+  pub place : Place
+  pub taken : Consumes before after (lines_text lines ++ part)
+  pub led : LeadOn from lines place
+  pub torn : IsLine part
+
+-- lines were taken that lead to a place
+pub record Led (from to : Place) (before after : Option (List ℕ)) (first last : ℕ) : Type 0 where
+  pub lines : List (List ℕ)
+  pub taken : Consumes before after (lines_text lines)
+  pub led : LeadOn from lines to
+  pub here : last ≡ first + length lines
+
+-- what taking lines from a place leaves, by its outcome, where first and last are how many lines were taken before and after
+abbrev pub TakesFrom : {X : Type 0} → Result X Trouble → Place → (X → Place) → Option (List ℕ) → Option (List ℕ) → ℕ → ℕ → Type 0
+TakesFrom (Ok x) from to before after first last = Led from (to x) before after first last
+TakesFrom (Err (troubles.Malformed number)) from to before after first last = Stopped from before first number
+TakesFrom (Err troubles.Read) from to before after first last = Unread from before after
+TakesFrom (Err troubles.Write) from to before after first last = ⊥
+TakesFrom (Err troubles.Memory) from to before after first last = Unit {0}
+
+-- lines lead from a place to another one, where a text may end, and there the text ends
+pub record Ended (from : Place) (before : Option (List ℕ)) : Type 0 where
+  pub lines : List (List ℕ)
+  pub place : Place
+  pub rest : Option (List ℕ)
+  pub taken : Consumes before rest (lines_text lines)
+  pub led : LeadOn from lines place
+  pub may : MayEnd place
+  pub whole : IsAtEnd rest
+
+-- what taking all lines of a text from a place on leaves, by its outcome
+abbrev pub EndsFrom : {X : Type 0} → Result X Trouble → Place → Option (List ℕ) → Option (List ℕ) → ℕ → Type 0
+EndsFrom (Ok x) from before after first = Ended from before
+EndsFrom (Err (troubles.Malformed number)) from before after first = Stopped from before first number
+EndsFrom (Err troubles.Read) from before after first = Unread from before after
+EndsFrom (Err troubles.Write) from before after first = ⊥
+EndsFrom (Err troubles.Memory) from before after first = Unit {0}

@@ -1,0 +1,24 @@
+//! The laws of books. Each function computes nothing: its contract is the law, and the check proves it.
+
+ghost use Rattle.std.specs.Prelude.{◌≡◌, ◌++◌, ℕ, List, Some};
+ghost use Rattle.occ_text.specs.Line.{lines_text};
+ghost use Rattle.occ_print.specs.Books.{Book, book_lines, book_text};
+ghost use Rattle.occ_books.specs.Places.{Place, Version, Audit, LeadOn, MayEnd, Stopped};
+ghost use Rattle.occ_books.specs.Printed.{BookFits, IsEnding};
+
+/// Lines lead from the beginning of a text to one place at most.
+pub fn lines_lead_to_one_place()
+    ensures { (lines : List (List ℕ)) → (place other : Place) → LeadOn Version lines place → LeadOn Version lines other → place ≡ other }
+{}
+
+/// The lines of a book that fits its header lead from the beginning to where it is whole, and what may stand behind them leads on
+/// to where a text may end.
+pub fn the_lines_of_a_book_lead_to_its_end()
+    ensures whole { (book : Book) → BookFits book → LeadOn Version (book_lines book) Audit }
+    ensures ending { (lines : List (List ℕ)) → IsEnding lines → (place : Place) × LeadOn Audit lines place × MayEnd place }
+{}
+
+/// No text of a book that fits its header is malformed, at any line.
+pub fn no_text_of_a_book_is_malformed()
+    ensures { (book : Book) → BookFits book → (lines : List (List ℕ)) → IsEnding lines → (number : ℕ) → Stopped Version (Some (book_text book ++ lines_text lines)) 0 number → ⊥ }
+{}

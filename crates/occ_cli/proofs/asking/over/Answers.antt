@@ -1,0 +1,24 @@
+use Rattle.std.proofs.Common.{sym, ap, ◌∙◌}
+use Rattle.occ_model.specs.State as states
+use Rattle.occ_model.specs.Overlay.{overlay}
+use Rattle.occ_sets.specs.Overlays.{rows_over}
+use Rattle.occ_sets.specs.Seen as sets
+use Rattle.occ_sets.proofs.Agreement.{overlay-Span}
+use Rattle.occ_text.specs.Answers as says
+use Rattle.occ_cli.specs.Replaying.{shown}
+use Rattle.occ_cli.proofs.asking.over.Goals as goal
+
+pub over-requires-clause-answered : goal.over-requires-clause-answered
+over-requires-clause-answered g c = (c.requires.state, c.requires.answers ∙ ap sets.answer_of c.in-Rows.is)
+
+-- the rows of a range have the own writes over them
+pub returns-in-Rows : goal.returns-in-Rows
+returns-in-Rows g c =
+    let asked = c.args.prepared.question in
+    let writes = c.args.prepared.writes in
+    let rows = sets.rows_of c.in-Rows.rows.items in
+    ap says.Rows c.over.ensures
+    ∙ ap (λ q. says.Rows (rows_over q writes rows)) c.requires.is_range
+    ∙ ap shown (overlay-Span c.requires.table c.requires.lower c.requires.upper writes rows)
+    ∙ ap (λ q. shown (overlay q writes (states.Rows rows))) (sym c.requires.is_range)
+    ∙ ap (λ a. shown (overlay asked writes (sets.answer_of a))) (sym c.in-Rows.is)

@@ -1,8 +1,0 @@
-use Rattle.std.proofs.Common.{map, take}
-use Rattle.occ_cli.specs.Printing.{lines_text, Pushed}
-use Rattle.occ_cli.specs.Books.{write_line}
-use Rattle.occ_cli.proofs.books.print_writes.Given as goal
-
-abbrev pub invariant-loop-place : goal.invariant-loop-place
-invariant-loop-place g l = Pushed (g.W.Write.contents l.fn.writer) (g.W.Write.contents l.writer) l.fn.output l.output
-    (lines_text (map (write_line l.schema) (take l.place l.writes)))

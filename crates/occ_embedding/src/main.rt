@@ -1,0 +1,122 @@
+//! The store in a program of one's own: two sessions pay into one account at the same time, and one of them has to try again.
+#![tactic(auto)]
+
+use occ_core::core_state::{Core, SingleWrite};
+use occ_model::verdict::Verdict;
+use occ_sets::{PrivateCopy, SharedWrites};
+use occ_types::fault::Fault;
+use occ_types::kind::{KeyKind, Kind};
+use occ_types::limits::MAX_WRITES;
+use occ_types::{Cell, Key, Object, Row, Schema, TableDef, Text};
+use std::alloc::{AllocError, Global};
+use std::process::ExitCode;
+
+fn main(rt: HostRuntime) -> ExitCode {
+    let told = match pay(rt.alloc()) {
+        Ok(lines) => print!(rt; "{lines}"),
+        Err(fault) => eprintln!(rt; "{fault:?}"),
+    };
+    match told {
+        Ok(()) => ExitCode::SUCCESS,
+        Err(_) => ExitCode::FAILURE,
+    }
+}
+
+/// Two payments that overlap, the second one tried again, and the balance.
+fn pay(alloc: Global) -> Result<String, Fault> {
+    let mut lines = String::new(alloc);
+    let mut store = open(alloc).or(Err(Fault::Memory))?;
+    let first = begin(alloc, &mut store, 1, 1, 30)?;
+    let second = begin(alloc, &mut store, 2, 1, 12)?;
+    tell(&mut lines, 1, commit(alloc, &mut store, 1, first)?)?;
+    tell(&mut lines, 2, commit(alloc, &mut store, 2, second)?)?;
+    let again = begin(alloc, &mut store, 2, 2, 12)?;
+    tell(&mut lines, 2, commit(alloc, &mut store, 2, again)?)?;
+    let balance = balance(&mut store, 1, 2)?;
+    writeln!(lines, "the account has {balance}").or(Err(Fault::Memory))?;
+    Ok(lines)
+}
+
+/// A store of two sessions that keeps the last 8 write sets for testing. Its one table has balances under the numbers of accounts.
+fn open(alloc: Global) -> Result<Core<Global>, AllocError> {
+    let accounts = TableDef {
+        name: Text::new(alloc, "accounts")?,
+        key: KeyKind::Num,
+        columns: vec![in alloc; Kind::Int]?,
+    };
+    match Schema::new(vec![in alloc; accounts]?) {
+        Ok(schema) => Core::open(alloc, schema, 2, 8),
+        Err(_refused) => Err(AllocError),
+    }
+}
+
+fn account() -> Object<Global> {
+    Object {
+        table: 0,
+        key: Key::Num(7),
+    }
+}
+
+/// The balance of the account, read by a transaction of a session that begins now.
+fn balance(store: &mut Core<Global>, session: usize, number: u64) -> Result<i64, Fault> {
+    let start = store.counter();
+    match store.read(session, number, start, &account())? {
+        Some(row) => match row.cells().first() {
+            Some(Cell::Int(balance)) => Ok(*balance),
+            _ => Ok(0),
+        },
+        None => Ok(0),
+    }
+}
+
+/// The read phase of a payment: the store notes what is read, and what is written stays in the private copy.
+fn begin(
+    alloc: Global,
+    store: &mut Core<Global>,
+    session: usize,
+    number: u64,
+    amount: i64,
+) -> Result<PrivateCopy<Global>, Fault> {
+    let mut copy = PrivateCopy::new(alloc, number, store.counter());
+    let paid = balance(store, session, number)?.saturating_add(amount);
+    let cells = vec![in alloc; Cell::Int(paid)].or(Err(Fault::Memory))?;
+    match copy.put(account(), Row::from_cells(cells)) {
+        Ok(()) => Ok(copy),
+        Err(refused) => Err(refused.fault),
+    }
+}
+
+/// Validation and write phase. The answer is the number of the commit, or none where it has to be tried again.
+fn commit(
+    alloc: Global,
+    store: &mut Core<Global>,
+    session: usize,
+    copy: PrivateCopy<Global>,
+) -> Result<Option<u64>, Fault> {
+    let (number, start, writes) = copy.into_request();
+    let Ok(writes) = SharedWrites::new(alloc, writes) else {
+        return Err(Fault::Memory);
+    };
+    if let Err(refused) = store.enter_request(session, number, start, writes) {
+        return Err(refused.fault);
+    }
+    if store.decide(session)? != Verdict::Commit {
+        store.back_up(session)?;
+        return Ok(None);
+    }
+    for _ in 0..=MAX_WRITES {
+        if store.write_one(session)? == SingleWrite::NoMore {
+            break;
+        }
+    }
+    let number = store.finish(session)?;
+    Ok(Some(number))
+}
+
+fn tell(lines: &mut String, session: usize, committed: Option<u64>) -> Result<(), Fault> {
+    let told = match committed {
+        Some(number) => writeln!(lines, "session {session} commits as {number}"),
+        None => writeln!(lines, "session {session} is backed up"),
+    };
+    told.or(Err(Fault::Memory))
+}

@@ -1,0 +1,413 @@
+//! The book of a core, printed line by line: what is held is one line, and less than a block of what is on its way.
+
+ghost use Rattle.std.specs.Prelude.{◌≡◌, ◌<◌, ◌++◌, ◌∷◌, [], map, slice_get, codes, string_bytes};
+ghost use Rattle.std.specs.List.{flat_map};
+ghost use Rattle.std.specs.FinMap as finite;
+ghost use Rattle.std.specs.Option.{option_copied, option_to_list};
+ghost use Rattle.occ_types.specs.Seen.{key_of, object_of, table_of, tables_of};
+ghost use Rattle.occ_sets.specs.Seen.{rows_of, answer_of, observation_of, observations_of};
+ghost use Rattle.occ_core.specs.Rows.{log_row_of, log_of};
+ghost use Rattle.occ_text.specs.Line.{lines_text};
+ghost use Rattle.occ_text.specs.Printing.{PrintGives};
+ghost use Rattle.occ_text.specs.Headers.{count_text, table_text};
+ghost use Rattle.occ_print.specs.Books.{book_of, settings_lines, header_lines, pair_line, pair_lines, read_lines, write_line, row_lines, log_lines, mark_lines, at_line, rows_at, state_lines, counter_line, book_text};
+ghost use Rattle.occ_core.specs.Kept.{placed};
+
+use crate::lines::{
+    at_line, count_line, counter_line, pair_line, read_line, row_line, table_line, version_line,
+    write_line,
+};
+use occ_core::{LogRow, Tables};
+use occ_sets::{Answer, Observation, WriteSet};
+use occ_text::output::Output;
+use occ_text::trouble::Trouble;
+use occ_types::{Key, Object, Row, Schema, TableDef};
+use std::alloc::Allocator;
+use std::collections::BTreeMap;
+use std::io::Write;
+
+/// What a book tells: the settings of a core, and what the core keeps.
+#[derive(Drop)]
+pub struct Book<'a, A: Allocator> {
+    /// How many sessions there are.
+    pub sessions: usize,
+    /// How many items the queue of a session holds at most.
+    pub queue: usize,
+    /// How many write sets are kept for testing.
+    pub keep: usize,
+    /// The tables.
+    pub schema: &'a Schema<A>,
+    /// The rows that entered, in the order of entry.
+    pub log: &'a [LogRow<A>],
+    /// The rows of all tables.
+    pub tables: &'a Tables<A>,
+    /// The transaction counter.
+    pub counter: u64,
+    /// The lower end of the window.
+    pub low: u64,
+}
+
+/// Pushes a line and its line feed.
+pub fn push_line<W: Write, A: Allocator>(
+    output: &mut Output<A>,
+    writer: &mut W,
+    line: &mut String<A>,
+) -> Result<(), Trouble>
+    ensures { PrintGives result (W.contents writer.old) (W.contents writer.new) output.old output.new (lines_text (string_bytes line.old ∷ [])) }
+{
+    line.push('\n')?;
+    output.push(writer, line.as_bytes())
+}
+
+fn print_count<W: Write, A: Allocator>(
+    output: &mut Output<A>,
+    writer: &mut W,
+    line: &mut String<A>,
+    word: &str,
+    count: u128,
+) -> Result<(), Trouble>
+    ensures { PrintGives result (W.contents writer.old) (W.contents writer.new) output.old output.new (lines_text (count_text word.now count ∷ [])) }
+{
+    count_line(line, word, count)?;
+    push_line(output, writer, line)
+}
+
+fn print_version<W: Write, A: Allocator>(
+    output: &mut Output<A>,
+    writer: &mut W,
+    line: &mut String<A>,
+) -> Result<(), Trouble>
+    ensures { PrintGives result (W.contents writer.old) (W.contents writer.new) output.old output.new (lines_text (codes "occ 1" ∷ [])) }
+{
+    version_line(line)?;
+    push_line(output, writer, line)
+}
+
+fn print_settings<W: Write, A: Allocator>(
+    output: &mut Output<A>,
+    writer: &mut W,
+    line: &mut String<A>,
+    book: &Book<A>,
+) -> Result<(), Trouble>
+    ensures { PrintGives result (W.contents writer.old) (W.contents writer.new) output.old output.new (lines_text (settings_lines (book_of book.now).header)) }
+{
+    print_version(output, writer, line)?;
+    print_count(output, writer, line, "sessions", book.sessions as u128)?;
+    print_count(output, writer, line, "queue", book.queue as u128)?;
+    print_count(output, writer, line, "keep", book.keep as u128)
+}
+
+fn print_table<W: Write, A: Allocator>(
+    output: &mut Output<A>,
+    writer: &mut W,
+    line: &mut String<A>,
+    table: &TableDef<A>,
+) -> Result<(), Trouble>
+    ensures { PrintGives result (W.contents writer.old) (W.contents writer.new) output.old output.new (lines_text (table_text (table_of table.now) ∷ [])) }
+{
+    table_line(line, table)?;
+    push_line(output, writer, line)
+}
+
+fn print_tables<W: Write, A: Allocator>(
+    output: &mut Output<A>,
+    writer: &mut W,
+    line: &mut String<A>,
+    tables: &[TableDef<A>],
+) -> Result<(), Trouble>
+    ensures { PrintGives result (W.contents writer.old) (W.contents writer.new) output.old output.new (lines_text (map table_text (tables_of tables.now))) }
+{
+    for table in tables {
+        print_table(output, writer, line, table)?;
+    }
+    Ok(())
+}
+
+fn print_header<W: Write, A: Allocator>(
+    output: &mut Output<A>,
+    writer: &mut W,
+    line: &mut String<A>,
+    book: &Book<A>,
+) -> Result<(), Trouble>
+    ensures { PrintGives result (W.contents writer.old) (W.contents writer.new) output.old output.new (lines_text (header_lines (book_of book.now).header)) }
+{
+    print_settings(output, writer, line, book)?;
+    print_tables(output, writer, line, book.schema.tables())
+}
+
+fn print_pair<W: Write, A: Allocator>(
+    output: &mut Output<A>,
+    writer: &mut W,
+    line: &mut String<A>,
+    key: &Key<A>,
+    row: &Row<A>,
+) -> Result<(), Trouble>
+    ensures { PrintGives result (W.contents writer.old) (W.contents writer.new) output.old output.new (lines_text (pair_line (key_of key.now, row.now) ∷ [])) }
+{
+    pair_line(line, key, row)?;
+    push_line(output, writer, line)
+}
+
+fn print_pairs<W: Write, A: Allocator>(
+    output: &mut Output<A>,
+    writer: &mut W,
+    line: &mut String<A>,
+    pairs: &[(Key<A>, Row<A>)],
+) -> Result<(), Trouble>
+    ensures { PrintGives result (W.contents writer.old) (W.contents writer.new) output.old output.new (lines_text (map pair_line (rows_of pairs.now))) }
+{
+    for (key, row) in pairs {
+        print_pair(output, writer, line, key, row)?;
+    }
+    Ok(())
+}
+
+fn print_answer<W: Write, A: Allocator>(
+    output: &mut Output<A>,
+    writer: &mut W,
+    line: &mut String<A>,
+    answer: &Answer<A>,
+) -> Result<(), Trouble>
+    ensures { PrintGives result (W.contents writer.old) (W.contents writer.new) output.old output.new (lines_text (pair_lines (answer_of answer.now))) }
+{
+    match answer {
+        Answer::Found(_) => Ok(()),
+        Answer::Rows(rows) => print_pairs(output, writer, line, rows.as_slice()),
+    }
+}
+
+fn print_read<W: Write, A: Allocator>(
+    output: &mut Output<A>,
+    writer: &mut W,
+    line: &mut String<A>,
+    schema: &Schema<A>,
+    read: &Observation<A>,
+) -> Result<(), Trouble>
+    ensures { PrintGives result (W.contents writer.old) (W.contents writer.new) output.old output.new (lines_text (read_lines schema.now (observation_of read.now))) }
+{
+    read_line(line, schema, read)?;
+    push_line(output, writer, line)?;
+    print_answer(output, writer, line, &read.answer)
+}
+
+fn print_reads<W: Write, A: Allocator>(
+    output: &mut Output<A>,
+    writer: &mut W,
+    line: &mut String<A>,
+    schema: &Schema<A>,
+    reads: &[Observation<A>],
+) -> Result<(), Trouble>
+    ensures { PrintGives result (W.contents writer.old) (W.contents writer.new) output.old output.new (lines_text (flat_map (read_lines schema.now) (observations_of reads.now))) }
+{
+    for read in reads {
+        print_read(output, writer, line, schema, read)?;
+    }
+    Ok(())
+}
+
+fn print_write<W: Write, A: Allocator>(
+    output: &mut Output<A>,
+    writer: &mut W,
+    line: &mut String<A>,
+    schema: &Schema<A>,
+    object: &Object<A>,
+    row: Option<&Row<A>>,
+) -> Result<(), Trouble>
+    ensures { PrintGives result (W.contents writer.old) (W.contents writer.new) output.old output.new (lines_text (write_line schema.now (object_of object.now, option_copied row.entry) ∷ [])) }
+{
+    write_line(line, schema, object, row)?;
+    push_line(output, writer, line)
+}
+
+fn print_write_at<W: Write, A: Allocator>(
+    output: &mut Output<A>,
+    writer: &mut W,
+    line: &mut String<A>,
+    schema: &Schema<A>,
+    writes: &WriteSet<A>,
+    place: usize,
+) -> Result<(), Trouble>
+    ensures { PrintGives result (W.contents writer.old) (W.contents writer.new) output.old output.new (lines_text (map (write_line schema.now) (option_to_list (slice_get writes.now place)))) }
+{
+    match writes.write_at(place) {
+        Some((object, row)) => print_write(output, writer, line, schema, object, row),
+        None => Ok(()),
+    }
+}
+
+fn print_writes<W: Write, A: Allocator>(
+    output: &mut Output<A>,
+    writer: &mut W,
+    line: &mut String<A>,
+    schema: &Schema<A>,
+    writes: &WriteSet<A>,
+) -> Result<(), Trouble>
+    ensures { PrintGives result (W.contents writer.old) (W.contents writer.new) output.old output.new (lines_text (map (write_line schema.now) writes.now)) }
+{
+    for place in 0..writes.len() {
+        print_write_at(output, writer, line, schema, writes, place)?;
+    }
+    Ok(())
+}
+
+fn print_row<W: Write, A: Allocator>(
+    output: &mut Output<A>,
+    writer: &mut W,
+    line: &mut String<A>,
+    schema: &Schema<A>,
+    row: &LogRow<A>,
+) -> Result<(), Trouble>
+    ensures { PrintGives result (W.contents writer.old) (W.contents writer.new) output.old output.new (lines_text (row_lines schema.now (log_row_of row.now))) }
+{
+    row_line(line, row)?;
+    push_line(output, writer, line)?;
+    print_reads(output, writer, line, schema, row.reads.get().observations())?;
+    print_writes(output, writer, line, schema, row.writes.get())
+}
+
+fn print_rows<W: Write, A: Allocator>(
+    output: &mut Output<A>,
+    writer: &mut W,
+    line: &mut String<A>,
+    schema: &Schema<A>,
+    log: &[LogRow<A>],
+) -> Result<(), Trouble>
+    ensures { PrintGives result (W.contents writer.old) (W.contents writer.new) output.old output.new (lines_text (flat_map (row_lines schema.now) (log_of log.now))) }
+{
+    for row in log {
+        print_row(output, writer, line, schema, row)?;
+    }
+    Ok(())
+}
+
+fn print_log<W: Write, A: Allocator>(
+    output: &mut Output<A>,
+    writer: &mut W,
+    line: &mut String<A>,
+    schema: &Schema<A>,
+    log: &[LogRow<A>],
+) -> Result<(), Trouble>
+    ensures { PrintGives result (W.contents writer.old) (W.contents writer.new) output.old output.new (lines_text (log_lines schema.now (log_of log.now))) }
+{
+    print_count(output, writer, line, "log", log.len() as u128)?;
+    print_rows(output, writer, line, schema, log)
+}
+
+/// No closing mark enters yet.
+fn print_marks<W: Write, A: Allocator>(
+    output: &mut Output<A>,
+    writer: &mut W,
+    line: &mut String<A>,
+) -> Result<(), Trouble>
+    ensures { PrintGives result (W.contents writer.old) (W.contents writer.new) output.old output.new (lines_text (mark_lines finite.empty)) }
+{
+    print_count(output, writer, line, "marks", 0)
+}
+
+fn print_at<W: Write, A: Allocator>(
+    output: &mut Output<A>,
+    writer: &mut W,
+    line: &mut String<A>,
+    schema: &Schema<A>,
+    place: usize,
+    key: &Key<A>,
+    row: &Row<A>,
+) -> Result<(), Trouble>
+    ensures { PrintGives result (W.contents writer.old) (W.contents writer.new) output.old output.new (lines_text (at_line schema.now ((place, key_of key.now), row.now) ∷ [])) }
+{
+    at_line(line, schema, place, key, row)?;
+    push_line(output, writer, line)
+}
+
+fn print_map<W: Write, A: Allocator>(
+    output: &mut Output<A>,
+    writer: &mut W,
+    line: &mut String<A>,
+    schema: &Schema<A>,
+    place: usize,
+    rows: &BTreeMap<Key<A>, Row<A>, A>,
+) -> Result<(), Trouble>
+    ensures { PrintGives result (W.contents writer.old) (W.contents writer.new) output.old output.new (lines_text (map (at_line schema.now) (placed place rows.now.entries))) }
+{
+    for (key, row) in rows {
+        print_at(output, writer, line, schema, place, key, row)?;
+    }
+    Ok(())
+}
+
+fn print_rows_at<W: Write, A: Allocator>(
+    output: &mut Output<A>,
+    writer: &mut W,
+    line: &mut String<A>,
+    schema: &Schema<A>,
+    tables: &Tables<A>,
+    place: usize,
+) -> Result<(), Trouble>
+    requires { place < tables.now.tables }
+    ensures { PrintGives result (W.contents writer.old) (W.contents writer.new) output.old output.new (lines_text (map (at_line schema.now) (rows_at place tables.now.state))) }
+{
+    match tables.table(place) {
+        Some(rows) => print_map(output, writer, line, schema, place, rows),
+        None => Ok(()),
+    }
+}
+
+fn print_all_rows<W: Write, A: Allocator + Clone>(
+    output: &mut Output<A>,
+    writer: &mut W,
+    line: &mut String<A>,
+    schema: &Schema<A>,
+    tables: &Tables<A>,
+) -> Result<(), Trouble>
+    ensures { PrintGives result (W.contents writer.old) (W.contents writer.new) output.old output.new (lines_text (map (at_line schema.now) (finite.entries tables.now.state))) }
+{
+    for place in 0..tables.count() {
+        print_rows_at(output, writer, line, schema, tables, place)?;
+    }
+    Ok(())
+}
+
+fn print_state<W: Write, A: Allocator + Clone>(
+    output: &mut Output<A>,
+    writer: &mut W,
+    line: &mut String<A>,
+    schema: &Schema<A>,
+    tables: &Tables<A>,
+) -> Result<(), Trouble>
+    ensures { PrintGives result (W.contents writer.old) (W.contents writer.new) output.old output.new (lines_text (state_lines schema.now tables.now.state)) }
+{
+    print_count(output, writer, line, "state", tables.len() as u128)?;
+    print_all_rows(output, writer, line, schema, tables)
+}
+
+fn print_counter<W: Write, A: Allocator>(
+    output: &mut Output<A>,
+    writer: &mut W,
+    line: &mut String<A>,
+    counter: u64,
+    low: u64,
+) -> Result<(), Trouble>
+    ensures { PrintGives result (W.contents writer.old) (W.contents writer.new) output.old output.new (lines_text (counter_line counter low ∷ [])) }
+{
+    counter_line(line, counter, low)?;
+    push_line(output, writer, line)
+}
+
+/// Prints the book of a core, which ends with its `counter` line.
+///
+/// At `Write` and `Memory` a beginning of it was pushed, and no more is promised of what the writer has.
+pub fn write_book<W: Write, A: Allocator + Clone>(
+    alloc: A,
+    output: &mut Output<A>,
+    writer: &mut W,
+    book: &Book<A>,
+) -> Result<(), Trouble>
+    ensures { PrintGives result (W.contents writer.old) (W.contents writer.new) output.old output.new (book_text (book_of book.now)) }
+{
+    let mut line = String::new(alloc);
+    print_header(output, writer, &mut line, book)?;
+    print_log(output, writer, &mut line, book.schema, book.log)?;
+    print_marks(output, writer, &mut line)?;
+    print_state(output, writer, &mut line, book.schema, book.tables)?;
+    print_counter(output, writer, &mut line, book.counter, book.low)
+}

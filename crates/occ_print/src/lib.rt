@@ -1,0 +1,7 @@
+//! The book of a store as a text: the definitions of its lines, and their printing.
+#![tactic(auto)]
+
+#[cfg(test)]
+mod book_tests;
+pub mod books;
+pub mod lines;

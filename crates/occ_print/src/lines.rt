@@ -1,0 +1,269 @@
+//! Writers of the lines of a book. Each leaves one line, without its line feed, in place of what stood there; where memory is refused, a beginning of it may stand.
+
+ghost use Rattle.std.specs.Prelude.{◌≡◌, ◌++◌, ◌∷◌, [], OnOk, codes, string_bytes};
+ghost use Rattle.occ_text.specs.Line.{lines_text};
+ghost use Rattle.occ_text.specs.Spelling.{line_text};
+ghost use Rattle.std.specs.List.{flat_map};
+ghost use Rattle.std.specs.Option.{option_copied};
+ghost use Rattle.occ_types.specs.Seen.{key_of, end_of, object_of, question_of, table_of};
+ghost use Rattle.occ_sets.specs.Seen.{answer_of, observation_of};
+ghost use Rattle.occ_core.specs.Rows.{log_row_of, standing_of};
+ghost use Rattle.occ_text.specs.Headers.{count_text, table_text, kind_word, key_kind_word};
+ghost use Rattle.occ_print.specs.Books.{table_name, end_text, question_text, answer_text, read_line, pair_line, write_line, row_line, standing_text, at_line, counter_line, audit_line};
+
+use occ_core::{LogRow, Standing};
+use occ_model::verdict::Cause;
+use occ_sets::{Answer, Observation};
+use occ_text::writers::{write_key, write_row};
+use occ_types::kind::{KeyKind, Kind};
+use occ_types::{Key, Object, Question, Row, Schema, TableDef};
+use std::alloc::{AllocError, Allocator};
+
+/// `occ 1`.
+pub fn version_line<A: Allocator>(line: &mut String<A>) -> Result<(), AllocError>
+    ensures { OnOk result (string_bytes line.new ≡ codes "occ 1") }
+{
+    line.clear();
+    line.push_str("occ 1")
+}
+
+/// A word and a number, as in `sessions N`.
+pub fn count_line<A: Allocator>(
+    line: &mut String<A>,
+    word: &str,
+    count: u128,
+) -> Result<(), AllocError>
+    ensures { OnOk result (string_bytes line.new ≡ count_text word.now count) }
+{
+    line.clear();
+    write!(line, "{word} {count}")
+}
+
+/// `table NAME KEYKIND KIND ..`.
+pub fn table_line<A: Allocator>(line: &mut String<A>, table: &TableDef<A>) -> Result<(), AllocError>
+    ensures { OnOk result (string_bytes line.new ≡ table_text (table_of table.now)) }
+{
+    write_table_head(line, table)?;
+    write_kinds(line, table.columns.as_slice())
+}
+
+fn write_table_head<A: Allocator>(
+    line: &mut String<A>,
+    table: &TableDef<A>,
+) -> Result<(), AllocError>
+    ensures { OnOk result (string_bytes line.new ≡ line_text (codes "table" ∷ table.now.name ∷ key_kind_word table.now.key ∷ [])) }
+{
+    line.clear();
+    let name = table.name.as_str();
+    let kind = key_kind_word(table.key);
+    write!(line, "table {name} {kind}")
+}
+
+fn key_kind_word(kind: KeyKind) -> &'static str
+    ensures { result.now ≡ key_kind_word kind }
+{
+    match kind {
+        KeyKind::Num => "num",
+        KeyKind::Text => "text",
+    }
+}
+
+fn kind_word(kind: Kind) -> &'static str
+    ensures { result.now ≡ kind_word kind }
+{
+    match kind {
+        Kind::Int => "int",
+        Kind::Text => "text",
+    }
+}
+
+/// Appends a space and a word for each kind.
+fn write_kinds<A: Allocator>(line: &mut String<A>, kinds: &[Kind]) -> Result<(), AllocError>
+    ensures { OnOk result (string_bytes line.new ≡ string_bytes line.old ++ flat_map (λ kind. 32 ∷ kind_word kind) kinds.now) }
+{
+    for kind in kinds {
+        let word = kind_word(*kind);
+        write!(line, " {word}")?;
+    }
+    Ok(())
+}
+
+/// The name of the table at a place, or nothing where there is none.
+fn table_name<A: Allocator>(schema: &Schema<A>, place: usize) -> &str
+    ensures { result.now ≡ table_name schema.now place }
+{
+    match schema.tables().get(place) {
+        Some(table) => table.name.as_str(),
+        None => "",
+    }
+}
+
+/// Appends an end of a range.
+fn write_end<A: Allocator>(line: &mut String<A>, end: &Option<Key<A>>) -> Result<(), AllocError>
+    ensures { OnOk result (string_bytes line.new ≡ string_bytes line.old ++ end_text (end_of end.now)) }
+{
+    match end {
+        Some(key) => write_key(line, key),
+        None => line.push('*'),
+    }
+}
+
+fn write_question<A: Allocator>(
+    line: &mut String<A>,
+    schema: &Schema<A>,
+    question: &Question<A>,
+) -> Result<(), AllocError>
+    ensures { OnOk result (string_bytes line.new ≡ string_bytes line.old ++ question_text schema.now (question_of question.now)) }
+{
+    let name = table_name(schema, question.table());
+    match question {
+        Question::One(object) => {
+            write!(line, "one {name} ")?;
+            write_key(line, &object.key)
+        }
+        Question::Span { lower, upper, .. } => {
+            write!(line, "span {name} ")?;
+            write_end(line, lower)?;
+            line.push(' ')?;
+            write_end(line, upper)
+        }
+    }
+}
+
+fn write_answer<A: Allocator>(line: &mut String<A>, answer: &Answer<A>) -> Result<(), AllocError>
+    ensures { OnOk result (string_bytes line.new ≡ string_bytes line.old ++ answer_text (answer_of answer.now)) }
+{
+    match answer {
+        Answer::Found(Some(row)) => write_row(line, row),
+        Answer::Found(None) => write!(line, "none"),
+        Answer::Rows(rows) => {
+            let count = rows.len();
+            write!(line, "{count}")
+        }
+    }
+}
+
+/// `one NAME KEY none`, `one NAME KEY ROW` or `span NAME KEY KEY K`.
+pub fn read_line<A: Allocator>(
+    line: &mut String<A>,
+    schema: &Schema<A>,
+    read: &Observation<A>,
+) -> Result<(), AllocError>
+    ensures { OnOk result (string_bytes line.new ≡ read_line schema.now (observation_of read.now)) }
+{
+    line.clear();
+    write_question(line, schema, &read.question)?;
+    line.push(' ')?;
+    write_answer(line, &read.answer)
+}
+
+/// `pair KEY ROW`.
+pub fn pair_line<A: Allocator>(
+    line: &mut String<A>,
+    key: &Key<A>,
+    row: &Row<A>,
+) -> Result<(), AllocError>
+    ensures { OnOk result (string_bytes line.new ≡ pair_line (key_of key.now, row.now)) }
+{
+    line.clear();
+    write!(line, "pair ")?;
+    write_key(line, key)?;
+    line.push(' ')?;
+    write_row(line, row)
+}
+
+/// `put NAME KEY ROW`, or `del NAME KEY` where there is no row.
+pub fn write_line<A: Allocator>(
+    line: &mut String<A>,
+    schema: &Schema<A>,
+    object: &Object<A>,
+    row: Option<&Row<A>>,
+) -> Result<(), AllocError>
+    ensures { OnOk result (string_bytes line.new ≡ write_line schema.now (object_of object.now, option_copied row.entry)) }
+{
+    line.clear();
+    let name = table_name(schema, object.table);
+    match row {
+        None => {
+            write!(line, "del {name} ")?;
+            write_key(line, &object.key)
+        }
+        Some(row) => {
+            write!(line, "put {name} ")?;
+            write_key(line, &object.key)?;
+            line.push(' ')?;
+            write_row(line, row)
+        }
+    }
+}
+
+/// `row PLACE S N START FINISH R W STANDING`.
+pub fn row_line<A: Allocator>(line: &mut String<A>, row: &LogRow<A>) -> Result<(), AllocError>
+    ensures { OnOk result (string_bytes line.new ≡ row_line (log_row_of row.now)) }
+{
+    line.clear();
+    let place = row.place;
+    let session = row.session;
+    let number = row.number;
+    let start = row.start;
+    let finish = row.finish;
+    let reads = row.reads.get().len();
+    let writes = row.writes.get().len();
+    write!(
+        line,
+        "row {place} {session} {number} {start} {finish} {reads} {writes} "
+    )?;
+    write_standing(line, &row.standing)
+}
+
+fn write_standing<A: Allocator>(
+    line: &mut String<A>,
+    standing: &Standing<A>,
+) -> Result<(), AllocError>
+    ensures { OnOk result (string_bytes line.new ≡ string_bytes line.old ++ standing_text (standing_of standing.now)) }
+{
+    match standing {
+        Standing::Open(_) => write!(line, "open"),
+        Standing::Writing(done) => write!(line, "writing {done}"),
+        Standing::Done(number) => write!(line, "done {number}"),
+        Standing::Back(Cause::Conflict) => write!(line, "conflict"),
+        Standing::Back(Cause::TooOld) => write!(line, "tooold"),
+    }
+}
+
+/// `at NAME KEY ROW`, for a row of the table at a place.
+pub fn at_line<A: Allocator>(
+    line: &mut String<A>,
+    schema: &Schema<A>,
+    place: usize,
+    key: &Key<A>,
+    row: &Row<A>,
+) -> Result<(), AllocError>
+    ensures { OnOk result (string_bytes line.new ≡ at_line schema.now ((place, key_of key.now), row.now)) }
+{
+    line.clear();
+    let name = table_name(schema, place);
+    write!(line, "at {name} ")?;
+    write_key(line, key)?;
+    line.push(' ')?;
+    write_row(line, row)
+}
+
+/// `counter T low L`.
+pub fn counter_line<A: Allocator>(
+    line: &mut String<A>,
+    counter: u64,
+    low: u64,
+) -> Result<(), AllocError>
+    ensures { OnOk result (string_bytes line.new ≡ counter_line counter low) }
+{
+    line.clear();
+    write!(line, "counter {counter} low {low}")
+}
+
+/// `audit yes` or `audit no`, with its line feed.
+pub fn audit_line(holds: bool) -> &'static str
+    ensures { result.now ≡ lines_text (audit_line holds ∷ []) }
+{
+    if holds { "audit yes\n" } else { "audit no\n" }
+}

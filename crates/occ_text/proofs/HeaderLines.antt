@@ -1,0 +1,216 @@
+-- The lines of a header: what is read is spelled so, and what is spelled so is read again.
+use Rattle.std.proofs.Common.{◌≡◌, ℕ, ◌^◌, ◌<◌, ◌≤◌, ◌&&◌, Bool, true, false, cond, ltb, leb, List, [], ◌∷◌, length, map, Option, Some, None, refl, sym, ap, subst, ◌∙◌, arith}
+use Rattle.std.specs.Prelude.{option_and_then, option_map, codes}
+use Rattle.std.specs.List.{All}
+use Rattle.std.specs.Str.{bytes_eq}
+use Rattle.std.specs.Fmt.{decimal}
+use Rattle.std.proofs.lemmas.Bool.{ltb-true, lt-ltb, leb-true, le-leb}
+use Rattle.std.proofs.lemmas.Slice.Eq.{bytes_eq-Decides}
+use Rattle.std.proofs.lemmas.List.{length-map}
+use Rattle.std.proofs.lemmas.List.Elements.{All-nil, All-cons}
+use Rattle.occ_types.specs.declared.kind.Kind.{Kind}
+use Rattle.occ_types.specs.declared.kind.Kind.TheVariants as cells
+use Rattle.occ_types.specs.declared.kind.KeyKind.{KeyKind}
+use Rattle.occ_types.specs.declared.kind.KeyKind.TheVariants as keys
+use Rattle.occ_types.specs.Schema.{Table}
+use Rattle.occ_text.specs.Spelling.{line_text, IsToken, AreTokens}
+use Rattle.occ_text.specs.Reading.{Reads, is_token, tokens_of, number_of, name_of}
+use Rattle.occ_text.specs.Headers.{key_kind_word, kind_word, table_tokens, table_text, count_text, Within, TableFits}
+use Rattle.occ_text.specs.HeaderReading.{at_least, count_of_parts, count_of_tokens, count_of_line, key_kind_of, kind_of, kinds_of, if_few, columns_of, table_of_parts, table_of_tokens, table_of_line}
+use Rattle.occ_text.proofs.Numbers.{some_or_none, number_takes, number_again}
+use Rattle.occ_text.proofs.Escapes.{some_is, bind_value, map_value}
+use Rattle.occ_text.proofs.Words.{both, IsToken-from_test, tokens_takes, tokens_again, name_reads}
+use Rattle.occ_text.proofs.Spelled.{IsToken-decimal, IsToken-name}
+use Rattle.occ_text.proofs.StepLines.{takes, word_is, two_tokens, more_tokens, name_again}
+
+-- a test that passed leaves what stands behind it
+pub tested : {X : Type 0} (b : Bool) (o : Option X) (x : X) → cond b o None ≡ Some x → (b ≡ true) × (o ≡ Some x)
+tested true o x h = (refl, h)
+tested false o x h = absurd cc
+
+-- ---- counts
+
+record Count (wanted : List ℕ) (least most : ℕ) (tokens : List (List ℕ)) (n : ℕ) : Type 0 where
+  spelled : tokens ≡ wanted ∷ decimal n ∷ []
+  fits : Within least most n
+
+parts_take : (wanted : List ℕ) (least most : ℕ) (word digits : List ℕ) (n : ℕ) → count_of_parts wanted least most word digits ≡ Some n → Count wanted least most (word ∷ digits ∷ []) n
+unfolding count_of_parts
+parts_take wanted least most word digits n h =
+    let t = tested (bytes_eq word wanted) (option_and_then (at_least least) (number_of most digits)) n h in
+    let b = bind_value (number_of most digits) (at_least least) n t.1 in
+    let l = tested (leb least b.0) (Some b.0) n b.2 in
+    let d = number_takes most digits b.0 b.1 in
+    let w = word_is word wanted t.0 in
+    subst (Count wanted least most (word ∷ digits ∷ [])) (some_is b.0 n l.1) (record {
+      spelled = λ i. w i ∷ d.0 i ∷ [];
+      fits = record { least_count = leb-true least b.0 l.0; most_count = d.1 };
+    })
+
+count_tokens_take : (wanted : List ℕ) (least most : ℕ) (tokens : List (List ℕ)) (n : ℕ) → count_of_tokens wanted least most tokens ≡ Some n → Count wanted least most tokens n
+unfolding count_of_tokens
+count_tokens_take wanted least most [] n h = absurd cc
+count_tokens_take wanted least most (word ∷ []) n h = absurd cc
+count_tokens_take wanted least most (word ∷ digits ∷ []) n h = parts_take wanted least most word digits n h
+count_tokens_take wanted least most (word ∷ digits ∷ other ∷ more) n h = absurd cc
+
+count_takes : (wanted : List ℕ) (least most : ℕ) (line : List ℕ) (n : ℕ) → count_of_line wanted least most line ≡ Some n → (line ≡ count_text wanted n) × Within least most n
+unfolding count_of_line
+count_takes wanted least most line n h =
+    let t = bind_value (tokens_of line) (count_of_tokens wanted least most) n h in
+    let r = count_tokens_take wanted least most t.0 n t.2 in
+    ((tokens_takes line t.0 t.1).0 ∙ ap line_text r.spelled, r.fits)
+
+word_passes : (word : List ℕ) → bytes_eq word word ≡ true
+word_passes word = (bytes_eq-Decides word word).1 refl
+
+count_again : (wanted : List ℕ) (least most n : ℕ) → most < 2 ^ 64 → IsToken wanted → Within least most n → count_of_line wanted least most (count_text wanted n) ≡ Some n
+unfolding count_of_line count_of_tokens count_of_parts
+count_again wanted least most n small word fits =
+    let le = fits.most_count in
+    let spelled = tokens_again (wanted ∷ decimal n ∷ []) (two_tokens word (IsToken-decimal n (omega arith))) in
+    ap (option_and_then (count_of_tokens wanted least most)) spelled
+    ∙ rw (word_passes wanted, number_again most n small le, le-leb least n fits.least_count) refl
+
+-- the reader of counts is right
+pub count_reads : (wanted : List ℕ) (least most : ℕ) (line : List ℕ) → most < 2 ^ 64 → IsToken wanted → Reads (count_text wanted) (Within least most) line (count_of_line wanted least most line)
+count_reads wanted least most line small word = record {
+  found = some_or_none (count_of_line wanted least most line) (λ n. (line ≡ count_text wanted n) × Within least most n) (λ n h. count_takes wanted least most line n h);
+  again = λ n fits e. ap (count_of_line wanted least most) e ∙ count_again wanted least most n small word fits;
+}
+
+-- ---- kinds
+
+two_kinds : {X : Type 0} (first second word : List ℕ) (x y z : X) (p q : Bool) (spell : X → List ℕ) → bytes_eq word first ≡ p → bytes_eq word second ≡ q → spell x ≡ first → spell y ≡ second
+    → cond p (Some x) (cond q (Some y) None) ≡ Some z → word ≡ spell z
+two_kinds first second word x y z true q spell is other a b h = word_is word first is ∙ sym a ∙ ap spell (some_is x z h)
+two_kinds first second word x y z false true spell other is a b h = word_is word second is ∙ sym b ∙ ap spell (some_is y z h)
+two_kinds first second word x y z false false spell other another a b h = absurd cc
+
+key_kind_takes : (word : List ℕ) (kind : KeyKind) → key_kind_of word ≡ Some kind → word ≡ key_kind_word kind
+unfolding key_kind_of
+key_kind_takes word kind h = two_kinds (codes "num") (codes "text") word keys.Num keys.Text kind _ _ key_kind_word refl refl refl refl h
+
+key_kind_again : (kind : KeyKind) → key_kind_of (key_kind_word kind) ≡ Some kind
+unfolding key_kind_of
+key_kind_again keys.Num = refl
+key_kind_again keys.Text = refl
+
+kind_takes : (word : List ℕ) (kind : Kind) → kind_of word ≡ Some kind → word ≡ kind_word kind
+unfolding kind_of
+kind_takes word kind h = two_kinds (codes "int") (codes "text") word cells.Int cells.Text kind _ _ kind_word refl refl refl refl h
+
+kind_again : (kind : Kind) → kind_of (kind_word kind) ≡ Some kind
+unfolding kind_of
+kind_again cells.Int = refl
+kind_again cells.Text = refl
+
+kinds_take : (words : List (List ℕ)) (kinds : List Kind) → kinds_of words ≡ Some kinds → words ≡ map kind_word kinds
+kinds_take [] kinds h = ap (map kind_word) (some_is [] kinds h)
+kinds_take (word ∷ words) kinds h =
+    let b = bind_value (kind_of word) (λ kind. option_map (λ more. kind ∷ more) (kinds_of words)) kinds h in
+    let m = map_value (kinds_of words) (λ more. b.0 ∷ more) kinds b.2 in
+    let first = kind_takes word b.0 b.1 in
+    let rest = kinds_take words m.0 m.1 in
+    let both_of : word ∷ words ≡ kind_word b.0 ∷ map kind_word m.0 = λ i. first i ∷ rest i in
+    both_of ∙ ap (map kind_word) m.2
+
+kinds_again : (kinds : List Kind) → kinds_of (map kind_word kinds) ≡ Some kinds
+kinds_again [] = refl
+kinds_again (kind ∷ kinds) = rw (kind_again kind, kinds_again kinds) refl
+
+record Columns (words : List (List ℕ)) (kinds : List Kind) : Type 0 where
+  spelled : words ≡ map kind_word kinds
+  some : 0 < length kinds
+  few : length kinds ≤ 8
+
+columns_take : (words : List (List ℕ)) (kinds : List Kind) → columns_of words ≡ Some kinds → Columns words kinds
+unfolding columns_of
+columns_take words kinds h =
+    let b = bind_value (kinds_of words) if_few kinds h in
+    let t = tested (ltb 0 (length b.0) && leb (length b.0) 8) (Some b.0) kinds b.2 in
+    let p = both (ltb 0 (length b.0)) (leb (length b.0) 8) t.0 in
+    subst (Columns words) (some_is b.0 kinds t.1) (record {
+      spelled = kinds_take words b.0 b.1;
+      some = ltb-true 0 (length b.0) p.0;
+      few = leb-true (length b.0) 8 p.1;
+    })
+
+columns_again : (kinds : List Kind) → 0 < length kinds → length kinds ≤ 8 → columns_of (map kind_word kinds) ≡ Some kinds
+unfolding columns_of
+columns_again kinds some few = rw (kinds_again kinds, lt-ltb 0 (length kinds) some, le-leb (length kinds) 8 few) refl
+
+-- ---- tables
+
+record Parts (tokens : List (List ℕ)) (table : Table) : Type 0 where
+  spelled : tokens ≡ table_tokens table
+  fits : TableFits table
+
+table_parts_take : (word called keyed : List ℕ) (words : List (List ℕ)) (table : Table) → table_of_parts word called keyed words ≡ Some table → Parts (word ∷ called ∷ keyed ∷ words) table
+unfolding table_of_parts
+table_parts_take word called keyed words table h =
+    let t = tested (bytes_eq word (codes "table")) _ table h in
+    let n = bind_value (name_of called) _ table t.1 in
+    let k = bind_value (key_kind_of keyed) _ table n.2 in
+    let c = bind_value (columns_of words) _ table k.2 in
+    let w = word_is word (codes "table") t.0 in
+    let name = takes (name_reads called) n.0 n.1 in
+    let key = key_kind_takes keyed k.0 k.1 in
+    let columns = columns_take words c.0 c.1 in
+    subst (Parts (word ∷ called ∷ keyed ∷ words)) (some_is (record { name = n.0; key = k.0; columns = c.0 }) table c.2) (record {
+      spelled = λ i. w i ∷ name.0 i ∷ key i ∷ columns.spelled i;
+      fits = record { name = name.1; some = columns.some; few = columns.few };
+    })
+
+table_tokens_take : (tokens : List (List ℕ)) (table : Table) → table_of_tokens tokens ≡ Some table → Parts tokens table
+unfolding table_of_tokens
+table_tokens_take [] table h = absurd cc
+table_tokens_take (word ∷ []) table h = absurd cc
+table_tokens_take (word ∷ called ∷ []) table h = absurd cc
+table_tokens_take (word ∷ called ∷ keyed ∷ words) table h = table_parts_take word called keyed words table h
+
+table_takes : (line : List ℕ) (table : Table) → table_of_line line ≡ Some table → (line ≡ table_text table) × TableFits table
+unfolding table_of_line
+table_takes line table h =
+    let t = bind_value (tokens_of line) table_of_tokens table h in
+    let r = table_tokens_take t.0 table t.2 in
+    ((tokens_takes line t.0 t.1).0 ∙ ap line_text r.spelled, r.fits)
+
+kind_IsToken : (kind : Kind) → IsToken (kind_word kind)
+unfolding is_token
+kind_IsToken cells.Int = IsToken-from_test _ refl
+kind_IsToken cells.Text = IsToken-from_test _ refl
+
+key_kind_IsToken : (kind : KeyKind) → IsToken (key_kind_word kind)
+unfolding is_token
+key_kind_IsToken keys.Num = IsToken-from_test _ refl
+key_kind_IsToken keys.Text = IsToken-from_test _ refl
+
+each_kind : (kinds : List Kind) → All IsToken (map kind_word kinds)
+each_kind [] = All-nil IsToken
+each_kind (kind ∷ kinds) = All-cons IsToken (kind_word kind) (map kind_word kinds) (kind_IsToken kind) (each_kind kinds)
+
+kinds_are_tokens : (kinds : List Kind) → 0 < length kinds → AreTokens (map kind_word kinds)
+kinds_are_tokens kinds some = record { some = omega (arith, length-map kinds kind_word); each = each_kind kinds }
+
+table_AreTokens : (table : Table) → TableFits table → AreTokens (table_tokens table)
+unfolding is_token
+table_AreTokens table fits =
+    let kinds = map kind_word table.columns in
+    let key = key_kind_word table.key in
+    more_tokens (codes "table") (table.name ∷ key ∷ kinds) (IsToken-from_test (codes "table") refl)
+    (more_tokens table.name (key ∷ kinds) (IsToken-name table.name fits.name)
+    (more_tokens key kinds (key_kind_IsToken table.key) (kinds_are_tokens table.columns fits.some)))
+
+table_again : (table : Table) → TableFits table → table_of_line (table_text table) ≡ Some table
+unfolding table_of_line table_of_tokens table_of_parts
+table_again table fits =
+    ap (option_and_then table_of_tokens) (tokens_again (table_tokens table) (table_AreTokens table fits))
+    ∙ rw (name_again table.name fits.name, key_kind_again table.key, columns_again table.columns fits.some fits.few) refl
+
+-- the reader of tables is right
+pub table_reads : (line : List ℕ) → Reads table_text TableFits line (table_of_line line)
+table_reads line = record {
+  found = some_or_none (table_of_line line) (λ table. (line ≡ table_text table) × TableFits table) (λ table h. table_takes line table h);
+  again = λ table fits e. ap table_of_line e ∙ table_again table fits;
+}

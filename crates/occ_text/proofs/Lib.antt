@@ -1,0 +1,14 @@
+pub mod Cuts
+pub mod Escapes
+pub mod HeaderLines
+pub mod Line
+pub mod Numbers
+pub mod Rows
+pub mod SchemaLines
+pub mod Sending
+pub mod Spelled
+pub mod StepLines
+pub mod Taking
+pub mod Values
+pub mod WholeHeader
+pub mod Words

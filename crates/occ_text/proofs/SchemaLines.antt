@@ -1,0 +1,236 @@
+-- The lines of the tables of a schema: which line may stand behind those of some tables.
+use Rattle.std.proofs.Common.{◌≡◌, ℕ, ◌<◌, ◌≤◌, ◌&&◌, ◌||◌, not, ◌⊎◌, inl, inr, Bool, true, false, ltb, leb, List, [], ◌∷◌, ◌++◌, length, map, Some, None, refl, sym, ap, subst, ◌∙◌, arith, length-append}
+use Rattle.std.specs.Prelude.{option_and_then, codes, nat_eq}
+use Rattle.std.specs.List.{All, list_all, list_any}
+use Rattle.std.specs.Char.{is_ascii_lowercase}
+use Rattle.std.specs.Cmp.Lexicographic.{pointwise}
+use Rattle.std.proofs.lemmas.Bool.{ltb-true, lt-ltb, leb-true, le-leb}
+use Rattle.std.proofs.lemmas.List.Folds.{list_any-append}
+use Rattle.std.proofs.lemmas.List.Elements.{All-nil, All-cons, All-head, All-tail}
+use Rattle.std.proofs.lemmas.List.Sums.{AllPass-from_list_all, list_all-from_AllPass}
+use Rattle.occ_types.specs.declared.fault.Fault.{Fault}
+use Rattle.occ_types.specs.declared.fault.Fault.TheVariants.{BadSchema}
+use Rattle.occ_types.specs.Schema.{Table, fault_if, is_name, are_tables, check_tables}
+use Rattle.occ_types.specs.Fits.{has_name}
+use Rattle.occ_text.specs.Spelling.{IsName}
+use Rattle.occ_text.specs.Reading.{is_token}
+use Rattle.occ_text.specs.Headers.{table_text, TableFits}
+use Rattle.occ_text.specs.HeaderReading.{table_of_tokens, table_of_line}
+use Rattle.occ_text.specs.HeaderTaking.{TablesSoFar, if_free, table_behind, GoesOn}
+use Rattle.occ_text.proofs.Escapes.{some_is, bind_value}
+use Rattle.occ_text.proofs.Words.{both, IsToken-from_test, tokens_again}
+use Rattle.occ_text.proofs.StepLines.{takes, one_token}
+use Rattle.occ_text.proofs.HeaderLines.{tested, table_reads}
+
+-- ---- what tables stand in a schema
+
+neither : (a b : Bool) → (a || b) ≡ false → (a ≡ false) × (b ≡ false)
+neither true b h = absurd cc
+neither false b h = (refl, h)
+
+not_either : (a b : Bool) → a ≡ false → b ≡ false → (a || b) ≡ false
+not_either a b p q = rw (p, q) refl
+
+is_not : (b : Bool) → not b ≡ true → b ≡ false
+is_not true h = absurd cc
+is_not false h = refl
+
+no_fault : (b : Bool) (fault : Fault) → fault_if (not b) fault ≡ None → b ≡ true
+no_fault true fault h = refl
+no_fault false fault h = absurd cc
+
+-- a table that may stand before others
+record Stands (table : Table) (later : List Table) : Type 0 where
+  named : is_name table.name ≡ true
+  own : list_any (λ other. pointwise nat_eq table.name other.name) later ≡ false
+  some : leb 1 (length table.columns) ≡ true
+  few : leb (length table.columns) 8 ≡ true
+  rest : are_tables later ≡ true
+
+first_table : (table : Table) (later : List Table) → are_tables (table ∷ later) ≡ true → Stands table later
+first_table table later h =
+    let own = list_any (λ other. pointwise nat_eq table.name other.name) later in
+    let some = leb 1 (length table.columns) in
+    let few = leb (length table.columns) 8 in
+    let p = both ((is_name table.name && not own) && (some && few)) (are_tables later) h in
+    let q = both (is_name table.name && not own) (some && few) p.0 in
+    let n = both (is_name table.name) (not own) q.0 in
+    let c = both some few q.1 in
+    record { named = n.0; own = is_not own n.1; some = c.0; few = c.1; rest = p.1 }
+
+first_again : (table : Table) (later : List Table) → Stands table later → are_tables (table ∷ later) ≡ true
+first_again table later s = rw (s.named, s.own, s.some, s.few, s.rest) refl
+
+fits_of : (table : Table) (later : List Table) → Stands table later → TableFits table
+fits_of table later s =
+    let n = both (leb 1 (length table.name)) (leb (length table.name) 16 && list_all is_ascii_lowercase table.name) s.named in
+    let m = both (leb (length table.name) 16) (list_all is_ascii_lowercase table.name) n.1 in
+    let some = leb-true 1 (length table.name) n.0 in
+    let columns = leb-true 1 (length table.columns) s.some in
+    record {
+      name = record { some = omega arith; short = leb-true (length table.name) 16 m.0; letters = AllPass-from_list_all is_ascii_lowercase table.name m.1 };
+      some = omega arith;
+      few = leb-true (length table.columns) 8 s.few;
+    }
+
+name_of : (name : List ℕ) → IsName name → is_name name ≡ true
+name_of name fits =
+    let some = fits.some in
+    rw (le-leb 1 (length name) (omega arith), le-leb (length name) 16 fits.short, list_all-from_AllPass is_ascii_lowercase name fits.letters) refl
+
+stands_alone : (table : Table) → TableFits table → Stands table []
+stands_alone table fits =
+    let some = fits.some in
+    record {
+      named = name_of table.name fits.name;
+      own = refl;
+      some = le-leb 1 (length table.columns) (omega arith);
+      few = le-leb (length table.columns) 8 fits.few;
+      rest = refl;
+    }
+
+-- tables of a schema have lines
+pub each_fits : (tables : List Table) → are_tables tables ≡ true → All TableFits tables
+each_fits [] h = All-nil TableFits
+each_fits (table ∷ tables) h =
+    let s = first_table table tables h in
+    All-cons TableFits table tables (fits_of table tables s) (each_fits tables s.rest)
+
+last_fits : (tables : List Table) (table : Table) (more : List Table) → are_tables (tables ++ table ∷ more) ≡ true → TableFits table
+last_fits [] table more h = fits_of table more (first_table table more h)
+last_fits (first ∷ tables) table more h = last_fits tables table more (first_table first (tables ++ table ∷ more) h).rest
+
+-- no table before another has its name
+name_is_free : (tables : List Table) (table : Table) (more : List Table) → are_tables (tables ++ table ∷ more) ≡ true → list_any (has_name table.name) tables ≡ false
+name_is_free [] table more h = refl
+name_is_free (first ∷ tables) table more h =
+    let s = first_table first (tables ++ table ∷ more) h in
+    let test : Table → Bool = λ other. pointwise nat_eq first.name other.name in
+    let own = neither (list_any test tables) (list_any test (table ∷ more)) (sym (list_any-append test tables (table ∷ more)) ∙ s.own) in
+    let here = neither (test table) (list_any test more) own.1 in
+    not_either (has_name table.name first) (list_any (has_name table.name) tables) here.0 (name_is_free tables table more s.rest)
+
+-- a table of another name may stand behind others
+one_more : (tables : List Table) (table : Table) → are_tables tables ≡ true → TableFits table → list_any (has_name table.name) tables ≡ false → are_tables (tables ++ table ∷ []) ≡ true
+one_more [] table h fits free = first_again table [] (stands_alone table fits)
+one_more (first ∷ tables) table h fits free =
+    let s = first_table first tables h in
+    let f = neither (has_name table.name first) (list_any (has_name table.name) tables) free in
+    let test : Table → Bool = λ other. pointwise nat_eq first.name other.name in
+    first_again first (tables ++ table ∷ []) (record {
+      named = s.named;
+      own = list_any-append test tables (table ∷ []) ∙ not_either (list_any test tables) (list_any test (table ∷ [])) s.own (not_either (test table) false f.0 refl);
+      some = s.some;
+      few = s.few;
+      rest = one_more tables table s.rest fits f.1;
+    })
+
+pub record IsSchema (tables : List Table) : Type 0 where
+  pub some : 1 ≤ length tables
+  pub so_far : TablesSoFar tables
+
+pub IsSchema-from_check : (tables : List Table) → check_tables tables ≡ None → IsSchema tables
+IsSchema-from_check tables h =
+    let p = both (leb 1 (length tables) && leb (length tables) 32) (are_tables tables) (no_fault _ BadSchema h) in
+    let q = both (leb 1 (length tables)) (leb (length tables) 32) p.0 in
+    record { some = leb-true 1 (length tables) q.0; so_far = record { few = leb-true (length tables) 32 q.1; each = p.1 } }
+
+pub check-from_IsSchema : (tables : List Table) → 1 ≤ length tables → TablesSoFar tables → check_tables tables ≡ None
+check-from_IsSchema tables some so_far = rw (le-leb 1 (length tables) some, le-leb (length tables) 32 so_far.few, so_far.each) refl
+
+-- ---- which line stands behind those of some tables
+
+table_again : (table : Table) → TableFits table → table_of_line (table_text table) ≡ Some table
+table_again table fits = (table_reads (table_text table)).again table fits refl
+
+same_table : (a b : Table) → TableFits a → TableFits b → table_text a ≡ table_text b → a ≡ b
+same_table a b p q e = some_is a b (sym (table_again a p) ∙ ap table_of_line e ∙ table_again b q)
+
+steps_is_no_table : (table : Table) → TableFits table → codes "steps" ≡ table_text table → ⊥
+unfolding is_token table_of_line table_of_tokens
+steps_is_no_table table fits e =
+    let none : table_of_line (codes "steps") ≡ None = ap (option_and_then table_of_tokens) (tokens_again (codes "steps" ∷ []) (one_token (IsToken-from_test (codes "steps") refl))) in
+    let is : None ≡ Some table = sym none ∙ ap table_of_line e ∙ table_again table fits in
+    cc is
+
+abbrev pub first_line : List (List ℕ) → List ℕ
+first_line [] = []
+first_line (line ∷ lines) = line
+
+abbrev pub later_lines : List (List ℕ) → List (List ℕ)
+later_lines [] = []
+later_lines (line ∷ lines) = lines
+
+abbrev Behind : List Table → List Table → List ℕ → Type 0
+Behind all tables line = ((all ≡ tables) × (line ≡ codes "steps")) ⊎ ((table : Table) × (rest : List Table) × (all ≡ tables ++ table ∷ rest) × (line ≡ table_text table))
+
+behind_more : (x y : Table) (xs ys : List Table) (line : List ℕ) → x ≡ y → Behind xs ys line → Behind (x ∷ xs) (y ∷ ys) line
+behind_more x y xs ys line same (inl p) = inl ((λ i. same i ∷ p.0 i), p.1)
+behind_more x y xs ys line same (inr p) = inr (p.0, p.1, (λ i. same i ∷ p.2 i), p.3)
+
+-- it is `steps` behind all of them, or the line of the next table
+which_line : (all tables : List Table) (line : List ℕ) (more : List (List ℕ)) → All TableFits all → All TableFits tables
+    → map table_text all ++ codes "steps" ∷ [] ≡ map table_text tables ++ line ∷ more → Behind all tables line
+which_line [] [] line more p q e = inl (refl, sym (ap first_line e))
+which_line [] (y ∷ ys) line more p q e = absurd (steps_is_no_table y (All-head TableFits y ys q) (ap first_line e))
+which_line (x ∷ xs) [] line more p q e = inr (x, xs, refl, sym (ap first_line e))
+which_line (x ∷ xs) (y ∷ ys) line more p q e =
+    behind_more x y xs ys line (same_table x y (All-head TableFits x xs p) (All-head TableFits y ys q) (ap first_line e))
+    (which_line xs ys line more (All-tail TableFits x xs p) (All-tail TableFits y ys q) (ap later_lines e))
+
+-- where a line goes on, it is `steps`, or it is read
+goes_on : (tables : List Table) (line : List ℕ) → TablesSoFar tables → GoesOn tables line
+    → ((check_tables tables ≡ None) × (line ≡ codes "steps")) ⊎ ((table : Table) × TableFits table × (line ≡ table_text table) × (table_behind tables line ≡ Some table))
+unfolding table_behind
+goes_on tables line so_far g =
+    let s = IsSchema-from_check g.0 g.1 in
+    elim (which_line g.0 tables line g.2 (each_fits g.0 s.so_far.each) (each_fits tables so_far.each) g.3) [
+      | inl p ↦ inl (subst (λ (l : List Table). check_tables l ≡ None) p.0 g.1, p.1)
+      | inr p ↦
+          let table = p.0 in
+          let all = p.2 in
+          let whole : TablesSoFar (tables ++ p.0 ∷ p.1) = subst TablesSoFar p.2 s.so_far in
+          let free = name_is_free tables p.0 p.1 whole.each in
+          let few = whole.few in
+          let lt : length tables < 32 = omega (arith, length-append tables (p.0 ∷ p.1)) in
+          let fits = last_fits tables p.0 p.1 whole.each in
+          inr (p.0, fits, p.3, ap (option_and_then (if_free tables)) (ap table_of_line p.3 ∙ table_again p.0 fits) ∙ rw (lt-ltb (length tables) 32 lt, free) refl)
+    ]
+
+-- ---- the ends
+
+-- a line that isn't `steps` and isn't read can't stand
+pub line_refused : (tables : List Table) (line : List ℕ) → TablesSoFar tables → (line ≡ codes "steps" → ⊥) → table_behind tables line ≡ None → GoesOn tables line → ⊥
+line_refused tables line so_far other none g = elim (goes_on tables line so_far g) [
+  | inl p ↦ other p.1
+  | inr p ↦ let e : None ≡ Some p.0 = sym none ∙ p.3 in cc e
+]
+
+-- `steps` can't stand where the tables make no schema
+pub steps_refused : (tables : List Table) (fault : Fault) → TablesSoFar tables → check_tables tables ≡ Some fault → GoesOn tables (codes "steps") → ⊥
+steps_refused tables fault so_far bad g = elim (goes_on tables (codes "steps") so_far g) [
+  | inl p ↦ let e : None ≡ Some fault = sym p.0 ∙ bad in cc e
+  | inr p ↦ steps_is_no_table p.0 p.1 p.2
+]
+
+-- a table that was read behind others stands behind them
+pub record Next (tables : List Table) (line : List ℕ) (table : Table) : Type 0 where
+  pub spelled : line ≡ table_text table
+  pub so_far : TablesSoFar (tables ++ table ∷ [])
+
+pub table_next : (tables : List Table) (line : List ℕ) (table : Table) → TablesSoFar tables → table_behind tables line ≡ Some table → Next tables line table
+unfolding table_behind
+table_next tables line table so_far h =
+    let b = bind_value (table_of_line line) (if_free tables) table h in
+    let read = takes (table_reads line) b.0 b.1 in
+    let named = list_any (has_name b.0.name) tables in
+    let t = tested (ltb (length tables) 32 && not named) (Some b.0) table b.2 in
+    let p = both (ltb (length tables) 32) (not named) t.0 in
+    let lt = ltb-true (length tables) 32 p.0 in
+    subst (Next tables line) (some_is b.0 table t.1) (record {
+      spelled = read.0;
+      so_far = record {
+        few = omega (arith, length-append tables (b.0 ∷ []));
+        each = one_more tables b.0 so_far.each read.1 (is_not named p.1);
+      };
+    })

@@ -1,0 +1,153 @@
+-- Taking the lines of a header.
+use Rattle.std.proofs.Common.{◌≡◌, ◌≢◌, ◌==◌, not, ℕ, ◌+◌, ◌<◌, ◌≤◌, Bool, true, false, List, [], ◌∷◌, ◌++◌, length, map, Option, Some, None, Result, Err, refl, sym, ap, subst, ◌∙◌, arith, length-append}
+use Rattle.std.specs.Prelude.{codes, IsTrue, ◌↔◌, option_and_then}
+use Rattle.std.specs.List.{All, list_any, list_all}
+use Rattle.std.specs.Io.KnownBytes.{Consumes}
+use Rattle.std.proofs.KnownBytes.{Consumes-trans}
+use Rattle.std.proofs.lemmas.Bool.{lt-ltb, le-ltb}
+use Rattle.std.proofs.lemmas.List.{append-nil, map-append, length-map}
+use Rattle.std.proofs.lemmas.List.Elements.{All-weaker}
+use Rattle.std.proofs.lemmas.List.Sums.{AllPass-from_list_all}
+use Rattle.std.proofs.lemmas.Bool.Decides.{nat_tests}
+use Rattle.std.proofs.lemmas.Grind.{flat_map-append}
+use Rattle.occ_types.proofs.Walks.{list_any-map}
+use Rattle.occ_types.specs.Fits.{has_name}
+use Rattle.occ_types.specs.declared.fault.Fault.{Fault}
+use Rattle.occ_types.specs.Schema.{Table, Schema, check_tables}
+use Rattle.occ_text.specs.declared.tokens.Unread.{Unread}
+use Rattle.occ_text.specs.declared.tokens.Unread.TheVariants as unread
+use Rattle.occ_text.specs.declared.trouble.Trouble.{Trouble}
+use Rattle.occ_text.specs.declared.trouble.Trouble.TheVariants as troubles
+use Rattle.occ_text.specs.Reading.{Reads}
+use Rattle.occ_text.specs.Escapes.{Gives}
+use Rattle.occ_text.specs.Headers.{table_text}
+use Rattle.occ_text.specs.HeaderReading.{table_of_line}
+use Rattle.occ_text.specs.Line.{IsLine, lines_text}
+use Rattle.occ_text.specs.HeaderTaking.{CannotStand, OtherLine, TablesSoFar, if_free, table_behind, GoesOn, NextTaken, TablesTaken, trouble_at}
+use Rattle.occ_text.proofs.SchemaLines.{line_refused, steps_refused, table_next}
+
+feedless : (line : List ℕ) → list_all (λ byte. not (byte == 10)) line ≡ true → All (λ byte. byte ≢ 10) line
+feedless line h = All-weaker (λ (byte : ℕ). not (byte == 10) ≡ true) (λ (byte : ℕ). byte ≢ 10) (λ byte p e. absurd (grind (arith, nat_tests))) line (AllPass-from_list_all (λ byte. not (byte == 10)) line h)
+
+-- a line that is spelled by nothing of its grammar can't stand
+pub line_unread : {Y : Type 0} (spell : Y → List ℕ) (fits : Y → Type 0) (shown line : List ℕ) (a b : Option (List ℕ)) → Consumes a b (line ++ 10 ∷ []) → IsLine line → shown ≡ line → Reads spell fits shown None
+    → CannotStand (λ l. (y : Y) × fits y × (l ≡ spell y)) a
+line_unread spell fits shown line a b taken alone same reads =
+    OtherLine line b taken alone (λ p. let e = reads.again p.0 p.1 (same ∙ p.2) in cc e)
+
+-- a line that isn't the one that is wanted can't stand
+pub another_line : (Y : Type 0) (fits : Y → Type 0) (wanted shown line : List ℕ) (a b : Option (List ℕ)) (test : Bool) → Consumes a b (line ++ 10 ∷ []) → IsLine line → shown ≡ line → (IsTrue test ↔ shown ≡ wanted) → test ≡ false
+    → CannotStand (λ l. (y : Y) × fits y × (l ≡ wanted)) a
+another_line Y fits wanted shown line a b test taken alone same is not_it =
+    OtherLine line b taken alone (λ p. let yes = is.1 (same ∙ p.2) in let e : false ≡ true = sym not_it ∙ yes in cc e)
+
+-- the line of a table is taken
+pub next_read : (tables : List Table) (table : Table) (shown line : List ℕ) (a b : Option (List ℕ)) (first last : ℕ) → TablesSoFar tables → Consumes a b (line ++ 10 ∷ []) × (last ≡ first + 1) × IsLine line → shown ≡ line → table_behind tables shown ≡ Some table
+    → Consumes a b (table_text table ++ 10 ∷ []) × TablesSoFar (tables ++ table ∷ []) × (last ≡ first + 1)
+next_read tables table shown line a b first last so_far taken same read =
+    let n = table_next tables shown table so_far read in
+    (subst (λ (l : List ℕ). Consumes a b (l ++ 10 ∷ [])) (sym same ∙ n.spelled) taken.0, n.so_far, taken.1)
+
+-- a line that can't stand behind those of the tables, or memory was refused for it
+pub next_unread : {X Y : Type 0} (view : X → Table) (seen : Y → Table) (tables : List Table) (why : Unread) (trouble : Trouble) (shown again line : List ℕ) (a b : Option (List ℕ)) (n first last : ℕ) (test : Bool)
+    → TablesSoFar tables → Consumes a b (line ++ 10 ∷ []) × (last ≡ first + 1) × IsLine line → shown ≡ line → again ≡ line → (IsTrue test ↔ shown ≡ codes "steps") → test ≡ false
+    → Gives seen (Err why) (table_behind tables again) → trouble ≡ trouble_at why n → n ≡ last → NextTaken view (Err trouble) tables a b first last
+next_unread view seen tables unread.Malformed trouble shown again line a b n first last test so_far taken same too is not_it none ends here =
+    let other : line ≡ codes "steps" → ⊥ = λ e. let yes = is.1 (same ∙ e) in let f : false ≡ true = sym not_it ∙ yes in cc f in
+    let refused = line_refused tables line so_far other (ap (table_behind tables) (sym too) ∙ none) in
+    subst (λ (t : Trouble). NextTaken view (Err t) tables a b first last) (sym ends) (OtherLine line b taken.0 taken.2 refused, here ∙ taken.1)
+next_unread view seen tables unread.Memory trouble shown again line a b n first last test so_far taken same too is not_it none ends here =
+    subst (λ (t : Trouble). NextTaken view (Err t) tables a b first last) (sym ends) tt
+
+-- ---- the table of a line behind others
+
+pub behind_read : {X : Type 0} (view : X → Table) (tables : List X) (line name : List ℕ) (table : Table) (taken : Bool) → table_of_line line ≡ Some table → length tables < 32 → name ≡ table.name
+    → taken ≡ list_any (λ t. has_name name (view t)) tables → taken ≡ false → table_behind (map view tables) line ≡ Some table
+unfolding table_behind
+behind_read view tables line name table taken read few called is free =
+    let none : list_any (has_name table.name) (map view tables) ≡ false =
+    list_any-map (has_name table.name) view tables ∙ ap (λ (n : List ℕ). list_any (λ t. has_name n (view t)) tables) (sym called) ∙ sym is ∙ free in
+    let n = length-map tables view in
+    ap (option_and_then (if_free (map view tables))) read ∙ rw (none, lt-ltb (length (map view tables)) 32 (omega arith)) refl
+
+pub behind_taken : {X : Type 0} (view : X → Table) (tables : List X) (line name : List ℕ) (table : Table) (taken : Bool) → table_of_line line ≡ Some table → length tables < 32 → name ≡ table.name
+    → taken ≡ list_any (λ t. has_name name (view t)) tables → taken ≡ true → table_behind (map view tables) line ≡ None
+unfolding table_behind
+behind_taken view tables line name table taken read few called is clash =
+    let some : list_any (has_name table.name) (map view tables) ≡ true =
+    list_any-map (has_name table.name) view tables ∙ ap (λ (n : List ℕ). list_any (λ t. has_name n (view t)) tables) (sym called) ∙ sym is ∙ clash in
+    let n = length-map tables view in
+    ap (option_and_then (if_free (map view tables))) read ∙ rw (some, lt-ltb (length (map view tables)) 32 (omega arith)) refl
+
+pub behind_full : {X : Type 0} (view : X → Table) (tables : List X) (line : List ℕ) (table : Table) → table_of_line line ≡ Some table → 32 ≤ length tables → table_behind (map view tables) line ≡ None
+unfolding table_behind
+behind_full view tables line table read full =
+    let n = length-map tables view in
+    ap (option_and_then (if_free (map view tables))) read ∙ rw (le-ltb (length (map view tables)) 32 (omega arith)) refl
+
+-- ---- all tables
+
+lines_more : (lines : List (List ℕ)) (line : List ℕ) → lines_text (lines ++ line ∷ []) ≡ lines_text lines ++ (line ++ 10 ∷ [])
+lines_more lines line = flat_map-append (λ (l : List ℕ). l ++ 10 ∷ []) lines (line ∷ []) ∙ ap (λ (l : List ℕ). lines_text lines ++ l) (append-nil (line ++ 10 ∷ []))
+
+-- one line more was taken
+pub taken_more : (lines : List (List ℕ)) (line : List ℕ) (a b c : Option (List ℕ)) → Consumes a b (lines_text lines) → Consumes b c (line ++ 10 ∷ []) → Consumes a c (lines_text (lines ++ line ∷ []))
+taken_more lines line a b c p q = subst (Consumes a c) (sym (lines_more lines line)) (Consumes-trans a b c (lines_text lines) (line ++ 10 ∷ []) p q)
+
+pub record Pushed (tables : List Table) (a c : Option (List ℕ)) (first last : ℕ) : Type 0 where
+  pub taken : Consumes a c (lines_text (map table_text tables))
+  pub so_far : TablesSoFar tables
+  pub number : last ≡ first + length tables
+
+pub table_pushed : (tables shown : List Table) (table : Table) (a b c : Option (List ℕ)) (first mid last : ℕ) → shown ≡ tables → Consumes a b (lines_text (map table_text tables)) → mid ≡ first + length tables
+    → Consumes b c (table_text table ++ 10 ∷ []) × TablesSoFar (shown ++ table ∷ []) × (last ≡ mid + 1) → Pushed (tables ++ table ∷ []) a c first last
+table_pushed tables shown table a b c first mid last same taken number next =
+    let step = next.2 in
+    record {
+      taken = subst (λ (l : List (List ℕ)). Consumes a c (lines_text l)) (sym (map-append table_text tables (table ∷ []))) (taken_more (map table_text tables) (table_text table) a b c taken next.0);
+      so_far = subst (λ (l : List Table). TablesSoFar (l ++ table ∷ [])) same next.1;
+      number = omega (arith, length-append tables (table ∷ []));
+    }
+
+pub tables_end : (tables schema : List Table) (a b c : Option (List ℕ)) (first mid last : ℕ) → Consumes a b (lines_text (map table_text tables)) → mid ≡ first + length tables → Consumes b c (codes "steps" ++ 10 ∷ []) × (last ≡ mid + 1)
+    → (check_tables tables ≡ None) × (schema ≡ tables) → Consumes a c (lines_text (map table_text schema ++ codes "steps" ∷ [])) × (check_tables schema ≡ None) × (last ≡ first + length schema + 1)
+tables_end tables schema a b c first mid last taken number next good =
+    let step = next.1 in
+    subst (λ (s : List Table). Consumes a c (lines_text (map table_text s ++ codes "steps" ∷ [])) × (check_tables s ≡ None) × (last ≡ first + length s + 1)) (sym good.1)
+    (taken_more (map table_text tables) (codes "steps") a b c taken next.0, good.0, omega arith)
+
+IsLine-steps : IsLine (codes "steps")
+IsLine-steps = record {
+  no_feed = feedless (codes "steps") refl;
+  short = omega arith;
+}
+
+pub tables_none : (tables : List Table) (fault : Fault) (a b c : Option (List ℕ)) (first mid last n : ℕ) → Consumes a b (lines_text (map table_text tables)) → TablesSoFar tables → mid ≡ first + length tables
+    → Consumes b c (codes "steps" ++ 10 ∷ []) × (last ≡ mid + 1) → check_tables tables ≡ Some fault → n ≡ last
+    → (ts : List Table) × (rest : Option (List ℕ)) × Consumes a rest (lines_text (map table_text ts)) × TablesSoFar ts × CannotStand (GoesOn ts) rest × (n ≡ first + length ts + 1)
+tables_none tables fault a b c first mid last n taken so_far number next bad here =
+    let step = next.1 in
+    (tables, b, taken, so_far, OtherLine (codes "steps") c next.0 IsLine-steps (steps_refused tables fault so_far bad), omega arith)
+
+-- the tables, as the code has them
+pub table_pushed_by : {X : Type 0} (view : X → Table) (items shown pushed : List X) (x : X) (a b c : Option (List ℕ)) (first mid last : ℕ) → shown ≡ items → pushed ≡ items ++ x ∷ []
+    → Consumes a b (lines_text (map table_text (map view items))) → mid ≡ first + length items
+    → Consumes b c (table_text (view x) ++ 10 ∷ []) × TablesSoFar (map view shown ++ view x ∷ []) × (last ≡ mid + 1)
+    → Consumes a c (lines_text (map table_text (map view pushed))) × TablesSoFar (map view pushed) × (last ≡ first + length pushed)
+table_pushed_by view items shown pushed x a b c first mid last same is taken number next =
+    let count : mid ≡ first + length (map view items) = omega (arith, length-map items view) in
+    let p = table_pushed (map view items) (map view shown) (view x) a b c first mid last (ap (map view) same) taken count next in
+    let all : map view pushed ≡ map view items ++ view x ∷ [] = ap (map view) is ∙ map-append view items (x ∷ []) in
+    let q = subst (λ (ts : List Table). Pushed ts a c first last) (sym all) p in
+    (q.taken, q.so_far, q.number ∙ ap (λ (k : ℕ). first + k) (length-map pushed view))
+
+-- the line behind the tables ends them with trouble
+pub tables_stop : {X : Type 0} (view : X → Table) (trouble : Trouble) (result : Result Schema Trouble) (tables shown : List Table) (a b c : Option (List ℕ)) (first mid last : ℕ) → result ≡ Err trouble → shown ≡ tables
+    → Consumes a b (lines_text (map table_text tables)) → TablesSoFar tables → mid ≡ first + length tables → NextTaken view (Err trouble) shown b c mid last → TablesTaken result a c first last
+tables_stop view (troubles.Malformed n) result tables shown a b c first mid last is same taken so_far number t =
+    subst (λ (r : Result Schema Trouble). TablesTaken r a c first last) (sym is)
+    (tables, b, taken, so_far, subst (λ (ts : List Table). CannotStand (GoesOn ts) b) same t.0, t.1 ∙ ap (λ (k : ℕ). k + 1) number)
+tables_stop view troubles.Read result tables shown a b c first mid last is same taken so_far number t =
+    subst (λ (r : Result Schema Trouble). TablesTaken r a c first last) (sym is) (tables, t.0, so_far, t.1, Consumes-trans a b c (lines_text (map table_text tables)) t.0 taken t.2)
+tables_stop view troubles.Write result tables shown a b c first mid last is same taken so_far number t = absurd t
+tables_stop view troubles.Memory result tables shown a b c first mid last is same taken so_far number t = subst (λ (r : Result Schema Trouble). TablesTaken r a c first last) (sym is) tt

@@ -1,0 +1,34 @@
+use Rattle.std.proofs.Common.{Err, ◌∙◌, ◌+◌, sym, ap}
+use Rattle.std.proofs.lemmas.List.{length-map}
+use Rattle.std.proofs.lemmas.Result.{err_from_is_err_and}
+use Rattle.occ_types.specs.Seen.{table_of, tables_of}
+use Rattle.occ_text.proofs.Taking.{table_pushed_by, tables_end, tables_none, tables_stop}
+use Rattle.occ_text.proofs.headers.take_tables.Goals as goal
+
+pub loop-tables-preserved : goal.loop-tables-preserved
+loop-tables-preserved g c =
+    let n = rw c.in-Some.is at c.in_ok-table.ensures in
+    let i = c.loop-tables.invariant in
+    let p = table_pushed_by table_of c.loop-tables.tables.items c.as_slice.result.now c.push.new.self.items c.in-Some.table _ _ _ c.args.input.now.number c.loop-tables.input.number _ c.as_slice.ensures.value
+    c.in_ok-push-in-Some.ensures.items i.taken i.number n in
+    record { taken = p.0; so_far = p.1; number = p.2 }
+
+pub returns-in-Ok : goal.returns-in-Ok
+returns-in-Ok g c =
+    let n = rw c.in-None.is at c.in_ok-table.ensures in
+    let i = c.loop-tables.invariant in
+    tables_end (tables_of c.loop-tables.tables.items) c.in-Ok.schema _ _ _ c.args.input.now.number c.loop-tables.input.number _ i.taken (i.number ∙ ap (λ (k : _). c.args.input.now.number + k) (sym (length-map c.loop-tables.tables.items table_of))) n c.in-Ok.ensures
+
+pub returns : goal.returns
+returns g c =
+    let n = rw c.in-None.is at c.in_ok-table.ensures in
+    let i = c.loop-tables.invariant in
+    tables_none (tables_of c.loop-tables.tables.items) c.in-Err.field-0.fault _ _ _ c.args.input.now.number c.loop-tables.input.number _ c.number.result i.taken i.so_far
+    (i.number ∙ ap (λ (k : _). c.args.input.now.number + k) (sym (length-map c.loop-tables.tables.items table_of))) n c.in-Err.ensures.0 c.number.ensures
+
+pub returns-in_err-table : goal.returns-in_err-table
+returns-in_err-table g c =
+    let h = err_from_is_err_and c.from_residual.result c.from_residual.ensures.1 in
+    let i = c.loop-tables.invariant in
+    tables_stop (table_of {Z = g.row.A.Denot}) c.in_err-table.field-0.0 c.from_residual.result (tables_of c.loop-tables.tables.items) (tables_of c.as_slice.result.now) _ _ _ c.args.input.now.number c.loop-tables.input.number _ (h.1 ∙ ap Err h.2)
+    (ap tables_of c.as_slice.ensures.value) i.taken i.so_far (i.number ∙ ap (λ (k : _). c.args.input.now.number + k) (sym (length-map c.loop-tables.tables.items table_of))) c.in_err-table.ensures

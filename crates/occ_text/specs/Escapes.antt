@@ -1,0 +1,77 @@
+-- Reading texts with escapes, keys, cells and rows.
+use Rattle.std.specs.Prelude.{◌≡◌, ◌+◌, ◌-◌, ◌*◌, ◌^◌, ◌==◌, ◌&&◌, ℕ, List, [], ◌∷◌, Option, Some, None, Result, Ok, Err, nat_le, if◌then◌else◌, option_map, option_and_then, drop}
+use Rattle.std.specs.List.{slice_split}
+use Rattle.std.specs.Str.{is_utf8}
+use Rattle.occ_types.specs.Key.{Key}
+use Rattle.occ_types.specs.Key as keys
+use Rattle.occ_types.specs.Row.{Cell, Row}
+use Rattle.occ_types.specs.Row as rows
+use Rattle.occ_text.specs.declared.tokens.Unread.{Unread}
+use Rattle.occ_text.specs.declared.tokens.Unread.TheVariants.{Malformed, Memory}
+use Rattle.occ_text.specs.Spelling.{is_plain}
+use Rattle.occ_text.specs.Reading.{begins_with, number_of, int_of}
+
+-- what a call gave, seen by view, is what reading gives, unless memory was refused
+abbrev pub Gives : {X Y : Type 0} → (X → Y) → Result X Unread → Option Y → Type 0
+Gives view (Ok x) read = read ≡ Some (view x)
+Gives view (Err Malformed) read = read ≡ None
+Gives view (Err Memory) read = Unit {0}
+
+-- the value of a lower-case hexadecimal digit
+abbrev pub hex_value : ℕ → Option ℕ
+hex_value c = if nat_le 48 c && nat_le c 57 then Some (c - 48) else (if nat_le 97 c && nat_le c 102 then Some (c - 87) else None)
+
+-- a byte that doesn't stand for itself
+abbrev pub unless_plain : ℕ → Option ℕ
+unless_plain byte = if is_plain byte then None else Some byte
+
+-- the byte of two digits
+unfoldable pub escape_of : ℕ → ℕ → Option ℕ
+escape_of high low = option_and_then (λ h. option_and_then (λ l. unless_plain (16 * h + l)) (hex_value low)) (hex_value high)
+
+-- one more byte before the others
+abbrev pub before : ℕ → Option (List ℕ) → Option (List ℕ)
+before byte bytes = option_map (λ l. byte ∷ l) bytes
+
+-- a byte with what stands behind its spelling
+abbrev pub with_rest : List ℕ → Option ℕ → Option (ℕ × List ℕ)
+with_rest rest byte = option_map (λ b. (b, rest)) byte
+
+-- the first byte of an escaped text
+unfoldable pub front_of : List ℕ → Option (ℕ × List ℕ)
+front_of [] = None
+front_of (a ∷ []) = if is_plain a then Some (a, []) else None
+front_of (a ∷ b ∷ []) = if is_plain a then Some (a, b ∷ []) else None
+front_of (a ∷ b ∷ c ∷ cs) = if is_plain a then Some (a, b ∷ c ∷ cs) else (if a == 37 then with_rest cs (escape_of b c) else None)
+
+-- the bytes of an escaped text
+unfoldable pub unescaped : List ℕ → Option (List ℕ)
+unescaped [] = Some []
+unescaped (a ∷ []) = if is_plain a then Some (a ∷ []) else None
+unescaped (a ∷ b ∷ []) = if is_plain a then before a (unescaped (b ∷ [])) else None
+unescaped (a ∷ b ∷ c ∷ cs) = if is_plain a then before a (unescaped (b ∷ c ∷ cs))
+    else (if a == 37 then option_and_then (λ byte. before byte (unescaped cs)) (escape_of b c) else None)
+
+abbrev pub if_text : List ℕ → Option (List ℕ)
+if_text bytes = if is_utf8 bytes then Some bytes else None
+
+-- the bytes of a text
+unfoldable pub text_of : List ℕ → Option (List ℕ)
+text_of token = if begins_with token 39 then option_and_then if_text (unescaped (drop 1 token)) else None
+
+-- a key
+unfoldable pub read_key : List ℕ → Option Key
+read_key token = if begins_with token 39 then option_map keys.Text (text_of token) else option_map keys.Num (number_of (2 ^ 64 - 1) token)
+
+-- a cell
+unfoldable pub read_cell : List ℕ → Option Cell
+read_cell token = if begins_with token 39 then option_map rows.Text (text_of token) else option_map rows.Int (int_of token)
+
+-- cells, one for each part
+abbrev pub read_cells : List (List ℕ) → Option Row
+read_cells [] = Some []
+read_cells (part ∷ parts) = option_and_then (λ cell. option_map (λ cells. cell ∷ cells) (read_cells parts)) (read_cell part)
+
+-- a row
+unfoldable pub read_row : List ℕ → Option Row
+read_row token = read_cells (slice_split (λ byte. byte == 44) token)

@@ -1,0 +1,14 @@
+pub mod Answers
+pub mod Escapes
+pub mod HeaderReading
+pub mod HeaderTaking
+pub mod Headers
+pub mod Line
+pub mod Parts
+pub mod Printing
+pub mod Reading
+pub mod Sending
+pub mod Spelling
+pub mod Status
+pub mod StepReading
+pub mod Steps

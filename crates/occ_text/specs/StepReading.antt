@@ -1,0 +1,87 @@
+-- Reading the lines of steps, by the number of their tokens and then by their words.
+use Rattle.std.specs.Prelude.{ℕ, List, [], ◌∷◌, Option, Some, None, if◌then◌else◌, option_and_then, codes}
+use Rattle.std.specs.List.{find}
+use Rattle.std.specs.Str.{bytes_eq}
+use Rattle.occ_text.specs.declared.steps.Act.{Act}
+use Rattle.occ_text.specs.declared.steps.Act.TheVariants.{Begin, Submit, Enter, Decide, Write, Finish, BackUp}
+use Rattle.occ_text.specs.Reading.{tokens_of, number_of, name_of}
+use Rattle.occ_text.specs.Escapes.{read_key, read_row}
+use Rattle.occ_text.specs.Steps.{Step, Does, Get, Scan, Put, Delete, Show, act_word}
+
+-- what is read first, and then the rest
+infixl 10 ◌>>=◌
+abbrev pub ◌>>=◌ : {X Y : Type 0} → Option X → (X → Option Y) → Option Y
+read >>= rest = option_and_then rest read
+
+-- the act of a word
+unfoldable pub act_of : List ℕ → Option Act
+act_of word = find (λ act. bytes_eq word (act_word act)) (Begin ∷ Submit ∷ Enter ∷ Decide ∷ Write ∷ Finish ∷ BackUp ∷ [])
+
+-- WORD
+unfoldable pub bare_step : List ℕ → Option Step
+bare_step word = if bytes_eq word (codes "show") then Some Show else None
+
+-- WORD S
+unfoldable pub act_step : List ℕ → List ℕ → Option Step
+act_step word session = do
+  act ← act_of word
+  s ← number_of 255 session
+  Some (Does act s)
+
+-- get S NAME KEY
+unfoldable pub get_step : List ℕ → List ℕ → List ℕ → Option Step
+get_step session table key = do
+  s ← number_of 255 session
+  t ← name_of table
+  k ← read_key key
+  Some (Get s t k)
+
+-- delete S NAME KEY
+unfoldable pub delete_step : List ℕ → List ℕ → List ℕ → Option Step
+delete_step session table key = do
+  s ← number_of 255 session
+  t ← name_of table
+  k ← read_key key
+  Some (Delete s t k)
+
+-- scan S NAME KEY KEY
+unfoldable pub scan_step : List ℕ → List ℕ → List ℕ → List ℕ → Option Step
+scan_step session table lower upper = do
+  s ← number_of 255 session
+  t ← name_of table
+  l ← read_key lower
+  u ← read_key upper
+  Some (Scan s t l u)
+
+-- put S NAME KEY ROW
+unfoldable pub put_step : List ℕ → List ℕ → List ℕ → List ℕ → Option Step
+put_step session table key row = do
+  s ← number_of 255 session
+  t ← name_of table
+  k ← read_key key
+  r ← read_row row
+  Some (Put s t k r)
+
+-- WORD S NAME KEY
+unfoldable pub key_step : List ℕ → List ℕ → List ℕ → List ℕ → Option Step
+key_step word session table key = if bytes_eq word (codes "get") then get_step session table key
+    else (if bytes_eq word (codes "delete") then delete_step session table key else None)
+
+-- WORD S NAME KEY LAST
+unfoldable pub last_step : List ℕ → List ℕ → List ℕ → List ℕ → List ℕ → Option Step
+last_step word session table key last = if bytes_eq word (codes "scan") then scan_step session table key last
+    else (if bytes_eq word (codes "put") then put_step session table key last else None)
+
+-- the step of some tokens
+unfoldable pub step_of_tokens : List (List ℕ) → Option Step
+step_of_tokens [] = None
+step_of_tokens (word ∷ []) = bare_step word
+step_of_tokens (word ∷ s ∷ []) = act_step word s
+step_of_tokens (word ∷ s ∷ t ∷ []) = None
+step_of_tokens (word ∷ s ∷ t ∷ k ∷ []) = key_step word s t k
+step_of_tokens (word ∷ s ∷ t ∷ k ∷ l ∷ []) = last_step word s t k l
+step_of_tokens (word ∷ s ∷ t ∷ k ∷ l ∷ m ∷ more) = None
+
+-- the step of a line
+unfoldable pub step_of_line : List ℕ → Option Step
+step_of_line line = option_and_then step_of_tokens (tokens_of line)

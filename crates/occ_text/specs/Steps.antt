@@ -1,0 +1,62 @@
+-- The steps of a schedule, as plain data, and the one spelling of each (our own choice).
+use Rattle.std.specs.Prelude.{◌≤◌, ℕ, List, [], ◌∷◌, codes}
+use Rattle.std.specs.Fmt.{decimal}
+use Rattle.occ_types.specs.Key.{Key}
+use Rattle.occ_types.specs.Row.{Row}
+use Rattle.occ_types.specs.Seen.{key_of}
+use Rattle.occ_text.specs.Spelling.{line_text, key_text, row_text, IsName, KeyFits, RowFits}
+use Rattle.occ_text.specs.declared.steps.Act.{Act}
+use Rattle.occ_text.specs.declared.steps.Act.TheVariants as acts
+use Rattle.occ_text.specs.declared.steps.Step as code_step
+use Rattle.occ_text.specs.declared.steps.Step.TheVariants as steps
+
+-- the session comes first, then the name of a table
+pub data Step : Type 0 where
+  Does : Act → ℕ → Step
+  Get : ℕ → List ℕ → Key → Step
+  Scan : ℕ → List ℕ → Key → Key → Step
+  Put : ℕ → List ℕ → Key → Row → Step
+  Delete : ℕ → List ℕ → Key → Step
+  Show : Step
+
+module _ {Z : Type 0} where
+  -- the plain step
+  abbrev pub step_of : code_step.Step Z → Step
+  step_of (steps.Does act session) = Does act session
+  step_of (steps.Get session table key) = Get session table.now (key_of key)
+  step_of (steps.Scan session table lower upper) = Scan session table.now (key_of lower) (key_of upper)
+  step_of (steps.Put session table key row) = Put session table.now (key_of key) row
+  step_of (steps.Delete session table key) = Delete session table.now (key_of key)
+  step_of steps.Show = Show
+
+-- the word of what names a session and nothing else
+abbrev pub act_word : Act → List ℕ
+act_word acts.Begin = codes "begin"
+act_word acts.Submit = codes "submit"
+act_word acts.Enter = codes "enter"
+act_word acts.Decide = codes "decide"
+act_word acts.Write = codes "write"
+act_word acts.Finish = codes "finish"
+act_word acts.BackUp = codes "backup"
+
+-- the tokens of a step
+abbrev pub step_tokens : Step → List (List ℕ)
+step_tokens (Does act session) = act_word act ∷ decimal session ∷ []
+step_tokens (Get session table key) = codes "get" ∷ decimal session ∷ table ∷ key_text key ∷ []
+step_tokens (Scan session table lower upper) = codes "scan" ∷ decimal session ∷ table ∷ key_text lower ∷ key_text upper ∷ []
+step_tokens (Put session table key row) = codes "put" ∷ decimal session ∷ table ∷ key_text key ∷ row_text row ∷ []
+step_tokens (Delete session table key) = codes "delete" ∷ decimal session ∷ table ∷ key_text key ∷ []
+step_tokens Show = codes "show" ∷ []
+
+-- the line of a step, without its line feed
+abbrev pub step_text : Step → List ℕ
+step_text step = line_text (step_tokens step)
+
+-- what has a line: sessions up to 255, and what its tokens may spell
+abbrev pub StepFits : Step → Type 0
+StepFits (Does act session) = session ≤ 255
+StepFits (Get session table key) = (session ≤ 255) × IsName table × KeyFits key
+StepFits (Scan session table lower upper) = (session ≤ 255) × IsName table × KeyFits lower × KeyFits upper
+StepFits (Put session table key row) = (session ≤ 255) × IsName table × KeyFits key × RowFits row
+StepFits (Delete session table key) = (session ≤ 255) × IsName table × KeyFits key
+StepFits Show = Unit {0}

@@ -1,0 +1,204 @@
+//! What a replay answers to a step, and the writer of its line.
+
+ghost use Rattle.std.specs.Prelude.{◌≡◌, ◌++◌, OnOk, string_bytes};
+ghost use Rattle.std.specs.List.{flat_map};
+ghost use Rattle.occ_sets.specs.Seen.{rows_of};
+ghost use Rattle.occ_types.specs.Seen.{key_of};
+ghost use Rattle.occ_text.specs.Answers.{Wrote, Refused, answer_of, answer_text, fault_number, verdict_text, found_text, pair_text, rows_text, counts_text};
+
+use crate::writers::{write_key, write_row};
+use occ_model::verdict::{Cause, Verdict};
+use occ_types::fault::Fault;
+use occ_types::{Key, Row, Text};
+use std::alloc::{AllocError, Allocator};
+
+/// What `show` counts.
+#[derive(Clone, Copy, Debug, PartialEq, Eq)]
+pub struct Counts {
+    /// The transaction counter.
+    pub counter: u64,
+    /// The lower end of the window.
+    pub low: u64,
+    /// The rows of the log.
+    pub log: usize,
+    /// The rows of all tables.
+    pub state: usize,
+    /// The transactions that entered and have neither finished nor been decided to be backed up.
+    pub active: usize,
+}
+
+/// What a replay answers to a step.
+#[derive(Drop)]
+pub enum Answer<A: Allocator> {
+    /// `begun N START`: a transaction is open.
+    Begun {
+        /// Its number in its session.
+        number: u64,
+        /// The transaction counter as it began.
+        start: u64,
+    },
+    /// `row ROW` or `none`: the row of a key, if there is one.
+    Found(Option<Row<A>>),
+    /// `rows K` and K times `KEY=ROW`: the rows of a range, in the order of the keys.
+    Rows(Vec<(Key<A>, Row<A>), A>),
+    /// `ok`: it is done.
+    Done,
+    /// `queued N`: the transaction of this number waits to be entered.
+    Queued(u64),
+    /// `entered PLACE`: a transaction entered the log at this place.
+    Entered(usize),
+    /// `empty`: nothing waits to be entered.
+    Empty,
+    /// `commit` or `backup CAUSE`: the verdict on a transaction.
+    Decided(Verdict),
+    /// `wrote NAME KEY`: a single write is done.
+    Wrote {
+        /// The name of its table.
+        table: Text<A>,
+        /// Its key.
+        key: Key<A>,
+    },
+    /// `nomore`: no single write is left.
+    NoMore,
+    /// `finished TN`: a transaction finished under this transaction number.
+    Finished(u64),
+    /// `backed N`: the transaction of this number is backed up.
+    BackedUp(u64),
+    /// `counter T low L log K state R active A`: what there is.
+    Counted(Counts),
+    /// `refused Fn`: the step is refused.
+    Refused(Fault),
+}
+
+/// Appends the line of an answer, without a line feed. Where memory is refused, a beginning of it may stand.
+pub fn write_answer<A: Allocator>(
+    line: &mut String<A>,
+    answer: &Answer<A>,
+) -> Result<(), AllocError>
+    ensures { OnOk result (string_bytes line.new ≡ string_bytes line.old ++ answer_text (answer_of answer.now)) }
+{
+    match answer {
+        Answer::Begun { number, start } => write!(line, "begun {number} {start}"),
+        Answer::Found(row) => write_found(line, row),
+        Answer::Rows(rows) => write_rows(line, rows.as_slice()),
+        Answer::Done => line.push_str("ok"),
+        Answer::Queued(number) => write!(line, "queued {number}"),
+        Answer::Entered(place) => write!(line, "entered {place}"),
+        Answer::Empty => line.push_str("empty"),
+        Answer::Decided(verdict) => line.push_str(verdict_text(*verdict)),
+        Answer::Wrote { table, key } => write_written(line, table, key),
+        Answer::NoMore => line.push_str("nomore"),
+        Answer::Finished(number) => write!(line, "finished {number}"),
+        Answer::BackedUp(number) => write!(line, "backed {number}"),
+        Answer::Counted(counts) => write_counts(line, counts),
+        Answer::Refused(fault) => write_refused(line, *fault),
+    }
+}
+
+/// Appends the row of a key.
+fn write_found<A: Allocator>(line: &mut String<A>, row: &Option<Row<A>>) -> Result<(), AllocError>
+    ensures { OnOk result (string_bytes line.new ≡ string_bytes line.old ++ found_text row.now) }
+{
+    match row {
+        None => line.push_str("none"),
+        Some(row) => {
+            line.push_str("row ")?;
+            write_row(line, row)
+        }
+    }
+}
+
+/// Appends the rows of a range.
+fn write_rows<A: Allocator>(
+    line: &mut String<A>,
+    rows: &[(Key<A>, Row<A>)],
+) -> Result<(), AllocError>
+    ensures { OnOk result (string_bytes line.new ≡ string_bytes line.old ++ rows_text (rows_of rows.now)) }
+{
+    let count = rows.len();
+    write!(line, "rows {count}")?;
+    write_pairs(line, rows)
+}
+
+/// Appends keys with their rows, each after a space.
+fn write_pairs<A: Allocator>(
+    line: &mut String<A>,
+    rows: &[(Key<A>, Row<A>)],
+) -> Result<(), AllocError>
+    ensures { OnOk result (string_bytes line.new ≡ string_bytes line.old ++ flat_map pair_text (rows_of rows.now)) }
+{
+    for (key, row) in rows {
+        write_pair(line, key, row)?;
+    }
+    Ok(())
+}
+
+fn write_pair<A: Allocator>(
+    line: &mut String<A>,
+    key: &Key<A>,
+    row: &Row<A>,
+) -> Result<(), AllocError>
+    ensures { OnOk result (string_bytes line.new ≡ string_bytes line.old ++ pair_text (key_of key.now, row.now)) }
+{
+    line.push(' ')?;
+    write_key(line, key)?;
+    line.push('=')?;
+    write_row(line, row)
+}
+
+/// The words of a verdict.
+fn verdict_text(verdict: Verdict) -> &'static str
+    ensures { result.now ≡ verdict_text verdict }
+{
+    match verdict {
+        Verdict::Commit => "commit",
+        Verdict::BackUp(Cause::Conflict) => "backup conflict",
+        Verdict::BackUp(Cause::TooOld) => "backup tooold",
+    }
+}
+
+/// Appends what a single write wrote.
+fn write_written<A: Allocator>(
+    line: &mut String<A>,
+    table: &Text<A>,
+    key: &Key<A>,
+) -> Result<(), AllocError>
+    ensures { OnOk result (string_bytes line.new ≡ string_bytes line.old ++ answer_text (Wrote table.now (key_of key.now))) }
+{
+    line.push_str("wrote ")?;
+    line.push_str(table.as_str())?;
+    line.push(' ')?;
+    write_key(line, key)
+}
+
+/// Appends what there is.
+fn write_counts<A: Allocator>(line: &mut String<A>, counts: &Counts) -> Result<(), AllocError>
+    ensures { OnOk result (string_bytes line.new ≡ string_bytes line.old ++ counts_text counts.now) }
+{
+    let Counts {
+        counter,
+        low,
+        log,
+        state,
+        active,
+    } = counts;
+    write!(
+        line,
+        "counter {counter} low {low} log {log} state {state} active {active}"
+    )
+}
+
+/// Appends a refusal.
+fn write_refused<A: Allocator>(line: &mut String<A>, fault: Fault) -> Result<(), AllocError>
+    ensures { OnOk result (string_bytes line.new ≡ string_bytes line.old ++ answer_text (Refused fault)) }
+{
+    let number = fault_number(fault);
+    write!(line, "refused F{number}")
+}
+
+/// The number of a fault: its place among all of them, from 1 on.
+fn fault_number(fault: Fault) -> u8
+    ensures { result ≡ fault_number fault }
+{
+    fault as u8 + 1
+}

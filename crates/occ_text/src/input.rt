@@ -1,0 +1,213 @@
+//! Input that is taken line by line, in a bounded room whatever the text is.
+
+ghost use Rattle.std.specs.Prelude.{◌≡◌, ◌≤◌, ◌<◌, [], length, IfOk, IfErr, true, false};
+ghost use Rattle.std.specs.Io.KnownBytes.{Keeps, IsAtEnd, ReadConsumes, prepend_known};
+ghost use Rattle.occ_text.specs.Line.{LineGives, GatherGives, PieceGives, TakesPiece};
+
+use crate::parts::find;
+use crate::trouble::Trouble;
+use std::alloc::Allocator;
+use std::io::{ErrorKind, Read};
+use std::marker::Model;
+
+/// Bytes of a line, without its line feed.
+pub const MAX_LINE: usize = 8192;
+
+/// Bytes that one read asks for.
+const BLOCK: usize = 4096;
+
+const FEED: u8 = b'\n';
+
+/// What an input comes to.
+#[derive(Clone, Copy, Debug, PartialEq, Eq)]
+pub enum Next {
+    /// A whole line, which `line` shows.
+    Line,
+    /// The end of the text.
+    End,
+}
+
+/// What was added to a line.
+#[derive(Clone, Copy, Debug, PartialEq, Eq)]
+enum Piece {
+    /// All up to the line feed, which is taken.
+    Whole,
+    /// A part with no line feed.
+    Part,
+    /// Nothing, since the line would be too long.
+    Long,
+    /// Nothing, since the text is at its end.
+    Nothing,
+}
+
+/// Lines on their way from a reader. It owns 12,288 bytes, and takes no memory after it was made.
+#[derive(Drop)]
+pub struct Input<A: Allocator> {
+    block: Vec<u8, A>,
+    /// Where the unread bytes of `block` begin.
+    from: usize,
+    /// Where they end.
+    to: usize,
+    line: Vec<u8, A>,
+    /// Lines taken so far.
+    number: u64,
+}
+
+impl<A: Allocator> Model for Input<A> {
+    ghost use Rattle.std.specs.Prelude.{ℕ, ◌≡◌, ◌≤◌, ◌<◌, length, slice_range, vec_capacity};
+    ghost use Rattle.occ_text.specs.Line.{Source};
+
+    ghost Value = { Source };
+
+    ghost view = { λ i. record { unread = slice_range i.block.items i.from i.to; line = i.line.items; number = i.number } };
+
+    ghost invariant = { λ i. record {
+      ordered : i.from ≤ i.to;
+      within : i.to ≤ length i.block.items;
+      block : length i.block.items ≡ 4096;
+      room : 8192 ≤ vec_capacity i.line;
+    } };
+}
+
+impl<A: Allocator> Input<A> {
+    /// An input from which nothing was taken. All the memory that it needs is asked for here.
+    pub fn new(alloc: A) -> Result<Self, Trouble>
+    where
+        A: Clone,
+        ensures ok { IfOk result (λ input. input ≡ record { unread = []; line = []; number = 0 }) }
+        ensures err { IfErr result (λ trouble. trouble ≡ Trouble.Memory) }
+    {
+        let block = vec![in alloc.clone()?; 0u8; BLOCK]?;
+        let line = Vec::with_capacity(alloc, MAX_LINE)?;
+        Ok(Input {
+            block,
+            from: 0,
+            to: 0,
+            line,
+            number: 0,
+        })
+    }
+
+    /// The last line taken, without its line feed.
+    pub fn line(&self) -> &[u8]
+        ensures { result.now ≡ self.now.line }
+    {
+        self.line.as_slice()
+    }
+
+    /// How many lines were taken: the number of the last one, counted from 1.
+    pub fn number(&self) -> u64
+        ensures { result ≡ self.now.number }
+    {
+        self.number
+    }
+
+    /// Takes the next line, which `line` then shows.
+    ///
+    /// `Malformed` where no line of at most 8,192 bytes and a line feed stands next, with its number; `Read` where the
+    /// reader fails, and after 2^64 - 1 lines. After either of them the input is of no more use.
+    pub fn next_line<R: Read>(&mut self, reader: &mut R) -> Result<Next, Trouble>
+        ensures { LineGives result (prepend_known self.old.unread (R.remaining reader.old))
+            (prepend_known self.new.unread (R.remaining reader.new)) self.old self.new }
+    {
+        if self.number == u64::MAX {
+            return Err(Trouble::Read);
+        }
+        self.line.clear();
+        match self.gather(reader)? {
+            Piece::Whole => {
+                self.number += 1;
+                Ok(Next::Line)
+            }
+            Piece::Nothing if self.line.is_empty() => Ok(Next::End),
+            Piece::Nothing | Piece::Long | Piece::Part => Err(Trouble::Malformed(self.number + 1)),
+        }
+    }
+
+    /// Takes pieces up to the end of a line, or to where none can be.
+    fn gather<R: Read>(&mut self, reader: &mut R) -> Result<Piece, Trouble>
+        requires { self.old.line ≡ [] }
+        ensures gives { GatherGives result (prepend_known self.old.unread (R.remaining reader.old))
+            (prepend_known self.new.unread (R.remaining reader.new)) self.new.line }
+        ensures number { self.new.number ≡ self.old.number }
+    {
+        loop {
+            match self.take_piece(reader)? {
+                Piece::Part => {}
+                last => return Ok(last),
+            }
+        }
+    }
+
+    fn take_piece<R: Read>(&mut self, reader: &mut R) -> Result<Piece, Trouble>
+        ensures gives { PieceGives result (prepend_known self.old.unread (R.remaining reader.old))
+            (prepend_known self.new.unread (R.remaining reader.new)) self.old self.new }
+        ensures number { self.new.number ≡ self.old.number }
+    {
+        if !self.refill(reader)? {
+            return Ok(Piece::Nothing);
+        }
+        Ok(self.take_unread())
+    }
+
+    /// Reads where nothing is unread, and says whether something is then.
+    fn refill<R: Read>(&mut self, reader: &mut R) -> Result<bool, Trouble>
+        ensures kept { Keeps (prepend_known self.old.unread (R.remaining reader.old))
+            (prepend_known self.new.unread (R.remaining reader.new)) }
+        ensures more { IfOk result (λ more. more ≡ true → 0 < length self.new.unread) }
+        ensures end { IfOk result (λ more. more ≡ false → IsAtEnd (prepend_known self.new.unread (R.remaining reader.new))) }
+        ensures err { IfErr result (λ trouble. trouble ≡ Trouble.Read) }
+        ensures line { self.new.line ≡ self.old.line }
+        ensures number { self.new.number ≡ self.old.number }
+    {
+        if self.from < self.to {
+            return Ok(true);
+        }
+        self.from = 0;
+        self.to = 0;
+        self.to = read_some(reader, self.block.as_mut_slice())?;
+        Ok(self.to > 0)
+    }
+
+    /// Moves what is unread onto the line, up to a line feed.
+    fn take_unread(&mut self) -> Piece
+        requires { 0 < length self.old.unread }
+        ensures takes { TakesPiece result self.old self.new }
+        ensures number { self.new.number ≡ self.old.number }
+    {
+        let unread = &self.block[self.from..self.to];
+        let len = find(unread, FEED);
+        if self.line.len() + len > MAX_LINE {
+            return Piece::Long;
+        }
+        self.line.extend_from_slice(&unread[..len]).unwrap();
+        if len < unread.len() {
+            self.from += len + 1;
+            Piece::Whole
+        } else {
+            self.from = self.to;
+            Piece::Part
+        }
+    }
+}
+
+/// One read, tried again where a signal interrupts it.
+fn read_some<R: Read>(reader: &mut R, block: &mut [u8]) -> Result<usize, Trouble>
+    ensures within { IfOk result (λ count. count ≤ length block.new) }
+    ensures bytes { ReadConsumes (R.remaining reader.old) (R.remaining reader.new) result block.new }
+    ensures err { IfErr result (λ trouble. trouble ≡ Trouble.Read) }
+{
+    let mut tries = u64::MAX;
+    while tries > 0 {
+        match reader.read(block) {
+            Ok(count) => return Ok(count),
+            Err(error) => {
+                if error.kind() != ErrorKind::Interrupted {
+                    return Err(Trouble::Read);
+                }
+            }
+        }
+        tries -= 1;
+    }
+    Err(Trouble::Read)
+}

@@ -1,0 +1,17 @@
+//! The texts of the store: lines, tokens, values, headers, steps and answers, and what can go wrong with them.
+#![tactic(auto)]
+
+pub mod answers;
+#[cfg(test)]
+mod grammar_tests;
+pub mod headers;
+pub mod input;
+pub mod output;
+pub mod parts;
+pub mod steps;
+#[cfg(test)]
+mod tests;
+pub mod texts;
+pub mod tokens;
+pub mod trouble;
+pub mod writers;

@@ -1,0 +1,110 @@
+//! Writers of what a line may have. Each appends the one spelling; where memory is refused, a beginning of it may stand.
+
+ghost use Rattle.std.specs.Prelude.{◌≡◌, ◌<◌, ◌++◌, OnOk, string_bytes};
+ghost use Rattle.std.specs.Fmt.{decimal, signed_decimal};
+ghost use Rattle.occ_types.specs.Seen.{key_of, cell_of, row_of};
+ghost use Rattle.occ_text.specs.Spelling.{hex_digit, escaped_byte, escaped, text_text, key_text, cell_text, row_text, comma};
+
+use crate::texts::is_plain;
+use occ_types::{Cell, Key, Row, Text};
+use std::alloc::{AllocError, Allocator};
+
+/// Appends a number.
+pub fn write_number<A: Allocator>(line: &mut String<A>, number: u64) -> Result<(), AllocError>
+    ensures { OnOk result (string_bytes line.new ≡ string_bytes line.old ++ decimal number) }
+{
+    write!(line, "{number}")
+}
+
+/// Appends a whole number.
+pub fn write_int<A: Allocator>(line: &mut String<A>, number: i64) -> Result<(), AllocError>
+    ensures { OnOk result (string_bytes line.new ≡ string_bytes line.old ++ signed_decimal number) }
+{
+    write!(line, "{number}")
+}
+
+/// A lower-case hexadecimal digit.
+fn hex_digit(value: u8) -> char
+    requires { value < 16 }
+    ensures { result ≡ hex_digit value }
+{
+    if value < 10 {
+        char::from(b'0' + value)
+    } else {
+        char::from(87 + value)
+    }
+}
+
+fn write_byte<A: Allocator>(line: &mut String<A>, byte: u8) -> Result<(), AllocError>
+    ensures { OnOk result (string_bytes line.new ≡ string_bytes line.old ++ escaped_byte byte) }
+{
+    if is_plain(byte) {
+        return line.push(char::from(byte));
+    }
+    line.push('%')?;
+    line.push(hex_digit(byte / 16))?;
+    line.push(hex_digit(byte % 16))
+}
+
+fn write_escaped<A: Allocator>(line: &mut String<A>, bytes: &[u8]) -> Result<(), AllocError>
+    ensures { OnOk result (string_bytes line.new ≡ string_bytes line.old ++ escaped bytes.now) }
+{
+    for byte in bytes {
+        write_byte(line, *byte)?;
+    }
+    Ok(())
+}
+
+/// Appends a text.
+pub fn write_text<A: Allocator>(line: &mut String<A>, text: &Text<A>) -> Result<(), AllocError>
+    ensures { OnOk result (string_bytes line.new ≡ string_bytes line.old ++ text_text text.now) }
+{
+    line.push('\'')?;
+    write_escaped(line, text.as_bytes())
+}
+
+/// Appends a key.
+pub fn write_key<A: Allocator>(line: &mut String<A>, key: &Key<A>) -> Result<(), AllocError>
+    ensures { OnOk result (string_bytes line.new ≡ string_bytes line.old ++ key_text (key_of key.now)) }
+{
+    match key {
+        Key::Num(number) => write_number(line, *number),
+        Key::Text(text) => write_text(line, text),
+    }
+}
+
+fn write_cell<A: Allocator>(line: &mut String<A>, cell: &Cell<A>) -> Result<(), AllocError>
+    ensures { OnOk result (string_bytes line.new ≡ string_bytes line.old ++ cell_text (cell_of cell.now)) }
+{
+    match cell {
+        Cell::Int(number) => write_int(line, *number),
+        Cell::Text(text) => write_text(line, text),
+    }
+}
+
+/// Appends what stands before the cell at this place.
+fn write_comma<A: Allocator>(line: &mut String<A>, place: usize) -> Result<(), AllocError>
+    ensures { OnOk result (string_bytes line.new ≡ string_bytes line.old ++ comma place) }
+{
+    if place == 0 {
+        return Ok(());
+    }
+    line.push(',')
+}
+
+/// Appends a row.
+pub fn write_row<A: Allocator>(line: &mut String<A>, row: &Row<A>) -> Result<(), AllocError>
+    ensures { OnOk result (string_bytes line.new ≡ string_bytes line.old ++ row_text row.now) }
+{
+    write_cells(line, row.cells())
+}
+
+fn write_cells<A: Allocator>(line: &mut String<A>, cells: &[Cell<A>]) -> Result<(), AllocError>
+    ensures { OnOk result (string_bytes line.new ≡ string_bytes line.old ++ row_text (row_of cells.now)) }
+{
+    for (place, cell) in cells.iter().enumerate() {
+        write_comma(line, place)?;
+        write_cell(line, cell)?;
+    }
+    Ok(())
+}
