@@ -27,9 +27,6 @@ nothing_folded session = ap (λ o. unwrap_or o 0) (get-empty nat_cmp session)
 
 -- the parts of a claim that holds
 
-pub audited-placed : (marks : BTreeMap ℕ ℕ) (table : State) (log : List LogRow) → Audited empty_base (marks_of marks) table log → ArePlaced log
-audited-placed marks table log a = a.in_order.places
-
 pub audited-numbered : (marks : BTreeMap ℕ ℕ) (table : State) (log : List LogRow) → Audited empty_base (marks_of marks) table log → AreNumbered log
 audited-numbered marks table log a session =
     subst (λ n. Counts (suc n) (numbers session log)) (nothing_folded session) (a.in_order.numbered session)

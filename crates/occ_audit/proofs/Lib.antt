@@ -1,6 +1,9 @@
 pub mod Walks
-pub mod Replicas
+pub mod Writes
+pub mod Equal
+pub mod Lent
 pub mod Ranges
+pub mod Tables
+pub mod Overlaid
 pub mod Orders
-pub mod Replays
 pub mod Claims

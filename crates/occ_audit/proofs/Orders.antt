@@ -1,35 +1,21 @@
 -- How places, numbers and closing marks are counted along a log.
-use Rattle.std.proofs.Common.{◌≡◌, ℕ, suc, ◌+◌, ◌<◌, ◌≤◌, nat_eq, Bool, true, false, cond, List, [], ◌∷◌, length, get_or, drop, Some, refl, sym, ap, subst, ◌∙◌, arith}
+use Rattle.std.proofs.Common.{◌≡◌, ℕ, suc, ◌+◌, ◌<◌, nat_eq, Bool, true, false, cond, List, [], ◌∷◌, length, get_or, drop, Some, refl, sym, ap, subst, ◌∙◌, arith}
 use Rattle.std.specs.Prelude.{map, filter, unwrap_or}
 use Rattle.std.specs.Bool.{◌==◌}
 use Rattle.std.specs.Map.{lookup}
 use Rattle.std.specs.BTreeMap.{BTreeMap, get}
 use Rattle.std.specs.Ordering.{nat_cmp, is_eq}
 use Rattle.std.specs.Cmp.{unsigned_tied, unsigned_Decides}
-use Rattle.std.proofs.lemmas.List.{drop_all}
 use Rattle.std.proofs.lemmas.Bool.Decides.{Decides-eqb}
 use Rattle.occ_core.specs.declared.rows.LogRow as code_row
 use Rattle.occ_core.specs.Rows.{log_row_of, log_of}
 use Rattle.occ_model.specs.Log.{LogRow, Counts, numbers}
 use Rattle.occ_model.proofs.Tests.{decided, clash}
 use Rattle.occ_audit.specs.Order.{AreNumbered, last_of}
-use Rattle.occ_audit.proofs.Walks.{Iff, via, along, left-cons}
+use Rattle.occ_audit.proofs.Walks.{left-cons}
 
 abbrev pub places : List LogRow → List ℕ
 places log = map (λ row. row.place) log
-
-module _ {Z : Type 0} where
-  -- one more place is looked at
-  pub places-left : (log : List (code_row.LogRow Z)) (i : ℕ) (row : code_row.LogRow Z) → i < length log → row ≡ get_or log i row → Iff (Counts i (places (log_of (drop i log)))) ((row.place ≡ i) × Counts (i + 1) (places (log_of (drop (i + 1) log))))
-  places-left log i row h at =
-      let later : suc i ≡ i + 1 = omega arith in
-      via (along (λ rows. Counts i (places (log_of rows))) _ _ (left-cons log i row h at)) (
-        λ c. (c.0, subst (λ n. Counts n (places (log_of (drop (i + 1) log)))) later c.1),
-        λ c. (c.0, subst (λ n. Counts n (places (log_of (drop (i + 1) log)))) (sym later) c.1),
-      )
-
-  pub places-all : (log : List (code_row.LogRow Z)) (i : ℕ) → length log ≤ i → Counts i (places (log_of (drop i log)))
-  places-all log i h = subst (λ rows. Counts i (places (log_of rows))) (sym (drop_all i log h)) tt
 
 -- The numbers of a session count on from 1 where what is left of them counts on from its last.
 pub record Counted (whole left : List LogRow) (last : ℕ) (session : ℕ) : Type 0 where
@@ -40,15 +26,6 @@ pub record Counted (whole left : List LogRow) (last : ℕ) (session : ℕ) : Typ
 -- of each session
 abbrev pub AreCounted : List LogRow → List LogRow → BTreeMap ℕ ℕ → Type 0
 AreCounted whole left last = (session : ℕ) → Counted whole left (last_of last session) session
-
-pub counted-start : (whole : List LogRow) (last : BTreeMap ℕ ℕ) → last.entries ≡ [] → AreCounted whole whole last
-counted-start whole last empty session =
-    let none : last_of last session ≡ 0 = ap (λ es. unwrap_or (lookup (λ x. is_eq (nat_cmp session x)) es) 0) empty in
-    record {
-      onward = subst (λ n. Counts (suc n) (numbers session whole)) (sym none);
-      back = subst (λ n. Counts (suc n) (numbers session whole)) none;
-      counted = omega arith;
-    }
 
 -- the numbers of a session, with a row and without it
 
@@ -131,11 +108,3 @@ module _ {Z : Type 0} where
       let left = log_of (drop (i + 1) log) in
       let here : Counted whole (log_row_of row ∷ left) (last_of m row.session) row.session = subst (λ rows. AreCounted whole (log_of rows) m) (left-cons log i row h at) c row.session in
       undue (subst (Counts (suc (last_of m row.session))) (numbers_with row.session (log_row_of row) left refl) (here.onward (numbered row.session))).0
-
-  -- all rows are counted
-  pub rows-all : (whole : List LogRow) (log : List (code_row.LogRow Z)) (i : ℕ) (m : BTreeMap ℕ ℕ) → length log ≤ i → AreCounted whole (log_of (drop i log)) m → AreNumbered whole × ((session : ℕ) → last_of m session ≡ length (numbers session whole))
-  rows-all whole log i m h c =
-      let here : AreCounted whole [] m = subst (λ rows. AreCounted whole (log_of rows) m) (drop_all i log h) c in (
-        λ session. (here session).back tt,
-        λ session. let k = (here session).counted in omega arith,
-      )

@@ -1,259 +1,171 @@
--- The part of a map between the two ends of a range, as the answer of its state.
-use Rattle.std.proofs.Common.{◌≡◌, ℕ, zero, suc, nat_eq, ◌+◌, ◌<◌, ◌≤◌, Bool, true, false, not, ◌&&◌, cond, List, [], ◌∷◌, length, drop, Option, None, Some, refl, sym, ap, ◌∙◌, arith}
-use Rattle.std.specs.Prelude.{map, slice_get, unwrap_or}
+-- What a state answers to a range, from the entries of the range's table.
+use Rattle.std.proofs.Common.{◌≡◌, ℕ, Bool, true, false, ◌&&◌, cond, List, [], ◌∷◌, length, Option, None, Some, refl, sym, ap, subst, ◌∙◌, arith}
+use Rattle.std.specs.Prelude.{map}
 use Rattle.std.specs.Bool.{Decides, ◌==◌}
 use Rattle.std.specs.Borrow.{Bor}
-use Rattle.std.specs.List.{filter}
+use Rattle.std.specs.List.{filter, AllByRecursion}
 use Rattle.std.specs.List.Sorted.{IsStrictlySortedBy}
 use Rattle.std.specs.Map.{keys_of}
-use Rattle.std.specs.Option.{option_map, option_copied, option_eq}
-use Rattle.std.specs.BTreeMap.Range.{entries_between, range_contains}
-use Rattle.std.specs.declared.ops.Bound.TheVariants.{Included}
+use Rattle.std.specs.Map.Iter.{deref_pair}
+use Rattle.std.specs.Option.{option_copied, option_eq}
+use Rattle.std.specs.declared.cmp.Ordering.TheVariants.{Less}
+use Rattle.std.specs.declared.ops.Bound.{Bound}
+use Rattle.std.specs.Range.Bound.{IsForward}
+use Rattle.std.specs.BTreeMap.Range.{entries_between}
 use Rattle.std.specs.declared.cmp.Ordering.{Ordering}
-use Rattle.std.specs.declared.cmp.Ordering.TheVariants.{Less, Equal, Greater}
-use Rattle.std.specs.Ordering.{on, nat_cmp, is_gt, is_le, ordering_then, ordering_reverse}
-use Rattle.std.specs.Cmp.{tied_itself, nat_cmp_total, nat_cmp_is, unsigned_Decides}
-use Rattle.std.proofs.lemmas.Bool.Decides.{Decides-eqb, Decides-and}
-use Rattle.std.specs.FinMap.{get, entries, retain_keys, from_sorted, get-from_sorted, get-retain_keys, entries-from_sorted}
-use Rattle.std.specs.FinMap.Entries.{where_key, is_sorted-where_key, find-where_key}
-use Rattle.occ_types.specs.Key.{Key, Num, Text as KeyText, key_cmp}
-use Rattle.occ_types.specs.Object.{Object, object_cmp, object_cmp_total, object_cmp-IsAntisymmetric}
-use Rattle.occ_types.specs.Question.{Question, One, Span, asks, is_from, is_below}
+use Rattle.std.specs.Ordering.{on, is_gt}
+use Rattle.std.specs.Cmp.{Equal-is, unsigned_Decides}
+use Rattle.std.specs.FinMap.{get}
+use Rattle.std.proofs.lemmas.Bool.Decides.{Decides-eqb}
+use Rattle.std.proofs.lemmas.Map.Entries.{lookup-filter-keys}
+use Rattle.occ_types.specs.Key.{Key, key_cmp, key_cmp-IsAntisymmetric}
+use Rattle.occ_types.specs.Object.{Object}
+use Rattle.occ_types.specs.Question.{Question, One, Span}
 use Rattle.occ_types.specs.Row.{Row}
-use Rattle.occ_types.specs.Same.{key_same, key_same-decides, row_same, row_same-decides}
-use Rattle.occ_types.specs.Seen.{key_of, object_of}
-use Rattle.occ_types.specs.declared.objects.Object as code_object
+use Rattle.occ_types.specs.Same.{key_same, row_same, row_same-decides}
+use Rattle.occ_types.specs.Seen.{key_of, end_of}
 use Rattle.occ_types.specs.declared.keys.Key as code_key
 use Rattle.occ_types.proofs.Asked.{asks-Span}
 use Rattle.occ_sets.specs.Seen.{rows_of}
-use Rattle.occ_sets.proofs.Agreement.{drop-slice_get}
+use Rattle.occ_sets.proofs.Agreement.{answer_of_entries}
 use Rattle.occ_model.specs.State.{State, Answer, Found, Rows, answer}
-use Rattle.occ_model.proofs.States.{same_state}
-use Rattle.occ_core.specs.Kept.{named, upper_bound}
-use Rattle.occ_audit.specs.Replica.{first_object, end_object, is_backward, state_of, rows_in}
-use Rattle.occ_audit.proofs.Walks.{Iff}
-use Rattle.occ_audit.proofs.Replicas.{find-state_of, sorted-named}
+use Rattle.occ_core.specs.Kept.{is_within, is_backward, lower_bound, upper_bound, entries_within}
+use Rattle.occ_core.proofs.Views.{entries_within-backward}
+use Rattle.occ_core.proofs.Sizes.{all_within}
+use Rattle.occ_audit.specs.Replica.{lent, IsInOrder}
+use Rattle.occ_audit.proofs.Lent.{row_at, code_of}
 
--- the tests of the two ends
+-- a part of keys in order is in order
 
-abbrev before_end : Option Object → Object → Bool
-before_end None o = true
-before_end (Some end) o = not (is_le (object_cmp end o))
-
-zero_first : (k : Key) → is_le (key_cmp (Num 0) k) ≡ true
-zero_first (Num zero) = refl
-zero_first (Num (suc n)) = let less : Less ≡ nat_cmp 0 (suc n) = nat_cmp_is 0 (suc n) Less (omega arith) in ap is_le (sym less)
-zero_first (KeyText t) = refl
-
-from_first-in : (t : ℕ) (a : Option Key) (k : Key) → is_le (object_cmp (first_object t a) (t, k)) ≡ is_from a k
-from_first-in t a k =
-    ap (λ o. is_le (ordering_then o (key_cmp (unwrap_or a (Num 0)) k))) (tied_itself nat_cmp_total t) ∙ by a
+all-filtered : {K X : Type 0} (P : K → Type 0) (p : K → Bool) (es : List (K × X)) → AllByRecursion P (keys_of es) → AllByRecursion P (keys_of (filter (λ e. p e.0) es))
+all-filtered P p [] h = h
+all-filtered {K} {X} P p (e ∷ es) h = by (p e.0) (all-filtered P p es h.1)
   where
-    by : (a : Option Key) → is_le (key_cmp (unwrap_or a (Num 0)) k) ≡ is_from a k
-    by None = zero_first k
-    by (Some end) = refl
+    by : (b : Bool) → AllByRecursion P (keys_of (filter (λ e. p e.0) es)) → AllByRecursion P (keys_of (cond b (e ∷ filter (λ e. p e.0) es) (filter (λ e. p e.0) es)))
+    by true others = (h.0, others)
+    by false others = others
 
-before_end-in : (last t : ℕ) (b : Option Key) (k : Key) → before_end (end_object last t b) (t, k) ≡ is_below b k
-before_end-in last t None k = by (nat_eq t last)
+sorted-filtered : {K X : Type 0} (R : K → K → Ordering) (p : K → Bool) (es : List (K × X)) → IsStrictlySortedBy R (keys_of es) → IsStrictlySortedBy R (keys_of (filter (λ e. p e.0) es))
+unfolding IsStrictlySortedBy
+sorted-filtered R p [] h = h
+sorted-filtered R p (e ∷ es) h = by (p e.0) (sorted-filtered R p es h.1)
   where
-    by : (c : Bool) → before_end (cond c None (Some (t + 1, Num 0))) (t, k) ≡ true
-    by true = refl
-    by false =
-        let greater : Greater ≡ nat_cmp (t + 1) t = nat_cmp_is (t + 1) t Greater (omega arith) in
-        ap (λ o. not (is_le (ordering_then o (key_cmp (Num 0) k)))) (sym greater)
-before_end-in last t (Some end) k = ap (λ o. not (is_le (ordering_then o (key_cmp end k)))) (tied_itself nat_cmp_total t)
+    by : (b : Bool) → IsStrictlySortedBy R (keys_of (filter (λ e. p e.0) es)) → IsStrictlySortedBy R (keys_of (cond b (e ∷ filter (λ e. p e.0) es) (filter (λ e. p e.0) es)))
+    by true others = (all-filtered (λ y. R e.0 y ≡ Less) p es h.0, others)
+    by false others = others
 
--- the tests of the ends and of the table are the question's
-asked : (last t : ℕ) (a b : Option Key) (o : Object) → (nat_eq o.0 t && (is_le (object_cmp (first_object t a) o) && before_end (end_object last t b) o)) ≡ asks (Span t a b) o
-asked last t a b (u, k) = by (nat_eq u t) refl ∙ sym (asks-Span t u a b k)
+-- references in order show keys in order
+
+all-lent : {Z : Type 0} (P : code_key.Key Z → Type 0) (es : List (Bor (code_key.Key Z) × Bor Row)) → AllByRecursion (λ b. P b.now) (keys_of es) → AllByRecursion P (keys_of (lent es))
+all-lent P [] h = h
+all-lent P (e ∷ es) h = (h.0, all-lent P es h.1)
+
+sorted-lent : {Z : Type 0} (es : List (Bor (code_key.Key Z) × Bor Row)) → IsInOrder es → IsStrictlySortedBy (on key_of key_cmp) (keys_of (lent es))
+unfolding IsStrictlySortedBy
+sorted-lent [] h = h
+sorted-lent (e ∷ es) h = (all-lent (λ y. key_cmp (key_of e.0.now) (key_of y) ≡ Less) es h.0, sorted-lent es h.1)
+
+-- nothing lies in a range that runs backwards
+outside : (a b : Option Key) (k : Key) → is_backward a b ≡ true → is_within a b k ≡ false
+outside a b k e =
+    let key = code_of {Z = ⊥} k in
+    subst (λ l. is_within a b l ≡ false) key.1 (by _ (is_within a b (key_of key.0.now)) (entries_within-backward a b ((key.0.now, []) ∷ []) e))
   where
-    by : (c : Bool) → nat_eq u t ≡ c → (c && (is_le (object_cmp (first_object t a) (u, k)) && before_end (end_object last t b) (u, k))) ≡ (c && (is_from a k && is_below b k))
-    by true e =
-        let here = (unsigned_Decides u t).0 e in
-        ap (λ v. is_le (object_cmp (first_object t a) (v, k)) && before_end (end_object last t b) (v, k)) here
-        ∙ (λ i. from_first-in t a k i && before_end-in last t b k i)
-    by false e = refl
+    by : {X : Type 0} (x : X) (w : Bool) → cond w (x ∷ []) [] ≡ [] → w ≡ false
+    by x true h = cc
+    by x false h = refl
 
--- nothing lies behind an end that is before the first object
-greater : (o : Ordering) → is_gt o ≡ true → o ≡ Greater
-greater Less e = cc
-greater Equal e = cc
-greater Greater e = refl
+nothing : {X : Type 0} (b : Bool) → ◌≡◌ {A = Option X} None (cond b None None)
+nothing true = refl
+nothing false = refl
 
-crossed : (first end o : Object) → is_gt (object_cmp first end) ≡ true → (is_le (object_cmp first o) && not (is_le (object_cmp end o))) ≡ false
-crossed first end o e = by (object_cmp first o) refl
+kept-filtered : {X Y : Type 0} (f : X → Y) (p : Y → Bool) (es : List X) → map f (filter (λ e. p (f e)) es) ≡ filter p (map f es)
+kept-filtered f p [] = refl
+kept-filtered {X} {Y} f p (e ∷ es) = by (p (f e)) (kept-filtered f p es)
   where
-    under : object_cmp end first ≡ Less
-    under = object_cmp_total.antisymm end first ∙ ap ordering_reverse (greater (object_cmp first end) e)
-
-    by : (r : Ordering) → object_cmp first o ≡ r → (is_le r && not (is_le (object_cmp end o))) ≡ false
-    by Less p = ap (λ q. not (is_le q)) (object_cmp_total.trans end first o under p)
-    by Equal p =
-        let turned : object_cmp o end ≡ Greater = sym (object_cmp_total.congr first o end p) ∙ greater (object_cmp first end) e in
-        ap (λ q. not (is_le q)) (object_cmp_total.antisymm end o ∙ ap ordering_reverse turned)
-    by Greater p = refl
+    by : (b : Bool) → map f (filter (λ e. p (f e)) es) ≡ filter p (map f es) → map f (cond b (e ∷ filter (λ e. p (f e)) es) (filter (λ e. p (f e)) es)) ≡ cond b (f e ∷ filter p (map f es)) (filter p (map f es))
+    by true others = ap (λ fs. f e ∷ fs) others
+    by false others = others
 
 module _ {Z : Type 0} where
-  -- what lies between the ends, by the tests of the map
-  between : (first : code_object.Object Z) (end : Option (code_object.Object Z)) (x : code_object.Object Z) → range_contains (on object_of object_cmp) (Included first) (upper_bound end) x ≡ (is_le (object_cmp (object_of first) (object_of x)) && before_end (option_map object_of end) (object_of x))
-  between first None x = refl
-  between first (Some end) x = refl
-
-  both_picks : (c d : Bool) (x : Key × Row) (y : Object × Row) (e : code_object.Object Z × Row) (F : List (Object × Row)) (G : List (Key × Row)) → (y.0.1, y.1) ≡ x → map (λ e. (e.0.1, e.1)) F ≡ G → map (λ e. (e.0.1, e.1)) (cond (d && c) (y ∷ F) F) ≡ cond c (cond d (x ∷ G) G) G
-  both_picks true true x y e F G same ih = λ i. same i ∷ ih i
-  both_picks true false x y e F G same ih = ih
-  both_picks false true x y e F G same ih = ih
-  both_picks false false x y e F G same ih = ih
-
-  rows_in-cond : (t : ℕ) (c : Bool) (e : code_object.Object Z × Row) (G : List (code_object.Object Z × Row)) → rows_in t (cond c (e ∷ G) G) ≡ cond c (cond (nat_eq e.0.table t) ((key_of e.0.key, e.1) ∷ rows_in t G) (rows_in t G)) (rows_in t G)
-  rows_in-cond t true e G = by (nat_eq e.0.table t)
-    where
-      by : (d : Bool) → map (λ e. (key_of e.0.key, e.1)) (cond d (e ∷ filter (λ e. nat_eq e.0.table t) G) (filter (λ e. nat_eq e.0.table t) G)) ≡ cond d ((key_of e.0.key, e.1) ∷ rows_in t G) (rows_in t G)
-      by true = refl
-      by false = refl
-  rows_in-cond t false e G = refl
-
-  -- a filter of the objects, and one of the map's entries that are of the table
-  picked : (t : ℕ) (test : Object → Bool) (r : code_object.Object Z → Bool) → ((x : code_object.Object Z) → (nat_eq x.table t && r x) ≡ test (object_of x)) → (es : List (code_object.Object Z × Row)) → map (λ e. (e.0.1, e.1)) (filter (λ e. test e.0) (map named es)) ≡ rows_in t (filter (λ e. r e.0) es)
-  picked t test r is [] = refl
-  picked t test r is (e ∷ es) =
-      let F : List (Object × Row) = filter (λ e. test e.0) (map named es) in
-      let G : List (code_object.Object Z × Row) = filter (λ e. r e.0) es in
-      ap (λ b. map (λ e. (e.0.1, e.1)) (cond b (named e ∷ F) F)) (sym (is e.0))
-      ∙ both_picks (r e.0) (nat_eq e.0.table t) (key_of e.0.key, e.1) (named e) e F (rows_in t G) refl (picked t test r is es)
-      ∙ sym (rows_in-cond t (r e.0) e G)
-
-  -- the answer to a range, from the entries in order
-  answer-picked : (es : List (code_object.Object Z × Row)) (t : ℕ) (a b : Option Key) → IsStrictlySortedBy (on object_of object_cmp) (keys_of es) → answer (Span t a b) (state_of es) ≡ Rows (map (λ e. (e.0.1, e.1)) (filter (λ e. asks (Span t a b) e.0) (map named es)))
+  -- rows of a table, in order, are the answer to a range where they are what is found within it
+  answer-is : (state : State) (t : ℕ) (a b : Option Key) (fs : List (code_key.Key Z × Row)) → IsStrictlySortedBy (on key_of key_cmp) (keys_of fs) → ((k : Key) → row_at fs k ≡ cond (is_within a b k) (get state (t, k)) None) → answer (Span t a b) state ≡ Rows (rows_of fs)
   unfolding answer
-  answer-picked es t a b ordered =
-      let test : Object → Bool = asks (Span t a b) in
-      let kept = is_sorted-where_key object_cmp test (map named es) (sorted-named es ordered) in
-      let made : State = from_sorted (where_key object_cmp test (map named es)) in
-      let alike = λ (q : Object) (x : Object) (e : object_cmp q x ≡ Equal). sym (ap test (object_cmp-IsAntisymmetric q x e)) in
-      let same_rows : retain_keys (state_of es) test ≡ made = same_state _ _ (λ q.
-      get-retain_keys (state_of es) test q (alike q)
-      ∙ ap (λ r. cond (test q) r None) (find-state_of es q)
-      ∙ sym (find-where_key object_cmp test q (alike q) (map named es))
-      ∙ sym (get-from_sorted object_cmp (where_key object_cmp test (map named es)) q kept)) in
-      ap (λ m. Rows (map (λ e. (e.0.1, e.1)) (entries m))) same_rows
-      ∙ ap (λ fs. Rows (map (λ e. (e.0.1, e.1)) fs)) (entries-from_sorted object_cmp (where_key object_cmp test (map named es)) kept)
+  answer-is state t a b fs sorted is =
+      ap Rows (answer_of_entries (Span t a b) fs state (record {
+        at = λ key. is (key_of key)
+            ∙ ap (λ c. cond c (get state (t, key_of key)) None) (sym (asks-Span t t a b (key_of key) ∙ ap (λ c. c && is_within a b (key_of key)) ((unsigned_Decides t t).1 refl)));
+      }) sorted)
 
-  test-is : (last t : ℕ) (a b : Option Key) (first : code_object.Object Z) (end : Option (code_object.Object Z)) → object_of first ≡ first_object t a → option_map object_of end ≡ end_object last t b → (x : code_object.Object Z) → (nat_eq x.table t && range_contains (on object_of object_cmp) (Included first) (upper_bound end) x) ≡ asks (Span t a b) (object_of x)
-  test-is last t a b first end p q x =
-      ap (λ c. nat_eq x.table t && c) (between first end x)
-      ∙ (λ i. nat_eq x.table t && (is_le (object_cmp (p i) (object_of x)) && before_end (q i) (object_of x)))
-      ∙ asked last t a b (object_of x)
+  -- the answer of a table: what lies between the ends
+  pub answer-between : (state : State) (t : ℕ) (a b : Option Key) (es : List (Bor (code_key.Key Z) × Bor Row)) → IsInOrder es → ((k : Key) → get state (t, k) ≡ row_at (lent es) k) → answer (Span t a b) state ≡ Rows (rows_of (entries_within a b (lent es)))
+  answer-between state t a b es ordered is =
+      answer-is state t a b (entries_within a b (lent es)) (sorted-filtered (on key_of key_cmp) (λ key. is_within a b (key_of key)) (lent es) (sorted-lent es ordered)) (λ k.
+      lookup-filter-keys (λ x. key_same k (key_of x)) (λ x. is_within a b (key_of x)) (is_within a b k) (λ x e. ap (is_within a b) (sym (key_cmp-IsAntisymmetric k (key_of x) ((Equal-is (key_cmp k (key_of x))).0 e)))) (lent es)
+      ∙ ap (λ r. cond (is_within a b k) r None) (sym (is k)))
 
-  -- the answer to a range is what lies between its ends, of its table
-  pub answer-between : (es : List (code_object.Object Z × Row)) (last t : ℕ) (a b : Option Key) (first : code_object.Object Z) (end : Option (code_object.Object Z)) (old : State) → state_of es ≡ old → IsStrictlySortedBy (on object_of object_cmp) (keys_of es) → object_of first ≡ first_object t a → option_map object_of end ≡ end_object last t b → answer (Span t a b) old ≡ Rows (rows_in t (entries_between (on object_of object_cmp) (Included first) (upper_bound end) es))
-  answer-between es last t a b first end old view ordered p q =
-      ap (answer (Span t a b)) (sym view)
-      ∙ answer-picked es t a b ordered
-      ∙ ap Rows (picked t (asks (Span t a b)) (range_contains (on object_of object_cmp) (Included first) (upper_bound end)) (test-is last t a b first end p q) es)
+  -- all of it where there are no ends
+  pub answer-all : (state : State) (t : ℕ) (es : List (Bor (code_key.Key Z) × Bor Row)) → IsInOrder es → ((k : Key) → get state (t, k) ≡ row_at (lent es) k) → answer (Span t None None) state ≡ Rows (rows_of (lent es))
+  answer-all state t es ordered is =
+      answer-between state t None None es ordered is ∙ ap (λ fs. Rows (rows_of fs)) (all_within (lent es))
 
-  nothing_between : (first : code_object.Object Z) (end : Option (code_object.Object Z)) → is_backward (object_of first) (option_map object_of end) ≡ true → (es : List (code_object.Object Z × Row)) → entries_between (on object_of object_cmp) (Included first) (upper_bound end) es ≡ []
-  nothing_between first None e es = cc
-  nothing_between first (Some end) e [] = refl
-  nothing_between first (Some end) e (x ∷ xs) =
-      (λ i. cond (crossed (object_of first) (object_of end) (object_of x.0) e i) (x ∷ entries_between (on object_of object_cmp) (Included first) (upper_bound (Some end)) xs) (nothing_between first (Some end) e xs i))
-
-  -- where the range runs backwards there is no row
-  pub answer-backward : (es : List (code_object.Object Z × Row)) (last t : ℕ) (a b : Option Key) (first : code_object.Object Z) (end : Option (code_object.Object Z)) (old : State) → state_of es ≡ old → IsStrictlySortedBy (on object_of object_cmp) (keys_of es) → object_of first ≡ first_object t a → option_map object_of end ≡ end_object last t b → is_backward (object_of first) (option_map object_of end) ≡ true → answer (Span t a b) old ≡ Rows []
-  answer-backward es last t a b first end old view ordered p q e =
-      answer-between es last t a b first end old view ordered p q
-      ∙ ap (λ fs. Rows (rows_in t fs)) (nothing_between first end e es)
-
-  no_length : (es : List (code_object.Object Z × Row)) → length es ≡ 0 → es ≡ []
-  no_length [] e = refl
-  no_length (x ∷ xs) e = absurd (omega arith)
-
-  -- nor where there is no entry
-  pub answer-empty : (es : List (code_object.Object Z × Row)) (last t : ℕ) (a b : Option Key) (first : code_object.Object Z) (end : Option (code_object.Object Z)) (old : State) → state_of es ≡ old → IsStrictlySortedBy (on object_of object_cmp) (keys_of es) → object_of first ≡ first_object t a → option_map object_of end ≡ end_object last t b → length es ≡ 0 → answer (Span t a b) old ≡ Rows []
-  answer-empty es last t a b first end old view ordered p q e =
-      answer-between es last t a b first end old view ordered p q
-      ∙ ap (λ fs. Rows (rows_in t (entries_between (on object_of object_cmp) (Included first) (upper_bound end) fs))) (no_length es e)
-
-  -- whether no row was given, where none is the answer
-  pub none-decides : (given : List (code_key.Key Z × Row)) (t : ℕ) (a b : Option Key) (old : State) (r : Bool) → r ≡ (length given == 0) → answer (Span t a b) old ≡ Rows [] → Decides r (Rows (rows_of given) ≡ answer (Span t a b) old)
-  none-decides [] t a b old r is e = (λ _. sym e, λ _. is ∙ (Decides-eqb 0 0).1 refl)
-  none-decides (x ∷ xs) t a b old r is e = (
-    λ h. let long : length (x ∷ xs) ≡ 0 = (Decides-eqb (length (x ∷ xs)) 0).0 (sym is ∙ h) in absurd (omega arith),
-    λ h. let clash : Rows (rows_of (x ∷ xs)) ≡ Rows [] = h ∙ e in cc,
-  )
-
-  -- whether the rows that were given are the answer
-  pub rows-decide : (given : List (code_key.Key Z × Row)) (t : ℕ) (a b : Option Key) (old : State) (rows : List (Key × Row)) (r : Bool) → answer (Span t a b) old ≡ Rows rows → Decides r (rows_of given ≡ rows) → Decides r (Rows (rows_of given) ≡ answer (Span t a b) old)
-  rows-decide given t a b old rows r e d = (λ h. ap Rows (d.0 h) ∙ sym e, λ h. d.1 (let same : Rows (rows_of given) ≡ Rows rows = h ∙ e in cc))
-
-  -- one entry after another
-
-  pub rows_in-here : (t : ℕ) (e : code_object.Object Z × Row) (left : List (code_object.Object Z × Row)) → e.0.table ≡ t → rows_in t (e ∷ left) ≡ (key_of e.0.key, e.1) ∷ rows_in t left
-  rows_in-here t e left here = rows_in-cond t true e left ∙ ap (λ c. cond c ((key_of e.0.key, e.1) ∷ rows_in t left) (rows_in t left)) ((unsigned_Decides e.0.table t).1 here)
-
-  pub rows_in-elsewhere : (t : ℕ) (e : code_object.Object Z × Row) (left : List (code_object.Object Z × Row)) → (e.0.table ≡ t → ⊥) → rows_in t (e ∷ left) ≡ rows_in t left
-  rows_in-elsewhere t e left apart = rows_in-cond t true e left ∙ ap (λ c. cond c ((key_of e.0.key, e.1) ∷ rows_in t left) (rows_in t left)) (by (nat_eq e.0.table t) refl)
+  -- what a map has between two bounds
+  pub lent-between : (lower upper : Option (Bor (code_key.Key Z))) (lo hi : Bound (Bor (code_key.Key Z))) (es : List (Bor (code_key.Key Z) × Bor Row)) → lo ≡ lower_bound lower → hi ≡ upper_bound upper
+      → lent (entries_between (λ a b. key_cmp (key_of a.now) (key_of b.now)) lo hi es) ≡ entries_within (end_of (option_copied lower)) (end_of (option_copied upper)) (lent es)
+  lent-between lower upper lo hi es p q =
+      (λ i. lent (entries_between (λ a b. key_cmp (key_of a.now) (key_of b.now)) (p i) (q i) es)) ∙ by lower upper
     where
-      by : (c : Bool) → nat_eq e.0.table t ≡ c → nat_eq e.0.table t ≡ false
-      by true p = absurd (apart ((unsigned_Decides e.0.table t).0 p))
-      by false p = p
+      by : (l u : Option (Bor (code_key.Key Z))) → lent (entries_between (λ a b. key_cmp (key_of a.now) (key_of b.now)) (lower_bound l) (upper_bound u) es) ≡ entries_within (end_of (option_copied l)) (end_of (option_copied u)) (lent es)
+      by None None = kept-filtered deref_pair (λ e. is_within None None (key_of e.0)) es
+      by None (Some b) = kept-filtered deref_pair (λ e. is_within None (Some (key_of b.now)) (key_of e.0)) es
+      by (Some a) None = kept-filtered deref_pair (λ e. is_within (Some (key_of a.now)) None (key_of e.0)) es
+      by (Some a) (Some b) = kept-filtered deref_pair (λ e. is_within (Some (key_of a.now)) (Some (key_of b.now)) (key_of e.0)) es
 
--- the element at a place is the first one that is left
+  -- two ends that don't run backwards may be asked for
+  pub forward : (lower upper : Option (Bor (code_key.Key Z))) (lo hi : Bound (Bor (code_key.Key Z))) → lo ≡ lower_bound lower → hi ≡ upper_bound upper → is_backward (end_of (option_copied lower)) (end_of (option_copied upper)) ≡ false
+      → IsForward (λ a b. is_gt (key_cmp (key_of a.now) (key_of b.now)) ≡ false) (λ a b. key_cmp (key_of a.now) (key_of b.now) ≡ Less) lo hi
+  forward lower upper lo hi p q e =
+      subst (λ l. IsForward Le Lt l hi) (sym p) (subst (IsForward Le Lt (lower_bound lower)) (sym q) (by lower upper e))
+    where
+      Le : Bor (code_key.Key Z) → Bor (code_key.Key Z) → Type 0
+      Le = λ a b. is_gt (key_cmp (key_of a.now) (key_of b.now)) ≡ false
 
-pub next-left : {X : Type 0} (xs : List X) (i : ℕ) (x : X) (ys : List X) → slice_get xs i ≡ Some x → Iff (drop i xs ≡ x ∷ ys) (drop (i + 1) xs ≡ ys)
-next-left xs i x ys at =
-    let here = drop-slice_get xs i x at in (
-      λ e. let f : x ∷ drop (i + 1) xs ≡ x ∷ ys = sym here ∙ e in cc,
-      λ e. here ∙ ap (λ zs. x ∷ zs) e,
-    )
+      Lt : Bor (code_key.Key Z) → Bor (code_key.Key Z) → Type 0
+      Lt = λ a b. key_cmp (key_of a.now) (key_of b.now) ≡ Less
 
-pub first-left : {X : Type 0} (xs : List X) (i : ℕ) (x : X) (ys : List X) → drop i xs ≡ x ∷ ys → slice_get xs i ≡ Some x
-first-left [] zero x ys e = cc
-first-left [] (suc i) x ys e = cc
-first-left (z ∷ zs) zero x ys e = cc
-first-left (z ∷ zs) (suc i) x ys e = first-left zs i x ys e
+      by : (l u : Option (Bor (code_key.Key Z))) → is_backward (end_of (option_copied l)) (end_of (option_copied u)) ≡ false → IsForward Le Lt (lower_bound l) (upper_bound u)
+      by None None e = tt
+      by None (Some b) e = tt
+      by (Some a) None e = tt
+      by (Some a) (Some b) e = e
 
-pub within-left : {X : Type 0} (xs : List X) (i : ℕ) (x : X) → slice_get xs i ≡ Some x → i < length xs
-within-left [] i x e = cc
-within-left (z ∷ zs) zero x e = omega arith
-within-left (z ∷ zs) (suc i) x e = let h = within-left zs i x e in omega arith
+  -- whether there is no row
+  pub none-decides : (es : List (code_key.Key Z × Row)) (n : ℕ) (r : Bool) → n ≡ length es → r ≡ (n == 0) → Decides r (rows_of es ≡ [])
+  none-decides [] n r e is = (λ _. refl, λ _. is ∙ (Decides-eqb n 0).1 e)
+  none-decides (x ∷ xs) n r e is = (λ h. let z = (Decides-eqb n 0).0 (sym is ∙ h) in absurd (omega arith), λ h. cc)
 
-pub end-left : {X : Type 0} (xs : List X) (i : ℕ) → i ≤ length xs → Iff (drop i xs ≡ []) (i ≡ length xs)
-end-left [] zero h = (λ _. refl, λ _. refl)
-end-left [] (suc i) h = absurd (omega arith)
-end-left (z ∷ zs) zero h = (λ e. cc, λ e. absurd (omega arith))
-end-left (z ∷ zs) (suc i) h =
-    let d = end-left zs i (omega arith) in (λ e. let p = d.0 e in omega arith, λ e. d.1 (omega arith))
+-- the answer where no row is in the range
 
--- what stands at a place
+pub answer-backward : (state : State) (t : ℕ) (a b : Option Key) → is_backward a b ≡ true → answer (Span t a b) state ≡ Rows []
+unfolding IsStrictlySortedBy
+answer-backward state t a b e =
+    answer-is {Z = ⊥} state t a b [] tt (λ k. sym (ap (λ c. cond c (get state (t, k)) None) (outside a b k e)))
 
-slice_get-rows_of : {Z : Type 0} (given : List (code_key.Key Z × Row)) (i : ℕ) → slice_get (rows_of given) i ≡ option_map (λ e. (key_of e.0, e.1)) (slice_get given i)
-slice_get-rows_of [] zero = refl
-slice_get-rows_of [] (suc i) = refl
-slice_get-rows_of (x ∷ xs) zero = refl
-slice_get-rows_of (x ∷ xs) (suc i) = slice_get-rows_of xs i
+pub answer-nowhere : (state : State) (t : ℕ) (a b : Option Key) → ((k : Key) → get state (t, k) ≡ None) → answer (Span t a b) state ≡ Rows []
+unfolding IsStrictlySortedBy
+answer-nowhere state t a b none =
+    answer-is {Z = ⊥} state t a b [] tt (λ k. nothing (is_within a b k) ∙ ap (λ r. cond (is_within a b k) r None) (sym (none k)))
 
-some-injective : (x y : Key × Row) → Some x ≡ Some y → x ≡ y
-some-injective x y e = cc
-
--- the key and the row that stand there are those
-pub stands-decides : {Z : Type 0} (given : List (code_key.Key Z × Row)) (i : ℕ) (found : code_key.Key Z × Row) (key : Key) (row : Row) (r : Bool) → slice_get given i ≡ Some found → r ≡ (key_same (key_of found.0) key && row_same found.1 row) → Decides r (slice_get (rows_of given) i ≡ Some (key, row))
-stands-decides given i found key row r at is =
-    let d = Decides-and _ _ (key_same-decides (key_of found.0) key) (row_same-decides found.1 row) in
-    let pair : Key × Row = (key_of found.0, found.1) in
-    let wanted : Key × Row = (key, row) in
-    let here : slice_get (rows_of given) i ≡ Some pair = slice_get-rows_of given i ∙ ap (option_map (λ e. (key_of e.0, e.1))) at in (
-      λ e. let f = d.0 (sym is ∙ e) in here ∙ (λ j. Some (f.0 j, f.1 j)),
-      λ e. let f : Some pair ≡ Some wanted = sym here ∙ e in let p : pair ≡ wanted = some-injective pair wanted f in is ∙ d.1 (ap (λ x. x.0) p, ap (λ x. x.1) p),
-    )
-
-pub stands-nowhere : {Z : Type 0} (given : List (code_key.Key Z × Row)) (i : ℕ) (pair : Key × Row) → slice_get given i ≡ None → slice_get (rows_of given) i ≡ Some pair → ⊥
-stands-nowhere given i pair at e =
-    let clash : Some pair ≡ None = sym e ∙ slice_get-rows_of given i ∙ ap (option_map (λ e. (key_of e.0, e.1))) at in cc
+-- answers are the same where their rows are
+pub rows-decide : (s t : Answer) (xs ys : List (Key × Row)) (r : Bool) → s ≡ Rows xs → t ≡ Rows ys → Decides r (xs ≡ ys) → Decides r (s ≡ t)
+rows-decide s t xs ys r p q d = (
+  λ h. p ∙ ap Rows (d.0 h) ∙ sym q,
+  λ h. d.1 (let same : Rows xs ≡ Rows ys = sym p ∙ h ∙ q in cc),
+)
 
 -- the answer for one key
 
-option-decides : (x y : Option (Bor Row)) → Decides (option_eq (λ a b. row_same a.now b.now) x y) (option_copied x ≡ option_copied y)
+pub option-decides : (x y : Option (Bor Row)) → Decides (option_eq (λ a b. row_same a.now b.now) x y) (option_copied x ≡ option_copied y)
 option-decides None None = (λ _. refl, λ _. refl)
 option-decides None (Some b) = (λ e. cc, λ e. cc)
 option-decides (Some a) None = (λ e. cc, λ e. cc)

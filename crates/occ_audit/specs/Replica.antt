@@ -1,35 +1,37 @@
--- What clauses see of a state that is kept as one map under objects.
-use Rattle.std.specs.Prelude.{ℕ, ◌+◌, nat_eq, Bool, false, cond, List, map, Option, None, Some, unwrap_or}
-use Rattle.std.specs.Ordering.{is_gt}
-use Rattle.std.specs.List.{filter}
-use Rattle.std.specs.FinMap as finite
-use Rattle.occ_types.specs.Key.{Key, Num}
-use Rattle.occ_types.specs.Object.{Object, object_cmp}
+-- What clauses see of a state that is kept as maps of lent rows, one for each table.
+use Rattle.std.specs.Prelude.{◌≡◌, ℕ, nat_eq, not, List, [], ◌∷◌, map, None}
+use Rattle.std.specs.Borrow.{Bor}
+use Rattle.std.specs.List.Sorted.{IsStrictlySortedBy}
+use Rattle.std.specs.Map.{keys_of}
+use Rattle.std.specs.Map.Iter.{deref_pair}
+use Rattle.std.specs.BTreeMap.{BTreeMap}
+use Rattle.std.specs.FinMap.{empty, insert, retain_keys}
+use Rattle.occ_types.specs.Key.{key_cmp}
+use Rattle.occ_types.specs.Question.{Span}
 use Rattle.occ_types.specs.Row.{Row}
 use Rattle.occ_types.specs.Seen.{key_of}
-use Rattle.occ_types.specs.declared.objects.Object as code_object
-use Rattle.occ_model.specs.State.{State}
-use Rattle.occ_core.specs.Kept.{named}
+use Rattle.occ_types.specs.declared.keys.Key as code_key
+use Rattle.occ_model.specs.State.{State, answer}
 
--- the first object that a range may ask for: no key is below the number 0
-abbrev pub first_object : ℕ → Option Key → Object
-first_object table lower = (table, unwrap_or lower (Num 0))
-
--- the first object behind a range: that of the upper end, or the first one of the next table, if there is one
-abbrev pub end_object : ℕ → ℕ → Option Key → Option Object
-end_object last table (Some key) = Some (table, key)
-end_object last table None = cond (nat_eq table last) None (Some (table + 1, Num 0))
-
--- whether there is an end, and it stands below the first object
-abbrev pub is_backward : Object → Option Object → Bool
-is_backward first None = false
-is_backward first (Some end) = is_gt (object_cmp first end)
+-- a table has the same rows in two states
+abbrev pub SameTable : ℕ → State → State → Type 0
+SameTable table s t = answer (Span table None None) s ≡ answer (Span table None None) t
 
 module _ {Z : Type 0} where
-  -- the state of some entries
-  unfoldable pub state_of : List (code_object.Object Z × Row) → State
-  state_of entries = finite.from_entries (map named entries)
+  -- the keys and rows behind references
+  abbrev pub lent : List (Bor (code_key.Key Z) × Bor Row) → List (code_key.Key Z × Row)
+  lent = map deref_pair
 
-  -- the keys and rows of those entries that are of a table
-  abbrev pub rows_in : ℕ → List (code_object.Object Z × Row) → List (Key × Row)
-  rows_in table entries = map (λ e. (key_of e.0.key, e.1)) (filter (λ e. nat_eq e.0.table table) entries)
+  -- the keys of lent rows are in order
+  abbrev pub IsInOrder : List (Bor (code_key.Key Z) × Bor Row) → Type 0
+  IsInOrder es = IsStrictlySortedBy (λ a b. key_cmp (key_of a.now) (key_of b.now)) (keys_of es)
+
+  -- a state with these rows of a table in place of those that it has there
+  abbrev pub with_table : ℕ → List (code_key.Key Z × Row) → State → State
+  with_table table [] state = retain_keys state (λ object. not (nat_eq object.0 table))
+  with_table table (e ∷ es) state = insert (with_table table es state) (table, key_of e.0) e.1
+
+  -- the state of some tables, each with its map
+  unfoldable pub state_of : List (ℕ × BTreeMap (Bor (code_key.Key Z)) (Bor Row)) → State
+  state_of [] = empty
+  state_of (e ∷ es) = with_table e.0 (lent e.1.entries) (state_of es)

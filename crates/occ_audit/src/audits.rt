@@ -1,16 +1,18 @@
 //! The audit of a log.
-ghost use Rattle.std.specs.Prelude.{◌≡◌, IfOk};
+ghost use Rattle.std.specs.Prelude.{◌≡◌, IfOk, IfErr};
 ghost use Rattle.std.specs.Bool.{Decides};
+ghost use Rattle.occ_types.specs.declared.fault.Fault.TheVariants.{Memory};
 ghost use Rattle.occ_core.specs.Rows.{log_of};
-ghost use Rattle.occ_model.specs.Log.{Audited, Explained, settled, serial};
+ghost use Rattle.occ_model.specs.Log.{Audited};
 ghost use Rattle.occ_model.specs.World.{empty_base};
 ghost use Rattle.occ_core.specs.Core.{marks_of};
 
 use crate::order::{are_closed, are_placed, last_numbers};
-use crate::replay::{replay, settle};
-use crate::replica::Replica;
+use crate::replay::replay;
+use crate::rests::{are_settled, rests_of};
 use occ_core::{LogRow, Tables};
-use std::alloc::{AllocError, Allocator};
+use occ_types::Fault;
+use std::alloc::Allocator;
 use std::collections::BTreeMap;
 
 /// What is audited: a whole log, from the empty state on, with the closing marks and the tables that are claimed to belong to it.
@@ -26,11 +28,12 @@ pub struct Book<'a, A: Allocator> {
 
 /// Whether the whole claim on a log holds: places and each session's numbers stand without a gap, and none comes after its closing mark; each committed transaction read what serial replay of those before it answers; and the tables, with the rest of each open write phase, are the replay of the whole log.
 ///
-/// The numbers of the log may be any. The time is linear in the log, in what its rows read and write and in the rows of the tables, but for a factor for each search in a map; the memory is linear in the rows of the tables and of the log.
+/// The numbers of the log may be any, and its rows may write to tables that are not there. The time is linear in the log, in what its rows read and write and in the rows of the tables, but for a factor for each search in a map. No key and no row is copied: the memory is that of a map of references to the rows of the replayed state, and of a few words for each session and each write that is still to be done.
 ///
-/// It is an error where there is no memory.
-pub fn audit_rows<A: Allocator + Copy>(alloc: A, book: &Book<'_, A>) -> Result<bool, AllocError>
-    ensures { IfOk result (λ yes. Decides yes (Audited empty_base (marks_of book.now.marks.now) book.now.tables.now.state (log_of book.now.log.now))) }
+/// It is refused with `Memory` where there is none.
+pub fn audit_rows<A: Allocator + Copy>(alloc: A, book: &Book<'_, A>) -> Result<bool, Fault>
+    ensures ok { IfOk result (λ yes. Decides yes (Audited empty_base (marks_of book.now.marks.now) book.now.tables.now.state (log_of book.now.log.now))) }
+    ensures err { IfErr result (λ fault. fault ≡ Memory) }
 {
     if !are_placed(book.log) {
         return Ok(false);
@@ -44,7 +47,7 @@ pub fn audit_rows<A: Allocator + Copy>(alloc: A, book: &Book<'_, A>) -> Result<b
     let Some(replayed) = replay(alloc, book.log)? else {
         return Ok(false);
     };
-    let mut table = Replica::of_tables(alloc, book.tables)?;
-    settle(&mut table, book.log)?;
-    Ok(table.same(&replayed))
+    let rests = rests_of(alloc, book.log)?;
+    let settled = are_settled(book.tables, &rests, replayed)?;
+    Ok(settled)
 }

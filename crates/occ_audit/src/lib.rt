@@ -5,6 +5,7 @@ pub mod audits;
 mod order;
 mod replay;
 mod replica;
+mod rests;
 #[cfg(test)]
 mod tests;
 

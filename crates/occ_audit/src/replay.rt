@@ -1,10 +1,9 @@
-//! Serial replay of a log, and the table with the rest of each open write phase.
-ghost use Rattle.std.specs.Prelude.{◌≡◌, true, IfOk, OnOk, MatchOption};
+//! Serial replay of a log.
+ghost use Rattle.std.specs.Prelude.{◌≡◌, true, IfOk, MatchOption};
 ghost use Rattle.std.specs.Bool.{Decides};
 ghost use Rattle.std.specs.FinMap as finite;
 ghost use Rattle.occ_core.specs.Rows.{log_of, log_row_of, standing_of};
-ghost use Rattle.occ_model.specs.State.{apply};
-ghost use Rattle.occ_model.specs.Log.{AreAnswers, Explained, is_committed, after, serial, settled, rest};
+ghost use Rattle.occ_model.specs.Log.{AreAnswers, Explained, is_committed, after, serial};
 
 use crate::replica::Replica;
 use occ_core::{LogRow, Standing};
@@ -12,10 +11,10 @@ use occ_sets::ReadSet;
 use std::alloc::{AllocError, Allocator};
 
 // The state that serial replay of a log makes, or none where some committed row read what the replay of those before it doesn't answer.
-pub(crate) fn replay<A: Allocator + Clone>(
+pub(crate) fn replay<'a, A: Allocator + Copy>(
     alloc: A,
-    log: &[LogRow<A>],
-) -> Result<Option<Replica<A>>, AllocError>
+    log: &'a [LogRow<A>],
+) -> Result<Option<Replica<'a, A>>, AllocError>
     ensures { IfOk result (λ found. MatchOption found
         (Explained finite.empty (log_of log.now) → ⊥)
         (λ replica. Explained finite.empty (log_of log.now) × (replica ≡ serial finite.empty (log_of log.now)))) }
@@ -30,17 +29,20 @@ pub(crate) fn replay<A: Allocator + Clone>(
 }
 
 // Plays one row: false where it is committed and read something else than the state answers.
-fn play<A: Allocator + Clone>(replica: &mut Replica<A>, row: &LogRow<A>) -> Result<bool, AllocError>
+fn play<'a, A: Allocator + Copy>(
+    replica: &mut Replica<'a, A>,
+    row: &'a LogRow<A>,
+) -> Result<bool, AllocError>
     ensures explained { IfOk result (λ yes. Decides yes (is_committed (standing_of row.now.standing) ≡ true → AreAnswers replica.old row.now.reads)) }
     ensures played { IfOk result (λ yes. yes ≡ true → replica.new ≡ after replica.old (log_row_of row.now)) }
 {
     if !is_committed(&row.standing) {
         return Ok(true);
     }
-    if !are_answers(replica, row.reads.get())? {
+    if !are_answers(replica, row.reads.get()) {
         return Ok(false);
     }
-    replica.write(row.writes.get(), 0)?;
+    replica.write(row.writes.get())?;
     Ok(true)
 }
 
@@ -52,42 +54,13 @@ fn is_committed<A: Allocator>(standing: &Standing<A>) -> bool
 }
 
 // Whether the state answers each question as it was answered.
-fn are_answers<A: Allocator + Clone>(
-    replica: &Replica<A>,
-    reads: &ReadSet<A>,
-) -> Result<bool, AllocError>
-    ensures { IfOk result (λ yes. Decides yes (AreAnswers replica.now reads.now)) }
+fn are_answers<'a, A: Allocator + Copy>(replica: &Replica<'a, A>, reads: &'a ReadSet<A>) -> bool
+    ensures { Decides result (AreAnswers replica.now reads.now) }
 {
     for seen in reads.observations() {
-        if !replica.answers(&seen.question, &seen.answer)? {
-            return Ok(false);
+        if !replica.answers(&seen.question, &seen.answer) {
+            return false;
         }
     }
-    Ok(true)
-}
-
-// Does what each open write phase has still to do, in the order of entry.
-pub(crate) fn settle<A: Allocator + Clone>(
-    table: &mut Replica<A>,
-    log: &[LogRow<A>],
-) -> Result<(), AllocError>
-    ensures { OnOk result (table.new ≡ settled table.old (log_of log.now)) }
-{
-    for row in log {
-        settle_row(table, row)?;
-    }
-    Ok(())
-}
-
-// Does the rest of a row's writes.
-fn settle_row<A: Allocator + Clone>(
-    table: &mut Replica<A>,
-    row: &LogRow<A>,
-) -> Result<(), AllocError>
-    ensures { OnOk result (table.new ≡ apply table.old (rest (log_row_of row.now))) }
-{
-    match &row.standing {
-        Standing::Writing(done) => table.write(row.writes.get(), *done),
-        _ => Ok(()),
-    }
+    true
 }

@@ -1,18 +1,16 @@
-//! A state that is replayed, with a row under each object that is there. It takes writes to any table.
-ghost use Rattle.std.specs.Prelude.{◌≡◌, ◌∷◌, drop, length, IfOk, OnOk, Some, slice_get};
+//! A state that is replayed. It has no row of its own: the log and the tables lend it theirs.
+ghost use Rattle.std.specs.Prelude.{◌≡◌, ◌<◌, ◌≤◌, ℕ, OnOk};
 ghost use Rattle.std.specs.Bool.{Decides};
-ghost use Rattle.std.specs.Option.{option_copied, option_map};
+ghost use Rattle.std.specs.Option.{option_copied};
 ghost use Rattle.std.specs.FinMap as finite;
-ghost use Rattle.std.specs.Ordering.{is_gt};
 ghost use Rattle.std.specs.Range.Bound.{bound_map};
-ghost use Rattle.std.specs.BTreeMap.{IsOrdered};
-ghost use Rattle.occ_types.specs.Object.{object_cmp};
+ghost use Rattle.occ_types.specs.Object as objects;
 ghost use Rattle.occ_types.specs.Question.{Span};
-ghost use Rattle.occ_types.specs.Seen.{key_of, end_of, object_of, question_of};
+ghost use Rattle.occ_types.specs.Seen.{end_of, object_of, question_of};
 ghost use Rattle.occ_sets.specs.Seen.{answer_of, rows_of};
-ghost use Rattle.occ_core.specs.Kept.{upper_bound};
+ghost use Rattle.occ_core.specs.Kept.{is_backward, lower_bound, upper_bound};
 ghost use Rattle.occ_model.specs.State.{put, apply, answer, Rows};
-ghost use Rattle.occ_audit.specs.Replica.{first_object, end_object, is_backward, rows_in};
+ghost use Rattle.occ_audit.specs.Replica.{lent, IsInOrder, SameTable};
 
 use occ_core::Tables;
 use occ_sets::{Answer, WriteSet};
@@ -23,13 +21,16 @@ use std::collections::btree_map::Range;
 use std::marker::Model;
 use std::ops::Bound;
 
-/// A state, kept as one map under the names of the rows. Clauses see the state of the model.
-#[derive(Drop)]
-pub(crate) struct Replica<A: Allocator> {
-    rows: BTreeMap<Object<A>, Row<A>, A>,
+/// The rows of one table under their keys, all of them lent.
+type LentRows<'a, A> = BTreeMap<&'a Key<A>, &'a Row<A>, A>;
+
+/// A state with a map for each table that was ever written. Tables may have any place, also one that no schema has. Clauses see the state of the model.
+pub(crate) struct Replica<'a, A: Allocator> {
+    alloc: A,
+    tables: BTreeMap<usize, LentRows<'a, A>, A>,
 }
 
-impl<A: Allocator> Model for Replica<A> {
+impl<'a, A: Allocator> Model for Replica<'a, A> {
     ghost use Rattle.occ_model.specs.State.{State};
 
     ghost Value = { State };
@@ -40,52 +41,50 @@ impl<A: Allocator> Model for Replica<A> {
 
     ghost use Rattle.occ_audit.specs.Replica.{state_of};
 
-    ghost view = { λ replica. state_of replica.rows.entries };
+    ghost view = { λ replica. state_of replica.tables.entries };
 }
 
-impl<A: Allocator + Clone> Replica<A> {
+// A derived `drop` of a map of maps with lent keys gets no proof, so the maps are taken out one after another.
+impl<'a, A: Allocator> Drop for Replica<'a, A> {
+    fn drop(self) {
+        let Replica { alloc, mut tables } = self;
+        drop(alloc);
+        while let Some((_, rows)) = tables.pop_first() {
+            drop(rows);
+        }
+        tables.destroy_empty();
+    }
+}
+
+impl<'a, A: Allocator + Copy> Replica<'a, A> {
     // A state without rows, which takes no memory.
-    pub(crate) fn new(alloc: A) -> Replica<A>
+    pub(crate) fn new(alloc: A) -> Replica<'a, A>
         ensures { result ≡ finite.empty }
     {
         Replica {
-            rows: BTreeMap::new(alloc),
+            alloc,
+            tables: BTreeMap::new(alloc),
         }
     }
 
-    // The rows of all tables.
-    pub(crate) fn of_tables(alloc: A, tables: &Tables<A>) -> Result<Replica<A>, AllocError>
-        ensures { IfOk result (λ replica. replica ≡ tables.now.state) }
+    // The row of an object, or none where it is not there.
+    pub(crate) fn row(&self, object: &'a Object<A>) -> Option<&'a Row<A>>
+        ensures { option_copied result ≡ finite.get self.now (object_of object.now) }
     {
-        let mut rows = tables.named_rows()?;
-        let mut replica = Replica::new(alloc);
-        while let Some((object, row)) = rows.pop() {
-            replica.insert(object, row)?;
-        }
-        Ok(replica)
-    }
-
-    // Sets the row of an object.
-    fn insert(&mut self, object: Object<A>, row: Row<A>) -> Result<(), AllocError>
-        ensures { OnOk result (self.new ≡ finite.insert self.old (object_of object) row) }
-    {
-        self.rows.insert(object, row)?;
-        Ok(())
-    }
-
-    // Deletes the row of an object, where there is one.
-    fn delete(&mut self, object: &Object<A>)
-        ensures { self.new ≡ finite.remove self.old (object_of object.now) }
-    {
-        let _deleted = self.rows.remove(object);
+        let rows = self.tables.get(&object.table)?;
+        rows.get(&&object.key).copied()
     }
 
     // Does one write.
-    fn put(&mut self, object: &Object<A>, row: Option<&Row<A>>) -> Result<(), AllocError>
+    pub(crate) fn put(
+        &mut self,
+        object: &'a Object<A>,
+        row: Option<&'a Row<A>>,
+    ) -> Result<(), AllocError>
         ensures { OnOk result (self.new ≡ put self.old (object_of object.now, option_copied row.entry)) }
     {
         match row {
-            Some(row) => self.insert(object.clone()?, row.clone()?),
+            Some(row) => self.insert(object, row),
             None => {
                 self.delete(object);
                 Ok(())
@@ -93,11 +92,37 @@ impl<A: Allocator + Clone> Replica<A> {
         }
     }
 
-    // Does the writes of a set in their order, without those before the place `from`.
-    pub(crate) fn write(&mut self, writes: &WriteSet<A>, from: usize) -> Result<(), AllocError>
-        ensures { OnOk result (self.new ≡ apply self.old (drop from writes.now)) }
+    // Sets the row of an object.
+    fn insert(&mut self, object: &'a Object<A>, row: &'a Row<A>) -> Result<(), AllocError>
+        ensures { OnOk result (self.new ≡ put self.old (object_of object.now, Some row.now)) }
     {
-        for place in from..writes.len() {
+        if let Some(rows) = self.tables.get_mut(&object.table) {
+            rows.insert(&object.key, row)?;
+            return Ok(());
+        }
+        let mut rows = BTreeMap::new(self.alloc);
+        rows.insert(&object.key, row)?;
+        // without `?`, since a conversion of the refused map gets no proof
+        match self.tables.insert(object.table, rows) {
+            Ok(_absent) => Ok(()),
+            Err(_refused) => Err(AllocError),
+        }
+    }
+
+    // Deletes the row of an object, where there is one.
+    fn delete(&mut self, object: &'a Object<A>)
+        ensures { self.new ≡ put self.old (object_of object.now, None) }
+    {
+        if let Some(rows) = self.tables.get_mut(&object.table) {
+            let _deleted = rows.remove(&&object.key);
+        }
+    }
+
+    // Does the writes of a set in their order.
+    pub(crate) fn write(&mut self, writes: &'a WriteSet<A>) -> Result<(), AllocError>
+        ensures { OnOk result (self.new ≡ apply self.old writes.now) }
+    {
+        for place in 0..writes.len() {
             if let Some((object, row)) = writes.write_at(place) {
                 self.put(object, row)?;
             }
@@ -106,17 +131,11 @@ impl<A: Allocator + Clone> Replica<A> {
     }
 
     // Whether the state answers a question so.
-    pub(crate) fn answers(
-        &self,
-        question: &Question<A>,
-        given: &Answer<A>,
-    ) -> Result<bool, AllocError>
-        ensures { IfOk result (λ yes. Decides yes (answer_of given.now ≡ answer (question_of question.now) self.now)) }
+    pub(crate) fn answers(&self, question: &'a Question<A>, given: &'a Answer<A>) -> bool
+        ensures { Decides result (answer_of given.now ≡ answer (question_of question.now) self.now) }
     {
         match (question, given) {
-            (Question::One(object), Answer::Found(row)) => {
-                Ok(self.rows.get(object) == row.as_ref())
-            }
+            (Question::One(object), Answer::Found(row)) => self.row(object) == row.as_ref(),
             (
                 Question::Span {
                     table,
@@ -124,132 +143,123 @@ impl<A: Allocator + Clone> Replica<A> {
                     upper,
                 },
                 Answer::Rows(rows),
-            ) => self.answers_rows(*table, lower, upper, rows.as_slice()),
-            (Question::One(_), Answer::Rows(_)) => Ok(false),
-            (Question::Span { .. }, Answer::Found(_)) => Ok(false),
+            ) => self.answers_range(*table, lower, upper, rows.as_slice()),
+            (Question::One(_), Answer::Rows(_)) => false,
+            (Question::Span { .. }, Answer::Found(_)) => false,
         }
     }
 
     // Whether the state answers these rows to a range.
-    fn answers_rows(
+    fn answers_range(
         &self,
         table: usize,
-        lower: &Option<Key<A>>,
-        upper: &Option<Key<A>>,
-        given: &[(Key<A>, Row<A>)],
-    ) -> Result<bool, AllocError>
-        ensures { IfOk result (λ yes. Decides yes (Rows (rows_of given.now) ≡ answer (Span table (end_of lower.now) (end_of upper.now)) self.now)) }
+        lower: &'a Option<Key<A>>,
+        upper: &'a Option<Key<A>>,
+        given: &'a [(Key<A>, Row<A>)],
+    ) -> bool
+        ensures { Decides result (Rows (rows_of given.now) ≡ answer (Span table (end_of lower.now) (end_of upper.now)) self.now) }
     {
-        let first = first_object(table, lower)?;
-        let end = end_object(table, upper)?;
-        // a map may not be asked for a range that runs backwards; `len` tells that the objects are in order
-        if self.rows.len() == 0 || is_backward(&first, &end) {
-            return Ok(given.is_empty());
+        let lower = lower.as_ref();
+        let upper = upper.as_ref();
+        match self.tables.get(&table) {
+            // a map may not be asked for a range that runs backwards
+            Some(rows) if !is_backward(&lower, &upper) => {
+                are_given(
+                    rows.range((lower_bound(&lower), upper_bound(&upper))),
+                    given,
+                )
+            }
+            _ => given.is_empty(),
         }
-        let rows = self.rows.range((Bound::Included(&first), end_bound(&end)));
-        Ok(are_rows(rows, table, given))
     }
 
-    // Whether two states are the same.
-    pub(crate) fn same(&self, other: &Replica<A>) -> bool
-        ensures { Decides result (self.now ≡ other.now) }
+    // Whether the state is that of these tables.
+    pub(crate) fn is_of(&self, tables: &'a Tables<A>) -> bool
+        ensures { Decides result (tables.now.state ≡ self.now) }
     {
-        // `len` tells that the objects are in order
-        self.rows.len() == other.rows.len() && self.rows == other.rows
+        let count = tables.count();
+        for table in 0..count {
+            if !self.has_table(tables, table) {
+                return false;
+            }
+        }
+        self.is_from(tables, count)
+    }
+
+    // Whether the state is that of these tables, where all below `first` have the same rows and none is there from it on.
+    fn is_from(&self, tables: &'a Tables<A>, first: usize) -> bool
+        requires below { (table : ℕ) → table < first → SameTable table tables.now.state self.now }
+        requires no_more { (object : objects.Object) → first ≤ object.0 → finite.get tables.now.state object ≡ None }
+        ensures { Decides result (tables.now.state ≡ self.now) }
+    {
+        for (table, _) in self.tables.range(first..) {
+            if !self.has_table(tables, *table) {
+                return false;
+            }
+        }
+        true
+    }
+
+    // Whether a table has the same rows in the state as among these tables.
+    fn has_table(&self, tables: &'a Tables<A>, table: usize) -> bool
+        ensures { Decides result (SameTable table tables.now.state self.now) }
+    {
+        // `count` tells that no row stands in a table that is not there
+        let _count = tables.count();
+        match (tables.table(table), self.tables.get(&table)) {
+            (Some(kept), Some(rows)) => are_kept(rows, kept),
+            (Some(kept), None) => kept.len() == 0,
+            (None, Some(rows)) => rows.len() == 0,
+            (None, None) => true,
+        }
     }
 }
 
-// The first object that a range may ask for.
-fn first_object<A: Allocator + Clone>(
-    table: usize,
-    lower: &Option<Key<A>>,
-) -> Result<Object<A>, AllocError>
-    ensures { IfOk result (λ object. object_of object ≡ first_object table (end_of lower.now)) }
+// Whether rows are those that were given, in their order.
+fn are_given<'a, A: Allocator>(
+    rows: Range<'_, &'a Key<A>, &'a Row<A>>,
+    given: &'a [(Key<A>, Row<A>)],
+) -> bool
+    ensures { Decides result (rows_of given.now ≡ rows_of (lent rows.entry)) }
+{
+    rows.map(|(key, row)| (*key, *row))
+        .eq(given.iter().map(|(key, row)| (key, row)))
+}
+
+// Whether rows are those of a table.
+fn are_kept<'a, A: Allocator>(rows: &LentRows<'a, A>, kept: &'a BTreeMap<Key<A>, Row<A>, A>) -> bool
+    ensures same { Decides result (rows_of kept.now.entries ≡ rows_of (lent rows.now.entries)) }
+    ensures ordered { IsInOrder rows.now.entries }
+{
+    rows.iter().map(|(key, row)| (*key, *row)).eq(kept)
+}
+
+// Whether both ends of a range are there, and the lower one is above the upper one.
+fn is_backward<A: Allocator>(lower: &Option<&Key<A>>, upper: &Option<&Key<A>>) -> bool
+    ensures { result ≡ is_backward (end_of (option_copied lower.now)) (end_of (option_copied upper.now)) }
+{
+    match (lower, upper) {
+        (Some(lower), Some(upper)) => lower > upper,
+        _ => false,
+    }
+}
+
+// A lower end as a bound, which lies within the range.
+fn lower_bound<K>(lower: &Option<K>) -> Bound<&K>
+    ensures { bound_map (λ end. end.now) result ≡ lower_bound lower.now }
 {
     match lower {
-        Some(key) => Ok(Object {
-            table,
-            key: key.clone()?,
-        }),
-        None => Ok(Object {
-            table,
-            key: Key::Num(0),
-        }),
-    }
-}
-
-// The first object behind a range, or none where the table is the last that can be named.
-fn end_object<A: Allocator + Clone>(
-    table: usize,
-    upper: &Option<Key<A>>,
-) -> Result<Option<Object<A>>, AllocError>
-    ensures { IfOk result (λ object. option_map object_of object ≡ end_object usize.MAX table (end_of upper.now)) }
-{
-    match upper {
-        Some(key) => Ok(Some(Object {
-            table,
-            key: key.clone()?,
-        })),
-        None if table == usize::MAX => Ok(None),
-        None => Ok(Some(Object {
-            table: table + 1,
-            key: Key::Num(0),
-        })),
-    }
-}
-
-// Whether the end of a range stands below its first object.
-fn is_backward<A: Allocator>(first: &Object<A>, end: &Option<Object<A>>) -> bool
-    ensures { result ≡ is_backward (object_of first.now) (option_map object_of end.now) }
-{
-    match end {
-        Some(end) => first > end,
-        None => false,
-    }
-}
-
-// The end of a range, which lies outside.
-fn end_bound<A: Allocator>(end: &Option<Object<A>>) -> Bound<&Object<A>>
-    ensures { bound_map (λ object. object.now) result ≡ upper_bound end.now }
-{
-    match end {
-        Some(end) => Bound::Excluded(end),
+        Some(end) => Bound::Included(end),
         None => Bound::Unbounded,
     }
 }
 
-// Whether these are the rows of a table among some rows, in their order.
-fn are_rows<A: Allocator>(
-    rows: Range<'_, Object<A>, Row<A>>,
-    table: usize,
-    given: &[(Key<A>, Row<A>)],
-) -> bool
-    ensures { Decides result (rows_of given.now ≡ rows_in table rows.entry) }
+// An upper end as a bound, which lies outside of the range.
+fn upper_bound<K>(upper: &Option<K>) -> Bound<&K>
+    ensures { bound_map (λ end. end.now) result ≡ upper_bound upper.now }
 {
-    let count = given.len();
-    let mut place = 0;
-    for (object, row) in rows {
-        if object.table == table {
-            if !stands_at(given, place, &object.key, row) {
-                return false;
-            }
-            place += 1;
-        }
-    }
-    place == count
-}
-
-// Whether a key and its row stand at a place.
-fn stands_at<A: Allocator>(
-    given: &[(Key<A>, Row<A>)],
-    place: usize,
-    key: &Key<A>,
-    row: &Row<A>,
-) -> bool
-    ensures { Decides result (slice_get (rows_of given.now) place ≡ Some (key_of key.now, row.now)) }
-{
-    match given.get(place) {
-        Some((other, other_row)) => other == key && other_row == row,
-        None => false,
+    match upper {
+        Some(end) => Bound::Excluded(end),
+        None => Bound::Unbounded,
     }
 }

@@ -15,10 +15,10 @@ use Rattle.occ_types.specs.Schema.{Table, check_tables}
 use Rattle.occ_types.specs.Seen.{table_asked}
 use Rattle.occ_text.specs.Spelling.{IsToken}
 use Rattle.occ_text.specs.Reading.{is_token, tokens_of}
-use Rattle.occ_text.specs.Line.{IsLine, HasNoFeed, lines_text}
+use Rattle.occ_text.specs.Line.{IsLine, HasNoFeed, CannotStand, AtEnd, NoLine, OtherLine, lines_text}
 use Rattle.occ_text.specs.Headers.{TableFits, count_text, key_kind_word, kind_word, table_tokens, table_text}
 use Rattle.occ_text.specs.HeaderReading.{table_of_tokens, table_of_line}
-use Rattle.occ_text.specs.HeaderTaking.{CannotStand, AtEnd, NoLine, OtherLine, TablesSoFar}
+use Rattle.occ_text.specs.HeaderTaking.{TablesSoFar}
 use Rattle.occ_text.proofs.Escapes.{some_is, bind_value}
 use Rattle.occ_text.proofs.Words.{IsToken-from_test, tokens_takes}
 use Rattle.occ_text.proofs.StepLines.{two_tokens}

@@ -21,11 +21,11 @@ use Rattle.occ_model.specs.State.{State, Write, Observation, Found, Rows}
 use Rattle.occ_model.specs.Overlay.{own}
 use Rattle.occ_model.specs.RangeLaws.{IsDistinctWrites}
 use Rattle.occ_model.specs.Log.{LogRow, Standing, Open, Writing, Done, Back}
-use Rattle.occ_text.specs.Headers.{Header, HeaderFits, table_text}
+use Rattle.occ_text.specs.Headers.{Header, HeaderFits, limits_of, limits_lines, table_text}
 use Rattle.occ_text.specs.HeaderTaking.{TablesSoFar}
 use Rattle.occ_text.proofs.Words.{both}
 use Rattle.occ_text.proofs.SchemaLines.{IsSchema-from_check}
-use Rattle.occ_print.specs.Books.{Book, settings_lines, header_lines, pair_line, read_lines, write_line, row_line, row_lines, log_lines, mark_line, mark_lines, at_line, row_count, state_lines, counter_line, book_lines}
+use Rattle.occ_print.specs.Books.{Book, header_lines, pair_line, read_lines, write_line, row_line, row_lines, log_lines, mark_line, mark_lines, at_line, row_count, state_lines, counter_line, book_lines}
 use Rattle.occ_books.specs.declared.heads.Head.{Head}
 use Rattle.occ_books.specs.declared.heads.Stand.{Stand}
 use Rattle.occ_books.specs.declared.heads.Stand.TheVariants as stands
@@ -36,6 +36,7 @@ use Rattle.occ_books.specs.Places.{Frame, InRow, frame_of, in_row, Place, rows_t
 use Rattle.occ_books.specs.Places as places
 use Rattle.occ_books.specs.Printed.{EntryFits, BookFits, IsEnding}
 use Rattle.occ_books.proofs.Leading.{lead_on}
+use Rattle.occ_books.proofs.PartsLeading.{limits_lead}
 use Rattle.occ_books.proofs.RowTaking.{head_line}
 
 -- one line leads on
@@ -277,8 +278,8 @@ state_leads frame last (e ∷ es) fits sorted behind =
 
 header_leads : (header : Header) → HeaderFits header → LeadOn places.Version (header_lines header) (places.Tables header.sessions header.tables)
 header_leads header fits =
-    lead_on (settings_lines header) (map table_text header.tables) places.Version (places.Tables header.sessions []) (places.Tables header.sessions header.tables)
-    (places.Sessions, (refl, refl), (places.Queue header.sessions, (header.sessions, fits.sessions, refl, refl), (places.Keep header.sessions, (header.queue, fits.queue, refl, refl), (places.Tables header.sessions [], (header.keep, fits.keep, refl, refl), refl))))
+    lead_on (limits_lines (limits_of header)) (map table_text header.tables) places.Version (places.Tables header.sessions []) (places.Tables header.sessions header.tables)
+    (limits_lead (limits_of header) (record { sessions = fits.sessions; queue = fits.queue; keep = fits.keep }))
     (tables_lead header.sessions [] header.tables (IsSchema-from_check header.tables fits.tables).so_far)
 
 log_leads : (header : Header) (log : List LogRow) → HeaderFits header → length log ≤ 2 ^ 64 - 1 → AllByRecursion (LogRowFits header.tables header.sessions) log

@@ -139,10 +139,6 @@ asked-takes schema tokens asked h =
       ]
     ]
 
--- words before a last one
-abbrev spaced : List ℕ → List ℕ → List ℕ
-spaced a b = a ++ 32 ∷ b
-
 pub asked_spelling : (schema : Schema) (asked : Asked) → AskedFits schema asked → line_text (asked_tokens schema asked) ≡ asked_text schema asked
 asked_spelling schema (AskedOne object row) fits =
     let n = table_name schema object.0 in

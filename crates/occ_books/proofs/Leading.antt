@@ -1,15 +1,15 @@
 -- From lines that were taken to where they lead.
 use Rattle.std.proofs.Common.{◌≡◌, ℕ, suc, ◌+◌, ◌-◌, ◌<◌, ◌≤◌, List, [], ◌∷◌, ◌++◌, Option, Some, None, Result, Ok, Err, refl, sym, ap, subst, ◌∙◌, arith, length-append}
-use Rattle.std.specs.Prelude.{IfErr}
+use Rattle.std.specs.Result.{IsErrAnd}
 use Rattle.std.specs.Io.KnownBytes.{Consumes}
 use Rattle.std.proofs.KnownBytes.{Consumes-nil, Consumes-trans}
 use Rattle.std.proofs.lemmas.Grind.{flat_map-append}
 use Rattle.std.proofs.lemmas.List.{append_assoc}
-use Rattle.occ_text.specs.declared.trouble.Trouble.{Trouble}
-use Rattle.occ_text.specs.declared.trouble.Trouble.TheVariants as troubles
-use Rattle.occ_text.specs.Line.{IsLine, lines_text}
-use Rattle.occ_text.specs.HeaderTaking.{CannotStand, AtEnd, NoLine, OtherLine, Taken}
-use Rattle.occ_books.specs.Places.{Place, Leads, LeadOn, MayEnd, Unended, Led, Stopped, Unread as Torn, TakesFrom}
+use Rattle.occ_text.specs.declared.faults.ReadFault.{ReadFault}
+use Rattle.occ_text.specs.declared.faults.ReadFault.TheVariants as faults
+use Rattle.occ_text.specs.Line.{IsLine, CannotStand, OtherLine, NoneTaken, IsSpelled, Taken, lines_text}
+use Rattle.occ_text.proofs.Taking.{NoneTaken-narrower}
+use Rattle.occ_books.specs.Places.{Place, Leads, LeadOn, MayEnd, Unended, Led, Stopped, Unread as Torn, FailsFrom, TakesFrom}
 use Rattle.occ_books.proofs.Gathering.{one_line, more_lines}
 
 -- ---- lines lead on behind lines
@@ -63,37 +63,26 @@ led_unread p q a b c first mid l k = record {
   torn = k.torn;
 }
 
+-- lines were taken, and then none
+pub led_fails : (fault : ReadFault) (p q : Place) (a b c : Option (List ℕ)) (first mid : ℕ) → Led p q a b first mid → FailsFrom fault q b c mid → FailsFrom fault p a c first
+led_fails (faults.Malformed number) p q a b c first mid l t = led_stopped p q a b first mid number l t
+led_fails faults.Read p q a b c first mid l t = led_unread p q a b c first mid l t
+led_fails faults.Memory p q a b c first mid l t = tt
+
 -- lines were taken, and then what a call took
-pub led_then : {X : Type 0} (result : Result X Trouble) (p q : Place) (to : X → Place) (a b c : Option (List ℕ)) (first mid last : ℕ) → Led p q a b first mid → TakesFrom result q to b c mid last → TakesFrom result p to a c first last
+pub led_then : {X : Type 0} (result : Result X ReadFault) (p q : Place) (to : X → Place) (a b c : Option (List ℕ)) (first mid last : ℕ) → Led p q a b first mid → TakesFrom result q to b c mid last → TakesFrom result p to a c first last
 led_then (Ok x) p q to a b c first mid last l t = led_led p q (to x) a b c first mid last l t
-led_then (Err (troubles.Malformed number)) p q to a b c first mid last l t = led_stopped p q a b first mid number l t
-led_then (Err troubles.Read) p q to a b c first mid last l t = led_unread p q a b c first mid l t
-led_then (Err troubles.Write) p q to a b c first mid last l t = absurd t
-led_then (Err troubles.Memory) p q to a b c first mid last l t = tt
+led_then (Err fault) p q to a b c first mid last l t = led_fails fault p q a b c first mid l t
 
--- ---- a fault is handed on
+-- ---- a call that failed, by the exit of a `?`
 
-pub fault_on : {X Y : Type 0} (trouble : Trouble) (result : Result Y Trouble) (from : Place) (to : X → Place) (on : Y → Place) (a b : Option (List ℕ)) (first last end : ℕ) → result ≡ Err trouble
-    → TakesFrom {X = X} (Err trouble) from to a b first last → TakesFrom result from on a b first end
-fault_on (troubles.Malformed number) result from to on a b first last end is t = subst (λ r. TakesFrom r from on a b first end) (sym is) t
-fault_on troubles.Read result from to on a b first last end is t = subst (λ r. TakesFrom r from on a b first end) (sym is) t
-fault_on troubles.Write result from to on a b first last end is t = absurd t
-fault_on troubles.Memory result from to on a b first last end is t = subst (λ r. TakesFrom r from on a b first end) (sym is) tt
+pub failed : {X : Type 0} (fault : ReadFault) (result : Result X ReadFault) (from : Place) (to : X → Place) (a b : Option (List ℕ)) (first last : ℕ) → IsErrAnd result (λ e. e ≡ fault) → FailsFrom fault from a b first → TakesFrom result from to a b first last
+failed fault (Ok x) from to a b first last is t = absurd is
+failed fault (Err e) from to a b first last is t = subst (λ f. FailsFrom f from a b first) (sym is) t
 
 -- behind lines that were taken
-pub led_fault : {X Y : Type 0} (trouble : Trouble) (result : Result Y Trouble) (p q : Place) (to : X → Place) (on : Y → Place) (a b c : Option (List ℕ)) (first mid last end : ℕ) → result ≡ Err trouble
-    → Led p q a b first mid → TakesFrom {X = X} (Err trouble) q to b c mid last → TakesFrom result p on a c first end
-led_fault trouble result p q to on a b c first mid last end is l t =
-    fault_on trouble result p to on a c first last end is (led_then (Err trouble) p q to a b c first mid last l t)
-
--- memory was refused, of which nothing is said
-pub memory_fault : {X : Type 0} (result : Result X Trouble) (from : Place) (to : X → Place) (a b : Option (List ℕ)) (first last : ℕ) → result ≡ Err troubles.Memory → TakesFrom result from to a b first last
-memory_fault result from to a b first last is = subst (λ r. TakesFrom r from to a b first last) (sym is) tt
-
--- what lines led to stands, unless memory was refused
-pub led_unless_memory : {X : Type 0} (result : Result X Trouble) (p q : Place) (a b : Option (List ℕ)) (first last : ℕ) → IfErr result (λ trouble. trouble ≡ troubles.Memory) → Led p q a b first last → TakesFrom result p (λ _. q) a b first last
-led_unless_memory (Ok x) p q a b first last only l = l
-led_unless_memory (Err trouble) p q a b first last only l = memory_fault (Err trouble) p (λ _. q) a b first last (ap Err only)
+pub led_failed : {X : Type 0} (fault : ReadFault) (result : Result X ReadFault) (p q : Place) (to : X → Place) (a b c : Option (List ℕ)) (first mid last : ℕ) → IsErrAnd result (λ e. e ≡ fault) → Led p q a b first mid → FailsFrom fault q b c mid → TakesFrom result p to a c first last
+led_failed fault result p q to a b c first mid last is l t = failed fault result p to a c first last is (led_fails fault p q a b c first mid l t)
 
 -- ---- so many of a kind, one after another
 
@@ -104,16 +93,15 @@ begun at a n count =
     subst (λ k. Led (at count) (at k) a a n n) m (led_nothing (at count) a n)
 
 -- one more of them
-pub turn : {X : Type 0} (at : ℕ → Place) (result : Result X Trouble) (p : Place) (to : X → Place) (a b c : Option (List ℕ)) (first mid last count counter : ℕ) → counter < count
+pub turn : {X : Type 0} (at : ℕ → Place) (result : Result X ReadFault) (p : Place) (to : X → Place) (a b c : Option (List ℕ)) (first mid last count counter : ℕ) → counter < count
     → Led p (at (count - counter)) a b first mid → TakesFrom result (at (suc (count - (counter + 1)))) to b c mid last → TakesFrom result p to a c first last
 turn at result p to a b c first mid last count counter lt l t =
     let n : count - counter ≡ suc (count - (counter + 1)) = omega arith in
     led_then result p (at (suc (count - (counter + 1)))) to a b c first mid last (subst (λ k. Led p (at k) a b first mid) n l) t
 
-pub turn_fault : {X Y : Type 0} (at : ℕ → Place) (trouble : Trouble) (result : Result Y Trouble) (p : Place) (to : X → Place) (on : Y → Place) (a b c : Option (List ℕ)) (first mid last end count counter : ℕ) → result ≡ Err trouble → counter < count
-    → Led p (at (count - counter)) a b first mid → TakesFrom {X = X} (Err trouble) (at (suc (count - (counter + 1)))) to b c mid last → TakesFrom result p on a c first end
-turn_fault at trouble result p to on a b c first mid last end count counter is lt l t =
-    fault_on trouble result p to on a c first last end is (turn at (Err trouble) p to a b c first mid last count counter lt l t)
+pub turn_fails : (at : ℕ → Place) (fault : ReadFault) (p : Place) (a b c : Option (List ℕ)) (first mid count counter : ℕ) → counter < count
+    → Led p (at (count - counter)) a b first mid → FailsFrom fault (at (suc (count - (counter + 1)))) b c mid → FailsFrom fault p a c first
+turn_fails at fault p a b c first mid count counter lt l t = turn {X = Unit {0}} at (Err fault) p (λ done. p) a b c first mid mid count counter lt l t
 
 -- all of them
 pub turned : (at : ℕ → Place) (p : Place) (a b : Option (List ℕ)) (first last count counter : ℕ) → count ≤ counter → Led p (at (count - counter)) a b first last → Led p (at 0) a b first last
@@ -122,12 +110,6 @@ turned at p a b first last count counter is l =
     subst (λ k. Led p (at k) a b first last) n l
 
 -- ---- one line
-
--- what is no line of one kind is none of a kind of which each line is of the first one
-pub stands_not : (P Q : List ℕ → Type 0) (rest : Option (List ℕ)) → ((line : List ℕ) → Q line → P line) → CannotStand P rest → CannotStand Q rest
-stands_not P Q rest h (AtEnd ended) = AtEnd ended
-stands_not P Q rest h (NoLine none) = NoLine none
-stands_not P Q rest h (OtherLine line after taken alone other) = OtherLine line after taken alone (λ q. other (h line q))
 
 -- a line that leads on from a place
 abbrev pub LeadsOn : Place → List ℕ → Type 0
@@ -147,20 +129,18 @@ unread_here from part a b torn taken = record { lines = []; part = part; place =
 pub line_refused : (from : Place) (line : List ℕ) (a b : Option (List ℕ)) (first last number : ℕ) → (MayEnd from → ⊥) → Consumes a b (line ++ 10 ∷ []) × (last ≡ first + 1) × IsLine line → (LeadsOn from line → ⊥) → number ≡ last → Stopped from a first number
 line_refused from line a b first last number more taken other here = stopped_here from a first number more (OtherLine line b taken.0 taken.2 other) (here ∙ taken.1)
 
--- no line of a grammar was taken, without which none leads on
-pub taken_fault : {X Y Z : Type 0} (view : X → Y) (spell : Y → List ℕ) (fits : Y → Type 0) (trouble : Trouble) (result : Result Z Trouble) (from : Place) (to : Z → Place) (a b : Option (List ℕ)) (first last end : ℕ) → (MayEnd from → ⊥)
-    → ((line : List ℕ) → LeadsOn from line → (y : Y) × fits y × (line ≡ spell y)) → result ≡ Err trouble
-    → Taken view spell fits (Err trouble) a b first last → TakesFrom result from to a b first end
-taken_fault {Y = Y} view spell fits (troubles.Malformed number) result from to a b first last end more only is t =
-    subst (λ r. TakesFrom r from to a b first end) (sym is) (stopped_here from a first number more (stands_not (λ line. (y : Y) × fits y × (line ≡ spell y)) (LeadsOn from) a only t.0) t.1)
-taken_fault view spell fits troubles.Read result from to a b first last end more only is t = subst (λ r. TakesFrom r from to a b first end) (sym is) (unread_here from t.0 a b t.1 t.2)
-taken_fault view spell fits troubles.Write result from to a b first last end more only is t = absurd t
-taken_fault view spell fits troubles.Memory result from to a b first last end more only is t = subst (λ r. TakesFrom r from to a b first end) (sym is) tt
+-- no line of a kind was taken, and none of another kind leads on
+pub none_fails : (IsKind : List ℕ → Type 0) (fault : ReadFault) (from : Place) (a b : Option (List ℕ)) (first : ℕ) → (MayEnd from → ⊥) → ((line : List ℕ) → LeadsOn from line → IsKind line) → NoneTaken IsKind fault a b first → FailsFrom fault from a b first
+none_fails IsKind (faults.Malformed number) from a b first more only t =
+    let none = NoneTaken-narrower IsKind (LeadsOn from) (faults.Malformed number) a b first only t in
+    stopped_here from a first number more none.0 none.1
+none_fails IsKind faults.Read from a b first more only t = unread_here from t.0 a b t.1 t.2
+none_fails IsKind faults.Memory from a b first more only t = tt
 
 -- a line of a grammar, whose values lead on
-pub taken_led : {X Y : Type 0} (view : X → Y) (spell : Y → List ℕ) (fits : Y → Type 0) (result : Result X Trouble) (from : Place) (to : X → Place) (a b : Option (List ℕ)) (first last : ℕ) → (MayEnd from → ⊥)
+pub taken_led : {X Y : Type 0} (view : X → Y) (spell : Y → List ℕ) (fits : Y → Type 0) (result : Result X ReadFault) (from : Place) (to : X → Place) (a b : Option (List ℕ)) (first last : ℕ) → (MayEnd from → ⊥)
     → ((x : X) → fits (view x) → Leads from (spell (view x)) (to x))
-    → ((line : List ℕ) → LeadsOn from line → (y : Y) × fits y × (line ≡ spell y))
+    → ((line : List ℕ) → LeadsOn from line → IsSpelled spell fits line)
     → Taken view spell fits result a b first last → TakesFrom result from to a b first last
 taken_led view spell fits (Ok x) from to a b first last more leads only t = led_line from (to x) (spell (view x)) a b first last (leads x t.1) t.0 t.2
-taken_led view spell fits (Err trouble) from to a b first last more leads only t = taken_fault view spell fits trouble (Err trouble) from to a b first last last more only refl t
+taken_led view spell fits (Err fault) from to a b first last more leads only t = none_fails (IsSpelled spell fits) fault from a b first more only t

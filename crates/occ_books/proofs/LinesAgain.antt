@@ -1,11 +1,11 @@
 -- What is spelled so is read of a line.
-use Rattle.std.proofs.Common.{◌≡◌, ℕ, zero, suc, ◌^◌, ◌-◌, ◌==◌, ◌<◌, ◌≤◌, Bool, true, false, cond, [], ◌∷◌, Option, Some, None, lit<, refl, ap, ◌∙◌, arith}
+use Rattle.std.proofs.Common.{◌≡◌, ℕ, zero, suc, ◌^◌, ◌-◌, ◌==◌, ◌<◌, ◌≤◌, Bool, true, false, cond, List, [], ◌∷◌, Option, Some, None, lit<, refl, ap, ◌∙◌, arith}
 use Rattle.std.specs.Prelude.{option_map, option_and_then, codes}
 use Rattle.std.specs.Fmt.{decimal}
 use Rattle.std.proofs.lemmas.Bool.Decides.{Decides-eqb}
 use Rattle.occ_text.specs.Spelling.{IsToken, AreTokens}
-use Rattle.occ_text.specs.Reading.{is_token}
-use Rattle.occ_text.proofs.Numbers.{number_again}
+use Rattle.occ_text.specs.Reading.{Reads, is_token}
+use Rattle.occ_text.proofs.Numbers.{some_or_none, number_again}
 use Rattle.occ_text.proofs.Words.{IsToken-from_test, tokens_again}
 use Rattle.occ_text.proofs.Spelled.{IsToken-decimal}
 use Rattle.occ_text.proofs.StepLines.{one_token, more_tokens}
@@ -15,6 +15,7 @@ use Rattle.occ_books.specs.declared.heads.Stand.TheVariants.{Open, Writing, Done
 use Rattle.occ_books.specs.declared.heads.Head.{Head}
 use Rattle.occ_books.specs.declared.heads.Mark.{Mark}
 use Rattle.occ_books.specs.declared.heads.Counts.{Counts}
+use Rattle.occ_books.proofs.HeadLines.{head_line-takes, mark_line-takes, counts_line-takes}
 use Rattle.occ_books.specs.Cursors.{Tokens, before, next_word, next_number}
 use Rattle.occ_books.specs.Heads.{stand_tokens, head_tokens, head_text, mark_text, counts_text, IsSession, StandFits, HeadFits, MarkFits, CountsFit, bare_stand, counted_stand, stand_of, unless_zero, next_session, head_of, head_of_line, mark_of, mark_of_line, counts_of, counts_of_line}
 
@@ -121,3 +122,23 @@ unfolding counts_of_line counts_of next_word
 counts_line-again counts fits =
     ap (option_and_then counts_of) (tokens_again (counts_tokens counts) (counts_words counts fits))
     ∙ rw (number-again (2 ^ 64 - 1) counts.counter (codes "low" ∷ decimal counts.low ∷ []) wide fits.counter, number-again (2 ^ 64 - 1) counts.low [] wide fits.low) refl
+
+-- ---- the readers are right
+
+pub head_reads : (sessions : ℕ) (line : List ℕ) → sessions < 2 ^ 64 → Reads head_text (HeadFits sessions) line (head_of_line sessions line)
+head_reads sessions line small = record {
+  found = some_or_none (head_of_line sessions line) (λ head. (line ≡ head_text head) × HeadFits sessions head) (λ head h. head_line-takes sessions line head h);
+  again = λ head fits e. ap (head_of_line sessions) e ∙ head_line-again sessions head small fits;
+}
+
+pub mark_reads : (sessions : ℕ) (line : List ℕ) → sessions < 2 ^ 64 → Reads mark_text (MarkFits sessions) line (mark_of_line sessions line)
+mark_reads sessions line small = record {
+  found = some_or_none (mark_of_line sessions line) (λ mark. (line ≡ mark_text mark) × MarkFits sessions mark) (λ mark h. mark_line-takes sessions line mark h);
+  again = λ mark fits e. ap (mark_of_line sessions) e ∙ mark_line-again sessions mark small fits;
+}
+
+pub counts_reads : (line : List ℕ) → Reads counts_text CountsFit line (counts_of_line line)
+counts_reads line = record {
+  found = some_or_none (counts_of_line line) (λ counts. (line ≡ counts_text counts) × CountsFit counts) (λ counts h. counts_line-takes line counts h);
+  again = λ counts fits e. ap counts_of_line e ∙ counts_line-again counts fits;
+}

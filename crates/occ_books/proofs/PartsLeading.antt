@@ -1,6 +1,7 @@
 -- The parts of a book around its log, and where their lines lead.
 use Rattle.std.proofs.Common.{◌≡◌, ℕ, suc, ◌+◌, ◌-◌, ◌^◌, ◌<◌, Bool, true, false, ◌||◌, List, [], ◌∷◌, ◌++◌, map, length, get_or, Option, Some, None, Result, Ok, Err, ◌⊎◌, inl, inr, refl, sym, ap, subst, ◌∙◌, arith, length-append}
 use Rattle.std.specs.Prelude.{IfSome, codes}
+use Rattle.std.specs.Result.{IsErrAnd}
 use Rattle.std.specs.Str.{bytes_eq}
 use Rattle.std.specs.Io.KnownBytes.{Consumes, IsAtEnd}
 use Rattle.std.proofs.KnownBytes.{Consumes-nil}
@@ -13,11 +14,16 @@ use Rattle.occ_types.specs.Row.{Row}
 use Rattle.occ_types.specs.Schema.{Table, check_tables}
 use Rattle.occ_text.specs.declared.tokens.Unread.{Unread}
 use Rattle.occ_text.specs.declared.tokens.Unread.TheVariants as unread
-use Rattle.occ_text.specs.declared.trouble.Trouble.{Trouble}
-use Rattle.occ_text.specs.declared.trouble.Trouble.TheVariants as troubles
-use Rattle.occ_text.specs.Line.{Source, LineGives, BeginsNoLine, IsLine}
-use Rattle.occ_text.specs.Headers.{Within, count_text, table_text}
-use Rattle.occ_text.specs.HeaderTaking.{CannotStand, NoLine, OtherLine, Taken, TablesSoFar, table_behind}
+use Rattle.occ_text.specs.declared.headers.Limits.{Limits}
+use Rattle.occ_text.specs.declared.faults.LineFault.{LineFault}
+use Rattle.occ_text.specs.declared.faults.LineFault.TheVariants as line_faults
+use Rattle.occ_text.specs.declared.faults.ReadFault.{ReadFault}
+use Rattle.occ_text.specs.declared.faults.ReadFault.TheVariants as faults
+use Rattle.occ_text.specs.Faults.{read_fault, told, widened}
+use Rattle.occ_text.specs.Line.{Source, LineGives, BeginsNoLine, IsLine, NoLine, OtherLine, NoneTaken, IsSpelled, Taken, lines_text}
+use Rattle.occ_text.specs.Headers.{Within, LimitsFit, limits_lines, count_text, table_text}
+use Rattle.occ_text.specs.HeaderTaking.{BeginsLimits, LimitsTaken, TablesSoFar, table_behind}
+use Rattle.occ_text.proofs.WholeHeader.{session_line, queue_line, begins_1, begins_2, begins_3, begins_4}
 use Rattle.occ_text.specs.Reading.{Reads, is_token}
 use Rattle.occ_text.proofs.Words.{IsToken-from_test}
 use Rattle.occ_text.specs.Escapes.{Gives}
@@ -28,29 +34,82 @@ use Rattle.occ_books.specs.declared.heads.Mark.{Mark}
 use Rattle.occ_books.specs.declared.heads.Counts.{Counts}
 use Rattle.occ_books.specs.Heads.{MarkFits, CountsFit, mark_text, counts_text}
 use Rattle.occ_books.specs.Entries.{AtFits}
-use Rattle.occ_books.specs.Taking.{TakesLines, Further, OneTable, LogOf, further_text, FurtherFits, told, is_behind}
-use Rattle.occ_books.specs.Places.{Place, Frame, Version, Sessions, Queue, Keep, Tables, Marks, MarkOf, State, RowAt, Counter, Audit, End, rows_to_come, marks_to_come, state_to_come, Counted, Leads, MayEnd, Unended, Led, Stopped, TakesFrom, Ended, EndsFrom}
+use Rattle.occ_books.specs.Taking.{TakesLines, Further, OneTable, LogOf, further_text, FurtherFits, is_behind}
+use Rattle.occ_books.specs.Places.{Place, Frame, Version, Sessions, Queue, Keep, Tables, Marks, MarkOf, State, RowAt, Counter, Audit, End, rows_to_come, marks_to_come, state_to_come, Counted, Leads, LeadOn, MayEnd, Unended, Led, Stopped, FailsFrom, Ended, EndsFrom}
 use Rattle.occ_books.proofs.Gathering.{more_lines}
 use Rattle.occ_books.proofs.LinesAgain.{wide}
 use Rattle.occ_books.proofs.LineLengths.{count_is_line}
-use Rattle.occ_books.proofs.Leading.{LeadsOn, lead_on, led_nothing, led_line, led_led, led_stopped, led_unread, led_fault, stands_not, stopped_here, unread_here, line_refused, taken_led}
+use Rattle.occ_books.proofs.Leading.{LeadsOn, lead_on, led_nothing, led_line, led_led, led_stopped, led_fails, none_fails, unread_here, line_refused}
 
 -- ---- the first lines
 
-abbrev pub TookVersion : Option (List ℕ) → Option (List ℕ) → ℕ → ℕ → Type 0
-TookVersion a b first last = Consumes a b (codes "occ 1" ++ 10 ∷ []) × Unit {0} × (last ≡ first + 1)
+pub limits_lead : (limits : Limits) → LimitsFit limits → LeadOn Version (limits_lines limits) (Tables limits.sessions [])
+limits_lead limits fits = (
+  Sessions,
+  (refl, refl),
+  (Queue limits.sessions, (limits.sessions, fits.sessions, refl, refl), (Keep limits.sessions, (limits.queue, fits.queue, refl, refl), (Tables limits.sessions [], (limits.keep, fits.keep, refl, refl), refl))),
+)
+
+pub limits_led : (limits : Limits) (a b : Option (List ℕ)) (first last : ℕ) → Consumes a b (lines_text (limits_lines limits)) × LimitsFit limits × (last ≡ first + 4) → Led Version (Tables limits.sessions []) a b first last
+limits_led limits a b first last t = record { lines = limits_lines limits; taken = t.0; led = limits_lead limits t.1; here = t.2 }
+
+-- a beginning of lines that lead on leads on
+lead_front : (xs ys : List (List ℕ)) (p r : Place) → LeadOn p (xs ++ ys) r → (q : Place) × LeadOn p xs q
+lead_front [] ys p r h = (p, refl)
+lead_front (x ∷ xs) ys p r h = let q = lead_front xs ys h.0 r h.2 in (q.0, (h.0, h.1, q.1))
+
+-- where fewer than all four stand, a text doesn't end, and only a line that limits go on with leads on
+pub record Early (lines : List (List ℕ)) (place : Place) : Type 0 where
+  pub more : MayEnd place → ⊥
+  pub only : (line : List ℕ) → LeadsOn place line → BeginsLimits (lines ++ line ∷ [])
+
+early_at : (lines : List (List ℕ)) (p q : Place) → q ≡ p → Early lines p → Early lines q
+early_at lines p q is e = subst (Early lines) (sym is) e
+
+early_0 : Early [] Version
+early_0 = record { more = λ may. may; only = λ line leads. subst (λ (l : List ℕ). BeginsLimits (l ∷ [])) (sym leads.1.0) begins_1 }
+
+early_1 : Early (codes "occ 1" ∷ []) Sessions
+early_1 = record { more = λ may. may; only = λ line leads. subst (λ (l : List ℕ). BeginsLimits (codes "occ 1" ∷ l ∷ [])) (sym leads.1.2) (begins_2 leads.1.0 leads.1.1) }
+
+early_2 : (s : ℕ) → Within 1 64 s → Early (codes "occ 1" ∷ session_line s ∷ []) (Queue s)
+early_2 s sf = record { more = λ may. may; only = λ line leads. subst (λ (l : List ℕ). BeginsLimits (codes "occ 1" ∷ session_line s ∷ l ∷ [])) (sym leads.1.2) (begins_3 s leads.1.0 sf leads.1.1) }
+
+early_3 : (s q : ℕ) → Within 1 64 s → Within 1 1024 q → Early (codes "occ 1" ∷ session_line s ∷ queue_line q ∷ []) (Keep s)
+early_3 s q sf qf = record {
+  more = λ may. may;
+  only = λ line leads. subst (λ (l : List ℕ). BeginsLimits (codes "occ 1" ∷ session_line s ∷ queue_line q ∷ l ∷ [])) (sym leads.1.2) (begins_4 s q leads.1.0 sf qf leads.1.1);
+}
+
+-- the lines before a place, and the place
+early : (limits : Limits) (lines more : List (List ℕ)) (place : Place) → LimitsFit limits → limits_lines limits ≡ lines ++ more → length lines < 4 → LeadOn Version lines place → Early lines place
+early limits [] more place fits is few h = early_at [] Version place h early_0
+early limits (w ∷ []) more place fits is few h =
+    subst (λ (l : List ℕ). Early (l ∷ []) place) (sym h.1.0) (early_at (codes "occ 1" ∷ []) Sessions place (h.2 ∙ h.1.1) early_1)
+early limits (w ∷ x ∷ []) more place fits is few h =
+    let l = subst (λ p. Leads p x h.2.0) h.1.1 h.2.1 in
+    subst (λ (v : List ℕ). Early (v ∷ x ∷ []) place) (sym h.1.0) (subst (λ (v : List ℕ). Early (codes "occ 1" ∷ v ∷ []) place) (sym l.2)
+    (early_at (codes "occ 1" ∷ session_line l.0 ∷ []) (Queue l.0) place (h.2.2 ∙ l.3) (early_2 l.0 l.1)))
+early limits (w ∷ x ∷ y ∷ []) more place fits is few h =
+    let l = subst (λ p. Leads p x h.2.0) h.1.1 h.2.1 in
+    let k = subst (λ p. Leads p y h.2.2.0) l.3 h.2.2.1 in
+    subst (λ (v : List ℕ). Early (v ∷ x ∷ y ∷ []) place) (sym h.1.0) (subst (λ (v : List ℕ). Early (codes "occ 1" ∷ v ∷ y ∷ []) place) (sym l.2) (subst (λ (v : List ℕ). Early (codes "occ 1" ∷ session_line l.0 ∷ v ∷ []) place) (sym k.2)
+    (early_at (codes "occ 1" ∷ session_line l.0 ∷ queue_line k.0 ∷ []) (Keep l.0) place (h.2.2.2 ∙ k.3) (early_3 l.0 k.0 l.1 k.1))))
+early limits (w ∷ x ∷ y ∷ z ∷ lines) more place fits is few h = absurd (omega arith)
+
+-- some of the first lines were taken, and then none that may come next
+pub limits_fail : (fault : LineFault) (a c : Option (List ℕ)) (first last : ℕ) → LimitsTaken (Err fault) a c first last → FailsFrom (read_fault fault) Version a c first
+limits_fail fault a c first last t =
+    let limits = t.3.0 in
+    let front = lead_front t.0 t.3.2 Version (Tables limits.sessions []) (subst (λ ls. LeadOn Version ls (Tables limits.sessions [])) t.3.3 (limits_lead limits t.3.1)) in
+    let e = early limits t.0 t.3.2 front.0 t.3.1 t.3.3 t.4 front.1 in
+    led_fails (read_fault fault) Version front.0 a t.1 c first (first + length t.0) (record { lines = t.0; taken = t.2; led = front.1; here = refl })
+    (none_fails (λ line. BeginsLimits (t.0 ++ line ∷ [])) (read_fault fault) front.0 t.1 c (first + length t.0) e.more e.only t.5)
+
+-- ---- counts
 
 abbrev pub Took : List ℕ → ℕ → ℕ → ℕ → Option (List ℕ) → Option (List ℕ) → ℕ → ℕ → Type 0
 Took word least most n a b first last = Consumes a b (count_text word n ++ 10 ∷ []) × Within least most n × (last ≡ first + 1)
-
-pub version_led : (a b : Option (List ℕ)) (first last : ℕ) → TookVersion a b first last → Led Version Sessions a b first last
-version_led a b first last t = led_line Version Sessions (codes "occ 1") a b first last (refl, refl) t.0 t.2
-
-pub version_fault : {X Y : Type 0} (view : X → Unit {0}) (trouble : Trouble) (result : Result Y Trouble) (on : Y → Place) (a b : Option (List ℕ)) (first last end : ℕ) → result ≡ Err trouble
-    → Taken view (λ version. codes "occ 1") (λ version. Unit {0}) (Err trouble) a b first last → TakesFrom result Version on a b first end
-version_fault view trouble result on a b first last end is t =
-    led_fault trouble result Version Version (λ x. Sessions) on a a b first first last end is (led_nothing Version a first)
-    (taken_led view (λ version. codes "occ 1") (λ version. Unit {0}) (Err trouble) Version (λ x. Sessions) a b first last (λ may. may) (λ x fits. (refl, refl)) (λ line leads. (tt, tt, leads.1.0)) t)
 
 -- a line of a count leads from a place to another one
 pub record CountLeads (word : List ℕ) (least most : ℕ) (from : Place) (to : ℕ → Place) : Type 0 where
@@ -65,41 +124,17 @@ pub count_first : (word : List ℕ) (least most : ℕ) (from : Place) (to : ℕ 
     → Led from (to left) a b first last
 count_first word least most from to n left a b first last c is t = subst (λ (k : ℕ). Led from (to k) a b first last) (sym is) (count_led word least most from to n a b first last c t)
 
--- the line of a count wasn't taken, behind lines that lead on
-pub count_fault : {Y : Type 0} (word : List ℕ) (least most : ℕ) (start from : Place) (to : ℕ → Place) (trouble : Trouble) (result : Result Y Trouble) (on : Y → Place) (a b c : Option (List ℕ)) (first mid last end : ℕ) → CountLeads word least most from to
-    → result ≡ Err trouble → Led start from a b first mid → Taken {X = ℕ} {Y = ℕ} (λ n. n) (count_text word) (Within least most) (Err trouble) b c mid last → TakesFrom result start on a c first end
-count_fault word least most start from to trouble result on a b c first mid last end k is l t =
-    led_fault trouble result start from to on a b c first mid last end is l
-    (taken_led (λ n. n) (count_text word) (Within least most) (Err trouble) from to b c mid last k.more (λ n fits. k.leads (count_text word n) (to n) (n, fits, refl, refl))
-    (λ line leads. let q = k.only line leads.0 leads.1 in (q.0, q.1, q.2)) t)
-
-pub sessions_lead : CountLeads (codes "sessions") 1 64 Sessions Queue
-sessions_lead = record { more = λ may. may; leads = λ line next h. h; only = λ line next h. h }
-
-pub queue_leads : (s : ℕ) → CountLeads (codes "queue") 1 1024 (Queue s) (λ n. Keep s)
-queue_leads s = record { more = λ may. may; leads = λ line next h. h; only = λ line next h. h }
-
-pub keep_leads : (s : ℕ) → CountLeads (codes "keep") 1 4096 (Keep s) (λ n. Tables s [])
-keep_leads s = record { more = λ may. may; leads = λ line next h. h; only = λ line next h. h }
+-- the line of a count wasn't taken
+pub count_fails : (word : List ℕ) (least most : ℕ) (from : Place) (to : ℕ → Place) (fault : ReadFault) (a b : Option (List ℕ)) (first : ℕ) → CountLeads word least most from to → NoneTaken (IsSpelled (count_text word) (Within least most)) fault a b first
+    → FailsFrom fault from a b first
+count_fails word least most from to fault a b first c t =
+    none_fails (IsSpelled (count_text word) (Within least most)) fault from a b first c.more (λ line leads. let q = c.only line leads.0 leads.1 in (q.0, q.1, q.2)) t
 
 pub marks_lead : (frame : Frame) → CountLeads (codes "marks") 0 (2 ^ 64 - 1) (Marks frame) (λ n. marks_to_come frame n 0)
 marks_lead frame = record { more = λ may. may; leads = λ line next h. h; only = λ line next h. h }
 
 pub state_leads : (frame : Frame) → CountLeads (codes "state") 0 (2 ^ 64 - 1) (State frame) (λ n. state_to_come frame n None)
 state_leads frame = record { more = λ may. may; leads = λ line next h. h; only = λ line next h. h }
-
--- behind one, two and three of the first lines
-pub two_led : (a b c : Option (List ℕ)) (s n0 n1 n2 : ℕ) → TookVersion a b n0 n1 → Took (codes "sessions") 1 64 s b c n1 n2 → Led Version (Queue s) a c n0 n2
-two_led a b c s n0 n1 n2 v t = led_led Version Sessions (Queue s) a b c n0 n1 n2 (version_led a b n0 n1 v) (count_led (codes "sessions") 1 64 Sessions Queue s b c n1 n2 sessions_lead t)
-
-pub three_led : (a b c d : Option (List ℕ)) (s q n0 n1 n2 n3 : ℕ) → TookVersion a b n0 n1 → Took (codes "sessions") 1 64 s b c n1 n2 → Took (codes "queue") 1 1024 q c d n2 n3 → Led Version (Keep s) a d n0 n3
-three_led a b c d s q n0 n1 n2 n3 v st qt =
-    led_led Version (Queue s) (Keep s) a c d n0 n2 n3 (two_led a b c s n0 n1 n2 v st) (count_led (codes "queue") 1 1024 (Queue s) (λ n. Keep s) q c d n2 n3 (queue_leads s) qt)
-
-pub settings_led : (a b c d e : Option (List ℕ)) (s q k n0 n1 n2 n3 n4 : ℕ) → TookVersion a b n0 n1 → Took (codes "sessions") 1 64 s b c n1 n2 → Took (codes "queue") 1 1024 q c d n2 n3 → Took (codes "keep") 1 4096 k d e n3 n4
-    → Led Version (Tables s []) a e n0 n4
-settings_led a b c d e s q k n0 n1 n2 n3 n4 v st qt kt =
-    led_led Version (Keep s) (Tables s []) a d e n0 n3 n4 (three_led a b c d s q n0 n1 n2 n3 v st qt) (count_led (codes "keep") 1 4096 (Keep s) (λ n. Tables s []) k d e n3 n4 (keep_leads s) kt)
 
 -- ---- tables
 
@@ -154,20 +189,12 @@ opening_barred tables fault n sessions a b c first mid last number l t bad here 
     ]) here)
 
 -- the line behind tables wasn't taken
-pub opening_fault : {X Y : Type 0} (view : X → Further) (trouble : Trouble) (result : Result Y Trouble) (on : Y → Place) (tables shown : List Table) (sessions : ℕ) (a b c : Option (List ℕ)) (first mid last end : ℕ) → result ≡ Err trouble → shown ≡ tables
-    → Led (Tables sessions []) (Tables sessions tables) a b first mid → Taken view further_text (FurtherFits shown) (Err trouble) b c mid last → TakesFrom result (Tables sessions []) on a c first end
-opening_fault {Y = Y} view (troubles.Malformed number) result on tables shown sessions a b c first mid last end is same l t =
-    let stuck : CannotStand (LeadsOn (Tables sessions tables)) b =
-    stands_not (λ line. (y : Further) × FurtherFits tables y × (line ≡ further_text y)) (LeadsOn (Tables sessions tables)) b (further_only sessions tables)
-    (subst (λ (ts : List Table). CannotStand (λ line. (y : Further) × FurtherFits ts y × (line ≡ further_text y)) b) same t.0) in
-    subst (λ (r : Result Y Trouble). TakesFrom r (Tables sessions []) on a c first end) (sym is)
-    (led_stopped (Tables sessions []) (Tables sessions tables) a b first mid number l (stopped_here (Tables sessions tables) b mid number (λ may. may) stuck t.1))
-opening_fault {Y = Y} view troubles.Read result on tables shown sessions a b c first mid last end is same l t =
-    subst (λ (r : Result Y Trouble). TakesFrom r (Tables sessions []) on a c first end) (sym is)
-    (led_unread (Tables sessions []) (Tables sessions tables) a b c first mid l (unread_here (Tables sessions tables) t.0 b c t.1 t.2))
-opening_fault view troubles.Write result on tables shown sessions a b c first mid last end is same l t = absurd t
-opening_fault {Y = Y} view troubles.Memory result on tables shown sessions a b c first mid last end is same l t =
-    subst (λ (r : Result Y Trouble). TakesFrom r (Tables sessions []) on a c first end) (sym is) tt
+pub opening_fails : (fault : ReadFault) (tables shown : List Table) (sessions : ℕ) (a b c : Option (List ℕ)) (first mid : ℕ) → shown ≡ tables → Led (Tables sessions []) (Tables sessions tables) a b first mid
+    → NoneTaken (IsSpelled further_text (FurtherFits shown)) fault b c mid → FailsFrom fault (Tables sessions []) a c first
+opening_fails fault tables shown sessions a b c first mid same l t =
+    led_fails fault (Tables sessions []) (Tables sessions tables) a b c first mid l
+    (none_fails (IsSpelled further_text (FurtherFits tables)) fault (Tables sessions tables) b c mid (λ may. may) (further_only sessions tables)
+    (subst (λ (ts : List Table). NoneTaken (IsSpelled further_text (FurtherFits ts)) fault b c mid) same t))
 
 -- a line that is read neither as one more table nor as `log K` goes no further
 neither : (tables : List Table) (line : List ℕ) (y : Further) → TablesSoFar tables → table_behind tables line ≡ None → Reads (count_text (codes "log")) (Within 0 (2 ^ 64 - 1)) line None → FurtherFits tables y → line ≡ further_text y → ⊥
@@ -180,20 +207,21 @@ neither tables line (OneTable table) so_far none log fits e =
 neither tables line (LogOf rows) so_far none log fits e = let f = log.again rows fits e in cc f
 
 -- the line behind tables was read as neither
-pub further_unread : {X V : Type 0} (view : X → Table) (seen : V → Further) (read : Result X Unread) (trouble : Trouble) (result : Result V Trouble) (tables : List Table) (shown again line : List ℕ) (a b : Option (List ℕ)) (n first last : ℕ)
+pub further_unread : {X V : Type 0} (view : X → Table) (seen : V → Further) (read : Result X Unread) (fault : ReadFault) (result : Result V ReadFault) (tables : List Table) (shown again line : List ℕ) (a b : Option (List ℕ)) (n first last : ℕ)
     → TablesSoFar tables → Consumes a b (line ++ 10 ∷ []) × (last ≡ first + 1) × IsLine line → shown ≡ line → again ≡ line → Reads (count_text (codes "log")) (Within 0 (2 ^ 64 - 1)) shown None
-    → Gives view read (table_behind tables again) → Err trouble ≡ told read n → result ≡ Err trouble → n ≡ last → Taken seen further_text (FurtherFits tables) result a b first last
-further_unread view seen (Ok x) trouble result tables shown again line a b n first last so_far taken same same' log gives told_so is here = absurd cc
-further_unread {V = V} view seen (Err unread.Malformed) trouble result tables shown again line a b n first last so_far taken same same' log gives told_so is here =
-    let q : trouble ≡ troubles.Malformed n = cc told_so in
-    subst (λ (r : Result V Trouble). Taken seen further_text (FurtherFits tables) r a b first last) (sym (is ∙ ap Err q)) (
+    → Gives view read (table_behind tables again) → Err fault ≡ told read n → IsErrAnd result (λ e. e ≡ fault) → n ≡ last → Taken seen further_text (FurtherFits tables) result a b first last
+further_unread view seen read fault (Ok x) tables shown again line a b n first last so_far taken same same' log gives told_so is here = absurd is
+further_unread view seen (Ok x) fault (Err e) tables shown again line a b n first last so_far taken same same' log gives told_so is here = absurd cc
+further_unread view seen (Err unread.Malformed) fault (Err e) tables shown again line a b n first last so_far taken same same' log gives told_so is here =
+    let q : e ≡ faults.Malformed n = is ∙ (cc told_so) in
+    subst (λ (f : ReadFault). NoneTaken (IsSpelled further_text (FurtherFits tables)) f a b first) (sym q) (
       OtherLine line b taken.0 taken.2 (λ p.
           neither tables line p.0 so_far (ap (table_behind tables) (sym same') ∙ gives) (subst (λ (l : List ℕ). Reads (count_text (codes "log")) (Within 0 (2 ^ 64 - 1)) l None) same log) p.1 p.2),
       here ∙ taken.1,
     )
-further_unread {V = V} view seen (Err unread.Memory) trouble result tables shown again line a b n first last so_far taken same same' log gives told_so is here =
-    let q : trouble ≡ troubles.Memory = cc told_so in
-    subst (λ (r : Result V Trouble). Taken seen further_text (FurtherFits tables) r a b first last) (sym (is ∙ ap Err q)) tt
+further_unread view seen (Err unread.Memory) fault (Err e) tables shown again line a b n first last so_far taken same same' log gives told_so is here =
+    let q : e ≡ faults.Memory = is ∙ (cc told_so) in
+    subst (λ (f : ReadFault). NoneTaken (IsSpelled further_text (FurtherFits tables)) f a b first) (sym q) tt
 
 -- ---- closing marks
 
@@ -203,13 +231,11 @@ mark_led frame left more last mark a b c first mid end is l t =
     led_led (Marks frame) (MarkOf frame more last) (marks_to_come frame more mark.session) a b c first mid end (subst (λ (n : ℕ). Led (Marks frame) (marks_to_come frame n last) a b first mid) is l)
     (led_line (MarkOf frame more last) (marks_to_come frame more mark.session) (mark_text mark) b c mid end (mark, t.1.0, t.1.1, refl, refl) t.0 t.2)
 
-pub mark_fault : {Y : Type 0} (frame : Frame) (left more last : ℕ) (trouble : Trouble) (result : Result Y Trouble) (on : Y → Place) (a b c : Option (List ℕ)) (first mid end over : ℕ) → left ≡ suc more → result ≡ Err trouble
-    → Led (Marks frame) (marks_to_come frame left last) a b first mid → Taken {X = Mark} {Y = Mark} (λ mark. mark) mark_text (λ mark. MarkFits frame.sessions mark × (last < mark.session)) (Err trouble) b c mid end → TakesFrom result (Marks frame) on a c first over
-mark_fault frame left more last trouble result on a b c first mid end over is err l t =
-    led_fault trouble result (Marks frame) (MarkOf frame more last) (λ mark. marks_to_come frame more mark.session) on a b c first mid end over err
-    (subst (λ (n : ℕ). Led (Marks frame) (marks_to_come frame n last) a b first mid) is l)
-    (taken_led (λ (mark : Mark). mark) mark_text (λ mark. MarkFits frame.sessions mark × (last < mark.session)) (Err trouble) (MarkOf frame more last) (λ mark. marks_to_come frame more mark.session) b c mid end (λ may. may)
-    (λ mark fits. (mark, fits.0, fits.1, refl, refl)) (λ line leads. (leads.1.0, (leads.1.1, leads.1.2), leads.1.3)) t)
+pub mark_fails : (frame : Frame) (left more last : ℕ) (fault : ReadFault) (a b c : Option (List ℕ)) (first mid : ℕ) → left ≡ suc more → Led (Marks frame) (marks_to_come frame left last) a b first mid
+    → NoneTaken (IsSpelled mark_text (λ mark. MarkFits frame.sessions mark × (last < mark.session))) fault b c mid → FailsFrom fault (Marks frame) a c first
+mark_fails frame left more last fault a b c first mid is l t =
+    led_fails fault (Marks frame) (MarkOf frame more last) a b c first mid (subst (λ (n : ℕ). Led (Marks frame) (marks_to_come frame n last) a b first mid) is l)
+    (none_fails (IsSpelled mark_text (λ mark. MarkFits frame.sessions mark × (last < mark.session))) fault (MarkOf frame more last) b c mid (λ may. may) (λ line leads. (leads.1.0, (leads.1.1, leads.1.2), leads.1.3)) t)
 
 pub marks_led : (frame : Frame) (left last : ℕ) (a b : Option (List ℕ)) (first mid : ℕ) → left ≡ 0 → Led (Marks frame) (marks_to_come frame left last) a b first mid → Led (Marks frame) (State frame) a b first mid
 marks_led frame left last a b first mid none l = subst (λ (n : ℕ). Led (Marks frame) (marks_to_come frame n last) a b first mid) none l
@@ -222,14 +248,11 @@ at_led frame left more last entry a b c first mid end is l t =
     led_led (State frame) (RowAt frame more last) (state_to_come frame more (Some entry.0)) a b c first mid end (subst (λ (n : ℕ). Led (State frame) (state_to_come frame n last) a b first mid) is l)
     (led_line (RowAt frame more last) (state_to_come frame more (Some entry.0)) (at_line frame.schema entry) b c mid end (entry, t.1.0, t.1.1, refl, refl) t.0 t.2)
 
-pub at_fault : {X Y : Type 0} (view : X → Object × Row) (frame : Frame) (left more : ℕ) (last : Option Object) (trouble : Trouble) (result : Result Y Trouble) (on : Y → Place) (a b c : Option (List ℕ)) (first mid end over : ℕ) → left ≡ suc more
-    → result ≡ Err trouble → Led (State frame) (state_to_come frame left last) a b first mid
-    → Taken view (at_line frame.schema) (λ entry. AtFits frame.schema entry × (is_behind last entry.0 ≡ true)) (Err trouble) b c mid end → TakesFrom result (State frame) on a c first over
-at_fault view frame left more last trouble result on a b c first mid end over is err l t =
-    led_fault trouble result (State frame) (RowAt frame more last) (λ x. state_to_come frame more (Some (view x).0)) on a b c first mid end over err
-    (subst (λ (n : ℕ). Led (State frame) (state_to_come frame n last) a b first mid) is l)
-    (taken_led view (at_line frame.schema) (λ entry. AtFits frame.schema entry × (is_behind last entry.0 ≡ true)) (Err trouble) (RowAt frame more last) (λ x. state_to_come frame more (Some (view x).0)) b c mid end (λ may. may)
-    (λ x fits. (view x, fits.0, fits.1, refl, refl)) (λ line leads. (leads.1.0, (leads.1.1, leads.1.2), leads.1.3)) t)
+pub at_fails : (frame : Frame) (left more : ℕ) (last : Option Object) (fault : ReadFault) (a b c : Option (List ℕ)) (first mid : ℕ) → left ≡ suc more → Led (State frame) (state_to_come frame left last) a b first mid
+    → NoneTaken (IsSpelled (at_line frame.schema) (λ entry. AtFits frame.schema entry × (is_behind last entry.0 ≡ true))) fault b c mid → FailsFrom fault (State frame) a c first
+at_fails frame left more last fault a b c first mid is l t =
+    led_fails fault (State frame) (RowAt frame more last) a b c first mid (subst (λ (n : ℕ). Led (State frame) (state_to_come frame n last) a b first mid) is l)
+    (none_fails (IsSpelled (at_line frame.schema) (λ entry. AtFits frame.schema entry × (is_behind last entry.0 ≡ true))) fault (RowAt frame more last) b c mid (λ may. may) (λ line leads. (leads.1.0, (leads.1.1, leads.1.2), leads.1.3)) t)
 
 pub state_led : (frame : Frame) (left : ℕ) (last : Option Object) (a b : Option (List ℕ)) (first mid : ℕ) → left ≡ 0 → Led (State frame) (state_to_come frame left last) a b first mid → Led (State frame) Counter a b first mid
 state_led frame left last a b first mid none l = subst (λ (n : ℕ). Led (State frame) (state_to_come frame n last) a b first mid) none l
@@ -239,10 +262,8 @@ state_led frame left last a b first mid none l = subst (λ (n : ℕ). Led (State
 pub counts_led : (a b : Option (List ℕ)) (first last : ℕ) (counts : Counts) → Consumes a b (counts_text counts ++ 10 ∷ []) × CountsFit counts × (last ≡ first + 1) → Led Counter Audit a b first last
 counts_led a b first last counts t = led_line Counter Audit (counts_text counts) a b first last (counts, t.1, refl, refl) t.0 t.2
 
-pub counts_fault : (trouble : Trouble) (a b : Option (List ℕ)) (first last : ℕ) → Taken {X = Counts} {Y = Counts} (λ counts. counts) counts_text CountsFit (Err trouble) a b first last
-    → TakesFrom {X = Counts} (Err trouble) Counter (λ counts. Audit) a b first last
-counts_fault trouble a b first last t =
-    taken_led (λ (counts : Counts). counts) counts_text CountsFit (Err trouble) Counter (λ counts. Audit) a b first last (λ may. may) (λ counts fits. (counts, fits, refl, refl)) (λ line leads. (leads.1.0, leads.1.1, leads.1.2)) t
+pub counts_fail : (fault : ReadFault) (a b : Option (List ℕ)) (first : ℕ) → NoneTaken (IsSpelled counts_text CountsFit) fault a b first → FailsFrom fault Counter a b first
+counts_fail fault a b first t = none_fails (IsSpelled counts_text CountsFit) fault Counter a b first (λ may. may) (λ line leads. (leads.1.0, leads.1.1, leads.1.2)) t
 
 -- ---- the end
 
@@ -274,16 +295,18 @@ pub another_stands : (place : Place) (line : List ℕ) (a b : Option (List ℕ))
 another_stands place line a b first last number taken alone one other here =
     record { lines = []; place = place; rest = a; taken = Consumes-nil a; led = refl; stuck = OtherLine line b taken alone other; unended = more_to_come place line a b taken; here = omega (arith, one, here) }
 
--- no line was taken at a place, behind lines that lead there
-pub next_fault : {Y : Type 0} (trouble : Trouble) (result : Result Y Trouble) (from place : Place) (a b c : Option (List ℕ)) (old new : Source) (first : ℕ) → result ≡ Err trouble → Led from place a b first old.number → LineGives (Err trouble) b c old new
-    → EndsFrom result from a c first
-next_fault {Y} (troubles.Malformed number) result from place a b c old new first is l t =
-    subst (λ (r : Result Y Trouble). EndsFrom r from a c first) (sym is) (led_stopped from place a b first old.number number l
-    (record { lines = []; place = place; rest = b; taken = Consumes-nil b; led = refl; stuck = NoLine t.0; unended = torn_or_long place b t.0; here = omega (arith, t.1) }))
-next_fault {Y} troubles.Read result from place a b c old new first is l t =
-    subst (λ (r : Result Y Trouble). EndsFrom r from a c first) (sym is) (led_unread from place a b c first old.number l (unread_here place t.0 b c t.1 t.2))
-next_fault troubles.Write result from place a b c old new first is l t = absurd t
-next_fault troubles.Memory result from place a b c old new first is l t = absurd t
+-- no line was taken at a place
+next_fails : (fault : LineFault) (place : Place) (a b : Option (List ℕ)) (old new : Source) → LineGives (Err fault) a b old new → FailsFrom (read_fault fault) place a b old.number
+next_fails (line_faults.Malformed number) place a b old new t =
+    record { lines = []; place = place; rest = a; taken = Consumes-nil a; led = refl; stuck = NoLine t.0; unended = torn_or_long place a t.0; here = omega (arith, t.1) }
+next_fails line_faults.Read place a b old new t = unread_here place t.0 a b t.1 t.2
+
+-- the same behind lines that lead there, by the exit of a `?`
+pub next_failed : {X : Type 0} (fault : LineFault) (result : Result X LineFault) (from place : Place) (a b c : Option (List ℕ)) (old new : Source) (first : ℕ) → IsErrAnd result (λ e. e ≡ fault) → Led from place a b first old.number → LineGives (Err fault) b c old new
+    → EndsFrom (widened result) from a c first
+next_failed fault (Ok x) from place a b c old new first is l t = absurd is
+next_failed fault (Err e) from place a b c old new first is l t =
+    subst (λ (f : LineFault). FailsFrom (read_fault f) from a c first) (sym is) (led_fails (read_fault fault) from place a b c first old.number l (next_fails fault place b c old new t))
 
 -- the line of an audit
 abbrev pub is_audit_line : List ℕ → Bool
@@ -324,33 +347,10 @@ led_ended p q a b first mid l t = record {
   whole = t.whole;
 }
 
-led_ends : {X : Type 0} (result : Result X Trouble) (p q : Place) (a b c : Option (List ℕ)) (first mid : ℕ) → Led p q a b first mid → EndsFrom result q b c mid → EndsFrom result p a c first
-led_ends (Ok x) p q a b c first mid l t = led_ended p q a b first mid l t
-led_ends (Err (troubles.Malformed number)) p q a b c first mid l t = led_stopped p q a b first mid number l t
-led_ends (Err troubles.Read) p q a b c first mid l t = led_unread p q a b c first mid l t
-led_ends (Err troubles.Write) p q a b c first mid l t = absurd t
-led_ends (Err troubles.Memory) p q a b c first mid l t = tt
-
--- an end is handed on
-ends_on : (X : Type 0) {Y : Type 0} (trouble : Trouble) (result : Result Y Trouble) (p : Place) (a b : Option (List ℕ)) (first : ℕ) → result ≡ Err trouble → EndsFrom {X = X} (Err trouble) p a b first → EndsFrom result p a b first
-ends_on X {Y} (troubles.Malformed number) result p a b first is t = subst (λ (r : Result Y Trouble). EndsFrom r p a b first) (sym is) t
-ends_on X {Y} troubles.Read result p a b first is t = subst (λ (r : Result Y Trouble). EndsFrom r p a b first) (sym is) t
-ends_on X troubles.Write result p a b first is t = absurd t
-ends_on X {Y} troubles.Memory result p a b first is t = subst (λ (r : Result Y Trouble). EndsFrom r p a b first) (sym is) tt
-
-pub end_fault : (X : Type 0) {Y : Type 0} (trouble : Trouble) (result : Result Y Trouble) (p q : Place) (a b c : Option (List ℕ)) (first mid : ℕ) → result ≡ Err trouble → Led p q a b first mid → EndsFrom {X = X} (Err trouble) q b c mid
-    → EndsFrom result p a c first
-end_fault X trouble result p q a b c first mid is l t = ends_on X trouble result p a c first is (led_ends {X = X} (Err trouble) p q a b c first mid l t)
-
-takes_to_ends : {X : Type 0} (trouble : Trouble) (p : Place) (to : X → Place) (a b : Option (List ℕ)) (first last : ℕ) → TakesFrom {X = X} (Err trouble) p to a b first last → EndsFrom {X = X} (Err trouble) p a b first
-takes_to_ends (troubles.Malformed number) p to a b first last t = t
-takes_to_ends troubles.Read p to a b first last t = t
-takes_to_ends troubles.Write p to a b first last t = absurd t
-takes_to_ends troubles.Memory p to a b first last t = tt
-
-pub part_fault : {X Y : Type 0} (trouble : Trouble) (result : Result Y Trouble) (p q : Place) (to : X → Place) (a b c : Option (List ℕ)) (first mid last : ℕ) → result ≡ Err trouble → Led p q a b first mid
-    → TakesFrom {X = X} (Err trouble) q to b c mid last → EndsFrom result p a c first
-part_fault {X} trouble result p q to a b c first mid last is l t = end_fault X trouble result p q a b c first mid is l (takes_to_ends trouble q to b c mid last t)
+-- a part failed, behind lines that were taken
+pub part_failed : {X : Type 0} (fault : ReadFault) (result : Result X ReadFault) (p q : Place) (a b c : Option (List ℕ)) (first mid : ℕ) → IsErrAnd result (λ e. e ≡ fault) → Led p q a b first mid → FailsFrom fault q b c mid → EndsFrom result p a c first
+part_failed fault (Ok x) p q a b c first mid is l t = absurd is
+part_failed fault (Err e) p q a b c first mid is l t = subst (λ (f : ReadFault). FailsFrom f p a c first) (sym is) (led_fails fault p q a b c first mid l t)
 
 -- ---- up to each part
 

@@ -1,6 +1,6 @@
 -- The lines of a row of the log, and where they lead.
-use Rattle.std.proofs.Common.{◌≡◌, ℕ, suc, ◌+◌, ◌-◌, ◌<◌, Bool, true, false, cond, List, [], ◌∷◌, ◌++◌, map, length, Option, Some, None, Result, Ok, Err, ◌||◌, ◌⊎◌, inl, inr, refl, sym, ap, subst, ◌∙◌, arith}
-use Rattle.std.specs.Prelude.{slice_get, IsTrue, ◌↔◌, is_some}
+use Rattle.std.proofs.Common.{◌≡◌, ℕ, suc, ◌+◌, ◌-◌, ◌<◌, Bool, true, false, cond, List, [], ◌∷◌, ◌++◌, map, length, Option, Some, None, Result, Ok, Err, ◌||◌, refl, sym, ap, subst, ◌∙◌, arith}
+use Rattle.std.specs.Prelude.{slice_get, IfErr, IsTrue, ◌↔◌, is_some}
 use Rattle.std.specs.List.{list_any}
 use Rattle.std.specs.Io.KnownBytes.{Consumes}
 use Rattle.std.specs.Ordering.{is_lt, eq_by_cmp}
@@ -13,16 +13,18 @@ use Rattle.occ_types.specs.Schema.{Schema, check_tables}
 use Rattle.occ_types.specs.Seen.{table_asked}
 use Rattle.occ_model.specs.State.{Write}
 use Rattle.occ_model.specs.Overlay.{own}
-use Rattle.occ_text.specs.declared.trouble.Trouble.{Trouble}
-use Rattle.occ_text.specs.declared.trouble.Trouble.TheVariants as troubles
-use Rattle.occ_text.specs.Line.{IsLine}
-use Rattle.occ_text.specs.HeaderTaking.{Taken}
+use Rattle.occ_text.specs.declared.tokens.Unread.{Unread}
+use Rattle.occ_text.specs.declared.tokens.Unread.TheVariants as unread
+use Rattle.occ_text.specs.declared.faults.ReadFault.{ReadFault}
+use Rattle.occ_text.specs.declared.faults.ReadFault.TheVariants as faults
+use Rattle.occ_text.specs.Faults.{told}
+use Rattle.occ_text.specs.Line.{IsLine, NoneTaken, IsSpelled, Taken}
 use Rattle.occ_print.specs.Books.{pair_line, write_line}
 use Rattle.occ_books.specs.declared.heads.Head.{Head}
 use Rattle.occ_books.specs.Heads.{HeadFits, head_text}
 use Rattle.occ_books.specs.Entries.{Asked, AskedSpan, asked_text, AskedFits, PairFits, WriteFits, write_of_line}
-use Rattle.occ_books.specs.Places.{Place, InRow, LogRow, ReadOf, PairOf, WriteOf, Led, TakesFrom, IsAbove, last_key, frame_of, in_row, behind_read, pairs_to_come, reads_to_come, writes_to_come}
-use Rattle.occ_books.proofs.Leading.{LeadsOn, led_line, led_then, line_refused, taken_fault, taken_led, memory_fault, fault_on, begun, turn}
+use Rattle.occ_books.specs.Places.{Place, InRow, LogRow, ReadOf, PairOf, WriteOf, Led, FailsFrom, TakesFrom, IsAbove, last_key, frame_of, in_row, behind_read, pairs_to_come, reads_to_come, writes_to_come}
+use Rattle.occ_books.proofs.Leading.{LeadsOn, led_line, led_then, line_refused, none_fails, taken_led, begun, turn, turn_fails}
 use Rattle.occ_books.proofs.EntriesAgain.{write_line-again}
 
 -- ---- keys of a range, each above the one before
@@ -49,7 +51,7 @@ last_more view xs now x is = ap (λ l. last_key (map view l)) is ∙ by xs
     by (y ∷ []) = refl
     by (y ∷ z ∷ xs) = by (z ∷ xs)
 
-pair_turn : {X : Type 0} (view : X → Key × Row) (result : Result X Trouble) (row : InRow) (schema : Schema) (reads table count counter : ℕ) (last : Option Key) (p : Place) (a b c : Option (List ℕ)) (first mid end : ℕ)
+pair_turn : {X : Type 0} (view : X → Key × Row) (result : Result X ReadFault) (row : InRow) (schema : Schema) (reads table count counter : ℕ) (last : Option Key) (p : Place) (a b c : Option (List ℕ)) (first mid end : ℕ)
     → row.frame.schema ≡ schema → counter < count → Led p (pairs_to_come row reads table (count - counter) last) a b first mid
     → Taken view pair_line (λ pair. PairFits schema table pair × IsAbove last pair.0) result b c mid end
     → TakesFrom result p (λ x. pairs_to_come row reads table (count - (counter + 1)) (Some (view x).0)) a c first end
@@ -76,22 +78,20 @@ pairs_more view items shown now x row schema reads table count counter p a b c f
     (pair_turn view (Ok x) row schema reads table count counter (last_key (map view items)) p a b c first mid end same lt led
     (subst (λ l. Taken view pair_line (λ pair. PairFits schema table pair × IsAbove (last_key (map view l)) pair.0) (Ok x) b c mid end) all taken))
 
-pub pairs_fault : {X Z : Type 0} (view : X → Key × Row) (trouble : Trouble) (result : Result Z Trouble) (items shown : List X) (row : InRow) (schema : Schema) (reads table count counter : ℕ) (p : Place) (to : Z → Place) (a b c : Option (List ℕ))
-    (first mid last end : ℕ) → result ≡ Err trouble → shown ≡ items → row.frame.schema ≡ schema → counter < count → Led p (pairs_to_come row reads table (count - counter) (last_key (map view items))) a b first mid
-    → Taken view pair_line (λ pair. PairFits schema table pair × IsAbove (last_key (map view shown)) pair.0) (Err trouble) b c mid last → TakesFrom result p to a c first end
-pairs_fault view trouble result items shown row schema reads table count counter p to a b c first mid last end is all same lt led taken =
-    fault_on trouble result p (λ x. pairs_to_come row reads table (count - (counter + 1)) (Some (view x).0)) to a c first last end is
-    (pair_turn view (Err trouble) row schema reads table count counter (last_key (map view items)) p a b c first mid last same lt led
-    (subst (λ l. Taken view pair_line (λ pair. PairFits schema table pair × IsAbove (last_key (map view l)) pair.0) (Err trouble) b c mid last) all taken))
+pub pairs_fail : {X : Type 0} (view : X → Key × Row) (fault : ReadFault) (items shown : List X) (row : InRow) (schema : Schema) (reads table count counter : ℕ) (p : Place) (a b c : Option (List ℕ)) (first mid : ℕ)
+    → shown ≡ items → row.frame.schema ≡ schema → counter < count → Led p (pairs_to_come row reads table (count - counter) (last_key (map view items))) a b first mid
+    → NoneTaken (IsSpelled pair_line (λ pair. PairFits schema table pair × IsAbove (last_key (map view shown)) pair.0)) fault b c mid → FailsFrom fault p a c first
+pairs_fail view fault items shown row schema reads table count counter p a b c first mid all same lt led taken =
+    pair_turn view (Err fault) row schema reads table count counter (last_key (map view items)) p a b c first mid mid same lt led
+    (subst (λ l. NoneTaken (IsSpelled pair_line (λ pair. PairFits schema table pair × IsAbove (last_key (map view l)) pair.0)) fault b c mid) all taken)
 
 -- ---- reads
 
-pub asked_fault : {X Z : Type 0} (view : X → Asked) (trouble : Trouble) (result : Result Z Trouble) (row : InRow) (schema : Schema) (reads : ℕ) (to : Z → Place) (a b : Option (List ℕ)) (first last end : ℕ)
-    → row.frame.schema ≡ schema → result ≡ Err trouble → Taken view (asked_text schema) (AskedFits schema) (Err trouble) a b first last → TakesFrom result (ReadOf row reads) to a b first end
-asked_fault view trouble result row schema reads to a b first last end same is taken =
+pub asked_fails : (fault : ReadFault) (row : InRow) (schema : Schema) (reads : ℕ) (a b : Option (List ℕ)) (first : ℕ) → row.frame.schema ≡ schema → NoneTaken (IsSpelled (asked_text schema) (AskedFits schema)) fault a b first → FailsFrom fault (ReadOf row reads) a b first
+asked_fails fault row schema reads a b first same taken =
     let own = row.frame.schema in
-    taken_fault view (asked_text own) (AskedFits own) trouble result (ReadOf row reads) to a b first last end (λ may. may) (λ line leads. (leads.1.0, leads.1.1, leads.1.2)) is
-    (subst (λ s. Taken view (asked_text s) (AskedFits s) (Err trouble) a b first last) (sym same) taken)
+    none_fails (IsSpelled (asked_text own) (AskedFits own)) fault (ReadOf row reads) a b first (λ may. may) (λ line leads. (leads.1.0, leads.1.1, leads.1.2))
+    (subst (λ s. NoneTaken (IsSpelled (asked_text s) (AskedFits s)) fault a b first) (sym same) taken)
 
 pub asked_led : (asked : Asked) (row : InRow) (schema : Schema) (reads : ℕ) (a b : Option (List ℕ)) (first last : ℕ) → row.frame.schema ≡ schema
     → Consumes a b (asked_text schema asked ++ 10 ∷ []) × AskedFits schema asked × (last ≡ first + 1) → Led (ReadOf row reads) (behind_read row reads asked) a b first last
@@ -100,7 +100,7 @@ asked_led asked row schema reads a b first last same taken =
     (asked, subst (λ s. AskedFits s asked) (sym same) taken.1, ap (λ s. asked_text s asked) (sym same), refl) taken.0 taken.2
 
 -- a range, and then the rows that it had
-pub span_led : {X : Type 0} (result : Result X Trouble) (question : Question) (count table : ℕ) (row : InRow) (schema : Schema) (reads : ℕ) (a b c : Option (List ℕ)) (first mid last : ℕ) → row.frame.schema ≡ schema → table ≡ table_asked question
+pub span_led : {X : Type 0} (result : Result X ReadFault) (question : Question) (count table : ℕ) (row : InRow) (schema : Schema) (reads : ℕ) (a b c : Option (List ℕ)) (first mid last : ℕ) → row.frame.schema ≡ schema → table ≡ table_asked question
     → Consumes a b (asked_text schema (AskedSpan question count) ++ 10 ∷ []) × AskedFits schema (AskedSpan question count) × (mid ≡ first + 1)
     → TakesFrom result (pairs_to_come row reads table count None) (λ _. reads_to_come row reads) b c mid last → TakesFrom result (ReadOf row reads) (λ _. reads_to_come row reads) a c first last
 span_led result question count table row schema reads a b c first mid last same is asked rows =
@@ -119,14 +119,14 @@ pub written : (writes : List Write) (object : Object) → list_any (eq_by_cmp ob
 written [] object = refl
 written (write ∷ writes) object = sym (either (eq_by_cmp object_cmp object write.0) write.1 (own writes object) (list_any (eq_by_cmp object_cmp object) (map (λ (w : Write). w.0) writes)) (sym (written writes object)))
 
-pub write_fault : {X Z : Type 0} (view : X → Write) (trouble : Trouble) (result : Result Z Trouble) (row : InRow) (schema : Schema) (count counter : ℕ) (objects : List Object) (p : Place) (to : Z → Place) (a b c : Option (List ℕ)) (first mid last end : ℕ)
-    → row.frame.schema ≡ schema → counter < count → result ≡ Err trouble → Led p (writes_to_come row (count - counter) objects) a b first mid
-    → Taken view (write_line schema) (WriteFits schema) (Err trouble) b c mid last → TakesFrom result p to a c first end
-write_fault view trouble result row schema count counter objects p to a b c first mid last end same lt is led taken =
+pub write_fails : (fault : ReadFault) (row : InRow) (schema : Schema) (count counter : ℕ) (objects : List Object) (p : Place) (a b c : Option (List ℕ)) (first mid : ℕ)
+    → row.frame.schema ≡ schema → counter < count → Led p (writes_to_come row (count - counter) objects) a b first mid
+    → NoneTaken (IsSpelled (write_line schema) (WriteFits schema)) fault b c mid → FailsFrom fault p a c first
+write_fails fault row schema count counter objects p a b c first mid same lt led taken =
     let own = row.frame.schema in
-    turn (λ k. writes_to_come row k objects) result p to a b c first mid end count counter lt led
-    (taken_fault view (write_line own) (WriteFits own) trouble result (WriteOf row (count - (counter + 1)) objects) to b c mid last end (λ may. may) (λ line leads. (leads.1.0, leads.1.1, leads.1.3)) is
-    (subst (λ s. Taken view (write_line s) (WriteFits s) (Err trouble) b c mid last) (sym same) taken))
+    turn_fails (λ k. writes_to_come row k objects) fault p a b c first mid count counter lt led
+    (none_fails (IsSpelled (write_line own) (WriteFits own)) fault (WriteOf row (count - (counter + 1)) objects) b c mid (λ may. may) (λ line leads. (leads.1.0, leads.1.1, leads.1.3))
+    (subst (λ s. NoneTaken (IsSpelled (write_line s) (WriteFits s)) fault b c mid) (sym same) taken))
 
 -- no write was taken yet
 pub writes_begun : (writes : List Write) (row : InRow) (count : ℕ) (a : Option (List ℕ)) (n : ℕ) → writes ≡ [] → Led (writes_to_come row count []) (writes_to_come row (count - 0) (map (λ (w : Write). w.0) writes)) a a n n
@@ -140,21 +140,32 @@ same_write schema v w good f g e =
     cc h
 
 -- an object isn't written twice
-pub write_twice : {Z : Type 0} (write : Write) (trouble : Trouble) (result : Result Z Trouble) (row : InRow) (schema : Schema) (count counter number : ℕ) (writes : List Write) (p : Place) (to : Z → Place) (a b c : Option (List ℕ))
-    (first mid last end : ℕ) → check_tables schema ≡ None → row.frame.schema ≡ schema → counter < count → result ≡ Err trouble
-    → Led p (writes_to_come row (count - counter) (map (λ (w : Write). w.0) writes)) a b first mid → Consumes b c (write_line schema write ++ 10 ∷ []) × WriteFits schema write × (last ≡ mid + 1) → IsLine (write_line schema write) → number ≡ last
-    → (trouble ≡ troubles.Memory) ⊎ ((trouble ≡ troubles.Malformed number) × (is_some (own writes write.0) ≡ true)) → TakesFrom result p to a c first end
-write_twice write trouble result row schema count counter number writes p to a b c first mid last end good same lt is led taken line here (inl memory) = memory_fault result p to a c first end (is ∙ ap Err memory)
-write_twice write trouble result row schema count counter number writes p to a b c first mid last end good same lt is led taken line here (inr twice) =
+twice_fails : (write : Write) (row : InRow) (schema : Schema) (count counter number : ℕ) (writes : List Write) (p : Place) (a b c : Option (List ℕ)) (first mid last : ℕ)
+    → check_tables schema ≡ None → row.frame.schema ≡ schema → counter < count → Led p (writes_to_come row (count - counter) (map (λ (w : Write). w.0) writes)) a b first mid
+    → Consumes b c (write_line schema write ++ 10 ∷ []) × WriteFits schema write × (last ≡ mid + 1) → IsLine (write_line schema write) → number ≡ last → is_some (own writes write.0) ≡ true → FailsFrom (faults.Malformed number) p a c first
+twice_fails write row schema count counter number writes p a b c first mid last good same lt led taken line here twice =
     let objects = map (λ (w : Write). w.0) writes in
     let from = WriteOf row (count - (counter + 1)) objects in
     let other : LeadsOn from (write_line schema write) → ⊥ = λ leads.
     let one = leads.1.0 in
     let w : write ≡ one = same_write schema write one good taken.1 (subst (λ s. WriteFits s one) same leads.1.1) (leads.1.3 ∙ ap (λ s. write_line s one) same) in
-    let e : false ≡ true = sym leads.1.2 ∙ ap (λ (v : Write). list_any (eq_by_cmp object_cmp v.0) objects) (sym w) ∙ written writes write.0 ∙ twice.1 in
+    let e : false ≡ true = sym leads.1.2 ∙ ap (λ (v : Write). list_any (eq_by_cmp object_cmp v.0) objects) (sym w) ∙ written writes write.0 ∙ twice in
     cc e in
-    turn (λ k. writes_to_come row k objects) result p to a b c first mid end count counter lt led
-    (subst (λ r. TakesFrom r from to b c mid end) (sym (is ∙ ap Err twice.0)) (line_refused from (write_line schema write) b c mid last number (λ may. may) (taken.0, taken.2, line) other here))
+    turn_fails (λ k. writes_to_come row k objects) (faults.Malformed number) p a b c first mid count counter lt led
+    (line_refused from (write_line schema write) b c mid last number (λ may. may) (taken.0, taken.2, line) other here)
+
+-- a write that was taken isn't added
+pub add_fails : {X : Type 0} (added : Result X Unread) (fault : ReadFault) (write : Write) (row : InRow) (schema : Schema) (count counter number : ℕ) (writes : List Write) (p : Place) (a b c : Option (List ℕ)) (first mid last : ℕ)
+    → check_tables schema ≡ None → row.frame.schema ≡ schema → counter < count → Led p (writes_to_come row (count - counter) (map (λ (w : Write). w.0) writes)) a b first mid
+    → Consumes b c (write_line schema write ++ 10 ∷ []) × WriteFits schema write × (last ≡ mid + 1) → IsLine (write_line schema write) → number ≡ last
+    → IfErr added (λ why. why ≡ unread.Malformed → is_some (own writes write.0) ≡ true) → Err fault ≡ told added number → FailsFrom fault p a c first
+add_fails (Ok x) fault write row schema count counter number writes p a b c first mid last good same lt led taken line here twice is = absurd cc
+add_fails (Err unread.Memory) fault write row schema count counter number writes p a b c first mid last good same lt led taken line here twice is =
+    let memory : fault ≡ faults.Memory = cc is in
+    subst (λ (f : ReadFault). FailsFrom f p a c first) (sym memory) tt
+add_fails (Err unread.Malformed) fault write row schema count counter number writes p a b c first mid last good same lt led taken line here twice is =
+    let malformed : fault ≡ faults.Malformed number = cc is in
+    subst (λ (f : ReadFault). FailsFrom f p a c first) (sym malformed) (twice_fails write row schema count counter number writes p a b c first mid last good same lt led taken line here (twice refl))
 
 -- one more write
 pub write_more : (write : Write) (row : InRow) (schema : Schema) (count counter : ℕ) (writes now : List Write) (p : Place) (a b c : Option (List ℕ)) (first mid last : ℕ) → row.frame.schema ≡ schema → counter < count
@@ -172,10 +183,9 @@ write_more write row schema count counter writes now p a b c first mid last same
 
 -- ---- rows
 
-pub head_fault : {X Z : Type 0} (view : X → Head) (trouble : Trouble) (result : Result Z Trouble) (schema : Schema) (sessions rows : ℕ) (to : Z → Place) (a b : Option (List ℕ)) (first last end : ℕ)
-    → result ≡ Err trouble → Taken view head_text (HeadFits sessions) (Err trouble) a b first last → TakesFrom result (LogRow (frame_of schema sessions) rows) to a b first end
-head_fault view trouble result schema sessions rows to a b first last end is taken =
-    taken_fault view head_text (HeadFits sessions) trouble result (LogRow (frame_of schema sessions) rows) to a b first last end (λ may. may) (λ line leads. (leads.1.0, leads.1.1, leads.1.2)) is taken
+pub head_fails : (fault : ReadFault) (schema : Schema) (sessions rows : ℕ) (a b : Option (List ℕ)) (first : ℕ) → NoneTaken (IsSpelled head_text (HeadFits sessions)) fault a b first → FailsFrom fault (LogRow (frame_of schema sessions) rows) a b first
+head_fails fault schema sessions rows a b first taken =
+    none_fails (IsSpelled head_text (HeadFits sessions)) fault (LogRow (frame_of schema sessions) rows) a b first (λ may. may) (λ line leads. (leads.1.0, leads.1.1, leads.1.2)) taken
 
 pub head_led : (head : Head) (schema : Schema) (sessions rows : ℕ) (a b : Option (List ℕ)) (first last : ℕ) → Consumes a b (head_text head ++ 10 ∷ []) × HeadFits sessions head × (last ≡ first + 1)
     → Led (LogRow (frame_of schema sessions) rows) (reads_to_come (in_row (frame_of schema sessions) rows head) head.reads) a b first last

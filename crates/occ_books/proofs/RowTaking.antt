@@ -1,6 +1,6 @@
 -- The rows of the log, from their lines.
-use Rattle.std.proofs.Common.{◌≡◌, ℕ, ◌≤◌, ◌^◌, ◌-◌, Bool, true, false, cond, List, [], ◌∷◌, ◌++◌, map, length, Option, Some, None, Result, Ok, Err, refl, sym, ap, subst, ◌∙◌}
-use Rattle.std.specs.Prelude.{IfOk, codes, is_some}
+use Rattle.std.proofs.Common.{◌≡◌, ℕ, ◌≤◌, ◌^◌, ◌-◌, Bool, true, false, cond, List, [], ◌∷◌, ◌++◌, map, length, Option, Some, None, refl, sym, ap, subst, ◌∙◌}
+use Rattle.std.specs.Prelude.{codes, is_some}
 use Rattle.std.specs.List.{AllByRecursion, flat_map}
 use Rattle.std.specs.Ordering.{eq_by_cmp}
 use Rattle.std.specs.Fmt.{decimal}
@@ -16,7 +16,6 @@ use Rattle.occ_model.specs.RangeLaws.{IsDistinctWrites}
 use Rattle.occ_model.proofs.RangeLaws.{sets_own}
 use Rattle.occ_model.specs.Log.{LogRow, Standing}
 use Rattle.occ_model.specs.declared.verdict.Cause.TheVariants.{Conflict, TooOld}
-use Rattle.occ_text.specs.declared.trouble.Trouble.{Trouble}
 use Rattle.occ_text.specs.Spelling.{line_text}
 use Rattle.occ_print.specs.Books.{question_text, pair_line, read_lines, write_line, standing_text, row_line, row_lines}
 use Rattle.occ_books.specs.declared.heads.Stand.{Stand}
@@ -119,7 +118,7 @@ head_line head reads writes row r w is =
     spelling head.place head.session head.number head.start head.finish head.reads head.writes head.stand
     ∙ (λ i. line_of (sym is.place i) (sym is.session i) (sym is.number i) (sym is.start i) (sym is.finish i) (rs i) (ws i) (stand_spelling head.stand row.standing is.stands i))
 
-row_taken : (schema : Schema) (sessions : ℕ) (head : Head) (reads : List Observation) (writes : List Write) (row : LogRow) (a b c d : Option (List ℕ))
+pub row_taken : (schema : Schema) (sessions : ℕ) (head : Head) (reads : List Observation) (writes : List Write) (row : LogRow) (a b c d : Option (List ℕ))
     → TakesLines a b (head_text head ∷ []) × HeadFits sessions head
     → Gathered (read_lines schema) (ReadFits schema) b c reads × (length reads ≡ head.reads)
     → Gathered (λ (write : Write). write_line schema write ∷ []) (WriteFits schema) c d writes × (length writes ≡ head.writes) × IsDistinctWrites writes
@@ -145,14 +144,6 @@ row_taken schema sessions head reads writes row a b c d first read written is =
         distinct = subst IsDistinctWrites (sym is.written) written.2;
       },
     )
-
-pub row_result : {X : Type 0} (view : X → LogRow) (result : Result X Trouble) (schema : Schema) (sessions : ℕ) (head : Head) (reads : List Observation) (writes : List Write) (a b c d : Option (List ℕ))
-    → TakesLines a b (head_text head ∷ []) × HeadFits sessions head
-    → Gathered (read_lines schema) (ReadFits schema) b c reads × (length reads ≡ head.reads)
-    → Gathered (λ (write : Write). write_line schema write ∷ []) (WriteFits schema) c d writes × (length writes ≡ head.writes) × IsDistinctWrites writes
-    → IfOk result (λ x. IsRowOf head reads writes (view x)) → IfOk result (λ x. TakesLines a d (row_lines schema (view x)) × LogRowFits schema sessions (view x))
-row_result view (Ok x) schema sessions head reads writes a b c d first read written is = row_taken schema sessions head reads writes (view x) a b c d first read written is
-row_result view (Err e) schema sessions head reads writes a b c d first read written is = tt
 
 pub not_some : (o : Option (Option Row)) (b : Bool) → b ≡ is_some o → b ≡ false → o ≡ None
 not_some None b is off = refl

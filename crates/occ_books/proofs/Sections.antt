@@ -25,7 +25,8 @@ use Rattle.occ_model.specs.State.{State, put}
 use Rattle.occ_core.specs.Core.{marks_of}
 use Rattle.occ_text.specs.declared.tokens.Unread.{Unread}
 use Rattle.occ_text.specs.Escapes.{Gives}
-use Rattle.occ_text.specs.Headers.{table_text, count_text}
+use Rattle.occ_text.specs.declared.headers.Limits.{Limits}
+use Rattle.occ_text.specs.Headers.{LimitsFit, limits_lines, table_text, count_text}
 use Rattle.occ_text.specs.HeaderTaking.{TablesSoFar, table_behind}
 use Rattle.occ_text.specs.Line.{lines_text}
 use Rattle.occ_print.specs.Books.{row_lines, mark_line, mark_lines, at_line, row_count, state_lines}
@@ -35,8 +36,7 @@ use Rattle.occ_books.specs.declared.heads.Mark.{Mark}
 use Rattle.occ_books.specs.Heads.{mark_text, counts_text, MarkFits, CountsFit}
 use Rattle.occ_books.specs.Entries.{AtFits}
 use Rattle.occ_books.specs.Taking.{TakesLines, Gathered, LogRowFits, is_behind}
-use Rattle.occ_books.specs.Printed.{IsEnding, EndTaken, EntryFits, SettingsTaken, IsBookText}
-use Rattle.occ_books.specs.declared.printed.Settings.{Settings}
+use Rattle.occ_books.specs.Printed.{IsEnding, EndTaken, EntryFits, IsBookText}
 use Rattle.occ_books.specs.declared.heads.Counts.{Counts}
 use Rattle.occ_books.proofs.Gathering.{one_line, more_lines, gathered_next, count_more, nothing, single_lines}
 use Rattle.occ_books.proofs.Rising.{LastIs, insert_last, marks-insert}
@@ -216,15 +216,6 @@ end_behind shown line a b taken same audit e = record {
   whole = e;
 }
 
--- ---- the first lines
-
-pub settings_taken : (s q k : ℕ) (a b c d e : Option (List ℕ)) → Consumes a b (codes "occ 1" ++ 10 ∷ []) → Consumes b c (count_text (codes "sessions") s ++ 10 ∷ []) → Consumes c d (count_text (codes "queue") q ++ 10 ∷ [])
-    → Consumes d e (count_text (codes "keep") k ++ 10 ∷ []) → TakesLines a e (codes "occ 1" ∷ count_text (codes "sessions") s ∷ count_text (codes "queue") q ∷ count_text (codes "keep") k ∷ [])
-settings_taken s q k a b c d e v ss qs ks =
-    more_lines (codes "occ 1" ∷ []) (count_text (codes "sessions") s ∷ count_text (codes "queue") q ∷ count_text (codes "keep") k ∷ []) a b e (one_line (codes "occ 1") a b v)
-    (more_lines (count_text (codes "sessions") s ∷ []) (count_text (codes "queue") q ∷ count_text (codes "keep") k ∷ []) b c e (one_line (count_text (codes "sessions") s) b c ss)
-    (more_lines (count_text (codes "queue") q ∷ []) (count_text (codes "keep") k ∷ []) c d e (one_line (count_text (codes "queue") q) c d qs) (one_line (count_text (codes "keep") k) d e ks)))
-
 -- ---- the whole
 
 all_of : (a b : Option (List ℕ)) (bs : List ℕ) → Consumes a b bs → IsAtEnd b → IfSome a (λ bytes. bytes ≡ bs)
@@ -232,20 +223,20 @@ all_of None b bs p q = tt
 all_of (Some x) None bs p q = absurd p
 all_of (Some x) (Some y) bs p q = p ∙ ap (λ (l : List ℕ). bs ++ l) q ∙ append-nil bs
 
-pub whole_book : (settings : Settings) (tables : Schema) (rows entered : ℕ) (log : List LogRow) (marks : FinMap nat_cmp ℕ) (state : State) (counts : Counts) (a b c d e f g : Option (List ℕ))
-    → SettingsTaken settings a b → TakesLines b c (map table_text tables ++ count_text (codes "log") rows ∷ []) × (check_tables tables ≡ None)
-    → Gathered (row_lines tables) (LogRowFits tables settings.sessions) c d log → length log ≡ entered → entered ≡ rows → rows ≤ 2 ^ 64 - 1
-    → TakesLines d e (mark_lines marks) × AllByRecursion (EntryFits settings.sessions) (entries marks)
+pub whole_book : (limits : Limits) (tables : Schema) (rows entered : ℕ) (log : List LogRow) (marks : FinMap nat_cmp ℕ) (state : State) (counts : Counts) (a b c d e f g : Option (List ℕ)) (m n : ℕ)
+    → TakesLines a b (limits_lines limits) × LimitsFit limits × (n ≡ m + 4) → TakesLines b c (map table_text tables ++ count_text (codes "log") rows ∷ []) × (check_tables tables ≡ None)
+    → Gathered (row_lines tables) (LogRowFits tables limits.sessions) c d log → length log ≡ entered → entered ≡ rows → rows ≤ 2 ^ 64 - 1
+    → TakesLines d e (mark_lines marks) × AllByRecursion (EntryFits limits.sessions) (entries marks)
     → TakesLines e f (state_lines tables state) × AllByRecursion (AtFits tables) (entries state) × (len state ≤ 2 ^ 64 - 1)
     → TakesLines f g (counts_text counts ∷ []) × CountsFit counts → EndTaken g
-    → IsBookText a (record { header = record { sessions = settings.sessions; queue = settings.queue; keep = settings.keep; tables = tables }; log = log; marks = marks; state = state; counter = counts.counter; low = counts.low })
-whole_book settings tables rows entered log marks state counts a b c d e f g first opening gathered count same few marked stated counted end =
-    let s = codes "occ 1" ∷ count_text (codes "sessions") settings.sessions ∷ count_text (codes "queue") settings.queue ∷ count_text (codes "keep") settings.keep ∷ [] in
+    → IsBookText a (record { header = record { sessions = limits.sessions; queue = limits.queue; keep = limits.keep; tables = tables }; log = log; marks = marks; state = state; counter = counts.counter; low = counts.low })
+whole_book limits tables rows entered log marks state counts a b c d e f g m n first opening gathered count same few marked stated counted end =
+    let s = limits_lines limits in
     let t = map table_text tables in
     let l = count_text (codes "log") (length log) in
     let r = flat_map (row_lines tables) log in
     let opened : TakesLines b c (t ++ l ∷ []) = subst (λ (n : ℕ). TakesLines b c (t ++ count_text (codes "log") n ∷ [])) (sym (count ∙ same)) opening.0 in
-    let logged : TakesLines a d ((s ++ (t ++ l ∷ [])) ++ r) = more_lines (s ++ (t ++ l ∷ [])) r a c d (more_lines s (t ++ l ∷ []) a b c first.taken opened) gathered.taken in
+    let logged : TakesLines a d ((s ++ (t ++ l ∷ [])) ++ r) = more_lines (s ++ (t ++ l ∷ [])) r a c d (more_lines s (t ++ l ∷ []) a b c first.0 opened) gathered.taken in
     let turned : (s ++ (t ++ l ∷ [])) ++ r ≡ (s ++ t) ++ (l ∷ r) = ap (λ (x : List (List ℕ)). x ++ r) (sym (append_assoc s t (l ∷ []))) ∙ append_assoc (s ++ t) (l ∷ []) r in
     let front = (s ++ t) ++ (l ∷ r) in
     let upto_marks = more_lines front (mark_lines marks) a d e (subst (TakesLines a d) turned logged) marked.0 in
@@ -256,7 +247,7 @@ whole_book settings tables rows entered log marks state counts a b c d e f g fir
       ending = end.ending;
       whole = all_of a end.rest _ (Consumes-trans a g end.rest _ (lines_text end.lines) upto_counts end.taken) end.whole;
       fits = record {
-        header = record { sessions = first.sessions_fit; queue = first.queue_fits; keep = first.keep_fits; tables = opening.1 };
+        header = record { sessions = first.1.sessions; queue = first.1.queue; keep = first.1.keep; tables = opening.1 };
         rows = subst (λ (k : ℕ). k ≤ 2 ^ 64 - 1) (sym (count ∙ same)) few;
         log = gathered.fit;
         marks = marked.1;

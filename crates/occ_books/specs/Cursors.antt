@@ -8,15 +8,15 @@ use Rattle.occ_text.specs.Reading.{number_of}
 abbrev pub Tokens : Type 0
 Tokens = List (List ℕ)
 
+-- what is read of a token stands before the rest
+abbrev pub before : {X : Type 0} → Tokens → Option X → Option (X × Tokens)
+before rest read = option_map (λ x. (x, rest)) read
+
 -- what a call gave, seen by view, and the tokens that it left, are what reading gives, unless memory was refused
 abbrev pub GivesNext : {X Y : Type 0} → (X → Y) → Result X Unread → Option (Y × Tokens) → Tokens → Type 0
 GivesNext view (Ok x) read rest = read ≡ Some (view x, rest)
 GivesNext view (Err Malformed) read rest = read ≡ None
 GivesNext view (Err Memory) read rest = Unit {0}
-
--- what is read of a token stands before the rest
-abbrev pub before : {X : Type 0} → Tokens → Option X → Option (X × Tokens)
-before rest read = option_map (λ x. (x, rest)) read
 
 abbrev pub next_token : Tokens → Option (List ℕ × Tokens)
 next_token [] = None

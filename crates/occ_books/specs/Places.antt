@@ -9,11 +9,11 @@ use Rattle.occ_types.specs.Row.{Row}
 use Rattle.occ_types.specs.Schema.{Table, Schema, check_tables}
 use Rattle.occ_types.specs.Seen.{table_asked}
 use Rattle.occ_model.specs.State.{Write}
-use Rattle.occ_text.specs.declared.trouble.Trouble.{Trouble}
-use Rattle.occ_text.specs.declared.trouble.Trouble.TheVariants as troubles
-use Rattle.occ_text.specs.Line.{IsLine, lines_text}
+use Rattle.occ_text.specs.declared.faults.ReadFault.{ReadFault}
+use Rattle.occ_text.specs.declared.faults.ReadFault.TheVariants as faults
+use Rattle.occ_text.specs.Line.{IsLine, CannotStand, lines_text}
 use Rattle.occ_text.specs.Headers.{Within, count_text, table_text}
-use Rattle.occ_text.specs.HeaderTaking.{CannotStand, TablesSoFar}
+use Rattle.occ_text.specs.HeaderTaking.{TablesSoFar}
 use Rattle.occ_print.specs.Books.{pair_line, write_line, at_line}
 use Rattle.occ_books.specs.declared.heads.Head.{Head}
 use Rattle.occ_books.specs.declared.heads.Mark.{Mark}
@@ -182,13 +182,16 @@ pub record Led (from to : Place) (before after : Option (List ℕ)) (first last 
   pub led : LeadOn from lines to
   pub here : last ≡ first + length lines
 
+-- what is left of a text where its lines aren't taken from a place on, behind so many lines
+abbrev pub FailsFrom : ReadFault → Place → Option (List ℕ) → Option (List ℕ) → ℕ → Type 0
+FailsFrom (faults.Malformed number) from before after taken = Stopped from before taken number
+FailsFrom faults.Read from before after taken = Unread from before after
+FailsFrom faults.Memory from before after taken = Unit {0}
+
 -- what taking lines from a place leaves, by its outcome, where first and last are how many lines were taken before and after
-abbrev pub TakesFrom : {X : Type 0} → Result X Trouble → Place → (X → Place) → Option (List ℕ) → Option (List ℕ) → ℕ → ℕ → Type 0
+abbrev pub TakesFrom : {X : Type 0} → Result X ReadFault → Place → (X → Place) → Option (List ℕ) → Option (List ℕ) → ℕ → ℕ → Type 0
 TakesFrom (Ok x) from to before after first last = Led from (to x) before after first last
-TakesFrom (Err (troubles.Malformed number)) from to before after first last = Stopped from before first number
-TakesFrom (Err troubles.Read) from to before after first last = Unread from before after
-TakesFrom (Err troubles.Write) from to before after first last = ⊥
-TakesFrom (Err troubles.Memory) from to before after first last = Unit {0}
+TakesFrom (Err fault) from to before after first last = FailsFrom fault from before after first
 
 -- lines lead from a place to another one, where a text may end, and there the text ends
 pub record Ended (from : Place) (before : Option (List ℕ)) : Type 0 where
@@ -201,9 +204,6 @@ pub record Ended (from : Place) (before : Option (List ℕ)) : Type 0 where
   pub whole : IsAtEnd rest
 
 -- what taking all lines of a text from a place on leaves, by its outcome
-abbrev pub EndsFrom : {X : Type 0} → Result X Trouble → Place → Option (List ℕ) → Option (List ℕ) → ℕ → Type 0
+abbrev pub EndsFrom : {X : Type 0} → Result X ReadFault → Place → Option (List ℕ) → Option (List ℕ) → ℕ → Type 0
 EndsFrom (Ok x) from before after first = Ended from before
-EndsFrom (Err (troubles.Malformed number)) from before after first = Stopped from before first number
-EndsFrom (Err troubles.Read) from before after first = Unread from before after
-EndsFrom (Err troubles.Write) from before after first = ⊥
-EndsFrom (Err troubles.Memory) from before after first = Unit {0}
+EndsFrom (Err fault) from before after first = FailsFrom fault from before after first

@@ -1,5 +1,5 @@
 -- What a book tells, and that a text is the text of a book.
-use Rattle.std.specs.Prelude.{◌≡◌, ◌≤◌, ◌^◌, ◌-◌, ◌⊎◌, ℕ, Bool, true, false, List, [], ◌∷◌, ◌++◌, length, Option, Result, Ok, Err, IfSome, codes}
+use Rattle.std.specs.Prelude.{◌≡◌, ◌≤◌, ◌^◌, ◌-◌, ◌⊎◌, ℕ, Bool, List, [], ◌∷◌, ◌++◌, length, Option, Result, Ok, Err, IfSome, codes}
 use Rattle.std.specs.Bool.{Decides}
 use Rattle.std.specs.List.{AllByRecursion}
 use Rattle.std.specs.FinMap.{entries, len}
@@ -8,25 +8,19 @@ use Rattle.occ_model.specs.Log.{Audited}
 use Rattle.occ_model.specs.World.{empty_base}
 use Rattle.occ_core.specs.Rows.{log_of}
 use Rattle.occ_core.specs.Core.{marks_of}
+use Rattle.occ_text.specs.declared.faults.WriteFault.{WriteFault}
+use Rattle.occ_text.specs.declared.faults.WriteFault.TheVariants as faults
 use Rattle.occ_text.specs.declared.trouble.Trouble.{Trouble}
 use Rattle.occ_text.specs.declared.trouble.Trouble.TheVariants.{Read, Write, Memory, Malformed}
 use Rattle.occ_text.specs.Line.{lines_text}
-use Rattle.occ_text.specs.Headers.{Within, HeaderFits, count_text}
+use Rattle.occ_text.specs.Headers.{HeaderFits}
 use Rattle.occ_text.specs.HeaderTaking.{header_of}
 use Rattle.occ_print.specs.Books.{Book, book_text, audit_line}
 use Rattle.occ_books.specs.declared.printed.Printed as code_printed
-use Rattle.occ_books.specs.declared.printed.Settings.{Settings}
 use Rattle.occ_books.specs.Heads.{IsSession, CountsFit}
 use Rattle.occ_books.specs.Entries.{AtFits}
 use Rattle.occ_books.specs.Taking.{TakesLines, LogRowFits}
 use Rattle.occ_books.specs.Places.{Version, Stopped, Unread}
-
--- the first four lines of a header were taken
-pub record SettingsTaken (settings : Settings) (before after : Option (List ℕ)) : Type 0 where
-  pub taken : TakesLines before after (codes "occ 1" ∷ count_text (codes "sessions") settings.sessions ∷ count_text (codes "queue") settings.queue ∷ count_text (codes "keep") settings.keep ∷ [])
-  pub sessions_fit : Within 1 64 settings.sessions
-  pub queue_fits : Within 1 1024 settings.queue
-  pub keep_fits : Within 1 4096 settings.keep
 
 -- what stands behind a book: nothing, or one audit line, whatever it says
 abbrev pub IsEnding : List (List ℕ) → Type 0
@@ -74,12 +68,10 @@ pub record ToldFront (old new : Option (List ℕ)) : Type 0 where
   pub told : Appends old new front
 
 -- what telling a verdict leaves at the writer, by its outcome
-abbrev pub TellGives : {X : Type 0} → Result X Trouble → Bool → Option (List ℕ) → Option (List ℕ) → Type 0
+abbrev pub TellGives : {X : Type 0} → Result X WriteFault → Bool → Option (List ℕ) → Option (List ℕ) → Type 0
 TellGives (Ok done) verdict old new = Appends old new (verdict_text verdict)
-TellGives (Err (Malformed line)) verdict old new = ⊥
-TellGives (Err Read) verdict old new = ⊥
-TellGives (Err Memory) verdict old new = Keeps old new
-TellGives (Err Write) verdict old new = ToldFront old new
+TellGives (Err faults.Write) verdict old new = ToldFront old new
+TellGives (Err faults.Memory) verdict old new = Keeps old new
 
 -- a verdict is right, of the book whose text it is
 pub record Judged (verdict : Bool) (text : Option (List ℕ)) : Type 0 where

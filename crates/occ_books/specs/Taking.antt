@@ -1,5 +1,5 @@
 -- Taking the lines of a book from an input.
-use Rattle.std.specs.Prelude.{◌≡◌, ◌≤◌, ◌^◌, ◌-◌, ℕ, Bool, true, List, [], ◌∷◌, ◌++◌, length, Option, Some, None, Result, Ok, Err, codes}
+use Rattle.std.specs.Prelude.{◌≡◌, ◌≤◌, ◌^◌, ◌-◌, ℕ, Bool, true, List, [], ◌∷◌, ◌++◌, length, Option, Some, None, codes}
 use Rattle.std.specs.List.{AllByRecursion, flat_map}
 use Rattle.std.specs.Io.KnownBytes.{Consumes}
 use Rattle.occ_types.specs.Key.{Key, key_cmp}
@@ -12,11 +12,9 @@ use Rattle.occ_types.specs.Seen.{table_of}
 use Rattle.occ_model.specs.State.{Observation, Write, Found, Rows}
 use Rattle.occ_model.specs.RangeLaws.{IsDistinctWrites}
 use Rattle.occ_model.specs.Log.{Case, LogRow, Standing, Open, Writing, Done, Back}
-use Rattle.occ_text.specs.declared.tokens.Unread.{Unread}
-use Rattle.occ_text.specs.declared.trouble.Trouble.{Trouble}
 use Rattle.occ_text.specs.Line.{lines_text}
 use Rattle.occ_text.specs.Headers.{table_text, count_text, Within}
-use Rattle.occ_text.specs.HeaderTaking.{TablesSoFar, trouble_at}
+use Rattle.occ_text.specs.HeaderTaking.{TablesSoFar}
 use Rattle.occ_books.specs.declared.heads.Head.{Head}
 use Rattle.occ_books.specs.declared.heads.Stand.{Stand}
 use Rattle.occ_books.specs.declared.heads.Stand.TheVariants as stands
@@ -28,11 +26,6 @@ use Rattle.occ_books.specs.Entries.{ObjectFits, FoundFits, SpanFits, PairFits, W
 -- whole lines were taken, and nothing else
 abbrev pub TakesLines : Option (List ℕ) → Option (List ℕ) → List (List ℕ) → Type 0
 TakesLines before after lines = Consumes before after (lines_text lines)
-
--- what was read of the line of a number, or what it ends with
-abbrev pub told : {X : Type 0} → Result X Unread → ℕ → Result X Trouble
-told (Ok x) number = Ok x
-told (Err why) number = Err (trouble_at why number)
 
 -- an object comes behind another one, if there is one
 abbrev pub is_behind : Option Object → Object → Bool

@@ -1,6 +1,6 @@
 //! The audit of a printed book.
 
-ghost use Rattle.std.specs.Prelude.{◌≡◌, IfOk, IfErr};
+ghost use Rattle.std.specs.Prelude.{IfOk};
 ghost use Rattle.std.specs.Bool.{Decides};
 ghost use Rattle.occ_model.specs.Log.{Audited};
 ghost use Rattle.occ_model.specs.World.{empty_base};
@@ -9,10 +9,11 @@ ghost use Rattle.occ_books.specs.Printed.{AuditGives, TellGives, printed_book};
 use crate::printed::{Printed, take_book};
 use occ_audit::{Book, audit_rows};
 use occ_print::lines::audit_line;
+use occ_text::faults::WriteFault;
 use occ_text::input::Input;
 use occ_text::output::Output;
 use occ_text::trouble::Trouble;
-use std::alloc::Allocator;
+use std::alloc::{AllocError, Allocator};
 use std::io::{Read, Write};
 
 /// Reads one book, writes `audit yes` or `audit no` and a line feed, and answers which of them: whether its log is explained by
@@ -36,24 +37,23 @@ pub fn audit_text<R: Read, W: Write, A: Allocator + Copy>(
 }
 
 /// Whether the audit of a book holds.
-fn judge<A: Allocator + Copy>(alloc: A, printed: &Printed<A>) -> Result<bool, Trouble>
-    ensures ok { IfOk result (λ verdict. Decides verdict (Audited empty_base (printed_book printed.now).marks (printed_book printed.now).state (printed_book printed.now).log)) }
-    ensures err { IfErr result (λ trouble. trouble ≡ Trouble.Memory) }
+fn judge<A: Allocator + Copy>(alloc: A, printed: &Printed<A>) -> Result<bool, AllocError>
+    ensures { IfOk result (λ verdict. Decides verdict (Audited empty_base (printed_book printed.now).marks (printed_book printed.now).state (printed_book printed.now).log)) }
 {
     let book = Book {
         log: printed.log.as_slice(),
         marks: &printed.marks,
         tables: &printed.tables,
     };
-    let verdict = audit_rows(alloc, &book)?;
-    Ok(verdict)
+    audit_rows(alloc, &book)
 }
 
 /// Writes the line of a verdict.
-fn tell<W: Write, A: Allocator>(alloc: A, writer: &mut W, verdict: bool) -> Result<(), Trouble>
+fn tell<W: Write, A: Allocator>(alloc: A, writer: &mut W, verdict: bool) -> Result<(), WriteFault>
     ensures { TellGives result verdict (W.contents writer.old) (W.contents writer.new) }
 {
     let mut output = Output::new(alloc);
     output.push(writer, audit_line(verdict).as_bytes())?;
-    output.flush(writer)
+    output.flush(writer)?;
+    Ok(())
 }

@@ -64,7 +64,7 @@ fn next_found<A: Allocator + Clone>(
 ) -> Result<Option<Row<A>>, Unread>
     ensures { GivesNext (λ row. row) result (next_found schema.now table parts.old) parts.new }
 {
-    let token = next_token(parts)?;
+    let token = next_token(parts).ok_or(Unread::Malformed)?;
     let row = found_in(alloc, schema, table, token)?;
     Ok(row)
 }
@@ -80,7 +80,7 @@ fn one_behind<A: Allocator + Copy>(
 {
     let object = next_object(alloc, schema, parts)?;
     let row = next_found(alloc, schema, object.table, parts)?;
-    at_end(parts)?;
+    at_end(parts).ok_or(Unread::Malformed)?;
     Ok(Asked::One { object, row })
 }
 
@@ -94,16 +94,16 @@ fn next_span<A: Allocator + Copy>(
 ) -> Result<Question<A>, Unread>
     ensures { GivesNext question_of result (next_span schema.now table parts.old) parts.new }
 {
-    let first = next_token(parts)?;
+    let first = next_token(parts).ok_or(Unread::Malformed)?;
     let lower = texts::key(alloc, first)?;
-    let second = next_token(parts)?;
+    let second = next_token(parts).ok_or(Unread::Malformed)?;
     let upper = texts::key(alloc, second)?;
     let question = Question::Span {
         table,
         lower: Some(lower),
         upper: Some(upper),
     };
-    unless_fault(schema.check_question(&question))?;
+    unless_fault(schema.check_question(&question)).ok_or(Unread::Malformed)?;
     Ok(question)
 }
 
@@ -116,10 +116,10 @@ fn span_behind<A: Allocator + Copy>(
 ) -> Result<Asked<A>, Unread>
     ensures { Gives asked_of result (span_behind schema.now parts.old) }
 {
-    let table = next_table(schema, parts)?;
+    let table = next_table(schema, parts).ok_or(Unread::Malformed)?;
     let question = next_span(alloc, schema, table, parts)?;
-    let count = next_number(parts, u64::MAX)?;
-    at_end(parts)?;
+    let count = next_number(parts, u64::MAX).ok_or(Unread::Malformed)?;
+    at_end(parts).ok_or(Unread::Malformed)?;
     Ok(Asked::Span { question, count })
 }
 
@@ -131,7 +131,7 @@ fn asked_in<A: Allocator + Copy>(
 ) -> Result<Asked<A>, Unread>
     ensures { Gives asked_of result (asked_in schema.now parts.old) }
 {
-    let word = next_token(parts)?;
+    let word = next_token(parts).ok_or(Unread::Malformed)?;
     if is_word(word, "one") {
         one_behind(alloc, schema, parts)
     } else if is_word(word, "span") {
@@ -149,7 +149,7 @@ fn asked_value<A: Allocator + Copy>(
 ) -> Result<Asked<A>, Unread>
     ensures { Gives asked_of result (asked_of_line schema.now line.now) }
 {
-    let mut parts = tokens(line)?;
+    let mut parts = tokens(line).ok_or(Unread::Malformed)?;
     asked_in(alloc, schema, &mut parts)
 }
 
@@ -177,10 +177,10 @@ fn pair_in<A: Allocator + Copy>(
 ) -> Result<(Key<A>, Row<A>), Unread>
     ensures { Gives pair_of result (pair_in schema.now table parts.old) }
 {
-    next_word(parts, "pair")?;
+    next_word(parts, "pair").ok_or(Unread::Malformed)?;
     let key = next_key(alloc, schema, table, parts)?;
     let row = next_row(alloc, schema, table, parts)?;
-    at_end(parts)?;
+    at_end(parts).ok_or(Unread::Malformed)?;
     Ok((key, row))
 }
 
@@ -193,7 +193,7 @@ fn pair_value<A: Allocator + Copy>(
 ) -> Result<(Key<A>, Row<A>), Unread>
     ensures { Gives pair_of result (pair_of_line schema.now table line.now) }
 {
-    let mut parts = tokens(line)?;
+    let mut parts = tokens(line).ok_or(Unread::Malformed)?;
     pair_in(alloc, schema, table, &mut parts)
 }
 
@@ -223,7 +223,7 @@ fn put_behind<A: Allocator + Copy>(
 {
     let object = next_object(alloc, schema, parts)?;
     let row = next_row(alloc, schema, object.table, parts)?;
-    at_end(parts)?;
+    at_end(parts).ok_or(Unread::Malformed)?;
     Ok((object, Some(row)))
 }
 
@@ -237,7 +237,7 @@ fn del_behind<A: Allocator + Copy>(
     ensures { Gives write_of result (del_behind schema.now parts.old) }
 {
     let object = next_object(alloc, schema, parts)?;
-    at_end(parts)?;
+    at_end(parts).ok_or(Unread::Malformed)?;
     Ok((object, None))
 }
 
@@ -249,7 +249,7 @@ fn write_in<A: Allocator + Copy>(
 ) -> Result<(Object<A>, Option<Row<A>>), Unread>
     ensures { Gives write_of result (write_in schema.now parts.old) }
 {
-    let word = next_token(parts)?;
+    let word = next_token(parts).ok_or(Unread::Malformed)?;
     if is_word(word, "put") {
         put_behind(alloc, schema, parts)
     } else if is_word(word, "del") {
@@ -267,7 +267,7 @@ fn write_value<A: Allocator + Copy>(
 ) -> Result<(Object<A>, Option<Row<A>>), Unread>
     ensures { Gives write_of result (write_of_line schema.now line.now) }
 {
-    let mut parts = tokens(line)?;
+    let mut parts = tokens(line).ok_or(Unread::Malformed)?;
     write_in(alloc, schema, &mut parts)
 }
 
@@ -295,10 +295,10 @@ fn at_in<A: Allocator + Copy>(
 ) -> Result<(Object<A>, Row<A>), Unread>
     ensures { Gives at_of result (at_in schema.now parts.old) }
 {
-    next_word(parts, "at")?;
+    next_word(parts, "at").ok_or(Unread::Malformed)?;
     let object = next_object(alloc, schema, parts)?;
     let row = next_row(alloc, schema, object.table, parts)?;
-    at_end(parts)?;
+    at_end(parts).ok_or(Unread::Malformed)?;
     Ok((object, row))
 }
 
@@ -310,7 +310,7 @@ fn at_value<A: Allocator + Copy>(
 ) -> Result<(Object<A>, Row<A>), Unread>
     ensures { Gives at_of result (at_of_line schema.now line.now) }
 {
-    let mut parts = tokens(line)?;
+    let mut parts = tokens(line).ok_or(Unread::Malformed)?;
     at_in(alloc, schema, &mut parts)
 }
 

@@ -1,17 +1,14 @@
 //! Lines that have numbers alone: the first one of a row of the log, that of a closing mark, and the last one of a book.
 
-ghost use Rattle.std.specs.Prelude.{◌≡◌, IfOk, Some};
-ghost use Rattle.occ_text.specs.Escapes.{Gives};
-ghost use Rattle.occ_books.specs.Cursors.{GivesNext};
-ghost use Rattle.occ_books.specs.declared.heads.Head as plain_head;
-ghost use Rattle.occ_books.specs.declared.heads.Mark as plain_mark;
-ghost use Rattle.occ_books.specs.declared.heads.Counts as plain_counts;
+ghost use Rattle.std.specs.Prelude.{◌≡◌};
+ghost use Rattle.occ_text.specs.Reading.{Reads};
+ghost use Rattle.occ_books.specs.Cursors.{before};
 ghost use Rattle.occ_books.specs.Heads.{mark_text, counts_text, head_text, HeadFits, MarkFits, CountsFit, bare_stand, counted_stand, stand_of, next_session, mark_of, mark_of_line, counts_of, counts_of_line, head_of, head_of_line};
 
-use crate::cursors::{at_end, next_number, next_token, next_word};
-use occ_model::verdict::Cause;
+use crate::cursors::{at_end, next_number, next_word};
+use occ_model::Cause;
 use occ_text::parts::Parts;
-use occ_text::tokens::{Unread, is_word, number, tokens};
+use occ_text::tokens::{is_word, number, tokens};
 use occ_types::limits::{MAX_QUESTIONS, MAX_WRITES};
 
 /// How far a row has come, as its first line says it.
@@ -68,67 +65,66 @@ pub struct Counts {
 
 /// A standing without a number.
 #[tactic(auto, unfolding(crate::specs::Heads::bare_stand))]
-fn bare_stand(word: &[u8]) -> Result<Stand, Unread>
-    ensures { Gives (λ stand. stand) result (bare_stand word.now) }
+fn bare_stand(word: &[u8]) -> Option<Stand>
+    ensures { result ≡ bare_stand word.now }
 {
     if is_word(word, "open") {
-        Ok(Stand::Open)
+        Some(Stand::Open)
     } else if is_word(word, "conflict") {
-        Ok(Stand::Back(Cause::Conflict))
+        Some(Stand::Back(Cause::Conflict))
     } else if is_word(word, "tooold") {
-        Ok(Stand::Back(Cause::TooOld))
+        Some(Stand::Back(Cause::TooOld))
     } else {
-        Err(Unread::Malformed)
+        None
     }
 }
 
 /// A standing with a number, of a row with so many writes.
 #[tactic(auto, unfolding(crate::specs::Heads::counted_stand))]
-fn counted_stand(writes: usize, word: &[u8], digits: &[u8]) -> Result<Stand, Unread>
-    ensures { Gives (λ stand. stand) result (counted_stand writes word.now digits.now) }
+fn counted_stand(writes: usize, word: &[u8], digits: &[u8]) -> Option<Stand>
+    ensures { result ≡ counted_stand writes word.now digits.now }
 {
     if is_word(word, "writing") {
         let done = number(digits, writes as u64)?;
-        Ok(Stand::Writing(done as usize))
+        Some(Stand::Writing(done as usize))
     } else if is_word(word, "done") {
         let number = number(digits, u64::MAX)?;
-        Ok(Stand::Done(number))
+        Some(Stand::Done(number))
     } else {
-        Err(Unread::Malformed)
+        None
     }
 }
 
 /// The standing of the last tokens of a line.
-fn stand_of(writes: usize, parts: &mut Parts<'_>) -> Result<Stand, Unread>
-    ensures { Gives (λ stand. stand) result (stand_of writes parts.old) }
+fn stand_of(writes: usize, parts: &mut Parts<'_>) -> Option<Stand>
+    ensures { result ≡ stand_of writes parts.old }
 {
-    let Some(word) = parts.take_part() else {
-        return Err(Unread::Malformed);
-    };
+    let word = parts.take_part()?;
     let Some(digits) = parts.take_part() else {
         return bare_stand(word);
     };
     match parts.take_part() {
         None => counted_stand(writes, word, digits),
-        Some(_) => Err(Unread::Malformed),
+        Some(_) => None,
     }
 }
 
 /// A session of a header that has so many.
 #[tactic(auto, unfolding(crate::specs::Heads::next_session))]
-fn next_session(sessions: usize, parts: &mut Parts<'_>) -> Result<usize, Unread>
-    ensures { GivesNext (λ session. session) result (next_session sessions parts.old) parts.new }
+fn next_session(sessions: usize, parts: &mut Parts<'_>) -> Option<usize>
+    ensures { before parts.new result ≡ next_session sessions parts.old }
 {
     let session = next_number(parts, sessions as u64)?;
     if session == 0 {
-        return Err(Unread::Malformed);
+        return None;
     }
-    Ok(session as usize)
+    Some(session as usize)
 }
 
+// The first line of a row, from its tokens.
 #[tactic(auto, unfolding(crate::specs::Heads::head_of))]
-fn head_of(sessions: usize, parts: &mut Parts<'_>) -> Result<Head, Unread>
-    ensures { Gives (λ head. head) result (head_of sessions parts.old) }
+fn head_of(sessions: usize, parts: &mut Parts<'_>) -> Option<Head>
+    ensures { result ≡ head_of sessions parts.old }
 {
     next_word(parts, "row")?;
     let place = next_number(parts, u64::MAX)? as usize;
@@ -139,7 +135,7 @@ fn head_of(sessions: usize, parts: &mut Parts<'_>) -> Result<Head, Unread>
     let reads = next_number(parts, MAX_QUESTIONS as u64)? as usize;
     let writes = next_number(parts, MAX_WRITES as u64)? as usize;
     let stand = stand_of(writes, parts)?;
-    Ok(Head {
+    Some(Head {
         place,
         session,
         number,
@@ -151,76 +147,57 @@ fn head_of(sessions: usize, parts: &mut Parts<'_>) -> Result<Head, Unread>
     })
 }
 
+/// The first line of a row of the log, under a header with so many sessions. None where the line is none.
 #[tactic(auto, unfolding(crate::specs::Heads::head_of_line))]
-fn head_value(line: &[u8], sessions: usize) -> Result<Head, Unread>
-    ensures { Gives (λ head. head) result (head_of_line sessions line.now) }
+pub fn read_head(line: &[u8], sessions: usize) -> Option<Head>
+    ensures exact { result ≡ head_of_line sessions line.now }
+    ensures grammar { Reads head_text (HeadFits sessions) line.now result }
 {
     let mut parts = tokens(line)?;
     head_of(sessions, &mut parts)
 }
 
-/// The first line of a row of the log, under a header with so many sessions. `Malformed` where the line is none.
-pub fn read_head(line: &[u8], sessions: usize) -> Result<Head, Unread>
-    ensures exact { Gives (λ head. head) result (head_of_line sessions line.now) }
-    ensures found { IfOk result (λ head. (line.now ≡ head_text head) × HeadFits sessions head) }
-    ensures again { (head : plain_head.Head) → HeadFits sessions head → line.now ≡ head_text head → Gives (λ head. head) result (Some head) }
-{
-    head_value(line, sessions)
-}
-
+// A closing mark, from the tokens of its line.
 #[tactic(auto, unfolding(crate::specs::Heads::mark_of))]
-fn mark_of(sessions: usize, parts: &mut Parts<'_>) -> Result<Mark, Unread>
-    ensures { Gives (λ mark. mark) result (mark_of sessions parts.old) }
+fn mark_of(sessions: usize, parts: &mut Parts<'_>) -> Option<Mark>
+    ensures { result ≡ mark_of sessions parts.old }
 {
     next_word(parts, "mark")?;
     let session = next_session(sessions, parts)?;
     let number = next_number(parts, u64::MAX)?;
     at_end(parts)?;
-    Ok(Mark { session, number })
+    Some(Mark { session, number })
 }
 
+/// A closing mark, under a header with so many sessions. None where the line is none.
 #[tactic(auto, unfolding(crate::specs::Heads::mark_of_line))]
-fn mark_value(line: &[u8], sessions: usize) -> Result<Mark, Unread>
-    ensures { Gives (λ mark. mark) result (mark_of_line sessions line.now) }
+pub fn read_mark(line: &[u8], sessions: usize) -> Option<Mark>
+    ensures exact { result ≡ mark_of_line sessions line.now }
+    ensures grammar { Reads mark_text (MarkFits sessions) line.now result }
 {
     let mut parts = tokens(line)?;
     mark_of(sessions, &mut parts)
 }
 
-/// A closing mark, under a header with so many sessions. `Malformed` where the line is none.
-pub fn read_mark(line: &[u8], sessions: usize) -> Result<Mark, Unread>
-    ensures exact { Gives (λ mark. mark) result (mark_of_line sessions line.now) }
-    ensures found { IfOk result (λ mark. (line.now ≡ mark_text mark) × MarkFits sessions mark) }
-    ensures again { (mark : plain_mark.Mark) → MarkFits sessions mark → line.now ≡ mark_text mark → Gives (λ mark. mark) result (Some mark) }
-{
-    mark_value(line, sessions)
-}
-
+// The last line of a book, from its tokens.
 #[tactic(auto, unfolding(crate::specs::Heads::counts_of))]
-fn counts_of(parts: &mut Parts<'_>) -> Result<Counts, Unread>
-    ensures { Gives (λ counts. counts) result (counts_of parts.old) }
+fn counts_of(parts: &mut Parts<'_>) -> Option<Counts>
+    ensures { result ≡ counts_of parts.old }
 {
     next_word(parts, "counter")?;
     let counter = next_number(parts, u64::MAX)?;
     next_word(parts, "low")?;
     let low = next_number(parts, u64::MAX)?;
     at_end(parts)?;
-    Ok(Counts { counter, low })
+    Some(Counts { counter, low })
 }
 
+/// The last line of a book. None where the line is none.
 #[tactic(auto, unfolding(crate::specs::Heads::counts_of_line))]
-fn counts_value(line: &[u8]) -> Result<Counts, Unread>
-    ensures { Gives (λ counts. counts) result (counts_of_line line.now) }
+pub fn read_counts(line: &[u8]) -> Option<Counts>
+    ensures exact { result ≡ counts_of_line line.now }
+    ensures grammar { Reads counts_text CountsFit line.now result }
 {
     let mut parts = tokens(line)?;
     counts_of(&mut parts)
-}
-
-/// The last line of a book. `Malformed` where the line is none.
-pub fn read_counts(line: &[u8]) -> Result<Counts, Unread>
-    ensures exact { Gives (λ counts. counts) result (counts_of_line line.now) }
-    ensures found { IfOk result (λ counts. (line.now ≡ counts_text counts) × CountsFit counts) }
-    ensures again { (counts : plain_counts.Counts) → CountsFit counts → line.now ≡ counts_text counts → Gives (λ counts. counts) result (Some counts) }
-{
-    counts_value(line)
 }

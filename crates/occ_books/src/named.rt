@@ -4,37 +4,31 @@ ghost use Rattle.std.specs.Prelude.{◌≡◌};
 ghost use Rattle.std.specs.Result.{result_err};
 ghost use Rattle.occ_types.specs.Seen.{key_of, object_of};
 ghost use Rattle.occ_text.specs.Escapes.{Gives};
-ghost use Rattle.occ_books.specs.Cursors.{GivesNext};
+ghost use Rattle.occ_books.specs.Cursors.{GivesNext, before};
 ghost use Rattle.occ_books.specs.Named.{unless_fault, place_of, key_in, row_in, next_table, next_key, next_row, next_object};
 
 use crate::cursors::next_token;
 use occ_text::parts::Parts;
 use occ_text::texts;
 use occ_text::tokens::{Unread, name};
-use occ_types::fault::Fault;
+use occ_types::Fault;
 use occ_types::{Key, Object, Row, Schema};
 use std::alloc::Allocator;
 
 /// What has a fault is not read.
-pub(crate) fn unless_fault(checked: Result<(), Fault>) -> Result<(), Unread>
-    ensures { Gives (λ _. tt) result (unless_fault (result_err checked)) }
+pub(crate) fn unless_fault(checked: Result<(), Fault>) -> Option<()>
+    ensures { result ≡ unless_fault (result_err checked) }
 {
-    match checked {
-        Ok(()) => Ok(()),
-        Err(_) => Err(Unread::Malformed),
-    }
+    checked.ok()
 }
 
 /// The place of the table of this name.
 #[tactic(auto, unfolding(crate::specs::Named::place_of))]
-fn place_of<A: Allocator>(schema: &Schema<A>, token: &[u8]) -> Result<usize, Unread>
-    ensures { Gives (λ place. place) result (place_of schema.now token.now) }
+fn place_of<A: Allocator>(schema: &Schema<A>, token: &[u8]) -> Option<usize>
+    ensures { result ≡ place_of schema.now token.now }
 {
     let name = name(token)?;
-    match schema.table_named(name) {
-        Some(place) => Ok(place),
-        None => Err(Unread::Malformed),
-    }
+    schema.table_named(name)
 }
 
 /// A key of the table at a place.
@@ -48,7 +42,7 @@ fn key_in<A: Allocator>(
     ensures { Gives key_of result (key_in schema.now table token.now) }
 {
     let key = texts::key(alloc, token)?;
-    unless_fault(schema.check_key(table, &key))?;
+    unless_fault(schema.check_key(table, &key)).ok_or(Unread::Malformed)?;
     Ok(key)
 }
 
@@ -63,21 +57,18 @@ pub(crate) fn row_in<A: Allocator + Clone>(
     ensures { Gives (λ row. row) result (row_in schema.now table token.now) }
 {
     let row = texts::row(alloc, token)?;
-    unless_fault(schema.check_row(table, &row))?;
+    unless_fault(schema.check_row(table, &row)).ok_or(Unread::Malformed)?;
     Ok(row)
 }
 
 /// The place of the table that the next token names.
 #[tactic(auto, unfolding(crate::specs::Named::next_table))]
-pub(crate) fn next_table<A: Allocator>(
-    schema: &Schema<A>,
-    parts: &mut Parts<'_>,
-) -> Result<usize, Unread>
-    ensures { GivesNext (λ place. place) result (next_table schema.now parts.old) parts.new }
+pub(crate) fn next_table<A: Allocator>(schema: &Schema<A>, parts: &mut Parts<'_>) -> Option<usize>
+    ensures { before parts.new result ≡ next_table schema.now parts.old }
 {
     let token = next_token(parts)?;
     let place = place_of(schema, token)?;
-    Ok(place)
+    Some(place)
 }
 
 /// The next token as a key of a table.
@@ -90,7 +81,7 @@ pub(crate) fn next_key<A: Allocator>(
 ) -> Result<Key<A>, Unread>
     ensures { GivesNext key_of result (next_key schema.now table parts.old) parts.new }
 {
-    let token = next_token(parts)?;
+    let token = next_token(parts).ok_or(Unread::Malformed)?;
     let key = key_in(alloc, schema, table, token)?;
     Ok(key)
 }
@@ -105,7 +96,7 @@ pub(crate) fn next_row<A: Allocator + Clone>(
 ) -> Result<Row<A>, Unread>
     ensures { GivesNext (λ row. row) result (next_row schema.now table parts.old) parts.new }
 {
-    let token = next_token(parts)?;
+    let token = next_token(parts).ok_or(Unread::Malformed)?;
     let row = row_in(alloc, schema, table, token)?;
     Ok(row)
 }
@@ -119,7 +110,7 @@ pub(crate) fn next_object<A: Allocator>(
 ) -> Result<Object<A>, Unread>
     ensures { GivesNext object_of result (next_object schema.now parts.old) parts.new }
 {
-    let table = next_table(schema, parts)?;
+    let table = next_table(schema, parts).ok_or(Unread::Malformed)?;
     let key = next_key(alloc, schema, table, parts)?;
     Ok(Object { table, key })
 }

@@ -9,25 +9,24 @@ ghost use Rattle.occ_types.specs.Schema.{Table, check_tables};
 ghost use Rattle.occ_types.specs.Seen.{tables_of};
 ghost use Rattle.occ_core.specs.Core.{marks_of};
 ghost use Rattle.occ_text.specs.Headers.{table_text, count_text};
-ghost use Rattle.occ_text.specs.HeaderTaking.{Taken, TablesSoFar};
+ghost use Rattle.occ_text.specs.Faults.{widened};
+ghost use Rattle.occ_text.specs.HeaderTaking.{TablesSoFar};
+ghost use Rattle.occ_text.specs.Line.{Taken};
 ghost use Rattle.occ_print.specs.Books.{mark_lines, state_lines};
 ghost use Rattle.occ_books.specs.Entries.{AtFits};
 ghost use Rattle.occ_books.specs.Taking.{TakesLines, BehindTaken, FurtherFits, further_of, further_text};
 ghost use Rattle.occ_books.specs.Places.{Version, Tables as TablesAt, Marks, State, Counter, Audit, rows_to_come, TakesFrom, EndsFrom};
-ghost use Rattle.occ_books.specs.Printed.{SettingsTaken, EntryFits, EndTaken, IsBookText, printed_book};
+ghost use Rattle.occ_books.specs.Printed.{EntryFits, EndTaken, IsBookText, printed_book};
 
 use crate::heads::Counts;
-use crate::takes::{read_at_line, take_at, take_counts, take_line, take_mark, take_section};
+use crate::takes::{take_at, take_counts, take_mark};
 use crate::transactions::take_rows;
 use occ_core::{LogRow, Tables};
-use occ_text::headers::{
-    Header, MAX_KEEP, MAX_QUEUE, count, table_behind, take_count, take_version,
-};
+use occ_text::faults::{LineFault, ReadFault, read_at_line};
+use occ_text::headers::{Header, count, table_behind, take_count, take_limits};
 use occ_text::input::{Input, Next};
 use occ_text::tokens::is_word;
-use occ_text::trouble::Trouble;
-use occ_types::limits::MAX_SESSIONS;
-use occ_types::{Object, Row, Schema, TableDef};
+use occ_types::{Schema, TableDef};
 use std::alloc::Allocator;
 use std::collections::BTreeMap;
 use std::io::Read;
@@ -45,14 +44,6 @@ pub struct Printed<A: Allocator> {
     pub tables: Tables<A>,
     /// The transaction counter and the lower end of the window.
     pub counts: Counts,
-}
-
-/// What a header says beside its tables.
-#[derive(Clone, Copy)]
-struct Settings {
-    sessions: usize,
-    queue: usize,
-    keep: usize,
 }
 
 /// The tables of a header, and how many rows of the log follow.
@@ -77,13 +68,13 @@ fn take_behind<R: Read, A: Allocator + Copy>(
     input: &mut Input<A>,
     reader: &mut R,
     tables: &[TableDef<A>],
-) -> Result<Behind<A>, Trouble>
+) -> Result<Behind<A>, ReadFault>
     requires { TablesSoFar (tables_of tables.now) }
     ensures taken { IfOk result (λ behind. BehindTaken behind (tables_of tables.now) (prepend_known input.old.unread (R.remaining reader.old)) (prepend_known input.new.unread (R.remaining reader.new))) }
     ensures led { Taken further_of further_text (FurtherFits (tables_of tables.now)) result (prepend_known input.old.unread (R.remaining reader.old)) (prepend_known input.new.unread (R.remaining reader.new)) input.old.number input.new.number }
 {
-    take_line(input, reader)?;
-    if let Ok(rows) = count(input.line(), "log", 0, u64::MAX) {
+    input.take_line(reader)?;
+    if let Some(rows) = count(input.line(), "log", 0, u64::MAX) {
         return Ok(Behind::Log(rows));
     }
     let table = read_at_line(table_behind(alloc, tables, input.line()), input.number())?;
@@ -95,7 +86,7 @@ fn take_opening<R: Read, A: Allocator + Copy>(
     alloc: A,
     input: &mut Input<A>,
     reader: &mut R,
-) -> Result<Opening<A>, Trouble>
+) -> Result<Opening<A>, ReadFault>
     ensures taken { IfOk result (λ opening. TakesLines (prepend_known input.old.unread (R.remaining reader.old)) (prepend_known input.new.unread (R.remaining reader.new)) (map table_text opening.schema ++ count_text (codes "log") opening.rows ∷ []) × (check_tables opening.schema ≡ None)) }
     ensures led { (sessions : ℕ) → TakesFrom result (TablesAt sessions []) (λ opening. rows_to_come (record { schema = opening.schema; sessions = sessions }) opening.rows) (prepend_known input.old.unread (R.remaining reader.old)) (prepend_known input.new.unread (R.remaining reader.new)) input.old.number input.new.number }
 {
@@ -105,7 +96,7 @@ fn take_opening<R: Read, A: Allocator + Copy>(
             Behind::Table(table) => tables.push(table)?,
             Behind::Log(rows) => match Schema::new(tables) {
                 Ok(schema) => return Ok(Opening { schema, rows }),
-                Err(_) => return Err(Trouble::Malformed(input.number())),
+                Err(_) => return Err(ReadFault::Malformed(input.number())),
             },
         }
     }
@@ -117,11 +108,11 @@ fn take_marks<R: Read, A: Allocator + Copy>(
     input: &mut Input<A>,
     reader: &mut R,
     sessions: usize,
-) -> Result<BTreeMap<usize, u64, A>, Trouble>
+) -> Result<BTreeMap<usize, u64, A>, ReadFault>
     ensures taken { IfOk result (λ marks. TakesLines (prepend_known input.old.unread (R.remaining reader.old)) (prepend_known input.new.unread (R.remaining reader.new)) (mark_lines (marks_of marks)) × AllByRecursion (EntryFits sessions) (finite.entries (marks_of marks))) }
     ensures led { (schema : List Table) → TakesFrom result (Marks (record { schema = schema; sessions = sessions })) (λ _. State (record { schema = schema; sessions = sessions })) (prepend_known input.old.unread (R.remaining reader.old)) (prepend_known input.new.unread (R.remaining reader.new)) input.old.number input.new.number }
 {
-    let count = take_section(input, reader, "marks")?;
+    let count = take_count(input, reader, "marks", 0, u64::MAX)?;
     let mut marks = BTreeMap::new(alloc);
     let mut last = 0;
     for _ in 0..count {
@@ -138,11 +129,11 @@ fn take_state<R: Read, A: Allocator + Copy>(
     input: &mut Input<A>,
     reader: &mut R,
     schema: &Schema<A>,
-) -> Result<Tables<A>, Trouble>
+) -> Result<Tables<A>, ReadFault>
     ensures taken { IfOk result (λ tables. TakesLines (prepend_known input.old.unread (R.remaining reader.old)) (prepend_known input.new.unread (R.remaining reader.new)) (state_lines schema.now tables.state) × AllByRecursion (AtFits schema.now) (finite.entries tables.state) × (finite.len tables.state ≤ 2 ^ 64 - 1)) }
     ensures led { (sessions : ℕ) → TakesFrom result (State (record { schema = schema.now; sessions = sessions })) (λ _. Counter) (prepend_known input.old.unread (R.remaining reader.old)) (prepend_known input.new.unread (R.remaining reader.new)) input.old.number input.new.number }
 {
-    let count = take_section(input, reader, "state")?;
+    let count = take_count(input, reader, "state", 0, u64::MAX)?;
     let mut tables = Tables::new(alloc, schema.tables().len())?;
     let mut last = None;
     for _ in 0..count {
@@ -154,20 +145,20 @@ fn take_state<R: Read, A: Allocator + Copy>(
 }
 
 /// Takes what may stand behind a book: one audit line, whatever it says, and then the end.
-fn take_end<R: Read, A: Allocator>(input: &mut Input<A>, reader: &mut R) -> Result<(), Trouble>
+fn take_end<R: Read, A: Allocator>(input: &mut Input<A>, reader: &mut R) -> Result<(), LineFault>
     ensures taken { IfOk result (λ _. EndTaken (prepend_known input.old.unread (R.remaining reader.old))) }
-    ensures led { EndsFrom result Audit (prepend_known input.old.unread (R.remaining reader.old)) (prepend_known input.new.unread (R.remaining reader.new)) input.old.number }
+    ensures led { EndsFrom (widened result) Audit (prepend_known input.old.unread (R.remaining reader.old)) (prepend_known input.new.unread (R.remaining reader.new)) input.old.number }
 {
     match input.next_line(reader)? {
         Next::End => return Ok(()),
         Next::Line => {}
     }
     if !is_audit(input.line()) {
-        return Err(Trouble::Malformed(input.number()));
+        return Err(LineFault::Malformed(input.number()));
     }
     match input.next_line(reader)? {
         Next::End => Ok(()),
-        Next::Line => Err(Trouble::Malformed(input.number())),
+        Next::Line => Err(LineFault::Malformed(input.number())),
     }
 }
 
@@ -178,26 +169,6 @@ fn is_audit(line: &[u8]) -> bool
     is_word(line, "audit yes") || is_word(line, "audit no")
 }
 
-/// Takes the first four lines of a book.
-fn take_settings<R: Read, A: Allocator>(
-    input: &mut Input<A>,
-    reader: &mut R,
-) -> Result<Settings, Trouble>
-    requires { input.old.number ≡ 0 }
-    ensures taken { IfOk result (λ settings. SettingsTaken settings (prepend_known input.old.unread (R.remaining reader.old)) (prepend_known input.new.unread (R.remaining reader.new))) }
-    ensures led { TakesFrom result Version (λ settings. TablesAt settings.sessions []) (prepend_known input.old.unread (R.remaining reader.old)) (prepend_known input.new.unread (R.remaining reader.new)) input.old.number input.new.number }
-{
-    take_version(input, reader)?;
-    let sessions = take_count(input, reader, "sessions", MAX_SESSIONS as u64)?;
-    let queue = take_count(input, reader, "queue", MAX_QUEUE)?;
-    let keep = take_count(input, reader, "keep", MAX_KEEP)?;
-    Ok(Settings {
-        sessions: sessions as usize,
-        queue: queue as usize,
-        keep: keep as usize,
-    })
-}
-
 /// Takes a whole book, and what may stand behind it, from the beginning of a text to its end.
 ///
 /// `Malformed` at the first line that can't stand where it stands, also where the text ends before the book is whole; `Read`
@@ -206,34 +177,21 @@ pub fn take_book<R: Read, A: Allocator + Copy>(
     alloc: A,
     input: &mut Input<A>,
     reader: &mut R,
-) -> Result<Printed<A>, Trouble>
+) -> Result<Printed<A>, ReadFault>
     requires { input.old.number ≡ 0 }
     ensures taken { IfOk result (λ printed. IsBookText (prepend_known input.old.unread (R.remaining reader.old)) (printed_book printed)) }
     ensures led { EndsFrom result Version (prepend_known input.old.unread (R.remaining reader.old)) (prepend_known input.new.unread (R.remaining reader.new)) input.old.number }
 {
-    let settings = take_settings(input, reader)?;
+    let limits = take_limits(input, reader)?;
     let opening = take_opening(alloc, input, reader)?;
     let schema = opening.schema;
-    let log = take_rows(
-        alloc,
-        input,
-        reader,
-        &schema,
-        settings.sessions,
-        opening.rows,
-    )?;
-    let marks = take_marks(alloc, input, reader, settings.sessions)?;
+    let log = take_rows(alloc, input, reader, &schema, limits.sessions, opening.rows)?;
+    let marks = take_marks(alloc, input, reader, limits.sessions)?;
     let tables = take_state(alloc, input, reader, &schema)?;
     let counts = take_counts(input, reader)?;
     take_end(input, reader)?;
-    let header = Header {
-        sessions: settings.sessions,
-        queue: settings.queue,
-        keep: settings.keep,
-        schema,
-    };
     Ok(Printed {
-        header,
+        header: Header { limits, schema },
         log,
         marks,
         tables,

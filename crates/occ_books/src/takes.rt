@@ -1,90 +1,36 @@
 //! Taking single lines of a book from an input.
 
-ghost use Rattle.std.specs.Prelude.{◌≡◌, ◌<◌, ◌+◌, ◌∷◌, ◌↔◌, [], true, Ok, IfOk, IsTrue, option_map};
+ghost use Rattle.std.specs.Prelude.{◌≡◌, ◌<◌, ◌∷◌, ◌↔◌, [], true, IfOk, IsTrue, option_map};
 ghost use Rattle.std.specs.Io.KnownBytes.{prepend_known};
 ghost use Rattle.occ_types.specs.Seen.{key_of, object_of};
 ghost use Rattle.occ_sets.specs.Seen.{rows_of};
-ghost use Rattle.occ_text.specs.Headers.{count_text, Within};
-ghost use Rattle.occ_text.specs.Line.{IsLine};
-ghost use Rattle.occ_text.specs.HeaderTaking.{LineTaken, Taken};
-ghost use Rattle.occ_text.specs.Spelling.{IsToken};
+ghost use Rattle.occ_text.specs.Faults.{widened};
+ghost use Rattle.occ_text.specs.Line.{IsLine, Taken};
 ghost use Rattle.occ_print.specs.Books.{pair_line, write_line, at_line};
 ghost use Rattle.occ_books.specs.Heads.{head_text, mark_text, counts_text, HeadFits, MarkFits, CountsFit};
 ghost use Rattle.occ_books.specs.Entries.{asked_of, pair_of, write_of, at_of, asked_text, AskedFits, PairFits, WriteFits, AtFits};
 ghost use Rattle.occ_books.specs.Places.{IsAbove, last_key};
-ghost use Rattle.occ_books.specs.Taking.{TakesLines, is_behind, told};
+ghost use Rattle.occ_books.specs.Taking.{TakesLines, is_behind};
 
 use crate::entries::{Asked, read_asked, read_at, read_pair, read_write};
 use crate::heads::{Counts, Head, Mark, read_counts, read_head, read_mark};
-use occ_text::headers::{count, trouble_at};
-use occ_text::input::{Input, Next};
-use occ_text::tokens::Unread;
-use occ_text::trouble::Trouble;
+use occ_text::faults::{LineFault, ReadFault, read_at_line};
+use occ_text::input::Input;
 use occ_types::{Key, Object, Row, Schema};
 use std::alloc::Allocator;
 use std::io::Read;
-
-/// What a text ends with that stops behind the line of a number: it is malformed at the line after it.
-fn cut_short(number: u64) -> Trouble
-    ensures malformed { number < u64.MAX → result ≡ Trouble.Malformed (number + 1) }
-    ensures out_of_numbers { number ≡ u64.MAX → result ≡ Trouble.Read }
-{
-    match number.checked_add(1) {
-        Some(line) => Trouble::Malformed(line),
-        None => Trouble::Read,
-    }
-}
-
-/// Takes the line that has to stand next.
-pub(crate) fn take_line<R: Read, A: Allocator>(
-    input: &mut Input<A>,
-    reader: &mut R,
-) -> Result<(), Trouble>
-    ensures lines { IfOk result (λ _. TakesLines (prepend_known input.old.unread (R.remaining reader.old)) (prepend_known input.new.unread (R.remaining reader.new)) (input.new.line ∷ [])) }
-    ensures exact { LineTaken result (prepend_known input.old.unread (R.remaining reader.old)) (prepend_known input.new.unread (R.remaining reader.new)) input.old input.new }
-{
-    match input.next_line(reader)? {
-        Next::Line => Ok(()),
-        Next::End => Err(cut_short(input.number())),
-    }
-}
-
-/// What was read of the line of a number.
-pub(crate) fn read_at_line<T: Drop>(read: Result<T, Unread>, number: u64) -> Result<T, Trouble>
-    ensures taken { IfOk result (λ value. read ≡ Ok value) }
-    ensures exact { result ≡ told read number }
-{
-    match read {
-        Ok(value) => Ok(value),
-        Err(unread) => Err(trouble_at(unread, number)),
-    }
-}
-
-/// Takes a line of a word and a count, which may be any number of 64 bits.
-pub(crate) fn take_section<R: Read, A: Allocator>(
-    input: &mut Input<A>,
-    reader: &mut R,
-    word: &str,
-) -> Result<u64, Trouble>
-    requires { IsToken word.now }
-    ensures taken { IfOk result (λ n. TakesLines (prepend_known input.old.unread (R.remaining reader.old)) (prepend_known input.new.unread (R.remaining reader.new)) (count_text word.now n ∷ []) × Within 0 u64.MAX n) }
-    ensures led { Taken (λ n. n) (count_text word.now) (Within 0 u64.MAX) result (prepend_known input.old.unread (R.remaining reader.old)) (prepend_known input.new.unread (R.remaining reader.new)) input.old.number input.new.number }
-{
-    take_line(input, reader)?;
-    read_at_line(count(input.line(), word, 0, u64::MAX), input.number())
-}
 
 /// Takes the first line of a row of the log.
 pub(crate) fn take_head<R: Read, A: Allocator>(
     input: &mut Input<A>,
     reader: &mut R,
     sessions: usize,
-) -> Result<Head, Trouble>
+) -> Result<Head, LineFault>
     ensures taken { IfOk result (λ head. TakesLines (prepend_known input.old.unread (R.remaining reader.old)) (prepend_known input.new.unread (R.remaining reader.new)) (head_text head ∷ []) × HeadFits sessions head) }
-    ensures led { Taken (λ head. head) head_text (HeadFits sessions) result (prepend_known input.old.unread (R.remaining reader.old)) (prepend_known input.new.unread (R.remaining reader.new)) input.old.number input.new.number }
+    ensures led { Taken (λ head. head) head_text (HeadFits sessions) (widened result) (prepend_known input.old.unread (R.remaining reader.old)) (prepend_known input.new.unread (R.remaining reader.new)) input.old.number input.new.number }
 {
-    take_line(input, reader)?;
-    read_at_line(read_head(input.line(), sessions), input.number())
+    input.take_line(reader)?;
+    read_head(input.line(), sessions).ok_or(LineFault::Malformed(input.number()))
 }
 
 /// Takes the line of a read.
@@ -93,11 +39,11 @@ pub(crate) fn take_asked<R: Read, A: Allocator + Copy>(
     input: &mut Input<A>,
     reader: &mut R,
     schema: &Schema<A>,
-) -> Result<Asked<A>, Trouble>
+) -> Result<Asked<A>, ReadFault>
     ensures taken { IfOk result (λ asked. TakesLines (prepend_known input.old.unread (R.remaining reader.old)) (prepend_known input.new.unread (R.remaining reader.new)) (asked_text schema.now (asked_of asked) ∷ []) × AskedFits schema.now (asked_of asked)) }
     ensures led { Taken asked_of (asked_text schema.now) (AskedFits schema.now) result (prepend_known input.old.unread (R.remaining reader.old)) (prepend_known input.new.unread (R.remaining reader.new)) input.old.number input.new.number }
 {
-    take_line(input, reader)?;
+    input.take_line(reader)?;
     read_at_line(read_asked(alloc, schema, input.line()), input.number())
 }
 
@@ -119,17 +65,17 @@ pub(crate) fn take_pair<R: Read, A: Allocator + Copy>(
     schema: &Schema<A>,
     table: usize,
     rows: &[(Key<A>, Row<A>)],
-) -> Result<(Key<A>, Row<A>), Trouble>
+) -> Result<(Key<A>, Row<A>), ReadFault>
     ensures taken { IfOk result (λ pair. TakesLines (prepend_known input.old.unread (R.remaining reader.old)) (prepend_known input.new.unread (R.remaining reader.new)) (pair_line (pair_of pair) ∷ []) × PairFits schema.now table (pair_of pair)) }
     ensures led { Taken pair_of pair_line (λ pair. PairFits schema.now table pair × IsAbove (last_key (rows_of rows.now)) pair.0) result (prepend_known input.old.unread (R.remaining reader.old)) (prepend_known input.new.unread (R.remaining reader.new)) input.old.number input.new.number }
 {
-    take_line(input, reader)?;
+    input.take_line(reader)?;
     let (key, row) = read_at_line(
         read_pair(alloc, schema, table, input.line()),
         input.number(),
     )?;
     if !is_above(rows, &key) {
-        return Err(Trouble::Malformed(input.number()));
+        return Err(ReadFault::Malformed(input.number()));
     }
     Ok((key, row))
 }
@@ -140,12 +86,12 @@ pub(crate) fn take_write<R: Read, A: Allocator + Copy>(
     input: &mut Input<A>,
     reader: &mut R,
     schema: &Schema<A>,
-) -> Result<(Object<A>, Option<Row<A>>), Trouble>
+) -> Result<(Object<A>, Option<Row<A>>), ReadFault>
     ensures taken { IfOk result (λ write. TakesLines (prepend_known input.old.unread (R.remaining reader.old)) (prepend_known input.new.unread (R.remaining reader.new)) (write_line schema.now (write_of write) ∷ []) × WriteFits schema.now (write_of write)) }
     ensures line { IfOk result (λ write. IsLine (write_line schema.now (write_of write))) }
     ensures led { Taken write_of (write_line schema.now) (WriteFits schema.now) result (prepend_known input.old.unread (R.remaining reader.old)) (prepend_known input.new.unread (R.remaining reader.new)) input.old.number input.new.number }
 {
-    take_line(input, reader)?;
+    input.take_line(reader)?;
     read_at_line(read_write(alloc, schema, input.line()), input.number())
 }
 
@@ -155,14 +101,14 @@ pub(crate) fn take_mark<R: Read, A: Allocator>(
     reader: &mut R,
     sessions: usize,
     last: usize,
-) -> Result<Mark, Trouble>
+) -> Result<Mark, LineFault>
     ensures taken { IfOk result (λ mark. TakesLines (prepend_known input.old.unread (R.remaining reader.old)) (prepend_known input.new.unread (R.remaining reader.new)) (mark_text mark ∷ []) × MarkFits sessions mark × (last < mark.session)) }
-    ensures led { Taken (λ mark. mark) mark_text (λ mark. MarkFits sessions mark × (last < mark.session)) result (prepend_known input.old.unread (R.remaining reader.old)) (prepend_known input.new.unread (R.remaining reader.new)) input.old.number input.new.number }
+    ensures led { Taken (λ mark. mark) mark_text (λ mark. MarkFits sessions mark × (last < mark.session)) (widened result) (prepend_known input.old.unread (R.remaining reader.old)) (prepend_known input.new.unread (R.remaining reader.new)) input.old.number input.new.number }
 {
-    take_line(input, reader)?;
-    let mark = read_at_line(read_mark(input.line(), sessions), input.number())?;
+    input.take_line(reader)?;
+    let mark = read_mark(input.line(), sessions).ok_or(LineFault::Malformed(input.number()))?;
     if mark.session <= last {
-        return Err(Trouble::Malformed(input.number()));
+        return Err(LineFault::Malformed(input.number()));
     }
     Ok(mark)
 }
@@ -184,15 +130,15 @@ pub(crate) fn take_at<R: Read, A: Allocator + Copy>(
     reader: &mut R,
     schema: &Schema<A>,
     last: &Option<Object<A>>,
-) -> Result<(Object<A>, Row<A>), Trouble>
+) -> Result<(Object<A>, Row<A>), ReadFault>
     ensures taken { IfOk result (λ entry. TakesLines (prepend_known input.old.unread (R.remaining reader.old)) (prepend_known input.new.unread (R.remaining reader.new)) (at_line schema.now (at_of entry) ∷ []) × AtFits schema.now (at_of entry)) }
     ensures behind { IfOk result (λ entry. is_behind (option_map object_of last.now) (object_of entry.0) ≡ true) }
     ensures led { Taken at_of (at_line schema.now) (λ entry. AtFits schema.now entry × (is_behind (option_map object_of last.now) entry.0 ≡ true)) result (prepend_known input.old.unread (R.remaining reader.old)) (prepend_known input.new.unread (R.remaining reader.new)) input.old.number input.new.number }
 {
-    take_line(input, reader)?;
+    input.take_line(reader)?;
     let (object, row) = read_at_line(read_at(alloc, schema, input.line()), input.number())?;
     if !is_behind(last, &object) {
-        return Err(Trouble::Malformed(input.number()));
+        return Err(ReadFault::Malformed(input.number()));
     }
     Ok((object, row))
 }
@@ -201,10 +147,10 @@ pub(crate) fn take_at<R: Read, A: Allocator + Copy>(
 pub(crate) fn take_counts<R: Read, A: Allocator>(
     input: &mut Input<A>,
     reader: &mut R,
-) -> Result<Counts, Trouble>
+) -> Result<Counts, LineFault>
     ensures taken { IfOk result (λ counts. TakesLines (prepend_known input.old.unread (R.remaining reader.old)) (prepend_known input.new.unread (R.remaining reader.new)) (counts_text counts ∷ []) × CountsFit counts) }
-    ensures led { Taken (λ counts. counts) counts_text CountsFit result (prepend_known input.old.unread (R.remaining reader.old)) (prepend_known input.new.unread (R.remaining reader.new)) input.old.number input.new.number }
+    ensures led { Taken (λ counts. counts) counts_text CountsFit (widened result) (prepend_known input.old.unread (R.remaining reader.old)) (prepend_known input.new.unread (R.remaining reader.new)) input.old.number input.new.number }
 {
-    take_line(input, reader)?;
-    read_at_line(read_counts(input.line()), input.number())
+    input.take_line(reader)?;
+    read_counts(input.line()).ok_or(LineFault::Malformed(input.number()))
 }

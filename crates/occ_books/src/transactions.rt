@@ -1,6 +1,6 @@
 //! Taking the rows of the log, each with its reads and writes.
 
-ghost use Rattle.std.specs.Prelude.{◌≡◌, ◌++◌, ◌∷◌, ◌⊎◌, ℕ, true, false, None, [], length, is_some, IfOk, IfErr, OnOk};
+ghost use Rattle.std.specs.Prelude.{◌≡◌, ◌++◌, ◌∷◌, ℕ, true, false, None, [], length, is_some, IfOk, IfErr, OnOk};
 ghost use Rattle.std.specs.Io.KnownBytes.{prepend_known};
 ghost use Rattle.occ_types.specs.Seen.{object_of};
 ghost use Rattle.occ_model.specs.Overlay.{own};
@@ -20,10 +20,11 @@ use occ_case::cases::Case;
 use occ_core::rows::OpenCase;
 use occ_core::{LogRow, Standing};
 use occ_sets::{Answer, Observation, ReadSet, SharedReads, SharedWrites, WriteSet};
+use occ_text::faults::{ReadFault, read_at_line};
 use occ_text::input::Input;
-use occ_text::trouble::Trouble;
+use occ_text::tokens::Unread;
 use occ_types::{Key, Object, Question, Row, Schema};
-use std::alloc::Allocator;
+use std::alloc::{AllocError, Allocator};
 use std::io::Read;
 
 /// Takes the rows that a range of a table answered.
@@ -34,7 +35,7 @@ fn take_pairs<R: Read, A: Allocator + Copy>(
     schema: &Schema<A>,
     table: usize,
     count: u64,
-) -> Result<Vec<(Key<A>, Row<A>), A>, Trouble>
+) -> Result<Vec<(Key<A>, Row<A>), A>, ReadFault>
     ensures taken { IfOk result (λ rows. Gathered (λ pair. pair_line pair ∷ []) (PairFits schema.now table) (prepend_known input.old.unread (R.remaining reader.old)) (prepend_known input.new.unread (R.remaining reader.new)) (rows_of rows.items) × (length rows.items ≡ count) × RisesFrom None (rows_of rows.items)) }
     ensures led { (row : InRow) → row.frame.schema ≡ schema.now → (reads : ℕ) → TakesFrom result (pairs_to_come row reads table count None) (λ _. reads_to_come row reads) (prepend_known input.old.unread (R.remaining reader.old)) (prepend_known input.new.unread (R.remaining reader.new)) input.old.number input.new.number }
 {
@@ -52,7 +53,7 @@ fn take_read<R: Read, A: Allocator + Copy>(
     input: &mut Input<A>,
     reader: &mut R,
     schema: &Schema<A>,
-) -> Result<Observation<A>, Trouble>
+) -> Result<Observation<A>, ReadFault>
     ensures taken { IfOk result (λ read. TakesLines (prepend_known input.old.unread (R.remaining reader.old)) (prepend_known input.new.unread (R.remaining reader.new)) (read_lines schema.now (observation_of read)) × ReadFits schema.now (observation_of read)) }
     ensures led { (row : InRow) → row.frame.schema ≡ schema.now → (reads : ℕ) → TakesFrom result (ReadOf row reads) (λ _. reads_to_come row reads) (prepend_known input.old.unread (R.remaining reader.old)) (prepend_known input.new.unread (R.remaining reader.new)) input.old.number input.new.number }
 {
@@ -73,14 +74,13 @@ fn take_read<R: Read, A: Allocator + Copy>(
 }
 
 /// Notes a read behind others.
-fn note<A: Allocator>(reads: &mut ReadSet<A>, read: Observation<A>) -> Result<(), Trouble>
-    ensures ok { OnOk result (reads.new ≡ reads.old ++ observation_of read ∷ []) }
-    ensures err { IfErr result (λ trouble. trouble ≡ Trouble.Memory) }
+fn note<A: Allocator>(reads: &mut ReadSet<A>, read: Observation<A>) -> Result<(), AllocError>
+    ensures { OnOk result (reads.new ≡ reads.old ++ observation_of read ∷ []) }
 {
     let Observation { question, answer } = read;
     match reads.note(question, answer) {
         Ok(()) => Ok(()),
-        Err(_refused) => Err(Trouble::Memory),
+        Err(_refused) => Err(AllocError),
     }
 }
 
@@ -91,7 +91,7 @@ fn take_reads<R: Read, A: Allocator + Copy>(
     reader: &mut R,
     schema: &Schema<A>,
     count: usize,
-) -> Result<ReadSet<A>, Trouble>
+) -> Result<ReadSet<A>, ReadFault>
     ensures taken { IfOk result (λ reads. Gathered (read_lines schema.now) (ReadFits schema.now) (prepend_known input.old.unread (R.remaining reader.old)) (prepend_known input.new.unread (R.remaining reader.new)) reads × (length reads ≡ count)) }
     ensures led { (row : InRow) → row.frame.schema ≡ schema.now → TakesFrom result (reads_to_come row count) (λ _. writes_to_come row row.head.writes []) (prepend_known input.old.unread (R.remaining reader.old)) (prepend_known input.new.unread (R.remaining reader.new)) input.old.number input.new.number }
 {
@@ -103,23 +103,22 @@ fn take_reads<R: Read, A: Allocator + Copy>(
     Ok(reads)
 }
 
-/// Adds a write of an object that wasn't written before. `Malformed` at its line where it was.
+/// Adds a write of an object that wasn't written before. `Malformed` where it was.
 fn add_write<A: Allocator>(
     writes: &mut WriteSet<A>,
     object: Object<A>,
     row: Option<Row<A>>,
-    number: u64,
-) -> Result<(), Trouble>
+) -> Result<(), Unread>
     ensures ok { OnOk result (writes.new ≡ writes.old ++ (object_of object, row) ∷ []) }
     ensures unwritten { IfOk result (λ _. is_some (own writes.old (object_of object)) ≡ false) }
-    ensures err { IfErr result (λ trouble. (trouble ≡ Trouble.Memory) ⊎ ((trouble ≡ Trouble.Malformed number) × (is_some (own writes.old (object_of object)) ≡ true))) }
+    ensures err { IfErr result (λ unread. unread ≡ Unread.Malformed → is_some (own writes.old (object_of object)) ≡ true) }
 {
     if writes.writes(&object) {
-        return Err(Trouble::Malformed(number));
+        return Err(Unread::Malformed);
     }
     match writes.set(object, row) {
         Ok(()) => Ok(()),
-        Err(_refused) => Err(Trouble::Memory),
+        Err(_refused) => Err(Unread::Memory),
     }
 }
 
@@ -130,7 +129,7 @@ fn take_writes<R: Read, A: Allocator + Copy>(
     reader: &mut R,
     schema: &Schema<A>,
     count: usize,
-) -> Result<WriteSet<A>, Trouble>
+) -> Result<WriteSet<A>, ReadFault>
     ensures taken { IfOk result (λ writes. Gathered (λ write. write_line schema.now write ∷ []) (WriteFits schema.now) (prepend_known input.old.unread (R.remaining reader.old)) (prepend_known input.new.unread (R.remaining reader.new)) writes × (length writes ≡ count) × IsDistinctWrites writes) }
     ensures led { (row : InRow) → row.frame.schema ≡ schema.now → TakesFrom result (writes_to_come row count []) (λ _. rows_to_come row.frame row.rows) (prepend_known input.old.unread (R.remaining reader.old)) (prepend_known input.new.unread (R.remaining reader.new)) input.old.number input.new.number }
 {
@@ -139,15 +138,13 @@ fn take_writes<R: Read, A: Allocator + Copy>(
     let mut writes = WriteSet::new(alloc);
     for _ in 0..count {
         let (object, row) = take_write(alloc, input, reader, schema)?;
-        add_write(&mut writes, object, row, input.number())?;
+        read_at_line(add_write(&mut writes, object, row), input.number())?;
     }
     Ok(writes)
 }
 
 /// A case of a row that is open: a book doesn't tell it, and no audit asks for it.
-fn untold<A: Allocator + Copy>(alloc: A) -> Result<OpenCase<A>, Trouble>
-    ensures { IfErr result (λ trouble. trouble ≡ Trouble.Memory) }
-{
+fn untold<A: Allocator + Copy>(alloc: A) -> Result<OpenCase<A>, AllocError> {
     let reads = SharedReads::new(alloc, ReadSet::new(alloc))?;
     let writes = SharedWrites::new(alloc, WriteSet::new(alloc))?;
     let case = Case::new(0, 0, reads, writes, Vec::new(alloc), Vec::new(alloc));
@@ -155,9 +152,8 @@ fn untold<A: Allocator + Copy>(alloc: A) -> Result<OpenCase<A>, Trouble>
 }
 
 /// The standing that a row's first line tells.
-fn standing<A: Allocator + Copy>(alloc: A, stand: Stand) -> Result<Standing<A>, Trouble>
-    ensures ok { IfOk result (λ standing. StandsSo stand (standing_of standing)) }
-    ensures err { IfErr result (λ trouble. trouble ≡ Trouble.Memory) }
+fn standing<A: Allocator + Copy>(alloc: A, stand: Stand) -> Result<Standing<A>, AllocError>
+    ensures { IfOk result (λ standing. StandsSo stand (standing_of standing)) }
 {
     match stand {
         Stand::Open => {
@@ -176,9 +172,8 @@ fn row_of<A: Allocator + Copy>(
     head: Head,
     reads: ReadSet<A>,
     writes: WriteSet<A>,
-) -> Result<LogRow<A>, Trouble>
-    ensures ok { IfOk result (λ row. IsRowOf head reads writes (log_row_of row)) }
-    ensures err { IfErr result (λ trouble. trouble ≡ Trouble.Memory) }
+) -> Result<LogRow<A>, AllocError>
+    ensures { IfOk result (λ row. IsRowOf head reads writes (log_row_of row)) }
 {
     let reads = SharedReads::new(alloc, reads)?;
     let writes = SharedWrites::new(alloc, writes)?;
@@ -202,14 +197,15 @@ fn take_row<R: Read, A: Allocator + Copy>(
     reader: &mut R,
     schema: &Schema<A>,
     sessions: usize,
-) -> Result<LogRow<A>, Trouble>
+) -> Result<LogRow<A>, ReadFault>
     ensures taken { IfOk result (λ row. TakesLines (prepend_known input.old.unread (R.remaining reader.old)) (prepend_known input.new.unread (R.remaining reader.new)) (row_lines schema.now (log_row_of row)) × LogRowFits schema.now sessions (log_row_of row)) }
     ensures led { (rows : ℕ) → TakesFrom result (places.LogRow (frame_of schema.now sessions) rows) (λ _. rows_to_come (frame_of schema.now sessions) rows) (prepend_known input.old.unread (R.remaining reader.old)) (prepend_known input.new.unread (R.remaining reader.new)) input.old.number input.new.number }
 {
     let head = take_head(input, reader, sessions)?;
     let reads = take_reads(alloc, input, reader, schema, head.reads)?;
     let writes = take_writes(alloc, input, reader, schema, head.writes)?;
-    row_of(alloc, head, reads, writes)
+    let row = row_of(alloc, head, reads, writes)?;
+    Ok(row)
 }
 
 /// Takes so many rows of the log. Memory is asked for row by row, since the count may be any.
@@ -220,7 +216,7 @@ pub(crate) fn take_rows<R: Read, A: Allocator + Copy>(
     schema: &Schema<A>,
     sessions: usize,
     count: u64,
-) -> Result<Vec<LogRow<A>, A>, Trouble>
+) -> Result<Vec<LogRow<A>, A>, ReadFault>
     ensures taken { IfOk result (λ log. Gathered (row_lines schema.now) (LogRowFits schema.now sessions) (prepend_known input.old.unread (R.remaining reader.old)) (prepend_known input.new.unread (R.remaining reader.new)) (log_of log.items) × (length log.items ≡ count)) }
     ensures led { TakesFrom result (rows_to_come (frame_of schema.now sessions) count) (λ _. Marks (frame_of schema.now sessions)) (prepend_known input.old.unread (R.remaining reader.old)) (prepend_known input.new.unread (R.remaining reader.new)) input.old.number input.new.number }
 {

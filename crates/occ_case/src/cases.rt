@@ -1,21 +1,21 @@
 //! What the verdict on a transaction depends on.
-ghost use Rattle.std.specs.Prelude.{◌≡◌, map, IfOk};
+ghost use Rattle.std.specs.Prelude.{◌≡◌, map};
 
-use occ_sets::shared::{SharedReads, SharedWrites};
+use occ_sets::{ReadSet, WriteSet};
 use std::alloc::{AllocError, Allocator};
 use std::marker::Model;
 
 /// What the verdict on a transaction depends on, fixed at its entry: its own start, reads and writes, the lower end of the window,
-/// and the write sets of its opponents, those that had finished apart from those that were active. All sets are shared; none is
-/// copied. Clauses see the plain case.
+/// and the write sets of its opponents, those that had finished apart from those that were active. A clone is one more owner of
+/// those sets that are shared, and copies none of them. Clauses see the plain case.
 #[derive(Drop)]
 pub struct Case<A: Allocator> {
     pub(crate) start: u64,
     pub(crate) low: u64,
-    pub(crate) reads: SharedReads<A>,
-    pub(crate) writes: SharedWrites<A>,
-    pub(crate) finished: Vec<SharedWrites<A>, A>,
-    pub(crate) active: Vec<SharedWrites<A>, A>,
+    pub(crate) reads: ReadSet<A>,
+    pub(crate) writes: WriteSet<A>,
+    pub(crate) finished: Vec<WriteSet<A>, A>,
+    pub(crate) active: Vec<WriteSet<A>, A>,
 }
 
 impl<A: Allocator> Model for Case<A> {
@@ -39,10 +39,10 @@ impl<A: Allocator> Case<A> {
     pub fn new(
         start: u64,
         low: u64,
-        reads: SharedReads<A>,
-        writes: SharedWrites<A>,
-        finished: Vec<SharedWrites<A>, A>,
-        active: Vec<SharedWrites<A>, A>,
+        reads: ReadSet<A>,
+        writes: WriteSet<A>,
+        finished: Vec<WriteSet<A>, A>,
+        active: Vec<WriteSet<A>, A>,
     ) -> Case<A>
         ensures { result ≡ record {
           start = start;
@@ -64,32 +64,58 @@ impl<A: Allocator> Case<A> {
     }
 }
 
-impl<A: Allocator + Clone> Case<A> {
-    /// The same case once more. Its sets get one more owner, and none is copied; an error where there is no memory for the lists of
-    /// opponents, or a set has too many owners to be counted.
-    pub fn share(&self) -> Result<Case<A>, AllocError>
-        ensures { IfOk result (λ shared. shared ≡ self.now) }
-    {
+impl<A: Allocator + Clone> Clone for Case<A> {
+    ghost is_clone = { λ source copy. copy ≡ source };
+
+    fn clone(&self) -> Result<Case<A>, AllocError> {
         Ok(Case {
             start: self.start,
             low: self.low,
-            reads: self.reads.share()?,
-            writes: self.writes.share()?,
-            finished: share_all(&self.finished)?,
-            active: share_all(&self.active)?,
+            reads: self.reads.clone()?,
+            writes: self.writes.clone()?,
+            finished: self.finished.clone()?,
+            active: self.active.clone()?,
         })
     }
 }
 
-// One more owner of each write set, in their order.
-fn share_all<A: Allocator + Clone>(
-    sets: &Vec<SharedWrites<A>, A>,
-) -> Result<Vec<SharedWrites<A>, A>, AllocError>
-    ensures { IfOk result (λ shared. shared.items ≡ sets.now.items) }
-{
-    let mut shared = Vec::new(sets.allocator().clone()?);
-    for place in 0..sets.len() {
-        shared.push(sets[place].share()?)?;
+/// The case of a transaction that is not decided yet, with the index that names it.
+#[derive(Drop)]
+pub struct OpenCase<A: Allocator> {
+    index: u64,
+    case: Case<A>,
+}
+
+impl<A: Allocator> OpenCase<A> {
+    /// A case under an index.
+    pub fn new(index: u64, case: Case<A>) -> OpenCase<A>
+        ensures { result ≡ record { index = index; case = case } }
+    {
+        OpenCase { index, case }
     }
-    Ok(shared)
+
+    /// The index that names the case.
+    pub fn index(&self) -> u64
+        ensures { result ≡ self.now.index }
+    {
+        self.index
+    }
+
+    /// The case.
+    pub fn case(&self) -> &Case<A>
+        ensures { result.now ≡ self.now.case }
+    {
+        &self.case
+    }
+}
+
+impl<A: Allocator + Clone> Clone for OpenCase<A> {
+    ghost is_clone = { λ source copy. copy ≡ source };
+
+    fn clone(&self) -> Result<OpenCase<A>, AllocError> {
+        Ok(OpenCase {
+            index: self.index,
+            case: self.case.clone()?,
+        })
+    }
 }

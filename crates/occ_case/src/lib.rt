@@ -1,8 +1,9 @@
 //! Cases and verdicts: what a validation depends on, fixed at the entry of a transaction, and what it says.
 #![tactic(auto)]
 
-pub mod cases;
-pub mod verdicts;
+mod cases;
+mod verdicts;
 
-pub use cases::Case;
+pub use cases::{Case, OpenCase};
+pub use occ_model::{Cause, Verdict};
 pub use verdicts::verdict;

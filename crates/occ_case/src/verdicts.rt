@@ -5,9 +5,8 @@ ghost use Rattle.occ_model.specs.State.{meets_reads, meets_writes};
 ghost use Rattle.occ_model.specs.Validity.{verdict};
 
 use crate::cases::Case;
-use occ_model::verdict::{Cause, Verdict};
-use occ_sets::meets::{meets_reads, meets_writes};
-use occ_sets::shared::{SharedReads, SharedWrites};
+use occ_model::{Cause, Verdict};
+use occ_sets::{ReadSet, WriteSet, meets_reads, meets_writes};
 use std::alloc::Allocator;
 
 /// Whether the transaction of a case commits, and else why it is backed up (Kung and Robinson, sections 3 to 5). It needs nothing
@@ -33,23 +32,26 @@ pub fn verdict<A: Allocator>(case: &Case<A>) -> Verdict
 }
 
 // Whether some of the finished opponents wrote what was read.
-fn some_wrote<A: Allocator>(finished: &Vec<SharedWrites<A>, A>, reads: &SharedReads<A>) -> bool
+fn some_wrote<A: Allocator>(finished: &Vec<WriteSet<A>, A>, reads: &ReadSet<A>) -> bool
     ensures { result ≡ list_any (λ theirs. meets_reads theirs (map (λ o. o.0) reads.now)) finished.now.items }
 {
-    finished
-        .iter()
-        .any(|theirs| meets_reads(theirs.get(), reads.get()))
+    finished.iter().any(|theirs| meets_reads(theirs, reads))
 }
 
 // Whether some of the active opponents writes what was read, or what is written.
 fn some_may_write<A: Allocator>(
-    active: &Vec<SharedWrites<A>, A>,
-    reads: &SharedReads<A>,
-    writes: &SharedWrites<A>,
+    active: &Vec<WriteSet<A>, A>,
+    reads: &ReadSet<A>,
+    writes: &WriteSet<A>,
 ) -> bool
     ensures { result ≡ list_any (λ theirs. meets_reads theirs (map (λ o. o.0) reads.now) || meets_writes theirs writes.now) active.now.items }
 {
-    active.iter().any(|theirs| {
-        meets_reads(theirs.get(), reads.get()) || meets_writes(theirs.get(), writes.get())
-    })
+    active.iter().any(|theirs| may_write(theirs, reads, writes))
+}
+
+// Whether an active opponent writes what was read, or what is written.
+fn may_write<A: Allocator>(theirs: &WriteSet<A>, reads: &ReadSet<A>, writes: &WriteSet<A>) -> bool
+    ensures { result ≡ (meets_reads theirs.now (map (λ o. o.0) reads.now) || meets_writes theirs.now writes.now) }
+{
+    meets_reads(theirs, reads) || meets_writes(theirs, writes)
 }

@@ -9,15 +9,15 @@ use Rattle.occ_types.specs.Schema.{Schema}
 use Rattle.occ_model.specs.Log.{LogRow, Audited}
 use Rattle.occ_model.specs.State.{State}
 use Rattle.occ_model.specs.World.{empty_base}
-use Rattle.occ_text.specs.declared.trouble.Trouble.{Trouble}
-use Rattle.occ_text.specs.declared.trouble.Trouble.TheVariants as troubles
+use Rattle.occ_text.specs.declared.faults.WriteFault.{WriteFault}
+use Rattle.occ_text.specs.declared.faults.WriteFault.TheVariants as faults
 use Rattle.occ_print.specs.Books.{Book, book_lines, book_text, audit_line}
 use Rattle.occ_text.specs.Line.{lines_text}
 use Rattle.occ_text.specs.Printing.{Pushed, PushedFront}
 use Rattle.occ_cli.specs.Schedules.{IsAudited}
 use Rattle.occ_text.specs.Sending.{PushGives}
 use Rattle.occ_cli.specs.Turns.{AuditGives, ClosingGives}
-use Rattle.occ_print.proofs.Printing.{lines_then}
+use Rattle.occ_print.proofs.Printing.{lines_then, front_behind}
 use Rattle.occ_cli.proofs.Schedules.{front_no_more}
 
 nothing_pushed : (a b : Option (List ℕ)) (old new : List ℕ) → Keeps a b → new ≡ old → PushedFront a b old new []
@@ -29,31 +29,27 @@ nothing_pushed a b old new kept same = record {
 }
 
 -- the line of an audit
-said_so : {T : Type 0} (result : Result T Trouble) (a b : Option (List ℕ)) (old new : List ℕ) (book : Book) (holds : Bool) → Decides holds (IsAudited book) → PushGives result a b old new (lines_text (audit_line holds ∷ []))
+said_so : {T : Type 0} (result : Result T WriteFault) (a b : Option (List ℕ)) (old new : List ℕ) (book : Book) (holds : Bool) → Decides holds (IsAudited book) → PushGives result a b old new (lines_text (audit_line holds ∷ []))
     → AuditGives (Pushed a b old new) (PushedFront a b old new) result book
 said_so (Ok done) a b old new book holds decides h = (holds, decides, record { sends = h.0; few = λ k. h.1 })
-said_so (Err troubles.Write) a b old new book holds decides h =
+said_so (Err faults.Write) a b old new book holds decides h =
     (holds, decides, record { front = lines_text (audit_line holds ∷ []); rest = []; whole = sym (append-nil (lines_text (audit_line holds ∷ []))); sends = h })
-said_so (Err troubles.Memory) a b old new book holds decides h = inl (nothing_pushed a b old new h.0 h.1)
-said_so (Err troubles.Read) a b old new book holds decides h = h
-said_so (Err (troubles.Malformed n)) a b old new book holds decides h = h
+said_so (Err faults.Memory) a b old new book holds decides h = inl (nothing_pushed a b old new h.0 h.1)
 
-pub audit_said : {T : Type 0} (result : Result T Trouble) (a b : Option (List ℕ)) (old new bytes : List ℕ) (book : Book) (marks : FinMap nat_cmp ℕ) (holds : Bool) → marks ≡ book.marks → bytes ≡ lines_text (audit_line holds ∷ [])
+pub audit_said : {T : Type 0} (result : Result T WriteFault) (a b : Option (List ℕ)) (old new bytes : List ℕ) (book : Book) (marks : FinMap nat_cmp ℕ) (holds : Bool) → marks ≡ book.marks → bytes ≡ lines_text (audit_line holds ∷ [])
     → Decides holds (Audited empty_base marks book.state book.log) → PushGives result a b old new bytes → AuditGives (Pushed a b old new) (PushedFront a b old new) result book
 audit_said result a b old new bytes book marks holds none is decides h =
     said_so result a b old new book holds (subst (λ (m : FinMap nat_cmp ℕ). Decides holds (Audited empty_base m book.state book.log)) none decides) (subst (PushGives result a b old new) is h)
 
 -- the audit behind the book
-behind_book : {T : Type 0} (result : Result T Trouble) (a b c : Option (List ℕ)) (old mid new : List ℕ) (book : Book) → Pushed a b old mid (book_text book)
+behind_book : {T : Type 0} (result : Result T WriteFault) (a b c : Option (List ℕ)) (old mid new : List ℕ) (book : Book) → Pushed a b old mid (book_text book)
     → AuditGives (Pushed b c mid new) (PushedFront b c mid new) result book → ClosingGives (Pushed a c old new) (PushedFront a c old new) result book
 behind_book (Ok done) a b c old mid new book h k = (k.0, k.1, lines_then (Ok tt) a b c old mid new (book_lines book) (audit_line k.0 ∷ []) h k.2)
-behind_book (Err troubles.Write) a b c old mid new book h k = inr (k.0, k.1, lines_then (Err troubles.Write) a b c old mid new (book_lines book) (audit_line k.0 ∷ []) h k.2)
-behind_book (Err troubles.Memory) a b c old mid new book h (inl k) = inl (front_no_more a b c old mid new (book_text book) h k)
-behind_book (Err troubles.Memory) a b c old mid new book h (inr k) = inr (k.0, k.1, lines_then (Err troubles.Write) a b c old mid new (book_lines book) (audit_line k.0 ∷ []) h k.2)
-behind_book (Err troubles.Read) a b c old mid new book h k = k
-behind_book (Err (troubles.Malformed n)) a b c old mid new book h k = k
+behind_book (Err faults.Write) a b c old mid new book h k = inr (k.0, k.1, front_behind a b c old mid new (book_lines book) (audit_line k.0 ∷ []) h k.2)
+behind_book (Err faults.Memory) a b c old mid new book h (inl k) = inl (front_no_more a b c old mid new (book_text book) h k)
+behind_book (Err faults.Memory) a b c old mid new book h (inr k) = inr (k.0, k.1, front_behind a b c old mid new (book_lines book) (audit_line k.0 ∷ []) h k.2)
 
-pub closing : {T : Type 0} (result : Result T Trouble) (a b c : Option (List ℕ)) (old mid new : List ℕ) (said book : Book) → said ≡ book → Pushed a b old mid (book_text said)
+pub closing : {T : Type 0} (result : Result T WriteFault) (a b c : Option (List ℕ)) (old mid new : List ℕ) (said book : Book) → said ≡ book → Pushed a b old mid (book_text said)
     → AuditGives (Pushed b c mid new) (PushedFront b c mid new) result said → ClosingGives (Pushed a c old new) (PushedFront a c old new) result book
 closing result a b c old mid new said book same h k =
     subst (λ (x : Book). ClosingGives (Pushed a c old new) (PushedFront a c old new) result x) same (behind_book result a b c old mid new said h k)

@@ -28,7 +28,7 @@ use Rattle.occ_text.specs.declared.answers.Answer as code_answer
 use Rattle.occ_text.specs.Answers.{Answer, answer_of}
 use Rattle.occ_text.specs.Answers as says
 use Rattle.occ_cli.specs.Waiting.{Waiting}
-use Rattle.occ_cli.specs.Replaying.{AtMostOneStep, PlayedIn, PlayedBy, PlayedWith, Starved, takes_memory, Plays, Begins, Submits, Writes, Gets, GetsIn, Scans, next_item, still_waiting, kept_after, copy_of, object_named, Client, Replayed, Given, client_of, span_named, Tells, ScansIn, ByStore, ByClient, ByAsking, Enters, told, overlaid, replied, played, Played}
+use Rattle.occ_cli.specs.Replaying.{AtMostOneStep, PlayedIn, PlayedBy, PlayedWith, Starved, takes_memory, Plays, Begins, Submits, Writes, Gets, GetsIn, Scans, next_item, still_waiting, kept_after, copy_of, object_named, Client, Replayed, Given, client_of, span_named, Tells, ScansIn, ByStore, ByClient, ByAsking, Enters, told, overlaid, replied, played}
 
 -- At most one step.
 
@@ -129,11 +129,6 @@ module _ {Z : Type 0} where
       (inr (subst
       (λ (g : Result Question Fault). Given g old (says.Refused f) new (λ q. (reply : Reply) × Step old (events.Read session copy.number copy.start q) reply new × (told old.settings.schema (overlaid q copy.writes reply) ≡ Some (says.Refused f))))
       asked (events.Refused f, step, refl)))
-
-  -- what is played so is also played otherwise
-  pub played_as : {S : Type 0} {P Q : Answer → Type 0} (old new : S) (r : Result (code_answer.Answer Z) Fault) → ((answer : Answer) → P answer → Q answer) → PlayedIn old new r P → PlayedIn old new r Q
-  played_as old new r f (inl memory) = inl memory
-  played_as old new r f (inr so) = inr (f (played r) so)
 
   -- a step was refused for want of memory
   pub starves : (b : Bool) (old : Replayed) (step : steps.Step) (new : Replayed) (r : Result (code_answer.Answer Z) Fault) → b ≡ takes_memory step → r ≡ Err faults.Memory

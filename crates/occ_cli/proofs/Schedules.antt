@@ -1,10 +1,17 @@
 -- A schedule, turn by turn, and what was written of its text.
-use Rattle.std.proofs.Common.{◌≡◌, ◌≢◌, ℕ, ◌+◌, Bool, true, false, List, [], ◌∷◌, ◌++◌, length, Option, Result, Ok, Err, refl, sym, ap, subst, ◌∙◌, inl, inr, arith, append-nil, length-append}
+use Rattle.std.proofs.Common.{◌≡◌, ◌≢◌, ℕ, ◌+◌, Bool, true, false, List, [], ◌∷◌, ◌++◌, length, Option, Some, Result, Ok, Err, refl, sym, ap, subst, ◌∙◌, inl, inr, arith, append-nil, length-append}
 use Rattle.std.specs.Io.KnownBytes.{Consumes, Keeps, IsAtEnd}
+use Rattle.std.specs.Result.{IsErrAnd}
 use Rattle.std.proofs.KnownBytes.{Consumes-nil, Consumes-trans}
 use Rattle.std.proofs.lemmas.List.{map-append}
 use Rattle.std.proofs.lemmas.List.Elements.{All-nil, All-cons, All-append}
 use Rattle.occ_types.specs.declared.fault.Fault.TheVariants as faults
+use Rattle.occ_text.specs.declared.tokens.Unread.{Unread}
+use Rattle.occ_text.specs.declared.tokens.Unread.TheVariants as unread
+use Rattle.occ_text.specs.declared.faults.ReadFault.{ReadFault}
+use Rattle.occ_text.specs.declared.faults.ReadFault.TheVariants as read_faults
+use Rattle.occ_text.specs.Escapes.{Gives}
+use Rattle.occ_text.specs.Faults.{read_trouble, told}
 use Rattle.occ_text.specs.declared.trouble.Trouble.{Trouble}
 use Rattle.occ_text.specs.declared.trouble.Trouble.TheVariants as troubles
 use Rattle.occ_text.specs.Answers as says
@@ -14,8 +21,8 @@ use Rattle.occ_text.specs.Printing.{Pushed, PushedFront}
 use Rattle.occ_cli.specs.Replaying.{Replayed, Plays}
 use Rattle.occ_cli.specs.Schedules.{Turn, PlaysAll, step_lines, answer_lines, LineOfNoStep}
 use Rattle.occ_text.specs.Steps.{Step, StepFits, step_text}
-use Rattle.occ_cli.specs.Turns.{IsTurn, IsHalfTurn, AreTurns, AreHalfSaid, StepAt, TurnGives, TurnsGive}
-use Rattle.occ_print.proofs.Printing.{Pushed-nothing, Pushed-then, front_none, front_then, lines_text-append, lines_then}
+use Rattle.occ_cli.specs.Turns.{IsTurn, IsHalfTurn, AreTurns, AreHalfSaid, TurnGives, TurnsGive}
+use Rattle.occ_print.proofs.Printing.{Pushed-nothing, Pushed-then, front_none, front_then, front_behind, lines_text-append, lines_then}
 
 -- ---- one turn more
 
@@ -59,7 +66,7 @@ pub front_said_more : (quiet : Bool) (a b c : Option (List ℕ)) (old mid new : 
     → PushedFront a c old new (lines_text (answer_lines quiet (turns ++ turn ∷ [])))
 front_said_more quiet a b c old mid new turns turn h k =
     subst (λ (l : List (List ℕ)). PushedFront a c old new (lines_text l)) (sym (answers_more quiet turns (turn ∷ [])))
-    (lines_then (Err troubles.Write) a b c old mid new (answer_lines quiet turns) (answer_lines quiet (turn ∷ [])) h k)
+    (front_behind a b c old mid new (answer_lines quiet turns) (answer_lines quiet (turn ∷ [])) h k)
 
 -- nothing behind what was pushed
 pub pushed_no_more : (a b c : Option (List ℕ)) (old mid new bytes : List ℕ) → Pushed a b old mid bytes → Pushed b c mid new [] → Pushed a c old new bytes
@@ -67,10 +74,6 @@ pushed_no_more a b c old mid new bytes h k = subst (Pushed a c old new) (append-
 
 pub front_no_more : (a b c : Option (List ℕ)) (old mid new bytes : List ℕ) → Pushed a b old mid bytes → PushedFront b c mid new [] → PushedFront a c old new bytes
 front_no_more a b c old mid new bytes h k = subst (PushedFront a c old new) (append-nil bytes) (front_then a b c old mid new bytes [] h k)
-
--- all of it is a beginning
-pub front_all : (a b : Option (List ℕ)) (old new bytes : List ℕ) → Pushed a b old new bytes → PushedFront a b old new bytes
-front_all a b old new bytes h = record { front = bytes; rest = []; whole = sym (append-nil bytes); sends = h.sends }
 
 -- ---- one turn
 
@@ -81,16 +84,18 @@ quietly quiet step answer old new w held is plays fed =
     (answer, record { plays = plays; fed = fed }, subst (λ (q : Bool). Pushed w w held held (lines_text (answer_lines q ((step, answer) ∷ [])))) (sym is) (Pushed-nothing w held))
 
 -- the line is that of no step, or memory was refused for it
-pub turn_unread : {X : Type 0} (view : X → Step) (result : Result Bool Trouble) (trouble why : Trouble) (quiet : Bool) (a b w : Option (List ℕ)) (held shown line : List ℕ) (n first last : ℕ) (now : Replayed) → result ≡ Err trouble → trouble ≡ why
-    → Consumes a b (line ++ 10 ∷ []) → IsLine line → last ≡ first + 1 → shown ≡ line → n ≡ last → StepAt view (Err why) shown n → TurnGives quiet (Pushed w w held held) (PushedFront w w held held) result a b first last now now
-turn_unread view result trouble (troubles.Malformed k) quiet a b w held shown line n first last now is same taken alone next shows here none =
-    subst (λ (r : Result Bool Trouble). TurnGives quiet (Pushed w w held held) (PushedFront w w held held) r a b first last now now) (sym (is ∙ ap (λ (t : Trouble). Err t) same))
-    (LineOfNoStep line b taken alone (λ step fits e. none.0 step fits (shows ∙ e)), none.1 ∙ here ∙ next, Pushed-nothing w held)
-turn_unread view result trouble troubles.Read quiet a b w held shown line n first last now is same taken alone next shows here none = absurd none
-turn_unread view result trouble troubles.Write quiet a b w held shown line n first last now is same taken alone next shows here none = absurd none
-turn_unread view result trouble troubles.Memory quiet a b w held shown line n first last now is same taken alone next shows here none =
-    subst (λ (r : Result Bool Trouble). TurnGives quiet (Pushed w w held held) (PushedFront w w held held) r a b first last now now) (sym (is ∙ ap (λ (t : Trouble). Err t) same))
-    (inl (front_none w held []))
+pub turn_unread : {X : Type 0} (view : X → Step) (read : Result X Unread) (fault : ReadFault) (result : Result Bool Trouble) (quiet : Bool) (a b w : Option (List ℕ)) (held shown line : List ℕ) (n first last : ℕ) (now : Replayed) → IsErrAnd result (λ e. e ≡ read_trouble fault)
+    → Consumes a b (line ++ 10 ∷ []) × IsLine line × (last ≡ first + 1) → shown ≡ line → n ≡ last → ((step : Step) → StepFits step → shown ≡ step_text step → Gives view read (Some step)) → Err fault ≡ told read n
+    → TurnGives quiet (Pushed w w held held) (PushedFront w w held held) result a b first last now now
+turn_unread view read fault (Ok more) quiet a b w held shown line n first last now is taken shows here again why = absurd is
+turn_unread view (Ok x) fault (Err e) quiet a b w held shown line n first last now is taken shows here again why = absurd cc
+turn_unread view (Err unread.Malformed) fault (Err e) quiet a b w held shown line n first last now is taken shows here again why =
+    let malformed : fault ≡ read_faults.Malformed n = cc why in
+    subst (λ (t : Trouble). TurnGives quiet (Pushed w w held held) (PushedFront w w held held) (Err t) a b first last now now) (sym (is ∙ ap read_trouble malformed))
+    (LineOfNoStep line b taken.0 taken.1 (λ step fits e. let none = again step fits (shows ∙ e) in cc none), here ∙ taken.2, Pushed-nothing w held)
+turn_unread view (Err unread.Memory) fault (Err e) quiet a b w held shown line n first last now is taken shows here again why =
+    let memory : fault ≡ read_faults.Memory = cc why in
+    subst (λ (t : Trouble). TurnGives quiet (Pushed w w held held) (PushedFront w w held held) (Err t) a b first last now now) (sym (is ∙ ap read_trouble memory)) (inl (front_none w held []))
 
 -- ---- all turns
 

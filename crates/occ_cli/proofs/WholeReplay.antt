@@ -1,22 +1,29 @@
 -- A whole replay, put together from its parts.
-use Rattle.std.proofs.Common.{◌≡◌, ℕ, ◌+◌, Bool, true, List, [], ◌∷◌, ◌++◌, length, Option, None, Some, Result, Ok, Err, sym, ap, subst, ◌∙◌, inl, inr, append_assoc, append-nil, length-append}
+use Rattle.std.proofs.Common.{◌≡◌, ℕ, ◌+◌, Bool, true, List, [], ◌∷◌, ◌++◌, length, Option, None, Some, Result, Ok, Err, sym, ap, subst, ◌∙◌, ◌⊎◌, inl, inr, append_assoc, append-nil, length-append}
+use Rattle.std.specs.Bool.{Decides}
+use Rattle.std.specs.Result.{IsErrAnd}
 use Rattle.std.specs.Io.KnownBytes.{Consumes, Appends, Keeps, IsAtEnd, prepend_known}
 use Rattle.std.proofs.KnownBytes.{Consumes-trans, Appends-trans, prepend_known-nil}
 use Rattle.std.proofs.lemmas.List.{length-map}
 use Rattle.occ_model.specs.World.{Settings}
+use Rattle.occ_text.specs.declared.faults.ReadFault.{ReadFault}
+use Rattle.occ_text.specs.declared.faults.ReadFault.TheVariants as faults
+use Rattle.occ_text.specs.declared.faults.WriteFault.{WriteFault}
+use Rattle.occ_text.specs.declared.faults.WriteFault.TheVariants as write_faults
+use Rattle.occ_text.specs.Faults.{read_trouble, write_trouble}
 use Rattle.occ_text.specs.declared.trouble.Trouble.{Trouble}
 use Rattle.occ_text.specs.declared.trouble.Trouble.TheVariants as troubles
 use Rattle.occ_print.specs.Books.{book_lines}
 use Rattle.occ_text.specs.Headers.{Header, HeaderFits, header_text}
-use Rattle.occ_text.specs.HeaderTaking.{HeaderTaken}
-use Rattle.occ_text.specs.Line.{lines_text}
+use Rattle.occ_text.specs.HeaderTaking.{BeginsHeader, HeaderTaken}
+use Rattle.occ_text.specs.Line.{NoneTaken, lines_text}
 use Rattle.occ_text.specs.Printing.{Pushed, PushedFront}
 use Rattle.occ_cli.specs.Replaying.{Replayed}
-use Rattle.occ_cli.specs.Schedules.{Turn, Schedule, IsReplayed, opened_by, step_lines, schedule_lines, answer_lines, book_at, book_after, closing_lines, replay_lines, IsMalformedAt, MalformedHeader, MalformedStep, IsUnreadable, UnreadHeader, UnreadStep, IsCutShort, CutBefore, CutAmid, CutInBook, CutInAudit, ReplayGives, AppendsFront}
-use Rattle.occ_text.specs.Sending.{Sends, FlushGives}
+use Rattle.occ_cli.specs.Schedules.{Turn, Schedule, IsReplayed, opened_by, step_lines, schedule_lines, answer_lines, book_at, book_after, IsAudited, closing_lines, replay_lines, IsMalformedAt, MalformedHeader, MalformedStep, IsUnreadable, UnreadHeader, UnreadStep, IsCutShort, CutBefore, CutAmid, CutInBook, CutInAudit, ReplayGives, AppendsFront}
+use Rattle.occ_text.specs.Sending.{Sends}
 use Rattle.occ_text.specs.Steps.{step_text}
 use Rattle.occ_cli.specs.Turns.{AreTurns, TurnsGive, ClosingGives, is_cut_short}
-use Rattle.occ_print.proofs.Printing.{Pushed-nothing, front_none, lines_text-append, lines_then}
+use Rattle.occ_print.proofs.Printing.{Pushed-nothing, front_none, front_behind, lines_text-append, lines_then}
 use Rattle.occ_cli.proofs.Settings.{plays_all_keep}
 
 -- ---- a header and the steps behind it
@@ -35,26 +42,24 @@ part_taken a b c d xs ys part h k p = Consumes-trans a c d (lines_text (xs ++ ys
 
 -- ---- the exits
 
--- the text isn't that of a header, or it couldn't be read
-pub header_stopped : {X T : Type 0} (view : X → Header) (result : Result T Trouble) (trouble : Trouble) (quiet : Bool) (a b after : Option (List ℕ)) (w : Option (List ℕ)) (held : List ℕ) (last : ℕ) → result ≡ Err trouble
-    → HeaderTaken view (Err trouble) a b last → ReplayGives quiet a (Pushed w w held held) (PushedFront w w held held) result after
-header_stopped view result (troubles.Malformed n) quiet a b after w held last is h =
-    subst (λ (r : Result _ Trouble). ReplayGives quiet a (Pushed w w held held) (PushedFront w w held held) r after) (sym is)
-    (MalformedHeader h.0 h.1 h.2 h.3 h.4 h.5 (Pushed-nothing w held))
-header_stopped view result troubles.Read quiet a b after w held last is h =
-    subst (λ (r : Result _ Trouble). ReplayGives quiet a (Pushed w w held held) (PushedFront w w held held) r after) (sym is)
-    (UnreadHeader h.0 h.1 b h.4 h.2 h.3 (Pushed-nothing w held))
-header_stopped view result troubles.Write quiet a b after w held last is h = absurd h
-header_stopped view result troubles.Memory quiet a b after w held last is h =
-    subst (λ (r : Result _ Trouble). ReplayGives quiet a (Pushed w w held held) (PushedFront w w held held) r after) (sym is)
-    (CutBefore (front_none w held []))
+-- the text isn't that of a header, or it couldn't be read, or memory was refused for it
+pub header_stopped : {X T : Type 0} (view : X → Header) (fault : ReadFault) (result : Result T Trouble) (quiet : Bool) (a b after : Option (List ℕ)) (w : Option (List ℕ)) (held : List ℕ) (last : ℕ) → IsErrAnd result (λ e. e ≡ read_trouble fault)
+    → HeaderTaken view (Err fault) a b last → ReplayGives quiet a (Pushed w w held held) (PushedFront w w held held) result after
+header_stopped view fault (Ok done) quiet a b after w held last is h = absurd is
+header_stopped view fault (Err e) quiet a b after w held last is h =
+    subst (λ (t : Trouble). ReplayGives quiet a (Pushed w w held held) (PushedFront w w held held) {T = Unit {0}} (Err t) after) (sym is) (by fault h.4)
+  where
+    by : (fault : ReadFault) → NoneTaken (λ line. BeginsHeader (h.0 ++ line ∷ [])) fault h.1 b (length h.0) → ReplayGives quiet a (Pushed w w held held) (PushedFront w w held held) {T = Unit {0}} (Err (read_trouble fault)) after
+    by (faults.Malformed n) k = MalformedHeader h.0 h.1 h.2 h.3 k.0 k.1 (Pushed-nothing w held)
+    by faults.Read k = UnreadHeader h.0 k.0 b (Consumes-trans a h.1 b (lines_text h.0) k.0 h.2 k.2) h.3 k.1 (Pushed-nothing w held)
+    by faults.Memory k = CutBefore (front_none w held [])
 
 -- memory was refused before the first step
-pub not_opened : {T : Type 0} (result : Result T Trouble) (trouble : Trouble) (quiet : Bool) (a after : Option (List ℕ)) (w : Option (List ℕ)) (held : List ℕ) → result ≡ Err trouble → trouble ≡ troubles.Memory
+pub not_opened : {T : Type 0} (result : Result T Trouble) (quiet : Bool) (a after : Option (List ℕ)) (w : Option (List ℕ)) (held : List ℕ) → IsErrAnd result (λ e. e ≡ troubles.Memory)
     → ReplayGives quiet a (Pushed w w held held) (PushedFront w w held held) result after
-not_opened result trouble quiet a after w held is same =
-    subst (λ (r : Result _ Trouble). ReplayGives quiet a (Pushed w w held held) (PushedFront w w held held) r after) (sym (is ∙ ap (λ (t : Trouble). Err t) same))
-    (CutBefore (front_none w held []))
+not_opened (Ok done) quiet a after w held is = absurd is
+not_opened {T} (Err e) quiet a after w held is =
+    subst (λ (t : Trouble). ReplayGives quiet a (Pushed w w held held) (PushedFront w w held held) {T = T} (Err t) after) (sym is) (CutBefore (front_none w held []))
 
 abbrev stops : Trouble → Result (Unit {0}) Trouble
 stops trouble = Err trouble
@@ -94,48 +99,64 @@ behind_answers : (quiet : Bool) (w v u : Option (List ℕ)) (held mid keeps : Li
     → Pushed w u held keeps (lines_text (answer_lines quiet turns ++ lines))
 behind_answers quiet w v u held mid keeps turns lines h k = lines_then (Ok tt) w v u held mid keeps (answer_lines quiet turns) lines h k
 
-front_behind : (quiet : Bool) (w v u : Option (List ℕ)) (held mid keeps : List ℕ) (turns : List Turn) (lines : List (List ℕ)) → Pushed w v held mid (lines_text (answer_lines quiet turns)) → PushedFront v u mid keeps (lines_text lines)
+front_of_answers : (quiet : Bool) (w v u : Option (List ℕ)) (held mid keeps : List ℕ) (turns : List Turn) (lines : List (List ℕ)) → Pushed w v held mid (lines_text (answer_lines quiet turns)) → PushedFront v u mid keeps (lines_text lines)
     → PushedFront w u held keeps (lines_text (answer_lines quiet turns ++ lines))
-front_behind quiet w v u held mid keeps turns lines h k = lines_then (Err troubles.Write) w v u held mid keeps (answer_lines quiet turns) lines h k
+front_of_answers quiet w v u held mid keeps turns lines h k = front_behind w v u held mid keeps (answer_lines quiet turns) lines h k
+
+-- the outcome of what stands behind the answers, as that of the whole
+abbrev pub troubled : {T : Type 0} → Result T WriteFault → Result T Trouble
+troubled (Ok done) = Ok done
+troubled (Err fault) = Err (write_trouble fault)
 
 -- the book behind the steps
-closed_with : {T : Type 0} (result : Result T Trouble) (quiet : Bool) (s : Schedule) (a rest after : Option (List ℕ)) (w v u : Option (List ℕ)) (held mid keeps : List ℕ) → IsReplayed s → Consumes a rest (lines_text (schedule_lines s)) → IsAtEnd rest → Keeps rest after
-    → Pushed w v held mid (lines_text (answer_lines quiet s.turns)) → ClosingGives (Pushed v u mid keeps) (PushedFront v u mid keeps) result (book_after s)
-    → ReplayGives quiet a (Pushed w u held keeps) (PushedFront w u held keeps) result after
+cut_in_closing : (quiet : Bool) (s : Schedule) (a rest : Option (List ℕ)) (w v u : Option (List ℕ)) (held mid keeps : List ℕ) → IsReplayed s → Consumes a rest (lines_text (schedule_lines s)) → IsAtEnd rest → Pushed w v held mid (lines_text (answer_lines quiet s.turns))
+    → PushedFront v u mid keeps (lines_text (book_lines (book_after s))) ⊎ ((holds : Bool) × Decides holds (IsAudited (book_after s)) × PushedFront v u mid keeps (lines_text (closing_lines (book_after s) holds)))
+    → IsCutShort quiet a (Pushed w u held keeps) (PushedFront w u held keeps)
+cut_in_closing quiet s a rest w v u held mid keeps is taken end said (inl k) =
+    CutInBook s rest is taken end (front_of_answers quiet w v u held mid keeps s.turns (book_lines (book_after s)) said k)
+cut_in_closing quiet s a rest w v u held mid keeps is taken end said (inr k) =
+    CutInAudit s rest is taken end k.0 k.1 (front_of_answers quiet w v u held mid keeps s.turns (closing_lines (book_after s) k.0) said k.2)
+
+closed_with : {T : Type 0} (closing : Result T WriteFault) (quiet : Bool) (s : Schedule) (a rest after : Option (List ℕ)) (w v u : Option (List ℕ)) (held mid keeps : List ℕ) → IsReplayed s → Consumes a rest (lines_text (schedule_lines s)) → IsAtEnd rest → Keeps rest after
+    → Pushed w v held mid (lines_text (answer_lines quiet s.turns)) → ClosingGives (Pushed v u mid keeps) (PushedFront v u mid keeps) closing (book_after s)
+    → ReplayGives quiet a (Pushed w u held keeps) (PushedFront w u held keeps) (troubled closing) after
 closed_with (Ok done) quiet s a rest after w v u held mid keeps is taken end kept said k =
     (s, rest, is, taken, end, kept, k.0, k.1, behind_answers quiet w v u held mid keeps s.turns (closing_lines (book_after s) k.0) said k.2)
-closed_with (Err troubles.Write) quiet s a rest after w v u held mid keeps is taken end kept said (inl k) =
-    CutInBook s rest is taken end (front_behind quiet w v u held mid keeps s.turns (book_lines (book_after s)) said k)
-closed_with (Err troubles.Write) quiet s a rest after w v u held mid keeps is taken end kept said (inr k) =
-    CutInAudit s rest is taken end k.0 k.1 (front_behind quiet w v u held mid keeps s.turns (closing_lines (book_after s) k.0) said k.2)
-closed_with (Err troubles.Memory) quiet s a rest after w v u held mid keeps is taken end kept said (inl k) =
-    CutInBook s rest is taken end (front_behind quiet w v u held mid keeps s.turns (book_lines (book_after s)) said k)
-closed_with (Err troubles.Memory) quiet s a rest after w v u held mid keeps is taken end kept said (inr k) =
-    CutInAudit s rest is taken end k.0 k.1 (front_behind quiet w v u held mid keeps s.turns (closing_lines (book_after s) k.0) said k.2)
-closed_with (Err troubles.Read) quiet s a rest after w v u held mid keeps is taken end kept said k = absurd k
-closed_with (Err (troubles.Malformed n)) quiet s a rest after w v u held mid keeps is taken end kept said k = absurd k
+closed_with (Err write_faults.Write) quiet s a rest after w v u held mid keeps is taken end kept said k = cut_in_closing quiet s a rest w v u held mid keeps is taken end said k
+closed_with (Err write_faults.Memory) quiet s a rest after w v u held mid keeps is taken end kept said k = cut_in_closing quiet s a rest w v u held mid keeps is taken end said k
 
 abbrev with_schema : Header → Settings → Header
 with_schema header settings = record { sessions = header.sessions; queue = header.queue; keep = header.keep; tables = settings.schema }
 
-ended_with : {T : Type 0} (result : Result T Trouble) (quiet : Bool) (header : Header) (last : Replayed) (a b c : Option (List ℕ)) (w v u : Option (List ℕ)) (held mid keeps : List ℕ)
+ended_with : {T : Type 0} (closing : Result T WriteFault) (quiet : Bool) (header : Header) (last : Replayed) (a b c : Option (List ℕ)) (w v u : Option (List ℕ)) (held mid keeps : List ℕ)
     → Consumes a b (lines_text (header_text header)) → HeaderFits header
     → (turns : List Turn) × (rest : Option (List ℕ)) × AreTurns b rest (opened_by header) turns last × IsAtEnd rest × Keeps rest c × Pushed w v held mid (lines_text (answer_lines quiet turns))
-    → ClosingGives (Pushed v u mid keeps) (PushedFront v u mid keeps) result (book_at (with_schema header last.world.settings) last.world)
-    → ReplayGives quiet a (Pushed w u held keeps) (PushedFront w u held keeps) result c
-ended_with result quiet header last a b c w v u held mid keeps taken fits t k =
+    → ClosingGives (Pushed v u mid keeps) (PushedFront v u mid keeps) closing (book_at (with_schema header last.world.settings) last.world)
+    → ReplayGives quiet a (Pushed w u held keeps) (PushedFront w u held keeps) (troubled closing) c
+ended_with closing quiet header last a b c w v u held mid keeps taken fits t k =
     let same = plays_all_keep (opened_by header) t.0 last t.2.played in
-    closed_with result quiet (of_turns header t.0 last) a t.1 c w v u held mid keeps (is_replayed header t.0 last b t.1 fits t.2) (lines_taken a b t.1 (header_text header) (step_lines t.0) taken t.2.taken) t.3 t.4 t.5
-    (subst (λ (s : Settings). ClosingGives (Pushed v u mid keeps) (PushedFront v u mid keeps) result (book_at (with_schema header s) last.world)) same k)
+    closed_with closing quiet (of_turns header t.0 last) a t.1 c w v u held mid keeps (is_replayed header t.0 last b t.1 fits t.2) (lines_taken a b t.1 (header_text header) (step_lines t.0) taken t.2.taken) t.3 t.4 t.5
+    (subst (λ (s : Settings). ClosingGives (Pushed v u mid keeps) (PushedFront v u mid keeps) closing (book_at (with_schema header s) last.world)) same k)
 
-pub all_closed : {T : Type 0} (result : Result T Trouble) (quiet : Bool) (header : Header) (start last : Replayed) (a b c : Option (List ℕ)) (w v u : Option (List ℕ)) (held mid keeps : List ℕ)
+pub all_closed : {T : Type 0} (closing : Result T WriteFault) (quiet : Bool) (header : Header) (start last : Replayed) (a b c : Option (List ℕ)) (w v u : Option (List ℕ)) (held mid keeps : List ℕ)
     → start ≡ opened_by header → Consumes a b (lines_text (header_text header)) → HeaderFits header
     → (turns : List Turn) × (rest : Option (List ℕ)) × AreTurns b rest start turns last × IsAtEnd rest × Keeps rest c × Pushed w v held mid (lines_text (answer_lines quiet turns))
-    → ClosingGives (Pushed v u mid keeps) (PushedFront v u mid keeps) result (book_at (with_schema header last.world.settings) last.world)
-    → ReplayGives quiet a (Pushed w u held keeps) (PushedFront w u held keeps) result c
-all_closed result quiet header start last a b c w v u held mid keeps began taken fits t k =
-    ended_with result quiet header last a b c w v u held mid keeps taken fits
+    → ClosingGives (Pushed v u mid keeps) (PushedFront v u mid keeps) closing (book_at (with_schema header last.world.settings) last.world)
+    → ReplayGives quiet a (Pushed w u held keeps) (PushedFront w u held keeps) (troubled closing) c
+all_closed closing quiet header start last a b c w v u held mid keeps began taken fits t k =
+    ended_with closing quiet header last a b c w v u held mid keeps taken fits
     (t.0, t.1, subst (λ (r : Replayed). AreTurns b t.1 r t.0 last) began t.2, t.3, t.4, t.5) k
+
+-- the same, by the exit of a `?`
+pub all_cut : (fault : WriteFault) (result : Result (Unit {0}) Trouble) (quiet : Bool) (header : Header) (start last : Replayed) (a b c : Option (List ℕ)) (w v u : Option (List ℕ)) (held mid keeps : List ℕ) → IsErrAnd result (λ e. e ≡ write_trouble fault)
+    → start ≡ opened_by header → Consumes a b (lines_text (header_text header)) → HeaderFits header
+    → (turns : List Turn) × (rest : Option (List ℕ)) × AreTurns b rest start turns last × IsAtEnd rest × Keeps rest c × Pushed w v held mid (lines_text (answer_lines quiet turns))
+    → ClosingGives (Pushed v u mid keeps) (PushedFront v u mid keeps) {T = Unit {0}} (Err fault) (book_at (with_schema header last.world.settings) last.world)
+    → ReplayGives quiet a (Pushed w u held keeps) (PushedFront w u held keeps) result c
+all_cut fault (Ok done) quiet header start last a b c w v u held mid keeps is began taken fits t k = absurd is
+all_cut fault (Err e) quiet header start last a b c w v u held mid keeps is began taken fits t k =
+    subst (λ (r : Trouble). ReplayGives quiet a (Pushed w u held keeps) (PushedFront w u held keeps) {T = Unit {0}} (Err r) c) (sym is)
+    (all_closed {T = Unit {0}} (Err fault) quiet header start last a b c w v u held mid keeps began taken fits t k)
 
 -- ---- from what was pushed to what was written
 
@@ -264,12 +285,10 @@ pub ended_flushed : {T : Type 0} (result : Result T Trouble) (quiet : Bool) (kno
 ended_flushed result quiet known last unread old left a b c held nothing none sent h =
     flushed result quiet known last left a b c held sent (from_new known unread old (λ o l. ReplayGives quiet o (Pushed a b l held) (PushedFront a b l held) result (prepend_known left last)) nothing none h)
 
-pub ended_amid_flush : {T S : Type 0} (result : Result T Trouble) (outcome : Result S Trouble) (trouble why : Trouble) (quiet : Bool) (known mid after : Option (List ℕ)) (unread old : List ℕ) (a b c : Option (List ℕ)) (held holds : List ℕ)
-    → result ≡ Err trouble → trouble ≡ why → unread ≡ [] → old ≡ [] → FlushGives {T = Unit {0}} (Err why) b c held holds → ReplayGives quiet (prepend_known unread known) (Pushed a b old held) (PushedFront a b old held) outcome mid
+pub ended_amid_flush : {T S : Type 0} (result : Result T Trouble) (outcome : Result S Trouble) (quiet : Bool) (known mid after : Option (List ℕ)) (unread old : List ℕ) (a b c : Option (List ℕ)) (held holds : List ℕ) → IsErrAnd result (λ e. e ≡ troubles.Write)
+    → unread ≡ [] → old ≡ [] → Sends b c held holds → ReplayGives quiet (prepend_known unread known) (Pushed a b old held) (PushedFront a b old held) outcome mid
     → ReplayGives quiet known (Appends a c) (AppendsFront a c) result after
-ended_amid_flush result outcome trouble troubles.Write quiet known mid after unread old a b c held holds is same nothing none sent h =
-    subst (λ (r : Result _ Trouble). ReplayGives quiet known (Appends a c) (AppendsFront a c) r after) (sym (is ∙ ap (λ (t : Trouble). Err t) same))
+ended_amid_flush (Ok done) outcome quiet known mid after unread old a b c held holds is nothing none sent h = absurd is
+ended_amid_flush {T} (Err e) outcome quiet known mid after unread old a b c held holds is nothing none sent h =
+    subst (λ (t : Trouble). ReplayGives quiet known (Appends a c) (AppendsFront a c) {T = T} (Err t) after) (sym is)
     (flush_failed outcome quiet known mid a b c held holds sent (from_new known unread old (λ o l. ReplayGives quiet o (Pushed a b l held) (PushedFront a b l held) outcome mid) nothing none h))
-ended_amid_flush result outcome trouble troubles.Read quiet known mid after unread old a b c held holds is same nothing none sent h = absurd sent
-ended_amid_flush result outcome trouble troubles.Memory quiet known mid after unread old a b c held holds is same nothing none sent h = absurd sent
-ended_amid_flush result outcome trouble (troubles.Malformed n) quiet known mid after unread old a b c held holds is same nothing none sent h = absurd sent

@@ -1,5 +1,5 @@
 -- A schedule from its first line to its last, and the text that its replay writes (our own choice).
-use Rattle.std.specs.Prelude.{◌≡◌, ◌≢◌, ◌+◌, ℕ, Bool, true, false, List, [], ◌∷◌, ◌++◌, map, length, Option, Result, Ok, Err, IfSome, All, codes}
+use Rattle.std.specs.Prelude.{◌≡◌, ◌≢◌, ◌+◌, ℕ, Bool, true, false, List, [], ◌∷◌, ◌++◌, map, length, Option, Result, Ok, Err, IfSome, All}
 use Rattle.std.specs.Bool.{Decides}
 use Rattle.std.specs.FinMap.{empty}
 use Rattle.std.specs.Io.KnownBytes.{Consumes, Keeps, Appends, IsAtEnd}
@@ -12,8 +12,8 @@ use Rattle.occ_text.specs.Answers.{Answer, answer_text}
 use Rattle.occ_text.specs.Answers as says
 use Rattle.occ_print.specs.Books.{Book, book_lines, audit_line}
 use Rattle.occ_text.specs.Headers.{Header, HeaderFits, header_text}
-use Rattle.occ_text.specs.HeaderTaking.{CannotStand, BeginsHeader}
-use Rattle.occ_text.specs.Line.{IsLine, BeginsNoLine, lines_text}
+use Rattle.occ_text.specs.HeaderTaking.{BeginsHeader}
+use Rattle.occ_text.specs.Line.{IsLine, BeginsNoLine, CannotStand, lines_text}
 use Rattle.occ_cli.specs.Replaying.{Replayed, Plays, started}
 use Rattle.occ_text.specs.Steps.{Step, StepFits, step_text}
 

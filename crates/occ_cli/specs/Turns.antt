@@ -3,6 +3,8 @@ use Rattle.std.specs.Prelude.{◌≡◌, ◌≢◌, ◌+◌, ◌⊎◌, ℕ, Boo
 use Rattle.std.specs.Bool.{Decides}
 use Rattle.std.specs.Io.KnownBytes.{Consumes, Keeps, IsAtEnd}
 use Rattle.occ_types.specs.declared.fault.Fault.TheVariants as faults
+use Rattle.occ_text.specs.declared.faults.WriteFault.{WriteFault}
+use Rattle.occ_text.specs.declared.faults.WriteFault.TheVariants as write_faults
 use Rattle.occ_text.specs.declared.trouble.Trouble.{Trouble}
 use Rattle.occ_text.specs.declared.trouble.Trouble.TheVariants.{Read, Write, Memory, Malformed}
 use Rattle.occ_text.specs.Answers.{Answer}
@@ -21,14 +23,6 @@ is_cut_short (Err Read) = false
 is_cut_short (Err Write) = true
 is_cut_short (Err Memory) = true
 
--- the step of a line; malformed where the line is that of no step
-abbrev pub StepAt : {X : Type 0} (view : X → Step) → Result X Trouble → List ℕ → ℕ → Type 0
-StepAt view (Ok x) line number = (line ≡ step_text (view x)) × StepFits (view x)
-StepAt view (Err (Malformed n)) line number = ((step : Step) → StepFits step → line ≢ step_text step) × (n ≡ number)
-StepAt view (Err Read) line number = ⊥
-StepAt view (Err Write) line number = ⊥
-StepAt view (Err Memory) line number = Unit {0}
-
 -- a step is done and answered
 pub record IsTurn (old : Replayed) (step : Step) (answer : Answer) (new : Replayed) : Type 0 where
   pub plays : Plays old step answer new
@@ -42,12 +36,10 @@ module _ (quiet : Bool) (Wrote WroteFront : List ℕ → Type 0) where
     pub wrote : WroteFront (lines_text (answer_lines quiet ((step, answer) ∷ [])))
 
   -- what doing and answering a step leaves
-  abbrev pub AnswerGives : {T : Type 0} → Result T Trouble → Step → Replayed → Replayed → Type 0
+  abbrev pub AnswerGives : {T : Type 0} → Result T WriteFault → Step → Replayed → Replayed → Type 0
   AnswerGives (Ok done) step old new = (answer : Answer) × IsTurn old step answer new × Wrote (lines_text (answer_lines quiet ((step, answer) ∷ [])))
-  AnswerGives (Err Write) step old new = IsHalfSaid step old new
-  AnswerGives (Err Memory) step old new = WroteFront [] ⊎ IsHalfSaid step old new
-  AnswerGives (Err Read) step old new = ⊥
-  AnswerGives (Err (Malformed number)) step old new = ⊥
+  AnswerGives (Err write_faults.Write) step old new = IsHalfSaid step old new
+  AnswerGives (Err write_faults.Memory) step old new = WroteFront [] ⊎ IsHalfSaid step old new
 
   -- the line of a step was taken, and a beginning of its answer was written
   pub record IsHalfTurn (before rest : Option (List ℕ)) (old new : Replayed) : Type 0 where
@@ -94,17 +86,12 @@ module _ (quiet : Bool) (Wrote WroteFront : List ℕ → Type 0) where
 -- what stands behind the answers
 module _ (Wrote WroteFront : List ℕ → Type 0) where
   -- what a book and its audit leave
-  abbrev pub ClosingGives : {T : Type 0} → Result T Trouble → Book → Type 0
+  abbrev pub ClosingGives : {T : Type 0} → Result T WriteFault → Book → Type 0
   ClosingGives (Ok done) book = (holds : Bool) × Decides holds (IsAudited book) × Wrote (lines_text (closing_lines book holds))
-  ClosingGives (Err Write) book = WroteFront (lines_text (book_lines book)) ⊎ ((holds : Bool) × Decides holds (IsAudited book) × WroteFront (lines_text (closing_lines book holds)))
-  ClosingGives (Err Memory) book = WroteFront (lines_text (book_lines book)) ⊎ ((holds : Bool) × Decides holds (IsAudited book) × WroteFront (lines_text (closing_lines book holds)))
-  ClosingGives (Err Read) book = ⊥
-  ClosingGives (Err (Malformed number)) book = ⊥
+  ClosingGives (Err fault) book = WroteFront (lines_text (book_lines book)) ⊎ ((holds : Bool) × Decides holds (IsAudited book) × WroteFront (lines_text (closing_lines book holds)))
 
   -- what the line of an audit leaves
-  abbrev pub AuditGives : {T : Type 0} → Result T Trouble → Book → Type 0
+  abbrev pub AuditGives : {T : Type 0} → Result T WriteFault → Book → Type 0
   AuditGives (Ok done) book = (holds : Bool) × Decides holds (IsAudited book) × Wrote (lines_text (audit_line holds ∷ []))
-  AuditGives (Err Write) book = (holds : Bool) × Decides holds (IsAudited book) × WroteFront (lines_text (audit_line holds ∷ []))
-  AuditGives (Err Memory) book = WroteFront [] ⊎ ((holds : Bool) × Decides holds (IsAudited book) × WroteFront (lines_text (audit_line holds ∷ [])))
-  AuditGives (Err Read) book = ⊥
-  AuditGives (Err (Malformed number)) book = ⊥
+  AuditGives (Err write_faults.Write) book = (holds : Bool) × Decides holds (IsAudited book) × WroteFront (lines_text (audit_line holds ∷ []))
+  AuditGives (Err write_faults.Memory) book = WroteFront [] ⊎ ((holds : Bool) × Decides holds (IsAudited book) × WroteFront (lines_text (audit_line holds ∷ [])))

@@ -15,7 +15,7 @@ use crate::clients::{object_named, span_named};
 use occ_core::core_state::Core;
 use occ_sets::{Answer as Seen, Prepared, PrivateCopy};
 use occ_text::answers::Answer;
-use occ_types::fault::Fault;
+use occ_types::Fault;
 use occ_types::{Key, Object, Question, Row};
 use std::alloc::Allocator;
 

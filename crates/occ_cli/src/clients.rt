@@ -19,7 +19,7 @@ use crate::requests::{Request, Submitted};
 use occ_core::core_state::Core;
 use occ_sets::PrivateCopy;
 use occ_text::answers::Answer;
-use occ_types::fault::Fault;
+use occ_types::Fault;
 use occ_types::limits::MAX_NUMBER;
 use occ_types::{Key, Object, Question, Row, Schema};
 use std::alloc::{AllocError, Allocator};

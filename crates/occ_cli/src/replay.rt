@@ -1,30 +1,26 @@
 //! The replay of a schedule: a text in, a text out.
 
 ghost use Rattle.std.specs.Prelude.{◌≡◌, ◌<◌, ◌^◌, ◌∷◌, [], true, IfOk};
-ghost use Rattle.std.specs.Bool.{Decides};
 ghost use Rattle.std.specs.Io.KnownBytes.{Appends, prepend_known};
-ghost use Rattle.occ_types.specs.declared.fault.Fault.TheVariants as faults;
-ghost use Rattle.occ_text.specs.Answers as says;
 ghost use Rattle.occ_text.specs.Answers.{answer_of, answer_text};
 ghost use Rattle.occ_text.specs.Line.{lines_text};
 ghost use Rattle.occ_text.specs.Printing.{Pushed, PushedFront, PrintGives};
 ghost use Rattle.occ_print.specs.Books.{book_of};
 ghost use Rattle.occ_cli.specs.Schedules.{ReplayGives, AppendsFront, book_at};
 ghost use Rattle.occ_text.specs.Steps.{step_of};
-ghost use Rattle.occ_cli.specs.Turns.{StepAt, AnswerGives, TurnGives, TurnsGive, ClosingGives, AuditGives, is_cut_short};
+ghost use Rattle.occ_cli.specs.Turns.{AnswerGives, TurnGives, TurnsGive, ClosingGives, AuditGives, is_cut_short};
 
 use crate::replays::Replay;
 use occ_audit::audit_rows;
 use occ_print::books::{Book, push_line, write_book};
 use occ_print::lines::audit_line;
 use occ_text::answers::{Answer, write_answer};
-use occ_text::headers::read_header;
+use occ_text::faults::{WriteFault, read_at_line};
+use occ_text::headers::{Limits, read_header};
 use occ_text::input::{Input, Next};
 use occ_text::output::Output;
 use occ_text::steps::{Step, read_step};
-use occ_text::tokens::Unread;
 use occ_text::trouble::Trouble;
-use occ_types::fault::Fault;
 use std::alloc::Allocator;
 use std::collections::BTreeMap;
 use std::io::{Read, Write};
@@ -78,28 +74,10 @@ fn replay_lines<R: Read, W: Write, A: Allocator + Copy>(
         (prepend_known input.new.unread (R.remaining reader.new)) }
 {
     let header = read_header(alloc, input, reader)?;
-    let limits = Limits {
-        sessions: header.sessions,
-        queue: header.queue,
-        keep: header.keep,
-    };
-    let mut replay = Replay::open(
-        alloc,
-        header.schema,
-        limits.sessions,
-        limits.queue,
-        limits.keep,
-    )?;
+    let mut replay = Replay::open(alloc, header.schema, header.limits)?;
     take_turns(alloc, input, reader, output, writer, &mut replay, quiet)?;
-    close(alloc, output, writer, &replay, limits)
-}
-
-/// What the header of a schedule says beside its tables.
-#[derive(Clone, Copy)]
-struct Limits {
-    sessions: usize,
-    queue: usize,
-    keep: usize,
+    close(alloc, output, writer, &replay, header.limits)?;
+    Ok(())
 }
 
 // Does and answers all steps that stand next in the text, up to its end.
@@ -141,20 +119,9 @@ fn take_turn<R: Read, W: Write, A: Allocator + Copy>(
         Next::End => return Ok(false),
         Next::Line => {}
     }
-    let step = step_at(alloc, input.line(), input.number())?;
+    let step = read_at_line(read_step(alloc, input.line()), input.number())?;
     answer_step(alloc, output, writer, replay, step, quiet)?;
     Ok(true)
-}
-
-// The step of the line of this number.
-fn step_at<A: Allocator + Copy>(alloc: A, line: &[u8], number: u64) -> Result<Step<'_, A>, Trouble>
-    ensures { StepAt step_of result line.now number }
-{
-    match read_step(alloc, line) {
-        Ok(step) => Ok(step),
-        Err(Unread::Malformed) => Err(Trouble::Malformed(number)),
-        Err(Unread::Memory) => Err(Trouble::Memory),
-    }
 }
 
 // Does a step, and answers it by a line unless `quiet` is true.
@@ -165,26 +132,16 @@ fn answer_step<W: Write, A: Allocator + Copy>(
     replay: &mut Replay<A>,
     step: Step<'_, A>,
     quiet: bool,
-) -> Result<(), Trouble>
+) -> Result<(), WriteFault>
     ensures { AnswerGives quiet (Pushed (W.contents writer.old) (W.contents writer.new) output.old output.new)
         (PushedFront (W.contents writer.old) (W.contents writer.new) output.old output.new) result
         (step_of step.entry) replay.old replay.new }
 {
     let answer = replay.answer(step)?;
-    if is_starved(&answer) {
-        return Err(Trouble::Memory);
-    }
     if quiet {
         return Ok(());
     }
     say(alloc, output, writer, &answer)
-}
-
-// Whether an answer tells of a want of memory.
-fn is_starved<A: Allocator>(answer: &Answer<A>) -> bool
-    ensures { Decides result (answer_of answer.now ≡ says.Refused faults.Memory) }
-{
-    matches!(answer, Answer::Refused(Fault::Memory))
 }
 
 // Writes the line of an answer.
@@ -193,7 +150,7 @@ fn say<W: Write, A: Allocator + Copy>(
     output: &mut Output<A>,
     writer: &mut W,
     answer: &Answer<A>,
-) -> Result<(), Trouble>
+) -> Result<(), WriteFault>
     ensures { PrintGives result (W.contents writer.old) (W.contents writer.new) output.old output.new (lines_text (answer_text (answer_of answer.now) ∷ [])) }
 {
     let mut line = String::new(alloc);
@@ -208,16 +165,14 @@ fn close<W: Write, A: Allocator + Copy>(
     writer: &mut W,
     replay: &Replay<A>,
     limits: Limits,
-) -> Result<(), Trouble>
+) -> Result<(), WriteFault>
     ensures { ClosingGives (Pushed (W.contents writer.old) (W.contents writer.new) output.old output.new)
         (PushedFront (W.contents writer.old) (W.contents writer.new) output.old output.new) result
         (book_at (record { sessions = limits.sessions; queue = limits.queue; keep = limits.keep; tables = replay.now.world.settings.schema }) replay.now.world) }
 {
     let core = replay.core();
     let book = Book {
-        sessions: limits.sessions,
-        queue: limits.queue,
-        keep: limits.keep,
+        limits,
         schema: core.schema(),
         log: core.log(),
         tables: core.tables(),
@@ -234,7 +189,7 @@ fn write_audit<W: Write, A: Allocator + Copy>(
     output: &mut Output<A>,
     writer: &mut W,
     book: &Book<A>,
-) -> Result<(), Trouble>
+) -> Result<(), WriteFault>
     ensures { AuditGives (Pushed (W.contents writer.old) (W.contents writer.new) output.old output.new)
         (PushedFront (W.contents writer.old) (W.contents writer.new) output.old output.new) result (book_of book.now) }
 {

@@ -13,8 +13,10 @@ ghost use Rattle.occ_cli.specs.Replaying.{started, fresh, client_of, counts_of, 
 use crate::clients::Client;
 use occ_core::core_state::Core;
 use occ_text::answers::{Answer, Counts};
+use occ_text::headers::Limits;
+use occ_text::refusals::Refusal;
 use occ_text::steps::{Act, Step};
-use occ_types::fault::Fault;
+use occ_types::Fault;
 use occ_types::{Key, Object, Row, Schema, Text};
 use std::alloc::{AllocError, Allocator};
 use std::marker::Model;
@@ -40,18 +42,12 @@ impl<A: Allocator> Model for Replay<A> {
 }
 
 impl<A: Allocator + Copy> Replay<A> {
-    /// An empty store with these tables and so many sessions, which keeps the last `keep` write sets for testing, and a client for each session, which can have `queue` transactions that wait. It is an error where there is no memory for it, and the schema is gone then.
-    pub fn open(
-        alloc: A,
-        schema: Schema<A>,
-        sessions: usize,
-        queue: usize,
-        keep: usize,
-    ) -> Result<Replay<A>, AllocError>
-        ensures { IfOk result (λ replay. replay ≡ started (record { schema = schema; sessions = sessions; keep = keep }) queue) }
+    /// An empty store with these tables, and a client for each of its sessions. It is an error where there is no memory for it, and the schema is gone then.
+    pub fn open(alloc: A, schema: Schema<A>, limits: Limits) -> Result<Replay<A>, AllocError>
+        ensures { IfOk result (λ replay. replay ≡ started (record { schema = schema; sessions = limits.sessions; keep = limits.keep }) limits.queue) }
     {
-        let core = Core::open(alloc, schema, sessions, keep)?;
-        let clients = fresh_clients(alloc, sessions, queue)?;
+        let core = Core::open(alloc, schema, limits.sessions, limits.keep)?;
+        let clients = fresh_clients(alloc, limits.sessions, limits.queue)?;
         Ok(Replay {
             alloc,
             core,
@@ -62,6 +58,7 @@ impl<A: Allocator + Copy> Replay<A> {
     /// Does a step, and answers it. It is an error where memory is refused, as it can be for `enter`, `write`, `get`, `scan`, `put` and `delete` alone: nothing has changed then, but that what the store refused to enter is kept for the next time, as after any refusal.
     pub fn answer(&mut self, step: Step<'_, A>) -> Result<Answer<A>, AllocError>
         ensures ok { IfOk result (λ answer. Plays self.old (step_of step.entry) (answer_of answer) self.new) }
+        ensures fed { IfOk result (λ answer. answer_of answer ≢ says.Refused faults.Memory) }
         ensures err { OnErr result (Starved self.old (step_of step.entry) self.new) }
     {
         match self.play(step) {
@@ -237,7 +234,7 @@ fn refused<A: Allocator>(fault: Fault) -> Result<Answer<A>, AllocError>
 {
     match fault {
         Fault::Memory => Err(AllocError),
-        fault => Ok(Answer::Refused(fault)),
+        fault => Ok(Answer::Refused(Refusal { fault })),
     }
 }
 

@@ -1,30 +1,43 @@
 -- What a change of a vector is, to those who see it as plain data.
 use Rattle.std.proofs.Common.{◌≡◌, ℕ, zero, suc, ◌+◌, ◌<◌, false, List, [], ◌∷◌, ◌++◌, get_or, length, map, Option, None, Some, refl, eqb-true, eq-eqb, sym, ap, subst, ◌∙◌, arith}
-use Rattle.std.specs.Prelude.{slice_get, slice_set, ◌==◌, Result, Ok, Err, OnOk, OnErr, IsOk, is_some, true}
-use Rattle.std.specs.Result.{is_err}
+use Rattle.std.specs.Prelude.{slice_get, slice_set, ◌==◌, is_some, true}
+use Rattle.std.specs.Borrow.{Bor}
+use Rattle.std.specs.Option.{option_map, option_copied}
+use Rattle.std.specs.Slice.{IsItemAt}
+use Rattle.std.proofs.lemmas.Option.{slice_get-map}
+use Rattle.occ_book.proofs.Views.{table-at}
 use Rattle.occ_model.specs.Log.{LogRow, is_open}
 use Rattle.occ_core.specs.Slots.{Slot, Hold, idle_slots, last_of, ArePlaced, HoldsArePlaced}
 use Rattle.occ_core.proofs.Places.{slice_get-other}
 use Rattle.occ_model.proofs.Tests as tests
 use Rattle.occ_core.specs.Rows.{standing_of, log_row_of, log_of, slot_of, slots_of}
-use Rattle.occ_core.specs.declared.rows.Standing as code_standing
-use Rattle.occ_core.specs.declared.rows.Standing.TheVariants as standings
-use Rattle.occ_core.specs.declared.rows.OpenCase as code_open
-use Rattle.occ_core.specs.declared.rows.LogRow as code_row
+use Rattle.occ_book.specs.declared.rows.Standing as code_standing
+use Rattle.occ_book.specs.declared.rows.Standing.TheVariants as standings
+use Rattle.occ_case.specs.declared.cases.OpenCase as code_open
+use Rattle.occ_book.specs.declared.rows.LogRow as code_row
 use Rattle.occ_core.specs.declared.sessions.SessionState as code_session
 
+-- what a look-up by place in a vector answers
+pub seen_at : {X Y : Type 0} (f : X → Y) (xs items : List X) (plain : List Y) (k : ℕ) (r : Option (Bor X)) → items ≡ xs → map f xs ≡ plain → IsItemAt items k r → option_map (λ x. f x.now) r ≡ slice_get plain k
+seen_at {X} f xs items plain k r same view is =
+    copied r ∙ ap (option_map f) (sym (table-at xs items k r r same is refl)) ∙ sym (slice_get-map f xs k) ∙ ap (λ ys. slice_get ys k) view
+  where
+    copied : (r : Option (Bor X)) → option_map (λ x. f x.now) r ≡ option_map f (option_copied r)
+    copied None = refl
+    copied (Some x) = refl
+
 -- a row takes another standing
-pub stood : {Z : Type 0} (rows : List (code_row.LogRow Z)) (place : ℕ) (old : code_row.LogRow Z) (standing : code_standing.Standing Z) (log : List LogRow) → log_of rows ≡ log → old ≡ get_or rows place old
+pub stood : {Z : Type 0} (rows : List (code_row.LogRow Z (code_open.OpenCase Z))) (place : ℕ) (old : code_row.LogRow Z (code_open.OpenCase Z)) (standing : code_standing.Standing (code_open.OpenCase Z)) (log : List LogRow) → log_of rows ≡ log → old ≡ get_or rows place old
     → (row : LogRow) → slice_get log place ≡ Some row → log_of (slice_set rows place (record old { standing = standing })) ≡ slice_set log place (record row { standing = standing_of standing })
 stood {Z} rows place old standing log view is row there =
     go rows place is (ap (λ l. slice_get l place) view ∙ there) ∙ ap (λ l. slice_set l place (record row { standing = standing_of standing })) view
   where
-    go : (rows : List (code_row.LogRow Z)) (place : ℕ) → old ≡ get_or rows place old → slice_get (log_of rows) place ≡ Some row
+    go : (rows : List (code_row.LogRow Z (code_open.OpenCase Z))) (place : ℕ) → old ≡ get_or rows place old → slice_get (log_of rows) place ≡ Some row
         → log_of (slice_set rows place (record old { standing = standing })) ≡ slice_set (log_of rows) place (record row { standing = standing_of standing })
     go [] place is there = cc
     go (x ∷ xs) zero is there =
         let e : log_row_of x ≡ row = cc in
-        ap (λ r. r ∷ log_of xs) (ap (λ (r : code_row.LogRow Z). record (log_row_of r) { standing = standing_of standing }) is ∙ ap (λ (r : LogRow). record r { standing = standing_of standing }) e)
+        ap (λ r. r ∷ log_of xs) (ap (λ (r : code_row.LogRow Z (code_open.OpenCase Z)). record (log_row_of r) { standing = standing_of standing }) is ∙ ap (λ (r : LogRow). record r { standing = standing_of standing }) e)
     go (x ∷ xs) (suc place) is there = ap (λ l. log_row_of x ∷ l) (go xs place is there)
 
 -- a session is let go
@@ -45,7 +58,7 @@ idle-push zero = refl
 idle-push (suc count) = ap (λ l. record { last = 0; hold = None } ∷ l) (idle-push count) ∙ ap idle_slots (sym (let e : suc count + 1 ≡ suc (count + 1) = omega arith in e))
 
 -- a standing that no case opens
-pub not_open : {Z : Type 0} (s : code_standing.Standing Z) → ((open_case : code_open.OpenCase Z) → s ≡ standings.Open open_case → ⊥) → is_open (standing_of s) ≡ false
+pub not_open : {Z : Type 0} (s : code_standing.Standing (code_open.OpenCase Z)) → ((open_case : code_open.OpenCase Z) → s ≡ standings.Open open_case → ⊥) → is_open (standing_of s) ≡ false
 not_open (standings.Open open_case) not = absurd (not open_case refl)
 not_open (standings.Writing done) not = refl
 not_open (standings.Done number) not = refl
@@ -80,17 +93,7 @@ placed-set tables slots place next placed own k slot hold at holds = tests.decid
 pub placed-free : (tables : ℕ) (slots : List Slot) (place last : ℕ) → HoldsArePlaced tables slots → HoldsArePlaced tables (slice_set slots place (record { last = last; hold = None }))
 placed-free tables slots place last placed = placed-set tables slots place (record { last = last; hold = None }) placed (λ hold is. cc)
 
--- what a result that is an error, or isn't one, says
-pub on_err : {T E P : Type 0} (r : Result T E) → is_err r ≡ true → OnErr r P → P
-on_err (Ok x) is says = cc
-on_err (Err e) is says = says
-
-pub on_ok : {T E P : Type 0} (r : Result T E) → is_err r ≡ false → OnOk r P → P
-on_ok (Ok x) is says = says
-on_ok (Err e) is says = cc
-
 -- a write that finds no memory puts a row
-pub puts_some : {T E X : Type 0} (r : Result T E) (row : Option X) → is_err r ≡ true → (row ≡ None → IsOk r) → is_some row ≡ true
-puts_some (Ok x) row is deletes = cc
-puts_some (Err e) None is deletes = let clash : false ≡ true = deletes refl in cc
-puts_some (Err e) (Some x) is deletes = refl
+pub puts_some : {X : Type 0} (row : Option X) → (row ≡ None → false ≡ true) → is_some row ≡ true
+puts_some None deletes = let clash : false ≡ true = deletes refl in cc
+puts_some (Some x) deletes = refl

@@ -12,10 +12,11 @@ use Rattle.occ_model.specs.State.{Write, Observation}
 use Rattle.occ_model.specs.Log.{LogRow, Standing, Open, Writing, Done, Back, Case}
 use Rattle.occ_model.specs.Validity.{finished_within, finished_opponents, writes_of}
 use Rattle.occ_model.specs.World.{World, ReadPhase, phase_cmp, active_count, reads_under, is_held, low}
-use Rattle.occ_model.specs.Event.{Enter, Request, Entered}
+use Rattle.std.specs.Prelude.{Result, Err}
+use Rattle.occ_model.specs.Event.{Event, Item, Reply, Enter, Request, Entered, Refused}
 use Rattle.occ_model.specs.Refusal as refusals
 use Rattle.occ_model.specs.Refusal.{refusal, check_writes}
-use Rattle.occ_model.specs.Step.{Step, IsCaseOf, entering}
+use Rattle.occ_model.specs.Step.{Step, starved, IsCaseOf, entering}
 use Rattle.occ_model.proofs.Tests as tests
 use Rattle.occ_model.proofs.Phases.{not_refused}
 use Rattle.occ_model.proofs.Steps.{passed}
@@ -24,6 +25,8 @@ use Rattle.occ_core.specs.Phases.{reads_of}
 use Rattle.occ_core.specs.Reads.{session_fault, start_fault}
 use Rattle.occ_core.specs.Entries.{due_fault, busy_fault, spare_fault, turn_to_enter, write_fault, log_fault, counter_fault, room_to_enter}
 use Rattle.occ_core.specs.Slots.{Slot, Hold, last_of, active_from, ArePlaced, HoldsArePlaced}
+use Rattle.occ_core.specs.declared.core_entries.Entered as code_entry
+use Rattle.occ_core.specs.Replies.{entry}
 use Rattle.occ_core.specs.Parts.{Parts, world_of, low_of, AreSound}
 use Rattle.occ_core.proofs.Calls.{held_world}
 use Rattle.occ_core.proofs.Changes.{placed-set}
@@ -208,10 +211,11 @@ open_case parts world seen sound session number start writes case start_is low_i
         ∙ ap (list_any test) (sym (low_same parts.log parts.counter (low_of parts) start (omega arith))))
 
 pub open_row : (parts : Parts) (world : World) → world_of parts ≡ world → (session number start : ℕ) (reads : List Observation) → reads ≡ reads_of (finite.get parts.phases (session, number))
-    → (writes theirs : List Write) → theirs ≡ writes → (place : ℕ) → place ≡ length parts.log → (case : Case)
-    → record { place = place; session = session; number = number; start = start; finish = parts.counter; reads = reads; writes = theirs; standing = Open place case } ≡ entering world session number start (reads_under world session number) writes (Open (length world.log) case)
-open_row parts world seen session number start reads reads_is writes theirs same place place_is case =
-    (λ i. record { place = place_is i; session = session; number = number; start = start; finish = parts.counter; reads = reads_is i; writes = same i; standing = Open (place_is i) case })
+    → (writes theirs : List Write) → theirs ≡ writes → (place : ℕ) → place ≡ length parts.log → (case : Case) (standing : Standing) → standing ≡ Open place case
+    → record { place = place; session = session; number = number; start = start; finish = parts.counter; reads = reads; writes = theirs; standing = standing } ≡ entering world session number start (reads_under world session number) writes (Open (length world.log) case)
+open_row parts world seen session number start reads reads_is writes theirs same place place_is case standing stands =
+    ap (λ s. record { place = place; session = session; number = number; start = start; finish = parts.counter; reads = reads; writes = theirs; standing = s }) stands
+    ∙ (λ i. record { place = place_is i; session = session; number = number; start = start; finish = parts.counter; reads = reads_is i; writes = same i; standing = Open (place_is i) case })
     ∙ ap (λ r. record { place = length parts.log; session = session; number = number; start = start; finish = parts.counter; reads = r; writes = writes; standing = Open (length parts.log) case }) (sym (reads_are (finite.get parts.phases (session, number))))
     ∙ ap (λ n. record { place = n; session = session; number = number; start = start; finish = parts.counter; reads = reads_under (world_of parts) session number; writes = writes; standing = Open (length parts.log) case }) (let e : length parts.log ≡ 0 + length parts.log = omega arith in e)
     ∙ ap (λ w. entering w session number start (reads_under w session number) writes (Open (length w.log) case)) seen
@@ -309,6 +313,38 @@ enter_whole parts world seen sound session number start writes none row case is_
     → Step w (Enter session (Request number start writes)) (Entered row.place row.place) (world_of (taken_in parts log phases slots)) × AreSound (taken_in parts log phases slots)) seen
     (λ n c r. enter_done parts sound session number start writes n row case c r log log_is phases phases_is slots slots_is)
     none is_case row_is
+
+-- a fault is replied as it is
+pub entry_err : (old new : World) (event : Event) (reply : Result code_entry.Entered Fault) (fault : Fault) → reply ≡ Err fault → Step old event (Refused fault) new → Step old event (entry reply) new
+entry_err old new event reply fault is step = subst (λ r. Step old event (entry r) new) (sym is) step
+
+-- the entry of a request is that of the item which it is
+pub entry_of : (old new : World) (session number start : ℕ) (writes : List Write) (item : Item) (reply : Reply) → Step old (Enter session (Request number start writes)) reply new → Request number start writes ≡ item → Step old (Enter session item) reply new
+entry_of old new session number start writes item reply step is = subst (λ i. Step old (Enter session i) reply new) is step
+
+-- there is no memory, and the read phases are as they were
+pub entry_starved : (parts : Parts) (world : World) → world_of parts ≡ world → (session number start : ℕ) (writes : List Write) → refusal world (Enter session (Request number start writes)) ≡ None
+    → (phases : FinMap phase_cmp ReadPhase) → phases ≡ parts.phases → Step world (Enter session (Request number start writes)) (Refused faults.Memory) (world_of (record parts { phases = phases }))
+entry_starved parts world seen session number start writes none phases same =
+    starved none refl refl (ap (λ p. world_of (record parts { phases = p })) same ∙ seen)
+
+-- the row of an entry, open, with its case
+abbrev pub IsOpenRow : World → ℕ → ℕ → ℕ → List Write → LogRow → Type 0
+IsOpenRow world session number start writes row =
+    (case : Case) × IsCaseOf world session number start writes case × (row ≡ entering world session number start (reads_under world session number) writes (Open (length world.log) case))
+
+-- it is the same where the read phases are, and the writes
+pub open_row_kept : (parts : Parts) (world : World) → world_of parts ≡ world → (session number start : ℕ) (writes theirs : List Write) → theirs ≡ writes → (phases : FinMap phase_cmp ReadPhase) → phases ≡ parts.phases → (row : LogRow)
+    → IsOpenRow (world_of (record parts { phases = phases })) session number start theirs row → IsOpenRow world session number start writes row
+open_row_kept parts world seen session number start writes theirs same phases kept row is =
+    subst (λ w. IsOpenRow w session number start writes row) (ap (λ p. world_of (record parts { phases = p })) kept ∙ seen)
+    (subst (λ ws. IsOpenRow (world_of (record parts { phases = phases })) session number start ws row) same is)
+
+-- a session that may enter is numbered from one
+pub enter_from : (parts : Parts) (world : World) → world_of parts ≡ world → (session number start : ℕ) (writes : List Write) → refusal world (Enter session (Request number start writes)) ≡ None → 1 ≤ session
+enter_from parts world seen session number start writes none =
+    let n = subst (λ w. refusal w (Enter session (Request number start writes)) ≡ None) (sym seen) none in
+    leb-true 1 session (tests.and_true (nat_le 1 session) (nat_le session parts.settings.sessions) (free_session (world_of parts) session number start writes n)).0
 
 -- the place of a session that may enter
 pub enter_below : (parts : Parts) (world : World) → world_of parts ≡ world → AreSound parts → (session number start : ℕ) (writes : List Write) → refusal world (Enter session (Request number start writes)) ≡ None → session - 1 < length parts.slots

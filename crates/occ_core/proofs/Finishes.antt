@@ -244,6 +244,10 @@ write_starved parts world seen sound session place row done write found at goes 
     (subst (λ s. Step (world_of parts) (WriteOne s) (Refused faults.Memory) (world_of parts)) (sym u.session_is)
     (starved (may_write parts sound session place u row done at stands) wants refl refl)))
 
+-- a write that is refused for memory is replied so
+pub write_err : (old new : World) (session : ℕ) (log : List LogRow) (reply : Result SingleWrite Fault) → reply ≡ Err faults.Memory → Step old (WriteOne session) (Refused faults.Memory) new → Step old (WriteOne session) (single log reply) new
+write_err old new session log reply is step = subst (λ r. Step old (WriteOne session) (single log r) new) (sym is) step
+
 placed_at : (tables : ℕ) (writes : List Write) (k : ℕ) (write : Write) → ArePlaced tables writes → slice_get writes k ≡ Some write → write.0.0 < tables
 placed_at tables [] k write placed at = cc
 placed_at tables (w ∷ ws) zero write placed at = let e : w ≡ write = cc in subst (λ (x : Write). x.0.0 < tables) e placed.0

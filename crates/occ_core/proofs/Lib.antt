@@ -1,4 +1,3 @@
-pub mod Views
 pub mod Held
 pub mod Places
 pub mod Opponents
@@ -11,11 +10,7 @@ pub mod Calls
 pub mod Openings
 pub mod Finishes
 pub mod Reading
-pub mod Sizes
 pub mod Counting
 pub mod Entering
-pub mod Absent
-pub mod Copies
 pub mod Nexts
-pub mod Sharing
 pub mod SingleWrites

@@ -8,7 +8,7 @@ use Rattle.occ_types.specs.Schema.{Schema}
 use Rattle.std.specs.FinMap.{FinMap}
 use Rattle.occ_model.specs.Log.{LogRow}
 use Rattle.occ_model.specs.World.{ReadPhase, phase_cmp, opened}
-use Rattle.occ_core.specs.Kept.{Content}
+use Rattle.occ_book.specs.Kept.{Content}
 use Rattle.occ_core.specs.Window.{Window}
 use Rattle.occ_model.specs.Invariant.{Invariant}
 use Rattle.occ_model.proofs.Steps.{invariant_resumed}
@@ -19,7 +19,7 @@ none_held : (n count : ℕ) → held_from n (idle_slots count) ≡ sets.empty
 none_held n zero = refl
 none_held n (suc count) = none_held (suc n) count
 
-idle_length : (count : ℕ) → length (idle_slots count) ≡ count
+pub idle_length : (count : ℕ) → length (idle_slots count) ≡ count
 idle_length zero = refl
 idle_length (suc count) = ap suc (idle_length count)
 

@@ -13,7 +13,6 @@ use Rattle.occ_types.specs.Key.{Key}
 use Rattle.occ_types.specs.Row.{Row}
 use Rattle.occ_types.specs.Seen.{key_of}
 use Rattle.occ_types.specs.declared.keys.Key as code_key
-use Rattle.occ_types.specs.declared.objects.Object as code_object
 use Rattle.occ_types.specs.Question.{Question, One}
 use Rattle.occ_model.specs.State.{State, Answer, Found, Observation, answer}
 use Rattle.occ_model.specs.World.{World, ReadPhase, phase_cmp, last_entered}
@@ -203,8 +202,8 @@ module _ {Z : Type 0} where
   pub scanning_err : (old new : World) (event : Event) (reply : Result (Vec (code_key.Key Z × Row) Z) Fault) (fault : Fault) → reply ≡ Err fault → Step old event (Refused fault) new → Step old event (scanning reply) new
   scanning_err old new event reply fault is step = subst (λ r. Step old event (scanning r) new) (sym is) step
 
-  -- the row of an object is what its question is answered
-  pub row_answers : (copied object : code_object.Object Z) → copied ≡ object → (row : Option Row) (state : State) → row ≡ finite.get state (object.table, key_of object.key)
-      → ◌≡◌ {A = Observation} (One copied.table (key_of copied.key), Found row) (One object.table (key_of object.key), answer (One object.table (key_of object.key)) state)
+  -- the row under a key is what its question is answered
+  pub row_answers : (table : ℕ) (copied key : code_key.Key Z) → copied ≡ key → (row : Option Row) (state : State) → row ≡ finite.get state (table, key_of key)
+      → ◌≡◌ {A = Observation} (One table (key_of copied), Found row) (One table (key_of key), answer (One table (key_of key)) state)
   unfolding answer
-  row_answers copied object same row state is i = (One (same i).table (key_of (same i).key), Found (is i))
+  row_answers table copied key same row state is i = (One table (key_of (same i)), Found (is i))

@@ -1,9 +1,5 @@
 -- What clauses see of a core, and what holds of its parts.
-use Rattle.std.specs.Prelude.{◌≡◌, ℕ, length}
-use Rattle.std.specs.BTreeMap.{BTreeMap}
-use Rattle.std.specs.FinMap as finite
-use Rattle.std.specs.FinMap.{FinMap}
-use Rattle.std.specs.Ordering.{nat_cmp}
+use Rattle.std.specs.Prelude.{◌≡◌, length}
 use Rattle.occ_model.specs.World.{World}
 use Rattle.occ_core.specs.Slots.{HoldsArePlaced}
 use Rattle.occ_core.specs.Parts.{Parts, world_of, AreSound}
@@ -13,10 +9,6 @@ use Rattle.occ_core.specs.declared.core_state.Core.TheInside.{Inside}
 pub record Seen : Type 0 where
   pub world : World
 
--- the closing marks as plain data
-abbrev pub marks_of : BTreeMap ℕ ℕ → FinMap nat_cmp ℕ
-marks_of marks = finite.from_entries marks.entries
-
 module _ {Z : Type 0} where
   -- the parts of a core, as plain data
   abbrev pub parts_of : Inside Z → Parts
@@ -25,7 +17,7 @@ module _ {Z : Type 0} where
     log = c.log;
     table = c.tables.state;
     counter = c.counter;
-    marks = marks_of c.marks;
+    marks = c.marks.marks;
     phases = c.phases;
     slots = c.sessions;
     window = c.window.sets;
@@ -38,4 +30,5 @@ module _ {Z : Type 0} where
   pub record IsCore (c : Inside Z) : Type 0 where
     pub sound : AreSound (parts_of c)
     pub tables_match : c.tables.tables ≡ length c.schema
+    pub marks_match : c.marks.sessions ≡ length c.sessions
     pub placed : HoldsArePlaced c.tables.tables c.sessions

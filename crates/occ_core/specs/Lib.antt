@@ -1,6 +1,5 @@
 pub mod Slots
 pub mod Parts
-pub mod Kept
 pub mod Rows
 pub mod Phases
 pub mod Window

@@ -12,7 +12,8 @@ use Rattle.occ_model.specs.declared.verdict.Verdict.{Verdict}
 use Rattle.occ_sets.specs.Seen.{rows_of}
 use Rattle.occ_core.specs.Slots.{written_in}
 use Rattle.occ_core.specs.declared.core_entries.Entered as entries
-use Rattle.occ_core.specs.declared.core_entries.RefusedEntry as refused
+use Rattle.occ_queue.specs.declared.items.Item as items
+use Rattle.occ_types.specs.declared.fault.Refused as refused
 use Rattle.occ_core.specs.declared.core_state.SingleWrite.{SingleWrite}
 use Rattle.occ_core.specs.declared.core_state.SingleWrite.TheVariants as writes
 
@@ -20,9 +21,14 @@ abbrev pub decision : Result Verdict Fault → Reply
 decision (Ok verdict) = Decided verdict
 decision (Err fault) = Refused fault
 
+-- an entry replies the place of its row and the index of its case
+abbrev pub entry : Result entries.Entered Fault → Reply
+entry (Ok entered) = Entered entered.place entered.index
+entry (Err fault) = Refused fault
+
 module _ {Z : Type 0} where
-  -- an entry replies the place of its row and the index of its case
-  abbrev pub entering : Result entries.Entered (refused.RefusedEntry Z) → Reply
+  -- and so where it hands back what is refused
+  abbrev pub entering : Result entries.Entered (refused.Refused (items.Item Z)) → Reply
   entering (Ok entered) = Entered entered.place entered.index
   entering (Err refusal) = Refused refusal.fault
 

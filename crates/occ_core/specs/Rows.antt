@@ -1,37 +1,30 @@
 -- What clauses see of the log's rows and of the sessions: the plain data of the model.
-use Rattle.std.specs.Prelude.{List, map}
+use Rattle.std.specs.Prelude.{ℕ, List, map}
 use Rattle.std.specs.Option.{option_map}
-use Rattle.occ_model.specs.Log.{LogRow, Standing, Open, Writing, Done, Back}
+use Rattle.occ_model.specs.Log.{Case, LogRow, Standing}
+use Rattle.occ_case.specs.declared.cases.OpenCase as code_open
+use Rattle.occ_book.specs.Rows as books
+use Rattle.occ_book.specs.declared.rows.Standing as code_standing
+use Rattle.occ_book.specs.declared.rows.LogRow as code_row
 use Rattle.occ_core.specs.Slots.{Slot, Hold}
-use Rattle.occ_core.specs.declared.rows.Standing as code_standing
-use Rattle.occ_core.specs.declared.rows.Standing.TheVariants as standings
-use Rattle.occ_core.specs.declared.rows.LogRow as code_row
 use Rattle.occ_core.specs.declared.sessions.Held as code_held
 use Rattle.occ_core.specs.declared.sessions.SessionState as code_session
 
 module _ {Z : Type 0} where
+  -- what is held of an open row: its case, and the index of that
+  abbrev pub opened : code_open.OpenCase Z → ℕ × Case
+  opened open_case = (open_case.index, open_case.case)
+
   -- the plain standing
-  abbrev pub standing_of : code_standing.Standing Z → Standing
-  standing_of (standings.Open open_case) = Open open_case.index open_case.case
-  standing_of (standings.Writing done) = Writing done
-  standing_of (standings.Done number) = Done number
-  standing_of (standings.Back cause) = Back cause
+  abbrev pub standing_of : code_standing.Standing (code_open.OpenCase Z) → Standing
+  standing_of = books.standing_of opened
 
   -- the plain row
-  abbrev pub log_row_of : code_row.LogRow Z → LogRow
-  log_row_of r = record {
-    place = r.place;
-    session = r.session;
-    number = r.number;
-    start = r.start;
-    finish = r.finish;
-    reads = r.reads;
-    writes = r.writes;
-    standing = standing_of r.standing;
-  }
+  abbrev pub log_row_of : code_row.LogRow Z (code_open.OpenCase Z) → LogRow
+  log_row_of = books.log_row_of opened
 
-  abbrev pub log_of : List (code_row.LogRow Z) → List LogRow
-  log_of = map log_row_of
+  abbrev pub log_of : List (code_row.LogRow Z (code_open.OpenCase Z)) → List LogRow
+  log_of = books.log_of opened
 
   -- the plain hold
   abbrev pub hold_of : code_held.Held Z → Hold

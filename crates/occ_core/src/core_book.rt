@@ -1,48 +1,56 @@
-//! What a core shows, kept apart from it.
-ghost use Rattle.std.specs.Prelude.{◌≡◌, length, IfOk};
+//! What a core shows, lent or kept apart from it.
+ghost use Rattle.std.specs.Prelude.{◌≡◌, length, IfOk, IsOkUnless};
+ghost use Rattle.occ_types.specs.declared.fault.Fault.TheVariants.{Memory};
 ghost use Rattle.occ_model.specs.World.{low};
-ghost use Rattle.occ_core.specs.Core.{marks_of};
 ghost use Rattle.occ_core.specs.Rows.{log_of};
 
 use crate::core_state::Core;
-use crate::rows::LogRow;
-use crate::tables::Tables;
-use std::alloc::{AllocError, Allocator};
-use std::collections::BTreeMap;
+use occ_book::{Book, BookView};
+use occ_case::OpenCase;
+use occ_types::Fault;
+use std::alloc::Allocator;
 
-/// What a core showed at one moment, owned: it stays as it is while the core goes on, and may be audited or printed without holding
-/// the core. (The books that an audit and a print take are borrowed; each can be made of the fields of this one.)
-#[derive(Drop)]
-pub struct OwnedBook<A: Allocator> {
-    /// The rows that had entered, in the order of entry. Their write sets and read sets are shared with the core.
-    pub log: Vec<LogRow<A>, A>,
-    /// The rows of all tables.
-    pub tables: Tables<A>,
-    /// The closing mark of each session that had one.
-    pub marks: BTreeMap<usize, u64, A>,
-    /// The transaction counter.
-    pub counter: u64,
-    /// The lower end of the window.
-    pub low: u64,
+impl<A: Allocator> Core<A> {
+    /// All that the core shows now, lent. It takes no memory.
+    pub fn view(&self) -> BookView<'_, A, OpenCase<A>>
+        ensures log { log_of result.log.now ≡ self.now.world.log }
+        ensures state { result.table.now.state ≡ self.now.world.table }
+        ensures count { result.table.now.tables ≡ length self.now.world.settings.schema }
+        ensures marks { result.marks.now.marks ≡ self.now.world.marks }
+        ensures sessions { result.marks.now.sessions ≡ self.now.world.settings.sessions }
+        ensures low { result.low ≡ low self.now.world }
+        ensures tnc { result.tnc ≡ self.now.world.counter }
+    {
+        BookView {
+            log: self.log(),
+            table: self.table(),
+            marks: self.marks(),
+            low: self.low(),
+            tnc: self.tnc(),
+        }
+    }
 }
 
 impl<A: Allocator + Copy> Core<A> {
-    /// All that the core shows now, as values of its own. It is an error where there is no memory for it, or a set has too many
-    /// owners to be counted.
-    pub fn book(&self) -> Result<OwnedBook<A>, AllocError>
+    /// All that the core shows now, as values of its own. It stays as it is while the core goes on, and its write sets and read sets
+    /// are shared with the core. Refused with `Memory` where there is none for it, or a set has too many owners to be counted.
+    pub fn book(&self) -> Result<Book<A, OpenCase<A>>, Fault>
         ensures log { IfOk result (λ book. log_of book.log.items ≡ self.now.world.log) }
-        ensures state { IfOk result (λ book. book.tables.state ≡ self.now.world.table) }
-        ensures count { IfOk result (λ book. book.tables.tables ≡ length self.now.world.settings.schema) }
-        ensures marks { IfOk result (λ book. marks_of book.marks ≡ self.now.world.marks) }
-        ensures counter { IfOk result (λ book. book.counter ≡ self.now.world.counter) }
+        ensures state { IfOk result (λ book. book.table.state ≡ self.now.world.table) }
+        ensures count { IfOk result (λ book. book.table.tables ≡ length self.now.world.settings.schema) }
+        ensures marks { IfOk result (λ book. book.marks.marks ≡ self.now.world.marks) }
+        ensures sessions { IfOk result (λ book. book.marks.sessions ≡ self.now.world.settings.sessions) }
         ensures low { IfOk result (λ book. book.low ≡ low self.now.world) }
+        ensures tnc { IfOk result (λ book. book.tnc ≡ self.now.world.counter) }
+        ensures memory { IsOkUnless result Memory }
     {
-        Ok(OwnedBook {
+        let lent = self.view();
+        Ok(Book {
             log: self.log.share_rows()?,
-            tables: self.tables.clone()?,
-            marks: self.marks.clone()?,
-            counter: self.counter(),
-            low: self.low(),
+            table: lent.table.clone()?,
+            marks: lent.marks.clone()?,
+            low: lent.low,
+            tnc: lent.tnc,
         })
     }
 }

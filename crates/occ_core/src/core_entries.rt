@@ -9,19 +9,20 @@ ghost use Rattle.occ_model.specs.Step.{Step, IsCaseOf, entering as entering_row}
 ghost use Rattle.occ_core.specs.Slots.{active_from};
 ghost use Rattle.occ_core.specs.Rows.{log_row_of, standing_of, slot_of};
 ghost use Rattle.occ_core.specs.Entries.{due_fault, busy_fault, spare_fault, turn_to_enter, write_fault, log_fault, counter_fault, room_to_enter, active_at};
-ghost use Rattle.occ_core.specs.Replies.{entering};
+ghost use Rattle.occ_core.specs.Replies.{entering, entry};
+ghost use Rattle.occ_queue.specs.Items.{item_of};
 
 use crate::core_reads::{check_session, check_start};
 use crate::core_state::Core;
 use crate::log::Log;
 use crate::phases::ReadPhases;
-use crate::rows::{LogRow, OpenCase, Standing};
 use crate::sessions::{Held, SessionState, Sessions};
-use occ_case::Case;
-use occ_sets::{SharedWrites, WriteSet};
-use occ_types::Schema;
-use occ_types::fault::Fault;
+use occ_book::{LogRow, Standing};
+use occ_case::{Case, OpenCase};
+use occ_queue::Item;
+use occ_sets::{ReadSet, WriteSet};
 use occ_types::limits::{MAX_COUNTER, MAX_LOG_ROWS, MAX_NUMBER};
+use occ_types::{Fault, Refused, Schema};
 use std::alloc::{AllocError, Allocator};
 
 /// A transaction that entered.
@@ -31,15 +32,6 @@ pub struct Entered {
     pub place: usize,
     /// The index that names its case.
     pub index: u64,
-}
-
-/// A request that was refused, handed back.
-#[derive(Drop)]
-pub struct RefusedEntry<A: Allocator> {
-    /// The writes that were handed in.
-    pub writes: SharedWrites<A>,
-    /// Why it was refused.
-    pub fault: Fault,
 }
 
 impl<A: Allocator> Core<A> {
@@ -52,43 +44,61 @@ impl<A: Allocator> Core<A> {
 }
 
 impl<A: Allocator + Copy> Core<A> {
-    /// Enters a request of a session: a transaction that ends its read phase with this number, start and writes. Its row, with what
-    /// was read under the number, comes into the log and is open. Its case is fixed now, however late its decision comes: its
-    /// opponents are the transactions that are active, and of those that finished since its start the ones in the window.
+    /// Enters what a session hands in. A request is a transaction that ends its read phase with this number, start and writes. Its
+    /// row, with what was read under the number, comes into the log and is open. Its case is fixed now, however late its decision
+    /// comes: its opponents are the transactions that are active, and of those that finished since its start the ones in the window.
     ///
     /// Refused, the first of these that holds: where there is no such session; where the number is not the one that is due; where the
     /// session has a row under way; where only the number of the closing mark is left; where the read phase has another start, or
     /// there is none and the start lies above the counter; where a write does not fit the schema; where the log is full; where the
-    /// counter has no room for one more; and where there is no memory. The writes are handed back then, and nothing moves.
-    pub fn enter_request(
+    /// counter has no room for one more; and where there is no memory. The item is handed back then, and nothing moves.
+    pub fn enter(&mut self, session: usize, item: Item<A>) -> Result<Entered, Refused<Item<A>>>
+        ensures step { Step self.old.world (Enter session (item_of item)) (entering result) self.new.world }
+        ensures handed_back { IfErr result (λ refused. item_of refused.value ≡ item_of item) }
+    {
+        match item {
+            Item::Request {
+                number,
+                start,
+                mut writes,
+            } => match self.enter_request(session, number, start, &mut writes) {
+                Ok(entered) => Ok(entered),
+                Err(fault) => Err(Refused {
+                    value: Item::Request {
+                        number,
+                        start,
+                        writes,
+                    },
+                    fault,
+                }),
+            },
+        }
+    }
+
+    // Enters a request, whose writes are shared from now on.
+    fn enter_request(
         &mut self,
         session: usize,
         number: u64,
         start: u64,
-        writes: SharedWrites<A>,
-    ) -> Result<Entered, RefusedEntry<A>>
-        ensures step { Step self.old.world (Enter session (Request number start writes)) (entering result) self.new.world }
-        ensures handed_back { IfErr result (λ refused. refused.writes ≡ writes) }
+        writes: &mut WriteSet<A>,
+    ) -> Result<Entered, Fault>
+        ensures step { Step self.old.world (Enter session (Request number start writes.old)) (entry result) self.new.world }
+        ensures kept { writes.new ≡ writes.old }
     {
-        if let Err(fault) = self.check_entry(session, number, start, writes.get()) {
-            return Err(RefusedEntry { writes, fault });
-        }
-        let Ok(row) = self.open_row(session, number, start, &writes) else {
-            return Err(RefusedEntry {
-                writes,
-                fault: Fault::Memory,
-            });
-        };
+        self.check_entry(session, number, start, writes)?;
+        writes.share()?;
+        let reads = self.phases.share(self.alloc, session, number)?;
+        let row = self.open_row(session, number, start, reads, writes)?;
         let place = row.place;
-        if self.log.push(row).is_err() {
-            return Err(RefusedEntry {
-                writes,
-                fault: Fault::Memory,
-            });
-        }
+        let shared = writes.clone()?;
+        self.log.push(row)?;
         let _reads = self.phases.take(session, number);
-        self.sessions
-            .hold(session - 1, number, Held { place, writes });
+        let held = Held {
+            place,
+            writes: shared,
+        };
+        self.sessions.hold(session - 1, number, held);
         Ok(Entered {
             place,
             index: place as u64,
@@ -122,30 +132,32 @@ impl<A: Allocator + Copy> Core<A> {
         )
     }
 
-    // The row of a request, open, with its case.
+    // The row of a request that has read this, open, with its case.
     fn open_row(
         &self,
         session: usize,
         number: u64,
         start: u64,
-        writes: &SharedWrites<A>,
-    ) -> Result<LogRow<A>, AllocError>
+        reads: ReadSet<A>,
+        writes: &WriteSet<A>,
+    ) -> Result<LogRow<A, OpenCase<A>>, AllocError>
+        requires { reads ≡ reads_under self.now.world session number }
         ensures { IfOk result (λ row. (case : PlainCase) × IsCaseOf self.now.world session number start writes.now case × (log_row_of row ≡ entering_row self.now.world session number start (reads_under self.now.world session number) writes.now (Open (length self.now.world.log) case))) }
     {
         let low = self.low();
-        let reads = self.phases.share(self.alloc, session, number)?;
         let skip = start.saturating_sub(low) as usize;
         let finished = self.window.shared_from(self.alloc, skip)?;
         let active = active_writes(self.alloc, &self.sessions, &self.log)?;
         let case = Case::new(
             start,
             low,
-            reads.share()?,
-            writes.share()?,
+            reads.clone()?,
+            writes.clone()?,
             finished,
             active,
         );
         let place = self.log.len();
+        let open_case = OpenCase::new(place as u64, case);
         Ok(LogRow {
             place,
             session,
@@ -153,11 +165,8 @@ impl<A: Allocator + Copy> Core<A> {
             start,
             finish: self.counter,
             reads,
-            writes: writes.share()?,
-            standing: Standing::Open(OpenCase {
-                index: place as u64,
-                case,
-            }),
+            writes: writes.clone()?,
+            standing: Standing::Open(open_case),
         })
     }
 }
@@ -278,7 +287,7 @@ fn active_at<'a, A: Allocator>(
     sessions: &Sessions<A>,
     log: &'a Log<A>,
     place: usize,
-) -> Option<&'a SharedWrites<A>>
+) -> Option<&'a WriteSet<A>>
     ensures { option_map (λ w. w.now) result ≡ active_at log.now (slice_get sessions.now place) }
 {
     let state = sessions.get(place)?;
@@ -292,7 +301,7 @@ fn active_at<'a, A: Allocator>(
 }
 
 // Whether a row that stands so is active.
-fn is_active<A: Allocator>(standing: &Standing<A>) -> bool
+fn is_active<A: Allocator>(standing: &Standing<OpenCase<A>>) -> bool
     ensures { result ≡ is_active (standing_of standing.now) }
 {
     match standing {
@@ -316,18 +325,18 @@ fn count_active<A: Allocator>(sessions: &Sessions<A>, log: &Log<A>) -> usize
     count
 }
 
-// One more owner of the writes of each active transaction, found through the sessions.
-fn active_writes<A: Allocator>(
+// A clone of the writes of each active transaction, found through the sessions.
+fn active_writes<A: Allocator + Clone>(
     alloc: A,
     sessions: &Sessions<A>,
     log: &Log<A>,
-) -> Result<Vec<SharedWrites<A>, A>, AllocError>
+) -> Result<Vec<WriteSet<A>, A>, AllocError>
     ensures { IfOk result (λ active. active.items ≡ active_from log.now sessions.now) }
 {
     let mut active = Vec::new(alloc);
     for place in 0..sessions.len() {
         if let Some(writes) = active_at(sessions, log, place) {
-            active.push(writes.share()?)?;
+            active.push(writes.clone()?)?;
         }
     }
     Ok(active)

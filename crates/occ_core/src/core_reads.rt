@@ -1,5 +1,5 @@
 //! What a transaction reads of the tables in its read phase.
-ghost use Rattle.std.specs.Prelude.{◌≡◌, IfOk, IfErr, OnOk, OnErr, None, length};
+ghost use Rattle.std.specs.Prelude.{◌≡◌, IfOk, OnOk, OnErr, IsOkUnless, None, length};
 ghost use Rattle.std.specs.Option.{option_copied};
 ghost use Rattle.std.specs.Result.{result_err};
 ghost use Rattle.occ_types.specs.Question.{One, Span};
@@ -15,11 +15,10 @@ ghost use Rattle.occ_core.specs.Replies.{reading, scanning, forgetting};
 use crate::core_state::Core;
 use crate::phases::ReadPhases;
 use crate::sessions::Sessions;
-use crate::tables::Tables;
+use occ_book::Tables;
 use occ_sets::{Answer, Observation};
-use occ_types::fault::Fault;
 use occ_types::limits::{MAX_ANSWER_ROWS, MAX_QUESTIONS, READ_AHEAD};
-use occ_types::{Key, Object, Question, Row, Schema};
+use occ_types::{Fault, Key, Object, Question, Row, Schema};
 use std::alloc::{AllocError, Allocator};
 
 impl<A: Allocator> Core<A> {
@@ -31,7 +30,7 @@ impl<A: Allocator> Core<A> {
     }
 
     /// The rows that stand in the tables.
-    pub fn tables(&self) -> &Tables<A>
+    pub fn table(&self) -> &Tables<A>
         ensures state { result.now.state ≡ self.now.world.table }
         ensures count { result.now.tables ≡ length self.now.world.settings.schema }
     {
@@ -57,7 +56,7 @@ impl<A: Allocator> Core<A> {
 }
 
 impl<A: Allocator + Copy> Core<A> {
-    /// A copy of the row of an object, or none where there is none, as the tables have it now. The question is noted with its answer
+    /// A copy of the row under a key of a table, or none where there is none, as the tables have it now. The question is noted with its answer
     /// in the read phase of the number, which begins with it from this start where it is not under way.
     ///
     /// Refused, the first of these that holds: where there is no such session; where the number is not the one that is due or among
@@ -68,9 +67,10 @@ impl<A: Allocator + Copy> Core<A> {
         session: usize,
         number: u64,
         start: u64,
-        object: &Object<A>,
+        table: usize,
+        key: &Key<A>,
     ) -> Result<Option<Row<A>>, Fault>
-        ensures { Step self.old.world (Read session number start (One object.now.table (key_of object.now.key))) (reading result) self.new.world }
+        ensures { Step self.old.world (Read session number start (One table (key_of key.now))) (reading result) self.new.world }
     {
         check_turn(
             &self.sessions,
@@ -80,11 +80,9 @@ impl<A: Allocator + Copy> Core<A> {
             number,
             start,
         )?;
-        self.schema.check_key(object.table, &object.key)?;
+        self.schema.check_key(table, key)?;
         check_room(&self.phases, session, number)?;
-        let Ok((seen, row)) = observe_row(&self.tables, object) else {
-            return Err(Fault::Memory);
-        };
+        let (seen, row) = observe_row(&self.tables, table, key)?;
         note(&mut self.phases, self.alloc, session, number, start, seen)?;
         Ok(row)
     }
@@ -116,9 +114,7 @@ impl<A: Allocator + Copy> Core<A> {
         self.schema.check_range(table, lower, upper)?;
         check_size(&self.tables, table, lower, upper)?;
         check_room(&self.phases, session, number)?;
-        let Ok((seen, rows)) = observe_rows(&self.tables, table, lower, upper) else {
-            return Err(Fault::Memory);
-        };
+        let (seen, rows) = observe_rows(&self.tables, table, lower, upper)?;
         note(&mut self.phases, self.alloc, session, number, start, seen)?;
         Ok(rows)
     }
@@ -136,23 +132,25 @@ fn note<A: Allocator + Copy>(
     requires few { room_fault phases.old session number ≡ None }
     ensures ok { OnOk result (phases.new ≡ noted phases.old session number start (observation_of seen)) }
     ensures err { OnErr result (phases.new ≡ phases.old) }
-    ensures memory { IfErr result (λ fault. fault ≡ Memory) }
+    ensures memory { IsOkUnless result Memory }
 {
-    match phases.note(alloc, session, number, start, seen.question, seen.answer) {
-        Ok(()) => Ok(()),
-        Err(AllocError) => Err(Fault::Memory),
-    }
+    phases.note(alloc, session, number, start, seen.question, seen.answer)
 }
 
-// The question for the row of an object and what the tables answer, and a copy of the row.
+// The question for the row under a key and what the tables answer, and a copy of the row.
 fn observe_row<A: Allocator + Clone>(
     tables: &Tables<A>,
-    object: &Object<A>,
-) -> Result<(Observation<A>, Option<Row<A>>), AllocError>
-    ensures { IfOk result (λ copies. (observation_of copies.0 ≡ (One object.now.table (key_of object.now.key), answer (One object.now.table (key_of object.now.key)) tables.now.state)) × (Found copies.1 ≡ answer (One object.now.table (key_of object.now.key)) tables.now.state)) }
+    table: usize,
+    key: &Key<A>,
+) -> Result<(Observation<A>, Option<Row<A>>), Fault>
+    ensures answered { IfOk result (λ copies. (observation_of copies.0 ≡ (One table (key_of key.now), answer (One table (key_of key.now)) tables.now.state)) × (Found copies.1 ≡ answer (One table (key_of key.now)) tables.now.state)) }
+    ensures memory { IsOkUnless result Memory }
 {
-    let found = tables.row(object.table, &object.key);
-    let question = Question::One(object.clone()?);
+    let found = tables.row(table, key);
+    let question = Question::One(Object {
+        table,
+        key: key.clone()?,
+    });
     let answer = Answer::Found(copy(found)?);
     let row = copy(found)?;
     Ok((Observation { question, answer }, row))
@@ -164,8 +162,9 @@ fn observe_rows<A: Allocator + Clone>(
     table: usize,
     lower: &Option<Key<A>>,
     upper: &Option<Key<A>>,
-) -> Result<(Observation<A>, Vec<(Key<A>, Row<A>), A>), AllocError>
-    ensures { IfOk result (λ copies. (observation_of copies.0 ≡ (Span table (end_of lower.now) (end_of upper.now), answer (Span table (end_of lower.now) (end_of upper.now)) tables.now.state)) × (Rows (rows_of copies.1.items) ≡ answer (Span table (end_of lower.now) (end_of upper.now)) tables.now.state)) }
+) -> Result<(Observation<A>, Vec<(Key<A>, Row<A>), A>), Fault>
+    ensures memory { IsOkUnless result Memory }
+    ensures answered { IfOk result (λ copies. (observation_of copies.0 ≡ (Span table (end_of lower.now) (end_of upper.now), answer (Span table (end_of lower.now) (end_of upper.now)) tables.now.state)) × (Rows (rows_of copies.1.items) ≡ answer (Span table (end_of lower.now) (end_of upper.now)) tables.now.state)) }
 {
     let question = Question::Span {
         table,

@@ -1,28 +1,25 @@
 //! The core of the store: the world of the model, kept.
-ghost use Rattle.std.specs.Prelude.{◌≡◌, ℕ, IfOk, IsSome, None, Ok, is_some, true, option_map};
+ghost use Rattle.std.specs.Prelude.{◌≡◌, ℕ, [], IfOk, IfErr, IsOkUnless, IsSome, None, Ok, is_some, true, option_map};
+ghost use Rattle.std.specs.FinMap as finite;
+ghost use Rattle.occ_types.specs.declared.fault.Fault.TheVariants.{Memory};
 ghost use Rattle.occ_types.specs.Seen.{object_of};
 ghost use Rattle.occ_model.specs.World.{opened, low};
 ghost use Rattle.occ_model.specs.Event.{Enter, Request, Decide, WriteOne, Finish, BackUp};
 ghost use Rattle.occ_model.specs.Refusal.{refusal};
 ghost use Rattle.occ_model.specs.Step.{Step, decided};
-ghost use Rattle.occ_core.specs.Slots.{row_under_way, written_in, back_fault, writes_done, finish_fault};
-ghost use Rattle.occ_core.specs.Core.{marks_of};
+ghost use Rattle.occ_core.specs.Slots.{idle_slots, row_under_way, written_in, back_fault, writes_done, finish_fault};
 ghost use Rattle.occ_core.specs.Rows.{log_of, standing_of};
 ghost use Rattle.occ_core.specs.Replies.{decision, single, next_object, finishing, backing};
 ghost use Rattle.occ_core.specs.declared.core_state.SingleWrite.TheVariants.{Wrote};
 
 use crate::log::Log;
 use crate::phases::ReadPhases;
-use crate::rows::{LogRow, Standing};
 use crate::sessions::Sessions;
-use crate::tables::Tables;
 use crate::window::Window;
-use occ_case::verdict;
-use occ_model::verdict::Verdict;
-use occ_types::fault::Fault;
-use occ_types::{Object, Schema};
-use std::alloc::{AllocError, Allocator};
-use std::collections::BTreeMap;
+use occ_book::{LogRow, Marks, Standing, Tables};
+use occ_case::{OpenCase, Verdict, verdict};
+use occ_types::{Fault, Object, Refused, Schema};
+use std::alloc::Allocator;
 use std::marker::Model;
 
 /// The core of the store: its tables, its log, and what is under way. Clauses see the world of the model.
@@ -36,7 +33,7 @@ pub struct Core<A: Allocator> {
     pub(crate) phases: ReadPhases<A>,
     pub(crate) sessions: Sessions<A>,
     pub(crate) window: Window<A>,
-    pub(crate) marks: BTreeMap<usize, u64, A>,
+    pub(crate) marks: Marks<A>,
 }
 
 /// What one call of `Core::write_one` did.
@@ -69,19 +66,26 @@ impl<A: Allocator> Model for Core<A> {
 
 impl<A: Allocator + Copy> Core<A> {
     /// An empty store with these tables and so many sessions, numbered from 1, which keeps the last `keep` write sets for testing.
-    /// It is an error where there is no memory for it, and the schema is gone then.
+    /// Refused with `Memory` where there is none for it, and the schema is handed back then.
     pub fn open(
         alloc: A,
         schema: Schema<A>,
         sessions: usize,
         keep: usize,
-    ) -> Result<Core<A>, AllocError>
-        ensures { IfOk result (λ core. core.world ≡ opened (record { schema = schema; sessions = sessions; keep = keep })) }
+    ) -> Result<Core<A>, Refused<Schema<A>>>
+        ensures opened { IfOk result (λ core. core.world ≡ opened (record { schema = schema; sessions = sessions; keep = keep })) }
+        ensures handed_back { IfErr result (λ refused. (refused.value ≡ schema) × (refused.fault ≡ Memory)) }
     {
         let count = schema.tables().len();
-        let tables = Tables::new(alloc, count)?;
-        let states = Sessions::new(alloc, sessions)?;
-        let window = Window::new(alloc, keep)?;
+        let (tables, states, window, marks) = match room(alloc, count, sessions, keep) {
+            Ok(parts) => parts,
+            Err(fault) => {
+                return Err(Refused {
+                    value: schema,
+                    fault,
+                });
+            }
+        };
         Ok(Core {
             alloc,
             schema,
@@ -91,7 +95,7 @@ impl<A: Allocator + Copy> Core<A> {
             phases: ReadPhases::new(alloc),
             sessions: states,
             window,
-            marks: BTreeMap::new(alloc),
+            marks,
         })
     }
 
@@ -107,12 +111,10 @@ impl<A: Allocator + Copy> Core<A> {
             return Err(Fault::NothingEntered);
         };
         let done = writes_done(&row.standing)?;
-        let Some((object, write)) = row.writes.get().write_at(done) else {
+        let Some((object, write)) = row.writes.write_at(done) else {
             return Ok(SingleWrite::NoMore);
         };
-        if self.tables.put(object.table, &object.key, write).is_err() {
-            return Err(Fault::Memory);
-        }
+        self.tables.put(object.table, &object.key, write)?;
         self.log.stand(place, Standing::Writing(done + 1));
         Ok(SingleWrite::Wrote {
             row: place,
@@ -123,7 +125,7 @@ impl<A: Allocator + Copy> Core<A> {
 
 impl<A: Allocator> Core<A> {
     /// The transaction counter.
-    pub fn counter(&self) -> u64
+    pub fn tnc(&self) -> u64
         ensures { result ≡ self.now.world.counter }
     {
         self.counter
@@ -137,15 +139,16 @@ impl<A: Allocator> Core<A> {
     }
 
     /// The decision log, in the order of entry.
-    pub fn log(&self) -> &[LogRow<A>]
+    pub fn log(&self) -> &[LogRow<A, OpenCase<A>>]
         ensures { log_of result.now ≡ self.now.world.log }
     {
         self.log.rows()
     }
 
     /// The closing marks: of each session that is closed, the number of its mark. No call closes a session yet, so there are none.
-    pub fn marks(&self) -> &BTreeMap<usize, u64, A>
-        ensures { marks_of result.now ≡ self.now.world.marks }
+    pub fn marks(&self) -> &Marks<A>
+        ensures marks { result.now.marks ≡ self.now.world.marks }
+        ensures sessions { result.now.sessions ≡ self.now.world.settings.sessions }
     {
         &self.marks
     }
@@ -174,7 +177,7 @@ impl<A: Allocator> Core<A> {
             Ok(done) => done,
             Err(_fault) => return None,
         };
-        match row.writes.get().write_at(done) {
+        match row.writes.write_at(done) {
             Some((object, _row)) => Some(object),
             None => None,
         }
@@ -192,7 +195,7 @@ impl<A: Allocator> Core<A> {
         let Standing::Open(open) = &row.standing else {
             return Err(Fault::AlreadyDecided);
         };
-        let verdict = verdict(&open.case);
+        let verdict = verdict(open.case());
         self.log.stand(place, decided(verdict));
         Ok(verdict)
     }
@@ -207,7 +210,7 @@ impl<A: Allocator> Core<A> {
         let Some(row) = self.log.row(place) else {
             return Err(Fault::NothingEntered);
         };
-        if let Some(fault) = finish_fault(&row.standing, row.writes.get().len()) {
+        if let Some(fault) = finish_fault(&row.standing, row.writes.len()) {
             return Err(fault);
         }
         let Some(held) = self.sessions.release(session - 1) else {
@@ -238,6 +241,26 @@ impl<A: Allocator> Core<A> {
     }
 }
 
+// The parts of an empty store that take memory: so many tables, so many sessions with a slot for a mark each, and a window of so many write sets.
+fn room<A: Allocator + Copy>(
+    alloc: A,
+    tables: usize,
+    sessions: usize,
+    keep: usize,
+) -> Result<(Tables<A>, Sessions<A>, Window<A>, Marks<A>), Fault>
+    ensures tables { IfOk result (λ parts. parts.0 ≡ record { tables = tables; state = finite.empty }) }
+    ensures sessions { IfOk result (λ parts. parts.1 ≡ idle_slots sessions) }
+    ensures window { IfOk result (λ parts. parts.2 ≡ record { keep = keep; sets = [] }) }
+    ensures marks { IfOk result (λ parts. parts.3 ≡ record { sessions = sessions; marks = finite.empty }) }
+    ensures memory { IsOkUnless result Memory }
+{
+    let tables = Tables::new(alloc, tables)?;
+    let states = Sessions::new(alloc, sessions)?;
+    let window = Window::new(alloc, keep)?;
+    let marks = Marks::new(alloc, sessions)?;
+    Ok((tables, states, window, marks))
+}
+
 // The place in the log of the session's row that is under way.
 fn row_under_way<A: Allocator>(sessions: &Sessions<A>, session: usize) -> Result<usize, Fault>
     ensures { result ≡ row_under_way sessions.now session }
@@ -255,7 +278,7 @@ fn row_under_way<A: Allocator>(sessions: &Sessions<A>, session: usize) -> Result
 }
 
 // How a row stands that was decided so.
-fn decided<A: Allocator>(verdict: Verdict) -> Standing<A>
+fn decided<A: Allocator>(verdict: Verdict) -> Standing<OpenCase<A>>
     ensures { standing_of result ≡ decided verdict }
 {
     match verdict {
@@ -265,7 +288,7 @@ fn decided<A: Allocator>(verdict: Verdict) -> Standing<A>
 }
 
 // How many writes a row that stands so has done, where it is in its write phase.
-fn writes_done<A: Allocator>(standing: &Standing<A>) -> Result<usize, Fault>
+fn writes_done<A: Allocator>(standing: &Standing<OpenCase<A>>) -> Result<usize, Fault>
     ensures { result ≡ writes_done (standing_of standing.now) }
 {
     match standing {
@@ -277,7 +300,7 @@ fn writes_done<A: Allocator>(standing: &Standing<A>) -> Result<usize, Fault>
 }
 
 // Why a row can't be finished that stands so and has so many writes.
-fn finish_fault<A: Allocator>(standing: &Standing<A>, writes: usize) -> Option<Fault>
+fn finish_fault<A: Allocator>(standing: &Standing<OpenCase<A>>, writes: usize) -> Option<Fault>
     ensures { result ≡ finish_fault (standing_of standing.now) writes }
 {
     match standing {
@@ -295,7 +318,7 @@ fn finish_fault<A: Allocator>(standing: &Standing<A>, writes: usize) -> Option<F
 }
 
 // Why a row that stands so can't be backed up.
-fn back_fault<A: Allocator>(standing: &Standing<A>) -> Option<Fault>
+fn back_fault<A: Allocator>(standing: &Standing<OpenCase<A>>) -> Option<Fault>
     ensures { result ≡ back_fault (standing_of standing.now) }
 {
     match standing {

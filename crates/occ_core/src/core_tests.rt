@@ -1,39 +1,29 @@
 //! Each call of the core, on its happy path and where it is refused.
-use crate::core_entries::RefusedEntry;
 use crate::core_reads::check_size;
 use crate::core_state::{Core, SingleWrite};
-use crate::tables::Tables;
-use occ_model::verdict::{Cause, Verdict};
-use occ_sets::{SharedWrites, WriteSet};
-use occ_types::fault::Fault;
-use occ_types::kind::{KeyKind, Kind};
-use occ_types::{Cell, Key, Object, Row, Schema, TableDef, Text};
-use std::alloc::{AllocError, Global};
+use occ_book::Tables;
+use occ_case::{Cause, Verdict};
+use occ_queue::Item;
+use occ_sets::WriteSet;
+use occ_types::{Cell, Fault, Key, KeyKind, Kind, Row, Schema, TableDef, Text};
+use std::alloc::Global;
 use std::test::Fail;
 
 // A store of two sessions with one table, whose keys are numbers and whose rows are one number.
-fn stock(alloc: Global) -> Result<Core<Global>, AllocError> {
+fn stock(alloc: Global) -> Result<Core<Global>, Fault> {
     let table = TableDef {
         name: Text::new(alloc, "stock")?,
         key: KeyKind::Num,
         columns: vec![in alloc; Kind::Int]?,
     };
-    let Ok(schema) = Schema::new(vec![in alloc; table]?) else {
-        return Err(AllocError);
-    };
-    Core::open(alloc, schema, 2, 8)
-}
-
-fn object(table: usize, key: u64) -> Object<Global> {
-    Object {
-        table,
-        key: Key::Num(key),
-    }
+    let schema = Schema::new(vec![in alloc; table]?)?;
+    let core = Core::open(alloc, schema, 2, 8)?;
+    Ok(core)
 }
 
 // Why a read of the key 7 is refused.
 fn refused(core: &mut Core<Global>, session: usize, number: u64, start: u64) -> Option<Fault> {
-    core.read(session, number, start, &object(0, 7)).err()
+    core.read(session, number, start, 0, &Key::Num(7)).err()
 }
 
 // Why a read of a range is refused, the first transaction of the first session asking.
@@ -50,7 +40,9 @@ fn refused_range(
 fn opened(rt: HostRuntime) -> Result<(), Fail> {
     let core = stock(rt.alloc())?;
     assert_eq!(rt; core.schema().tables().len(), 1);
-    assert_eq!(rt; core.tables().len(), 0);
+    assert_eq!(rt; core.table().len(), 0);
+    assert_eq!(rt; core.marks().sessions(), 2);
+    assert!(rt; core.marks().is_empty());
     assert_eq!(rt; core.sessions(), 2);
     Ok(())
 }
@@ -59,7 +51,7 @@ fn opened(rt: HostRuntime) -> Result<(), Fail> {
 fn reads(rt: HostRuntime) -> Result<(), Fail> {
     let mut core = stock(rt.alloc())?;
     assert!(rt;
-        core.read(1, 1, 0, &object(0, 7))
+        core.read(1, 1, 0, 0, &Key::Num(7))
             .is_ok_and(|row| row.is_none())
     );
     assert!(rt; refused(&mut core, 0, 1, 0) == Some(Fault::NoSession));
@@ -77,12 +69,9 @@ fn misfits(rt: HostRuntime) -> Result<(), Fail> {
     assert!(rt; refused(&mut core, 1, 1, 0) == None);
     assert!(rt; refused(&mut core, 1, 1, 1) == Some(Fault::StartDiffers));
     assert!(rt; refused(&mut core, 1, 2, 1) == Some(Fault::FutureStart));
-    assert!(rt; core.read(1, 1, 0, &object(1, 7)).err() == Some(Fault::NoTable));
-    let word = Object {
-        table: 0,
-        key: Key::Text(Text::new(alloc, "a")?),
-    };
-    assert!(rt; core.read(1, 1, 0, &word).err() == Some(Fault::WrongKind));
+    assert!(rt; core.read(1, 1, 0, 1, &Key::Num(7)).err() == Some(Fault::NoTable));
+    let word = Key::Text(Text::new(alloc, "a")?);
+    assert!(rt; core.read(1, 1, 0, 0, &word).err() == Some(Fault::WrongKind));
     Ok(())
 }
 
@@ -119,9 +108,9 @@ fn forgetting(rt: HostRuntime) -> Result<(), Fail> {
 }
 
 // Puts a row under a key of the first table, where there is one.
-fn put(tables: &mut Tables<Global>, key: u64, row: &Row<Global>) -> Result<(), AllocError> {
+fn put(tables: &mut Tables<Global>, key: u64, row: &Row<Global>) -> Result<(), Fault> {
     if tables.count() == 0 {
-        return Err(AllocError);
+        return Err(Fault::NoTable);
     }
     tables.put(0, &Key::Num(key), Some(row))
 }
@@ -144,21 +133,27 @@ fn sizes(rt: HostRuntime) -> Result<(), Fail> {
 }
 
 // A write set with one row of one number.
-fn one_write(alloc: Global, key: u64, number: i64) -> Result<SharedWrites<Global>, AllocError> {
+fn one_write(alloc: Global, key: u64, number: i64) -> Result<WriteSet<Global>, Fault> {
     let mut writes = WriteSet::new(alloc);
     let row = Row::from_cells(vec![in alloc; Cell::Int(number)]?);
-    if writes.set(object(0, key), Some(row)).is_err() {
-        return Err(AllocError);
-    }
-    let shared = SharedWrites::new(alloc, writes)?;
-    Ok(shared)
+    writes.set(0, Key::Num(key), Some(row))?;
+    Ok(writes)
+}
+
+// A request from the counter's beginning that writes one row of one number.
+fn request(alloc: Global, key: u64, number: i64) -> Result<Item<Global>, Fault> {
+    Ok(Item::Request {
+        number: 1,
+        start: 0,
+        writes: one_write(alloc, key, number)?,
+    })
 }
 
 #[test]
 fn commits(rt: HostRuntime) -> Result<(), Fail> {
     let alloc = rt.alloc();
     let mut core = stock(alloc)?;
-    let entered = core.enter_request(1, 1, 0, one_write(alloc, 7, 100)?);
+    let entered = core.enter(1, request(alloc, 7, 100)?);
     assert!(rt; entered.is_ok_and(|entered| entered.place == 0));
     assert_eq!(rt; core.active(), 1);
     assert!(rt; core.decide(1) == Ok(Verdict::Commit));
@@ -166,8 +161,8 @@ fn commits(rt: HostRuntime) -> Result<(), Fail> {
     assert!(rt; core.write_one(1) == Ok(SingleWrite::Wrote { row: 0, write: 0 }));
     assert!(rt; core.write_one(1) == Ok(SingleWrite::NoMore));
     assert!(rt; core.finish(1) == Ok(1));
-    assert_eq!(rt; core.counter(), 1);
-    assert_eq!(rt; core.tables().len(), 1);
+    assert_eq!(rt; core.tnc(), 1);
+    assert_eq!(rt; core.table().len(), 1);
     assert_eq!(rt; core.active(), 0);
     Ok(())
 }
@@ -177,8 +172,8 @@ fn conflicts(rt: HostRuntime) -> Result<(), Fail> {
     let alloc = rt.alloc();
     let mut core = stock(alloc)?;
     assert!(rt; refused(&mut core, 2, 1, 0) == None);
-    assert!(rt; core.enter_request(1, 1, 0, one_write(alloc, 7, 1)?).is_ok());
-    assert!(rt; core.enter_request(2, 1, 0, one_write(alloc, 7, 2)?).is_ok());
+    assert!(rt; core.enter(1, request(alloc, 7, 1)?).is_ok());
+    assert!(rt; core.enter(2, request(alloc, 7, 2)?).is_ok());
     assert!(rt; core.decide(2) == Ok(Verdict::BackUp(Cause::Conflict)));
     assert!(rt; core.back_up(1) == Err(Fault::NotDecided));
     assert!(rt; core.back_up(2) == Ok(1));
@@ -191,11 +186,16 @@ fn turned_away(
     core: &mut Core<Global>,
     number: u64,
     start: u64,
-    writes: SharedWrites<Global>,
+    writes: WriteSet<Global>,
 ) -> Option<Fault> {
-    match core.enter_request(1, number, start, writes) {
+    let item = Item::Request {
+        number,
+        start,
+        writes,
+    };
+    match core.enter(1, item) {
         Ok(_entered) => None,
-        Err(RefusedEntry { writes: _, fault }) => Some(fault),
+        Err(refused) => Some(refused.fault),
     }
 }
 
@@ -207,5 +207,19 @@ fn turns_away(rt: HostRuntime) -> Result<(), Fail> {
     assert!(rt; turned_away(&mut core, 1, 1, one_write(alloc, 7, 1)?) == Some(Fault::FutureStart));
     assert!(rt; turned_away(&mut core, 1, 0, one_write(alloc, 7, 1)?) == None);
     assert!(rt; turned_away(&mut core, 2, 0, one_write(alloc, 7, 1)?) == Some(Fault::SessionBusy));
+    Ok(())
+}
+
+#[test]
+fn shows(rt: HostRuntime) -> Result<(), Fail> {
+    let alloc = rt.alloc();
+    let mut core = stock(alloc)?;
+    assert!(rt; core.enter(1, request(alloc, 7, 1)?).is_ok());
+    let book = core.book()?;
+    assert!(rt; core.decide(1) == Ok(Verdict::Commit));
+    assert_eq!(rt; book.view().log.len(), 1);
+    assert_eq!(rt; core.view().log.len(), 1);
+    assert_eq!(rt; core.view().tnc, 0);
+    assert_eq!(rt; book.marks.len(), 0);
     Ok(())
 }

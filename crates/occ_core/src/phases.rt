@@ -1,15 +1,16 @@
 //! The read phases under way.
-ghost use Rattle.std.specs.Prelude.{◌≡◌, ◌==◌, ◌<◌, ◌++◌, [], ◌∷◌, not, length, OnOk, OnErr, IfOk};
+ghost use Rattle.std.specs.Prelude.{◌≡◌, ◌==◌, ◌<◌, ◌++◌, [], ◌∷◌, not, length, OnOk, OnErr, IfOk, IsOkUnless};
 ghost use Rattle.std.specs.Option.{option_map};
 ghost use Rattle.std.specs.FinMap as finite;
+ghost use Rattle.occ_types.specs.declared.fault.Fault.TheVariants.{Memory};
 ghost use Rattle.occ_types.specs.declared.limits.TheConstants as limit;
 ghost use Rattle.occ_types.specs.Seen.{question_of};
 ghost use Rattle.occ_sets.specs.Seen.{answer_of};
 ghost use Rattle.occ_core.specs.Phases.{phase_of, reads_of};
 
-use occ_sets::{Answer, ReadSet, SharedReads};
-use occ_types::Question;
-use std::alloc::{AllocError, Allocator};
+use occ_sets::{Answer, ReadSet};
+use occ_types::{Fault, Question};
+use std::alloc::Allocator;
 use std::collections::BTreeMap;
 use std::marker::Model;
 
@@ -19,7 +20,7 @@ pub struct Phase<A: Allocator> {
     /// What the transaction counter was when the phase began.
     pub start: u64,
     /// What was read so far.
-    pub reads: SharedReads<A>,
+    pub reads: ReadSet<A>,
 }
 
 impl<A: Allocator + Copy> Phase<A> {
@@ -29,10 +30,11 @@ impl<A: Allocator + Copy> Phase<A> {
         start: u64,
         question: Question<A>,
         answer: Answer<A>,
-    ) -> Result<Phase<A>, AllocError>
-        ensures { IfOk result (λ phase. (phase.start ≡ start) × (phase.reads ≡ (question_of question, answer_of answer) ∷ [])) }
+    ) -> Result<Phase<A>, Fault>
+        ensures noted { IfOk result (λ phase. (phase.start ≡ start) × (phase.reads ≡ (question_of question, answer_of answer) ∷ [])) }
+        ensures memory { IsOkUnless result Memory }
     {
-        let mut reads = no_reads(alloc)?;
+        let mut reads = ReadSet::new(alloc);
         reads.note(question, answer)?;
         Ok(Phase { start, reads })
     }
@@ -81,7 +83,7 @@ impl<A: Allocator> ReadPhases<A> {
         ensures { result ≡ length (reads_of (finite.get self.now (session, number))) }
     {
         match self.phases.get(&(session, number)) {
-            Some(phase) => phase.reads.get().len(),
+            Some(phase) => phase.reads.len(),
             None => 0,
         }
     }
@@ -103,20 +105,24 @@ impl<A: Allocator> ReadPhases<A> {
 }
 
 impl<A: Allocator + Copy> ReadPhases<A> {
-    /// One more owner of what was read in a phase, which is nothing where it is not under way. The phase goes on as it was; an error,
-    /// where there is no memory, leaves it too.
-    pub fn share(&self, alloc: A, session: usize, number: u64) -> Result<SharedReads<A>, AllocError>
-        ensures { IfOk result (λ shared. shared ≡ reads_of (finite.get self.now (session, number))) }
+    /// One more owner of what was read in a phase, which is nothing where it is not under way. The phase goes on as it was. Refused
+    /// with `Memory` where there is none, which leaves it too.
+    pub fn share(&mut self, alloc: A, session: usize, number: u64) -> Result<ReadSet<A>, Fault>
+        ensures shared { IfOk result (λ shared. shared ≡ reads_of (finite.get self.old (session, number))) }
+        ensures kept { self.new ≡ self.old }
+        ensures memory { IsOkUnless result Memory }
     {
-        match self.phases.get(&(session, number)) {
-            Some(phase) => phase.reads.share(),
-            None => no_reads(alloc),
-        }
+        let Some(phase) = self.phases.get_mut(&(session, number)) else {
+            return Ok(ReadSet::new(alloc));
+        };
+        phase.reads.share()?;
+        let shared = phase.reads.clone()?;
+        Ok(shared)
     }
 
     /// Notes a question and the table's answer after the others of a phase, which begins with it where it is not under way, and has this start.
     ///
-    /// An error, where there is no memory, leaves the phases as they were.
+    /// Refused with `Memory` where there is none, which leaves the phases as they were.
     pub fn note(
         &mut self,
         alloc: A,
@@ -125,10 +131,11 @@ impl<A: Allocator + Copy> ReadPhases<A> {
         start: u64,
         question: Question<A>,
         answer: Answer<A>,
-    ) -> Result<(), AllocError>
+    ) -> Result<(), Fault>
         requires few { length (reads_of (finite.get self.old (session, number))) < limit.MAX_QUESTIONS }
         ensures ok { OnOk result (self.new ≡ finite.insert self.old (session, number) (record { start = start; reads = reads_of (finite.get self.old (session, number)) ++ (question_of question, answer_of answer) ∷ [] })) }
         ensures err { OnErr result (self.new ≡ self.old) }
+        ensures memory { IsOkUnless result Memory }
     {
         let key = (session, number);
         if let Some(phase) = self.phases.get_mut(&key) {
@@ -140,14 +147,4 @@ impl<A: Allocator + Copy> ReadPhases<A> {
         self.phases.insert(key, phase)?;
         Ok(())
     }
-}
-
-// A read set without a read.
-fn no_reads<A: Allocator>(alloc: A) -> Result<SharedReads<A>, AllocError>
-where
-    A: Copy,
-    ensures { IfOk result (λ reads. reads ≡ []) }
-{
-    let reads = SharedReads::new(alloc, ReadSet::new(alloc))?;
-    Ok(reads)
 }

@@ -4,7 +4,7 @@ ghost use Rattle.std.specs.Option.{option_map};
 ghost use Rattle.occ_core.specs.Slots.{Slot, idle_slots, last_of};
 ghost use Rattle.occ_core.specs.Rows.{slot_of, hold_of};
 
-use occ_sets::SharedWrites;
+use occ_sets::WriteSet;
 use std::alloc::{AllocError, Allocator};
 use std::marker::Model;
 
@@ -14,7 +14,7 @@ pub struct Held<A: Allocator> {
     /// Its place in the log.
     pub place: usize,
     /// Its writes once more, for the window, so that a finish takes no memory.
-    pub writes: SharedWrites<A>,
+    pub writes: WriteSet<A>,
 }
 
 /// What the core keeps of one session.
@@ -76,7 +76,7 @@ impl<A: Allocator> Sessions<A> {
     pub fn last(&self, place: usize) -> u64
         ensures { result ≡ last_of self.now place }
     {
-        match self.states.get(place) {
+        match self.get(place) {
             None => 0,
             Some(state) => state.last,
         }

@@ -1,10 +1,10 @@
 //! The read phases and the window, on their happy paths.
 use crate::phases::ReadPhases;
 use crate::window::Window;
-use occ_sets::{Answer, SharedWrites, WriteSet};
+use occ_sets::{Answer, WriteSet};
 use occ_types::limits::MAX_QUESTIONS;
-use occ_types::{Key, Object, Question};
-use std::alloc::{AllocError, Global};
+use occ_types::{Fault, Key, Object, Question};
+use std::alloc::Global;
 use std::test::Fail;
 
 fn object(key: u64) -> Object<Global> {
@@ -21,9 +21,9 @@ fn note(
     session: usize,
     number: u64,
     key: u64,
-) -> Result<(), AllocError> {
+) -> Result<(), Fault> {
     if phases.questions(session, number) >= MAX_QUESTIONS {
-        return Err(AllocError);
+        return Err(Fault::SetFull);
     }
     let question = Question::One(object(key));
     phases.note(alloc, session, number, 5, question, Answer::Found(None))
@@ -44,7 +44,7 @@ fn phases(rt: HostRuntime) -> Result<(), Fail> {
     assert!(rt;
         phases
             .take(1, 1)
-            .is_some_and(|phase| phase.start == 5 && phase.reads.get().len() == 2)
+            .is_some_and(|phase| phase.start == 5 && phase.reads.len() == 2)
     );
     assert!(rt; phases.take(1, 1).is_none());
     assert!(rt; phases.start(1, 2) == Some(5));
@@ -54,12 +54,10 @@ fn phases(rt: HostRuntime) -> Result<(), Fail> {
     Ok(())
 }
 
-fn writes(alloc: Global, key: u64) -> Result<SharedWrites<Global>, AllocError> {
+fn writes(alloc: Global, key: u64) -> Result<WriteSet<Global>, Fault> {
     let mut set = WriteSet::new(alloc);
-    if set.set(object(key), None).is_err() {
-        return Err(AllocError);
-    }
-    Ok(SharedWrites::new(alloc, set)?)
+    set.set(0, Key::Num(key), None)?;
+    Ok(set)
 }
 
 #[test]
@@ -71,8 +69,8 @@ fn window(rt: HostRuntime) -> Result<(), Fail> {
     }
     let all = window.shared_from(alloc, 0)?;
     assert_eq!(rt; all.len(), 2);
-    assert!(rt; all[0].get().writes(&object(1)));
-    assert!(rt; all[1].get().writes(&object(2)));
+    assert!(rt; all[0].writes(&object(1)));
+    assert!(rt; all[1].writes(&object(2)));
     assert_eq!(rt; window.shared_from(alloc, 1)?.len(), 1);
     assert_eq!(rt; window.shared_from(alloc, 3)?.len(), 0);
     let mut none = Window::new(alloc, 0)?;

@@ -2,7 +2,7 @@
 ghost use Rattle.std.specs.Prelude.{◌≡◌, [], drop, IfOk};
 ghost use Rattle.occ_core.specs.Window.{advanced};
 
-use occ_sets::SharedWrites;
+use occ_sets::WriteSet;
 use std::alloc::{AllocError, Allocator};
 use std::collections::VecDeque;
 use std::marker::Model;
@@ -10,7 +10,7 @@ use std::marker::Model;
 /// The write sets that transactions which are under way still have to be tested against, the oldest first.
 #[derive(Drop)]
 pub struct Window<A: Allocator> {
-    sets: VecDeque<SharedWrites<A>, A>,
+    sets: VecDeque<WriteSet<A>, A>,
     keep: usize,
 }
 
@@ -45,24 +45,26 @@ impl<A: Allocator> Window<A> {
         self.keep
     }
 
-    /// One more owner of each write set but the oldest `skip`, in their order; an error where there is no memory for the list, or a set has too many owners to be counted.
-    pub fn shared_from(&self, alloc: A, skip: usize) -> Result<Vec<SharedWrites<A>, A>, AllocError>
-        ensures { IfOk result (λ shared. shared.items ≡ drop skip self.now.sets) }
-    {
-        let mut shared = Vec::new(alloc);
-        for place in skip..self.sets.len() {
-            shared.push(self.sets[place].share()?)?;
-        }
-        Ok(shared)
-    }
-
     /// Takes in the next write set, and lets the oldest go where there would be more than `keep`. It takes no memory.
-    pub fn advance(&mut self, writes: SharedWrites<A>)
+    pub fn advance(&mut self, writes: WriteSet<A>)
         ensures { self.new ≡ advanced self.old writes }
     {
         self.sets.push_back_reserved(writes);
         if self.sets.len() > self.keep {
             let _oldest = self.sets.pop_front();
         }
+    }
+}
+
+impl<A: Allocator + Clone> Window<A> {
+    /// A clone of each write set but the oldest `skip`, in their order; an error where there is no memory for the list, or a set has too many owners to be counted.
+    pub fn shared_from(&self, alloc: A, skip: usize) -> Result<Vec<WriteSet<A>, A>, AllocError>
+        ensures { IfOk result (λ shared. shared.items ≡ drop skip self.now.sets) }
+    {
+        let mut shared = Vec::new(alloc);
+        for place in skip..self.sets.len() {
+            shared.push(self.sets[place].clone()?)?;
+        }
+        Ok(shared)
     }
 }

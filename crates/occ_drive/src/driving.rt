@@ -13,7 +13,7 @@ use crate::replies::{
 use crate::steps::Step;
 use occ_core::core_state::Core;
 use occ_sets::SharedWrites;
-use occ_types::fault::Fault;
+use occ_types::Fault;
 use occ_types::{Key, Object};
 use std::alloc::Allocator;
 

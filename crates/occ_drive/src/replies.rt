@@ -7,8 +7,8 @@ ghost use Rattle.occ_drive.specs.Runs.{reply_of, handed_back};
 
 use occ_core::core_entries::{Entered, RefusedEntry};
 use occ_core::core_state::SingleWrite;
-use occ_model::verdict::Verdict;
-use occ_types::fault::Fault;
+use occ_model::Verdict;
+use occ_types::Fault;
 use occ_types::{Key, Object, Row};
 use std::alloc::Allocator;
 

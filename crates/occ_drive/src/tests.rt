@@ -6,7 +6,7 @@ use occ_audit::{Book, audit_rows};
 use occ_core::core_entries::RefusedEntry;
 use occ_core::core_state::Core;
 use occ_sets::{SharedWrites, WriteSet};
-use occ_types::kind::{KeyKind, Kind};
+use occ_types::{KeyKind, Kind};
 use occ_types::{Cell, Key, Object, Row, Schema, TableDef, Text};
 use std::alloc::{AllocError, Global};
 use std::sync::{Mutex, Wait};

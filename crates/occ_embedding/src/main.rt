@@ -2,10 +2,10 @@
 #![tactic(auto)]
 
 use occ_core::core_state::{Core, SingleWrite};
-use occ_model::verdict::Verdict;
+use occ_model::Verdict;
 use occ_sets::{PrivateCopy, SharedWrites};
-use occ_types::fault::Fault;
-use occ_types::kind::{KeyKind, Kind};
+use occ_types::Fault;
+use occ_types::{KeyKind, Kind};
 use occ_types::limits::MAX_WRITES;
 use occ_types::{Cell, Key, Object, Row, Schema, TableDef, Text};
 use std::alloc::{AllocError, Global};

@@ -13,7 +13,7 @@ use Rattle.occ_model.specs.Refusal.{foldable}
 use Rattle.occ_model.specs.Step.{foldable_part, folded}
 use Rattle.occ_model.specs.Invariant.{Chained, finished_after, is_touched, NumbersAreBelow, OneUnderWay, ActiveAreHeld}
 use Rattle.occ_model.proofs.Tests.{decided}
-use Rattle.occ_model.proofs.Orders.{Counts-later, numbers-append, places-append, length-places, folded_number}
+use Rattle.occ_model.proofs.Orders.{Counts-front, Counts-later, numbers-append, places-append, length-places, folded_number}
 
 -- every row can be folded
 abbrev pub AreFoldable : ℕ → List LogRow → Type 0
@@ -106,9 +106,5 @@ InOrder-fold base marks xs ys order = record {
     split : (session : ℕ) → Counts (suc (last_folded base session)) (numbers session xs ++ numbers session ys)
     split session = subst (Counts (suc (last_folded base session))) (numbers-append session xs ys) (order.numbered session)
 
-    front : (n : ℕ) (us vs : List ℕ) → Counts n (us ++ vs) → Counts n us
-    front n [] vs counts = tt
-    front n (u ∷ us) vs counts = (counts.0, front (suc n) us vs counts.1)
-
     at : (session : ℕ) → last_folded (folded base xs) session ≡ last_folded base session + length (numbers session xs)
-    at session = folded_number session xs base.last (front _ (numbers session xs) (numbers session ys) (split session))
+    at session = folded_number session xs base.last (Counts-front _ (numbers session xs) (numbers session ys) (split session))

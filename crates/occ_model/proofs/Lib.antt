@@ -7,6 +7,7 @@ pub mod Orders
 pub mod Folds
 pub mod Phases
 pub mod Steps
+pub mod Polls
 pub mod Decisions
 pub mod SerialEnds
 pub mod Checkpoints

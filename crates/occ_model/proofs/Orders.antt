@@ -14,6 +14,10 @@ pub Counts-push : (n x : ℕ) (xs : List ℕ) → Counts n xs → x ≡ n + leng
 Counts-push n x [] counts is = (omega arith, tt)
 Counts-push n x (y ∷ ys) counts is = (counts.0, Counts-push (suc n) x ys counts.1 (omega arith))
 
+pub Counts-front : (n : ℕ) (us vs : List ℕ) → Counts n (us ++ vs) → Counts n us
+Counts-front n [] vs counts = tt
+Counts-front n (u ∷ us) vs counts = (counts.0, Counts-front (suc n) us vs counts.1)
+
 pub Counts-later : (n : ℕ) (xs ys : List ℕ) → Counts n (xs ++ ys) → Counts (n + length xs) ys
 Counts-later n [] ys counts = let e : n ≡ n + 0 = omega arith in subst (λ k. Counts k ys) e counts
 Counts-later n (x ∷ xs) ys counts =

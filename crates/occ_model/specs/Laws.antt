@@ -1,16 +1,17 @@
 -- The laws: what holds of the definitions, for every store. Each is the contract of a function of this crate.
-use Rattle.std.specs.Prelude.{◌≡◌, ℕ, suc, ◌+◌, List, [], ◌∷◌, ◌++◌, length, None}
+use Rattle.std.specs.Prelude.{◌≡◌, ℕ, suc, ◌+◌, List, [], ◌∷◌, ◌++◌, length, Some, None, true}
 use Rattle.std.specs.List.{AllByRecursion}
 use Rattle.occ_types.specs.Question.{Question}
 use Rattle.occ_types.specs.declared.fault.Fault.{Fault}
 use Rattle.occ_model.specs.State.{Write}
-use Rattle.occ_model.specs.Log.{LogRow, Standing, Open, Writing, Done, Back, Case, Base, questions, Audited, Quiet, serial}
+use Rattle.occ_model.specs.Log.{LogRow, Standing, Open, Writing, Done, Back, Case, Base, last_folded, questions, Audited, Quiet, serial}
 use Rattle.occ_model.specs.Validity.{validity, IsCaseAt, verdict}
-use Rattle.occ_model.specs.World.{Settings, World, resumed, low, next_place}
+use Rattle.occ_model.specs.World.{Settings, World, resumed, low, next_place, latest}
 use Rattle.occ_model.specs.Event.{Request, Event, Enter, Decide, WriteOne, Finish, SerialEnd, Checkpoint, Reply, Refused, Entered, Decided, Wrote, Finished, BackedUp, Folded}
-use Rattle.occ_model.specs.Refusal.{refusal}
+use Rattle.occ_model.specs.Refusal.{refusal, foldable}
 use Rattle.occ_model.specs.Step.{Step, Run, Taken, validity_of, foldable_part}
 use Rattle.occ_model.specs.Invariant.{Invariant}
+use Rattle.occ_model.specs.Poll.{poll, Rises}
 use Rattle.occ_model.specs.declared.verdict.Verdict.{Verdict}
 use Rattle.occ_model.specs.declared.verdict.Verdict.TheVariants as verdicts
 
@@ -75,14 +76,21 @@ SerialEndIsItsParts = (old new : World) (session number start : ℕ) (writes : L
     → Taken old (SerialEnd session (Request number start writes)) reply new
     → Run old (parts old session number start writes (validity_of old session number start writes)) new
 
--- A checkpoint folds the longest beginning of the log that can be folded: the base's state is played on by its committed rows, what the log and the base say together stays, and so does the whole claim.
+-- A checkpoint folds the longest beginning of the log that can be folded: each of its rows could be, and of those that stay the first can't. The base's state is played on by its committed rows, and its number of a session becomes that of the last one folded; what the log and the base say together stays, and so does the whole claim.
 abbrev pub CheckpointFolds : Type 0
 CheckpointFolds = (old new : World) (count : ℕ) → Step old Checkpoint (Folded count) new
     → (part : List LogRow)
     × (old.log ≡ part ++ new.log)
     × (count ≡ length part)
+    × AllByRecursion (λ row. foldable (low old) row.standing ≡ true) part
     × (foldable_part (low old) new.log ≡ [])
     × (new.base.state ≡ serial old.base.state part)
     × (new.base.place ≡ old.base.place + length part)
+    × ((session : ℕ) → last_folded new.base session ≡ (elim (latest session part) as (λ _. ℕ) [ None ↦ last_folded old.base session | Some row ↦ row.number ]))
     × (new.table ≡ old.table)
     × (Audited old.base old.marks old.table old.log → Audited new.base new.marks new.table new.log)
+
+-- No step lets fall what a poll shows: neither the counter, nor the number of the last transaction of a session that is over, nor the transaction number of its last one to finish.
+abbrev pub PollsRise : Type 0
+PollsRise = (old new : World) (event : Event) (reply : Reply) → Invariant old → Step old event reply new
+    → (session : ℕ) → Rises (poll old session) (poll new session)

@@ -1,6 +1,6 @@
 //! The laws of the model. Each function computes nothing: its contract is the law, and the check proves it.
 
-ghost use Rattle.occ_model.specs.Laws.{Headline, VerdictIsValidity, Decisions, RefusalsLeave, StepsKeep, SerialEndIsItsParts, CheckpointFolds};
+ghost use Rattle.occ_model.specs.Laws.{Headline, VerdictIsValidity, Decisions, RefusalsLeave, StepsKeep, SerialEndIsItsParts, CheckpointFolds, PollsRise};
 
 /// After every run, for every number of sessions and every window, from the empty store or from any base: the log holds each
 /// session's transactions once, in the order of their numbers, without a gap and none after its closing mark; each committed one
@@ -39,4 +39,10 @@ pub fn a_serial_end_is_its_parts()
 /// A checkpoint folds the longest beginning of the log that can be folded, and the whole claim holds on from the new base.
 pub fn a_checkpoint_folds_what_is_settled()
     ensures { CheckpointFolds }
+{}
+
+/// No step lets fall what a poll shows: neither the transaction counter, nor the number of a session's last transaction that is
+/// over, nor the transaction number of its last one to finish.
+pub fn polls_never_fall()
+    ensures { PollsRise }
 {}

@@ -7,4 +7,6 @@
 pub mod examples;
 pub mod laws;
 pub mod ranges;
-pub mod verdict;
+mod verdict;
+
+pub use verdict::{Cause, Verdict};

@@ -6,9 +6,9 @@ use Rattle.std.proofs.KnownBytes.{Appends-nil, Appends-trans}
 use Rattle.std.specs.declared.option.Option.{Option}
 use Rattle.std.specs.Prelude.{slice_get, codes}
 use Rattle.std.specs.Option.{option_to_list}
+use Rattle.std.specs.Result.{IsErrAnd}
 use Rattle.std.specs.List.{flat_map, join_with_byte}
-use Rattle.occ_text.specs.declared.trouble.Trouble.{Trouble}
-use Rattle.occ_text.specs.declared.trouble.Trouble.TheVariants.{Read, Write, Memory, Malformed}
+use Rattle.occ_text.specs.declared.faults.WriteFault.{WriteFault}
 use Rattle.occ_text.specs.Sending.{Sends}
 use Rattle.std.specs.FinMap.{entries, empty, len-empty, len-entries}
 use Rattle.std.specs.Ordering.{nat_cmp}
@@ -70,28 +70,24 @@ front_more a b old new s t h = record {
 
 -- what the prints give; none has a value
 abbrev pub Printed : Type 0
-Printed = Result (Unit {0}) Trouble
+Printed = Result (Unit {0}) WriteFault
 
-abbrev pub fails : Trouble → Printed
-fails e = Err e
+-- a print that failed, by the exit of a `?`
+pub failed : (Q : WriteFault → Type 0) (r : Printed) (a b : Option (List ℕ)) (old new text : List ℕ) → IsErrAnd r Q → PushedFront a b old new text → PrintGives r a b old new text
+failed Q (Ok done) a b old new text is h = absurd is
+failed Q (Err fault) a b old new text is h = h
+
+-- memory was refused before the first push
+pub printed_nothing : (Q : WriteFault → Type 0) (r : Printed) (a : Option (List ℕ)) (old text : List ℕ) → IsErrAnd r Q → PrintGives r a a old old text
+printed_nothing Q r a old text is = failed Q r a a old old text is (front_none a old text)
 
 -- a print behind what was pushed
 printed_then : (r : Printed) (a b c : Option (List ℕ)) (old mid new s t : List ℕ) → Pushed a b old mid s → PrintGives r b c mid new t → PrintGives r a c old new (s ++ t)
 printed_then (Ok done) a b c old mid new s t h k = Pushed-then a b c old mid new s t h k
-printed_then (Err Write) a b c old mid new s t h k = front_then a b c old mid new s t h k
-printed_then (Err Memory) a b c old mid new s t h k = front_then a b c old mid new s t h k
-printed_then (Err Read) a b c old mid new s t h k = k
-printed_then (Err (Malformed line)) a b c old mid new s t h k = k
+printed_then (Err fault) a b c old mid new s t h k = front_then a b c old mid new s t h k
 
--- a print that failed, of a part of a text
-printed_part : (r : Printed) (e : Trouble) (a b : Option (List ℕ)) (old new s t : List ℕ) → r ≡ Err e → PrintGives r a b old new s → PrintGives r a b old new (s ++ t)
-printed_part (Ok done) e a b old new s t is h = cc
-printed_part (Err Write) e a b old new s t is h = front_more a b old new s t h
-printed_part (Err Memory) e a b old new s t is h = front_more a b old new s t h
-printed_part (Err Read) e a b old new s t is h = h
-printed_part (Err (Malformed line)) e a b old new s t is h = h
+-- ---- the same, of lines
 
--- the same, of lines
 pub lines_text-append : (ls ms : List (List ℕ)) → lines_text (ls ++ ms) ≡ lines_text ls ++ lines_text ms
 lines_text-append ls ms = flat_map-append (λ line. line ++ 10 ∷ []) ls ms
 
@@ -99,49 +95,33 @@ pub lines_then : (r : Printed) (a b c : Option (List ℕ)) (old mid new : List �
 lines_then r a b c old mid new ls ms h k =
     subst (PrintGives r a c old new) (sym (lines_text-append ls ms)) (printed_then r a b c old mid new (lines_text ls) (lines_text ms) h k)
 
-pub lines_part : (r : Printed) (e : Trouble) (a b : Option (List ℕ)) (old new : List ℕ) (ls ms : List (List ℕ)) → r ≡ Err e → PrintGives r a b old new (lines_text ls) → PrintGives r a b old new (lines_text (ls ++ ms))
-lines_part r e a b old new ls ms is h =
-    subst (PrintGives r a b old new) (sym (lines_text-append ls ms)) (printed_part r e a b old new (lines_text ls) (lines_text ms) is h)
-
--- a print that failed behind some lines and before others
-pub lines_amid : (r : Printed) (e : Trouble) (a b c : Option (List ℕ)) (old mid new : List ℕ) (ls ms ns : List (List ℕ)) → r ≡ Err e → Pushed a b old mid (lines_text ls) → PrintGives r b c mid new (lines_text ms) → PrintGives r a c old new (lines_text (ls ++ ms ++ ns))
-lines_amid r e a b c old mid new ls ms ns is h k =
-    lines_part r e a c old new (ls ++ ms) ns is (lines_then r a b c old mid new ls ms h k)
-
--- the same fault, handed on
-pub handed_on : (r : Printed) (d e : Trouble) (a b : Option (List ℕ)) (old new text : List ℕ) → r ≡ Err d → d ≡ e → PrintGives (fails e) a b old new text → PrintGives r a b old new text
-handed_on r d e a b old new text is same h = subst (λ x. PrintGives x a b old new text) (ap fails (sym same) ∙ sym is) h
-
--- where memory was refused before the first push
-pub printed_nothing : (r : Printed) (d : Trouble) (a : Option (List ℕ)) (old text : List ℕ) → r ≡ Err d → d ≡ Memory → PrintGives r a a old old text
-printed_nothing r d a old text was is = handed_on r d Memory a a old old text was is (front_none a old text)
+-- the same lines, said otherwise
+pub lines_same : (r : Printed) (a b : Option (List ℕ)) (old new : List ℕ) (ls ms : List (List ℕ)) → ls ≡ ms → PrintGives r a b old new (lines_text ls) → PrintGives r a b old new (lines_text ms)
+lines_same r a b old new ls ms is h = subst (λ l. PrintGives r a b old new (lines_text l)) is h
 
 -- a line that was pushed, and lines behind it
 pub line_then : (r : Printed) (a b c : Option (List ℕ)) (old mid new line bytes : List ℕ) (ms : List (List ℕ)) → bytes ≡ line → Pushed a b old mid (lines_text (bytes ∷ [])) → PrintGives r b c mid new (lines_text ms) → PrintGives r a c old new (lines_text (line ∷ ms))
 line_then r a b c old mid new line bytes ms is h k =
     lines_then r a b c old mid new (line ∷ []) ms (subst (λ l. Pushed a b old mid (lines_text (l ∷ []))) is h) k
 
--- a line that couldn't be pushed
-pub line_stopped : (r : Printed) (d e : Trouble) (a b : Option (List ℕ)) (old new line bytes : List ℕ) (ms : List (List ℕ)) → r ≡ Err d → d ≡ e → bytes ≡ line → PrintGives (fails e) a b old new (lines_text (bytes ∷ [])) → PrintGives r a b old new (lines_text (line ∷ ms))
-line_stopped r d e a b old new line bytes ms was same is h =
-    lines_part r d a b old new (line ∷ []) ms was (handed_on r d e a b old new _ was same (subst (λ l. PrintGives (fails e) a b old new (lines_text (l ∷ []))) is h))
+-- a beginning of lines, behind others
+pub front_behind : (a b c : Option (List ℕ)) (old mid new : List ℕ) (ls ms : List (List ℕ)) → Pushed a b old mid (lines_text ls) → PushedFront b c mid new (lines_text ms) → PushedFront a c old new (lines_text (ls ++ ms))
+front_behind a b c old mid new ls ms h k = subst (PushedFront a c old new) (sym (lines_text-append ls ms)) (front_then a b c old mid new (lines_text ls) (lines_text ms) h k)
 
--- the same lines, said otherwise
-pub lines_same : (r : Printed) (a b : Option (List ℕ)) (old new : List ℕ) (ls ms : List (List ℕ)) → ls ≡ ms → PrintGives r a b old new (lines_text ls) → PrintGives r a b old new (lines_text ms)
-lines_same r a b old new ls ms is h = subst (λ l. PrintGives r a b old new (lines_text l)) is h
+pub front_same : (a b : Option (List ℕ)) (old new : List ℕ) (ls ms : List (List ℕ)) → ls ≡ ms → PushedFront a b old new (lines_text ls) → PushedFront a b old new (lines_text ms)
+front_same a b old new ls ms is h = subst (λ l. PushedFront a b old new (lines_text l)) is h
 
--- the first of two parts that failed
-pub part_stopped : (r : Printed) (d e : Trouble) (a b : Option (List ℕ)) (old new : List ℕ) (said ls ms : List (List ℕ)) → r ≡ Err d → d ≡ e → said ≡ ls → PrintGives (fails e) a b old new (lines_text said) → PrintGives r a b old new (lines_text (ls ++ ms))
-part_stopped r d e a b old new said ls ms was same is h =
-    lines_part r d a b old new ls ms was (handed_on r d e a b old new (lines_text ls) was same (lines_same (fails e) a b old new said ls is h))
+-- a beginning of lines, with others to come
+pub front_before : (a b : Option (List ℕ)) (old new : List ℕ) (ls ms : List (List ℕ)) → PushedFront a b old new (lines_text ls) → PushedFront a b old new (lines_text (ls ++ ms))
+front_before a b old new ls ms h = subst (PushedFront a b old new) (sym (lines_text-append ls ms)) (front_more a b old new (lines_text ls) (lines_text ms) h)
 
--- lines that couldn't be pushed, behind others
-pub stopped_behind : (r : Printed) (d e : Trouble) (a b c : Option (List ℕ)) (old mid new : List ℕ) (ls ms : List (List ℕ)) → r ≡ Err d → d ≡ e → Pushed a b old mid (lines_text ls) → PrintGives (fails e) b c mid new (lines_text ms) → PrintGives r a c old new (lines_text (ls ++ ms))
-stopped_behind r d e a b c old mid new ls ms was same h k = lines_then r a b c old mid new ls ms h (handed_on r d e b c mid new (lines_text ms) was same k)
+-- the same of a line, said otherwise
+pub front_line : (a b : Option (List ℕ)) (old new line bytes : List ℕ) (ms : List (List ℕ)) → bytes ≡ line → PushedFront a b old new (lines_text (bytes ∷ [])) → PushedFront a b old new (lines_text (line ∷ ms))
+front_line a b old new line bytes ms is h = front_before a b old new (line ∷ []) ms (subst (λ l. PushedFront a b old new (lines_text (l ∷ []))) is h)
 
--- the same, with more lines to come
-pub stopped_amid : (r : Printed) (d e : Trouble) (a b c : Option (List ℕ)) (old mid new : List ℕ) (ls ms ns : List (List ℕ)) → r ≡ Err d → d ≡ e → Pushed a b old mid (lines_text ls) → PrintGives (fails e) b c mid new (lines_text ms) → PrintGives r a c old new (lines_text (ls ++ ms ++ ns))
-stopped_amid r d e a b c old mid new ls ms ns was same h k = lines_part r d a c old new (ls ++ ms) ns was (stopped_behind r d e a b c old mid new ls ms was same h k)
+-- a beginning of lines, behind others and with others to come
+pub front_amid : (a b c : Option (List ℕ)) (old mid new : List ℕ) (ls ms ns : List (List ℕ)) → Pushed a b old mid (lines_text ls) → PushedFront b c mid new (lines_text ms) → PushedFront a c old new (lines_text (ls ++ ms ++ ns))
+front_amid a b c old mid new ls ms ns h k = front_before a c old new (ls ++ ms) ns (front_behind a b c old mid new ls ms h k)
 
 -- the lines of some values, pushed one value after another
 module _ {X Y : Type 0} (f : Y → List (List ℕ)) (view : X → Y) where
@@ -168,13 +148,13 @@ module _ {X Y : Type 0} (f : Y → List (List ℕ)) (view : X → Y) where
   loop_more a b c old mid new xs i x lt is h k =
       subst (λ l. Pushed a c old new (lines_text l)) (sym (lines_of-more xs i x lt is)) (lines_then (Ok tt) a b c old mid new (lines_of (take i xs)) (f (view x)) h k)
 
-  -- a print that failed at a value
-  pub loop_stopped : (r : Printed) (d e : Trouble) (a b c : Option (List ℕ)) (old mid new : List ℕ) (xs : List X) (i : ℕ) (x : X) → r ≡ Err d → d ≡ e → i < length xs → x ≡ get_or xs i x
-      → Pushed a b old mid (lines_text (flat_map f (map view (take i xs)))) → PrintGives (fails e) b c mid new (lines_text (f (view x)))
-      → PrintGives r a c old new (lines_text (flat_map f (map view xs)))
-  loop_stopped r d e a b c old mid new xs i x was same lt is h k =
-      subst (λ l. PrintGives r a c old new (lines_text l)) (sym (lines_of-at xs i x lt is))
-      (lines_amid r d a b c old mid new (lines_of (take i xs)) (f (view x)) (lines_of (drop (i + 1) xs)) was h (handed_on r d e b c mid new (lines_text (f (view x))) was same k))
+  -- a beginning of the lines, up to a value
+  pub loop_front : (a b c : Option (List ℕ)) (old mid new : List ℕ) (xs : List X) (i : ℕ) (x : X) → i < length xs → x ≡ get_or xs i x
+      → Pushed a b old mid (lines_text (flat_map f (map view (take i xs)))) → PushedFront b c mid new (lines_text (f (view x)))
+      → PushedFront a c old new (lines_text (flat_map f (map view xs)))
+  loop_front a b c old mid new xs i x lt is h k =
+      subst (λ l. PushedFront a c old new (lines_text l)) (sym (lines_of-at xs i x lt is))
+      (front_amid a b c old mid new (lines_of (take i xs)) (f (view x)) (lines_of (drop (i + 1) xs)) h k)
 
 -- the same, where each value has one line
 module _ {X Y : Type 0} (line : Y → List ℕ) (view : X → Y) where
@@ -191,12 +171,12 @@ module _ {X Y : Type 0} (line : Y → List ℕ) (view : X → Y) where
       subst (λ l. Pushed a c old new (lines_text l)) (one_each (take (i + 1) xs))
       (loop_more alone view a b c old mid new xs i x lt is (subst (λ l. Pushed a b old mid (lines_text l)) (sym (one_each (take i xs))) h) k)
 
-  pub each_stopped : (r : Printed) (d e : Trouble) (a b c : Option (List ℕ)) (old mid new : List ℕ) (xs : List X) (i : ℕ) (x : X) → r ≡ Err d → d ≡ e → i < length xs → x ≡ get_or xs i x
-      → Pushed a b old mid (lines_text (map line (map view (take i xs)))) → PrintGives (fails e) b c mid new (lines_text (line (view x) ∷ []))
-      → PrintGives r a c old new (lines_text (map line (map view xs)))
-  each_stopped r d e a b c old mid new xs i x was same lt is h k =
-      subst (λ l. PrintGives r a c old new (lines_text l)) (one_each xs)
-      (loop_stopped alone view r d e a b c old mid new xs i x was same lt is (subst (λ l. Pushed a b old mid (lines_text l)) (sym (one_each (take i xs))) h) k)
+  pub each_front : (a b c : Option (List ℕ)) (old mid new : List ℕ) (xs : List X) (i : ℕ) (x : X) → i < length xs → x ≡ get_or xs i x
+      → Pushed a b old mid (lines_text (map line (map view (take i xs)))) → PushedFront b c mid new (lines_text (line (view x) ∷ []))
+      → PushedFront a c old new (lines_text (map line (map view xs)))
+  each_front a b c old mid new xs i x lt is h k =
+      subst (λ l. PushedFront a c old new (lines_text l)) (one_each xs)
+      (loop_front alone view a b c old mid new xs i x lt is (subst (λ l. Pushed a b old mid (lines_text l)) (sym (one_each (take i xs))) h) k)
 
 -- the same, where values are found by their places
 module _ {X : Type 0} (line : X → List ℕ) where
@@ -215,14 +195,13 @@ module _ {X : Type 0} (line : X → List ℕ) where
   next_more a b c old mid new xs i h k =
       subst (λ l. Pushed a c old new (lines_text l)) (sym (lines_next xs i)) (lines_then (Ok tt) a b c old mid new (map line (take i xs)) _ h k)
 
-  pub next_stopped : (r : Printed) (d e : Trouble) (a b c : Option (List ℕ)) (old mid new : List ℕ) (xs : List X) (i : ℕ) → r ≡ Err d → d ≡ e
-      → Pushed a b old mid (lines_text (map line (take i xs))) → PrintGives (fails e) b c mid new (lines_text (map line (option_to_list (slice_get xs i))))
-      → PrintGives r a c old new (lines_text (map line xs))
-  next_stopped r d e a b c old mid new xs i was same h k =
+  pub next_front : (a b c : Option (List ℕ)) (old mid new : List ℕ) (xs : List X) (i : ℕ)
+      → Pushed a b old mid (lines_text (map line (take i xs))) → PushedFront b c mid new (lines_text (map line (option_to_list (slice_get xs i))))
+      → PushedFront a c old new (lines_text (map line xs))
+  next_front a b c old mid new xs i h k =
       let at : map line xs ≡ map line (take i xs) ++ map line (option_to_list (slice_get xs i)) ++ map line (drop (i + 1) xs) =
       ap (map line) (sym (take-append-drop (i + 1) xs)) ∙ map-append line (take (i + 1) xs) (drop (i + 1) xs) ∙ ap (λ l. l ++ map line (drop (i + 1) xs)) (lines_next xs i) in
-      subst (λ l. PrintGives r a c old new (lines_text l)) (sym at)
-      (lines_amid r d a b c old mid new (map line (take i xs)) _ (map line (drop (i + 1) xs)) was h (handed_on r d e b c mid new _ was same k))
+      subst (λ l. PushedFront a c old new (lines_text l)) (sym at) (front_amid a b c old mid new (map line (take i xs)) _ (map line (drop (i + 1) xs)) h k)
 
 -- a map without entries
 pub no_marks : mark_lines empty ≡ count_text (codes "marks") 0 ∷ []
@@ -237,9 +216,9 @@ module _ {Y : Type 0} (line : Y → List ℕ) where
   values_more a b c old mid new xs ys all is h k =
       subst (λ l. Pushed a c old new (lines_text l)) (sym (ap (map line) is ∙ map-append line xs ys)) (lines_then (Ok tt) a b c old mid new (map line xs) (map line ys) h k)
 
-  pub values_stopped : (r : Printed) (d e : Trouble) (a b c : Option (List ℕ)) (old mid new : List ℕ) (xs ys zs all : List Y) → r ≡ Err d → d ≡ e → all ≡ xs ++ (ys ++ zs)
-      → Pushed a b old mid (lines_text (map line xs)) → PrintGives (fails e) b c mid new (lines_text (map line ys)) → PrintGives r a c old new (lines_text (map line all))
-  values_stopped r d e a b c old mid new xs ys zs all was same is h k =
-      subst (λ l. PrintGives r a c old new (lines_text l))
+  pub values_front : (a b c : Option (List ℕ)) (old mid new : List ℕ) (xs ys zs all : List Y) → all ≡ xs ++ (ys ++ zs)
+      → Pushed a b old mid (lines_text (map line xs)) → PushedFront b c mid new (lines_text (map line ys)) → PushedFront a c old new (lines_text (map line all))
+  values_front a b c old mid new xs ys zs all is h k =
+      subst (λ l. PushedFront a c old new (lines_text l))
       (sym (ap (map line) (is ∙ sym (append_assoc xs ys zs)) ∙ map-append line (xs ++ ys) zs ∙ ap (λ l. l ++ map line zs) (map-append line xs ys)))
-      (stopped_amid r d e a b c old mid new (map line xs) (map line ys) (map line zs) was same h k)
+      (front_amid a b c old mid new (map line xs) (map line ys) (map line zs) h k)

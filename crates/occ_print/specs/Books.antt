@@ -15,7 +15,7 @@ use Rattle.occ_model.specs.declared.verdict.Cause.TheVariants.{Conflict, TooOld}
 use Rattle.occ_core.specs.Rows.{log_of}
 use Rattle.occ_print.specs.declared.books.Book as code_book
 use Rattle.occ_text.specs.Spelling.{line_text, key_text, row_text}
-use Rattle.occ_text.specs.Headers.{Header, count_text, table_text}
+use Rattle.occ_text.specs.Headers.{Header, limits_of, limits_lines, count_text, table_text}
 use Rattle.occ_text.specs.Line.{lines_text}
 
 -- what a book tells: how its core was opened, and all that the core keeps
@@ -27,18 +27,9 @@ pub record Book : Type 0 where
   pub counter : ℕ
   pub low : ℕ
 
--- the version of the texts, and the counts of the header
-abbrev pub settings_lines : Header → List (List ℕ)
-settings_lines header =
-    codes "occ 1"
-    ∷ count_text (codes "sessions") header.sessions
-    ∷ count_text (codes "queue") header.queue
-    ∷ count_text (codes "keep") header.keep
-    ∷ []
-
 -- the header of a schedule, without its last line
 abbrev pub header_lines : Header → List (List ℕ)
-header_lines header = settings_lines header ++ map table_text header.tables
+header_lines header = limits_lines (limits_of header) ++ map table_text header.tables
 
 -- the name of the table at a place; no core names one that is not there
 abbrev pub table_name : Schema → ℕ → List ℕ
@@ -150,7 +141,7 @@ module _ {Z : Type 0} where
   -- the plain book; no closing mark enters yet
   abbrev pub book_of : code_book.Book Z → Book
   book_of book = record {
-    header = record { sessions = book.sessions; queue = book.queue; keep = book.keep; tables = book.schema.now };
+    header = record { sessions = book.limits.sessions; queue = book.limits.queue; keep = book.limits.keep; tables = book.schema.now };
     log = log_of book.log.now;
     marks = empty;
     state = book.tables.now.state;

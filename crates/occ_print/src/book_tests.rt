@@ -3,9 +3,10 @@
 use crate::books::{Book, write_book};
 use occ_core::{LogRow, Standing, Tables};
 use occ_sets::{Answer, ReadSet, SharedReads, SharedWrites, WriteSet};
+use occ_text::faults::WriteFault;
+use occ_text::headers::Limits;
 use occ_text::output::Output;
-use occ_text::trouble::Trouble;
-use occ_types::kind::{KeyKind, Kind};
+use occ_types::{KeyKind, Kind};
 use occ_types::{Cell, Key, Object, Question, Row, Schema, TableDef, Text};
 use std::alloc::{AllocError, Global};
 use std::io;
@@ -106,7 +107,7 @@ fn printed(
     log: &[LogRow<Global>],
     rows: &[(u64, i64)],
     fails: usize,
-) -> Result<(Vec<u8>, Result<(), Trouble>), AllocError> {
+) -> Result<(Vec<u8>, Result<(), WriteFault>), AllocError> {
     let schema = schema(alloc)?;
     let mut tables = Tables::new(alloc, 1)?;
     for (key, cell) in rows {
@@ -115,9 +116,11 @@ fn printed(
         }
     }
     let book = Book {
-        sessions: 2,
-        queue: 4,
-        keep: 8,
+        limits: Limits {
+            sessions: 2,
+            queue: 4,
+            keep: 8,
+        },
         schema: &schema,
         log,
         tables: &tables,
@@ -133,10 +136,11 @@ fn printed(
     Ok((page.bytes, ended))
 }
 
-fn written(alloc: Global, page: &mut Page, book: &Book<Global>) -> Result<(), Trouble> {
+fn written(alloc: Global, page: &mut Page, book: &Book<Global>) -> Result<(), WriteFault> {
     let mut output = Output::new(alloc);
     write_book(alloc, &mut output, page, book)?;
-    output.flush(page)
+    output.flush(page)?;
+    Ok(())
 }
 
 /// Entry order against number order: the first row to enter finished as the second.
@@ -158,7 +162,7 @@ fn a_book_has_its_lines(rt: HostRuntime) -> Result<(), Fail> {
             assert!(rt; bytes.as_slice() == BOOK.as_bytes());
             whole = true;
         } else {
-            assert!(rt; ended == Err(Trouble::Write));
+            assert!(rt; ended == Err(WriteFault::Write));
             assert!(rt; BOOK.as_bytes().starts_with(bytes.as_slice()));
         }
     }

@@ -9,8 +9,8 @@ ghost use Rattle.occ_sets.specs.Seen.{rows_of, answer_of, observation_of, observ
 ghost use Rattle.occ_core.specs.Rows.{log_row_of, log_of};
 ghost use Rattle.occ_text.specs.Line.{lines_text};
 ghost use Rattle.occ_text.specs.Printing.{PrintGives};
-ghost use Rattle.occ_text.specs.Headers.{count_text, table_text};
-ghost use Rattle.occ_print.specs.Books.{book_of, settings_lines, header_lines, pair_line, pair_lines, read_lines, write_line, row_lines, log_lines, mark_lines, at_line, rows_at, state_lines, counter_line, book_text};
+ghost use Rattle.occ_text.specs.Headers.{count_text, limits_lines, table_text};
+ghost use Rattle.occ_print.specs.Books.{book_of, header_lines, pair_line, pair_lines, read_lines, write_line, row_lines, log_lines, mark_lines, at_line, rows_at, state_lines, counter_line, book_text};
 ghost use Rattle.occ_core.specs.Kept.{placed};
 
 use crate::lines::{
@@ -19,22 +19,19 @@ use crate::lines::{
 };
 use occ_core::{LogRow, Tables};
 use occ_sets::{Answer, Observation, WriteSet};
+use occ_text::faults::WriteFault;
+use occ_text::headers::Limits;
 use occ_text::output::Output;
-use occ_text::trouble::Trouble;
 use occ_types::{Key, Object, Row, Schema, TableDef};
 use std::alloc::Allocator;
 use std::collections::BTreeMap;
 use std::io::Write;
 
-/// What a book tells: the settings of a core, and what the core keeps.
+/// What a book tells: how a core was opened, and what it keeps.
 #[derive(Drop)]
 pub struct Book<'a, A: Allocator> {
-    /// How many sessions there are.
-    pub sessions: usize,
-    /// How many items the queue of a session holds at most.
-    pub queue: usize,
-    /// How many write sets are kept for testing.
-    pub keep: usize,
+    /// The sessions, the queues and the window.
+    pub limits: Limits,
     /// The tables.
     pub schema: &'a Schema<A>,
     /// The rows that entered, in the order of entry.
@@ -52,7 +49,7 @@ pub fn push_line<W: Write, A: Allocator>(
     output: &mut Output<A>,
     writer: &mut W,
     line: &mut String<A>,
-) -> Result<(), Trouble>
+) -> Result<(), WriteFault>
     ensures { PrintGives result (W.contents writer.old) (W.contents writer.new) output.old output.new (lines_text (string_bytes line.old ∷ [])) }
 {
     line.push('\n')?;
@@ -65,7 +62,7 @@ fn print_count<W: Write, A: Allocator>(
     line: &mut String<A>,
     word: &str,
     count: u128,
-) -> Result<(), Trouble>
+) -> Result<(), WriteFault>
     ensures { PrintGives result (W.contents writer.old) (W.contents writer.new) output.old output.new (lines_text (count_text word.now count ∷ [])) }
 {
     count_line(line, word, count)?;
@@ -76,25 +73,25 @@ fn print_version<W: Write, A: Allocator>(
     output: &mut Output<A>,
     writer: &mut W,
     line: &mut String<A>,
-) -> Result<(), Trouble>
+) -> Result<(), WriteFault>
     ensures { PrintGives result (W.contents writer.old) (W.contents writer.new) output.old output.new (lines_text (codes "occ 1" ∷ [])) }
 {
     version_line(line)?;
     push_line(output, writer, line)
 }
 
-fn print_settings<W: Write, A: Allocator>(
+fn print_limits<W: Write, A: Allocator>(
     output: &mut Output<A>,
     writer: &mut W,
     line: &mut String<A>,
-    book: &Book<A>,
-) -> Result<(), Trouble>
-    ensures { PrintGives result (W.contents writer.old) (W.contents writer.new) output.old output.new (lines_text (settings_lines (book_of book.now).header)) }
+    limits: Limits,
+) -> Result<(), WriteFault>
+    ensures { PrintGives result (W.contents writer.old) (W.contents writer.new) output.old output.new (lines_text (limits_lines limits)) }
 {
     print_version(output, writer, line)?;
-    print_count(output, writer, line, "sessions", book.sessions as u128)?;
-    print_count(output, writer, line, "queue", book.queue as u128)?;
-    print_count(output, writer, line, "keep", book.keep as u128)
+    print_count(output, writer, line, "sessions", limits.sessions as u128)?;
+    print_count(output, writer, line, "queue", limits.queue as u128)?;
+    print_count(output, writer, line, "keep", limits.keep as u128)
 }
 
 fn print_table<W: Write, A: Allocator>(
@@ -102,7 +99,7 @@ fn print_table<W: Write, A: Allocator>(
     writer: &mut W,
     line: &mut String<A>,
     table: &TableDef<A>,
-) -> Result<(), Trouble>
+) -> Result<(), WriteFault>
     ensures { PrintGives result (W.contents writer.old) (W.contents writer.new) output.old output.new (lines_text (table_text (table_of table.now) ∷ [])) }
 {
     table_line(line, table)?;
@@ -114,7 +111,7 @@ fn print_tables<W: Write, A: Allocator>(
     writer: &mut W,
     line: &mut String<A>,
     tables: &[TableDef<A>],
-) -> Result<(), Trouble>
+) -> Result<(), WriteFault>
     ensures { PrintGives result (W.contents writer.old) (W.contents writer.new) output.old output.new (lines_text (map table_text (tables_of tables.now))) }
 {
     for table in tables {
@@ -128,10 +125,10 @@ fn print_header<W: Write, A: Allocator>(
     writer: &mut W,
     line: &mut String<A>,
     book: &Book<A>,
-) -> Result<(), Trouble>
+) -> Result<(), WriteFault>
     ensures { PrintGives result (W.contents writer.old) (W.contents writer.new) output.old output.new (lines_text (header_lines (book_of book.now).header)) }
 {
-    print_settings(output, writer, line, book)?;
+    print_limits(output, writer, line, book.limits)?;
     print_tables(output, writer, line, book.schema.tables())
 }
 
@@ -141,7 +138,7 @@ fn print_pair<W: Write, A: Allocator>(
     line: &mut String<A>,
     key: &Key<A>,
     row: &Row<A>,
-) -> Result<(), Trouble>
+) -> Result<(), WriteFault>
     ensures { PrintGives result (W.contents writer.old) (W.contents writer.new) output.old output.new (lines_text (pair_line (key_of key.now, row.now) ∷ [])) }
 {
     pair_line(line, key, row)?;
@@ -153,7 +150,7 @@ fn print_pairs<W: Write, A: Allocator>(
     writer: &mut W,
     line: &mut String<A>,
     pairs: &[(Key<A>, Row<A>)],
-) -> Result<(), Trouble>
+) -> Result<(), WriteFault>
     ensures { PrintGives result (W.contents writer.old) (W.contents writer.new) output.old output.new (lines_text (map pair_line (rows_of pairs.now))) }
 {
     for (key, row) in pairs {
@@ -167,7 +164,7 @@ fn print_answer<W: Write, A: Allocator>(
     writer: &mut W,
     line: &mut String<A>,
     answer: &Answer<A>,
-) -> Result<(), Trouble>
+) -> Result<(), WriteFault>
     ensures { PrintGives result (W.contents writer.old) (W.contents writer.new) output.old output.new (lines_text (pair_lines (answer_of answer.now))) }
 {
     match answer {
@@ -182,7 +179,7 @@ fn print_read<W: Write, A: Allocator>(
     line: &mut String<A>,
     schema: &Schema<A>,
     read: &Observation<A>,
-) -> Result<(), Trouble>
+) -> Result<(), WriteFault>
     ensures { PrintGives result (W.contents writer.old) (W.contents writer.new) output.old output.new (lines_text (read_lines schema.now (observation_of read.now))) }
 {
     read_line(line, schema, read)?;
@@ -196,7 +193,7 @@ fn print_reads<W: Write, A: Allocator>(
     line: &mut String<A>,
     schema: &Schema<A>,
     reads: &[Observation<A>],
-) -> Result<(), Trouble>
+) -> Result<(), WriteFault>
     ensures { PrintGives result (W.contents writer.old) (W.contents writer.new) output.old output.new (lines_text (flat_map (read_lines schema.now) (observations_of reads.now))) }
 {
     for read in reads {
@@ -212,7 +209,7 @@ fn print_write<W: Write, A: Allocator>(
     schema: &Schema<A>,
     object: &Object<A>,
     row: Option<&Row<A>>,
-) -> Result<(), Trouble>
+) -> Result<(), WriteFault>
     ensures { PrintGives result (W.contents writer.old) (W.contents writer.new) output.old output.new (lines_text (write_line schema.now (object_of object.now, option_copied row.entry) ∷ [])) }
 {
     write_line(line, schema, object, row)?;
@@ -226,7 +223,7 @@ fn print_write_at<W: Write, A: Allocator>(
     schema: &Schema<A>,
     writes: &WriteSet<A>,
     place: usize,
-) -> Result<(), Trouble>
+) -> Result<(), WriteFault>
     ensures { PrintGives result (W.contents writer.old) (W.contents writer.new) output.old output.new (lines_text (map (write_line schema.now) (option_to_list (slice_get writes.now place)))) }
 {
     match writes.write_at(place) {
@@ -241,7 +238,7 @@ fn print_writes<W: Write, A: Allocator>(
     line: &mut String<A>,
     schema: &Schema<A>,
     writes: &WriteSet<A>,
-) -> Result<(), Trouble>
+) -> Result<(), WriteFault>
     ensures { PrintGives result (W.contents writer.old) (W.contents writer.new) output.old output.new (lines_text (map (write_line schema.now) writes.now)) }
 {
     for place in 0..writes.len() {
@@ -256,7 +253,7 @@ fn print_row<W: Write, A: Allocator>(
     line: &mut String<A>,
     schema: &Schema<A>,
     row: &LogRow<A>,
-) -> Result<(), Trouble>
+) -> Result<(), WriteFault>
     ensures { PrintGives result (W.contents writer.old) (W.contents writer.new) output.old output.new (lines_text (row_lines schema.now (log_row_of row.now))) }
 {
     row_line(line, row)?;
@@ -271,7 +268,7 @@ fn print_rows<W: Write, A: Allocator>(
     line: &mut String<A>,
     schema: &Schema<A>,
     log: &[LogRow<A>],
-) -> Result<(), Trouble>
+) -> Result<(), WriteFault>
     ensures { PrintGives result (W.contents writer.old) (W.contents writer.new) output.old output.new (lines_text (flat_map (row_lines schema.now) (log_of log.now))) }
 {
     for row in log {
@@ -286,7 +283,7 @@ fn print_log<W: Write, A: Allocator>(
     line: &mut String<A>,
     schema: &Schema<A>,
     log: &[LogRow<A>],
-) -> Result<(), Trouble>
+) -> Result<(), WriteFault>
     ensures { PrintGives result (W.contents writer.old) (W.contents writer.new) output.old output.new (lines_text (log_lines schema.now (log_of log.now))) }
 {
     print_count(output, writer, line, "log", log.len() as u128)?;
@@ -298,7 +295,7 @@ fn print_marks<W: Write, A: Allocator>(
     output: &mut Output<A>,
     writer: &mut W,
     line: &mut String<A>,
-) -> Result<(), Trouble>
+) -> Result<(), WriteFault>
     ensures { PrintGives result (W.contents writer.old) (W.contents writer.new) output.old output.new (lines_text (mark_lines finite.empty)) }
 {
     print_count(output, writer, line, "marks", 0)
@@ -312,7 +309,7 @@ fn print_at<W: Write, A: Allocator>(
     place: usize,
     key: &Key<A>,
     row: &Row<A>,
-) -> Result<(), Trouble>
+) -> Result<(), WriteFault>
     ensures { PrintGives result (W.contents writer.old) (W.contents writer.new) output.old output.new (lines_text (at_line schema.now ((place, key_of key.now), row.now) ∷ [])) }
 {
     at_line(line, schema, place, key, row)?;
@@ -326,7 +323,7 @@ fn print_map<W: Write, A: Allocator>(
     schema: &Schema<A>,
     place: usize,
     rows: &BTreeMap<Key<A>, Row<A>, A>,
-) -> Result<(), Trouble>
+) -> Result<(), WriteFault>
     ensures { PrintGives result (W.contents writer.old) (W.contents writer.new) output.old output.new (lines_text (map (at_line schema.now) (placed place rows.now.entries))) }
 {
     for (key, row) in rows {
@@ -342,7 +339,7 @@ fn print_rows_at<W: Write, A: Allocator>(
     schema: &Schema<A>,
     tables: &Tables<A>,
     place: usize,
-) -> Result<(), Trouble>
+) -> Result<(), WriteFault>
     requires { place < tables.now.tables }
     ensures { PrintGives result (W.contents writer.old) (W.contents writer.new) output.old output.new (lines_text (map (at_line schema.now) (rows_at place tables.now.state))) }
 {
@@ -358,7 +355,7 @@ fn print_all_rows<W: Write, A: Allocator + Clone>(
     line: &mut String<A>,
     schema: &Schema<A>,
     tables: &Tables<A>,
-) -> Result<(), Trouble>
+) -> Result<(), WriteFault>
     ensures { PrintGives result (W.contents writer.old) (W.contents writer.new) output.old output.new (lines_text (map (at_line schema.now) (finite.entries tables.now.state))) }
 {
     for place in 0..tables.count() {
@@ -373,7 +370,7 @@ fn print_state<W: Write, A: Allocator + Clone>(
     line: &mut String<A>,
     schema: &Schema<A>,
     tables: &Tables<A>,
-) -> Result<(), Trouble>
+) -> Result<(), WriteFault>
     ensures { PrintGives result (W.contents writer.old) (W.contents writer.new) output.old output.new (lines_text (state_lines schema.now tables.now.state)) }
 {
     print_count(output, writer, line, "state", tables.len() as u128)?;
@@ -386,7 +383,7 @@ fn print_counter<W: Write, A: Allocator>(
     line: &mut String<A>,
     counter: u64,
     low: u64,
-) -> Result<(), Trouble>
+) -> Result<(), WriteFault>
     ensures { PrintGives result (W.contents writer.old) (W.contents writer.new) output.old output.new (lines_text (counter_line counter low ∷ [])) }
 {
     counter_line(line, counter, low)?;
@@ -401,7 +398,7 @@ pub fn write_book<W: Write, A: Allocator + Clone>(
     output: &mut Output<A>,
     writer: &mut W,
     book: &Book<A>,
-) -> Result<(), Trouble>
+) -> Result<(), WriteFault>
     ensures { PrintGives result (W.contents writer.old) (W.contents writer.new) output.old output.new (book_text (book_of book.now)) }
 {
     let mut line = String::new(alloc);

@@ -12,10 +12,10 @@ ghost use Rattle.occ_text.specs.Headers.{count_text, table_text, kind_word, key_
 ghost use Rattle.occ_print.specs.Books.{table_name, end_text, question_text, answer_text, read_line, pair_line, write_line, row_line, standing_text, at_line, counter_line, audit_line};
 
 use occ_core::{LogRow, Standing};
-use occ_model::verdict::Cause;
+use occ_model::Cause;
 use occ_sets::{Answer, Observation};
 use occ_text::writers::{write_key, write_row};
-use occ_types::kind::{KeyKind, Kind};
+use occ_types::{KeyKind, Kind};
 use occ_types::{Key, Object, Question, Row, Schema, TableDef};
 use std::alloc::{AllocError, Allocator};
 

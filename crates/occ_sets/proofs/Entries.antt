@@ -1,5 +1,5 @@
 -- The entries of a map, seen as plain writes.
-use Rattle.std.proofs.Common.{◌≡◌, ◌≤◌, ◌<◌, Bool, true, false, cond, ◌&&◌, not, nat_le, List, [], ◌∷◌, Option, None, Some, is_some, length, refl, sym, ap, ◌∙◌, arith}
+use Rattle.std.proofs.Common.{◌≡◌, ◌≤◌, ℕ, ◌+◌, if◌then◌else◌, Bool, true, false, cond, ◌&&◌, not, nat_le, List, [], ◌∷◌, Option, None, Some, is_some, length, refl, sym, ap, ◌∙◌, arith}
 use Rattle.std.proofs.lemmas.List.{length-map}
 use Rattle.std.proofs.lemmas.Bool.Decides.{nat_tests}
 use Rattle.std.specs.List.{IsDistinct, AllByRecursion}
@@ -21,23 +21,30 @@ some_absent : {X : Type 0} (r : Option X) → false ≡ is_some r → r ≡ None
 some_absent None e = refl
 some_absent (Some x) e = cc
 
--- a full set is full for a new object
-pub is_full_for-full : (writes : List Write) (object : Object) → 256 ≤ length writes → own writes object ≡ None → is_full_for writes object ≡ true
-is_full_for-full writes object full none = rw none (grind (arith, nat_tests))
-
--- no set is full for an object that it has
-pub is_full_for-present : (writes : List Write) (object : Object) → is_some (own writes object) ≡ true → is_full_for writes object ≡ false
-is_full_for-present writes object there = rw there (by (nat_le MAX_WRITES (length writes)))
+-- a set is full for no object that it has
+pub full_for_new : (writes : List Write) (object : Object) → is_full_for writes object ≡ true → own writes object ≡ None
+full_for_new writes object full = by (own writes object) refl
   where
-    by : (b : Bool) → (b && false) ≡ false
-    by true = refl
-    by false = refl
+    kept : (b : Bool) → (b && false) ≡ false
+    kept true = refl
+    kept false = refl
 
--- a set with fewer writes is full for none
-pub is_full_for-room : (writes : List Write) (object : Object) → length writes < 256 → is_full_for writes object ≡ false
-is_full_for-room writes object room =
-    let few : nat_le MAX_WRITES (length writes) ≡ false = grind (arith, nat_tests) in
-    ap (λ b. b && not (is_some (own writes object))) few
+    by : (o : Option (Option Row)) → own writes object ≡ o → o ≡ None
+    by None e = refl
+    by (Some row) e =
+        let out : is_full_for writes object ≡ false = ap (λ o. nat_le MAX_WRITES (length writes) && not (is_some o)) e ∙ kept (nat_le MAX_WRITES (length writes)) in
+        cc
+
+-- one write more or none, where a write is not one too many
+pub one_more : (n : ℕ) (there : Bool) → (nat_le MAX_WRITES n && not there) ≡ false → n ≤ 256 → n + (if there then 0 else 1) ≤ 256
+one_more n true room few = omega arith
+one_more n false room few = by (nat_le MAX_WRITES n) refl
+  where
+    by : (b : Bool) → nat_le MAX_WRITES n ≡ b → n + 1 ≤ 256
+    by true e =
+        let full : true ≡ false = sym (ap (λ b. b && true) e) ∙ room in
+        cc
+    by false e = grind (arith, nat_tests)
 
 module _ {Z : Type 0} where
   -- whether two objects are equal

@@ -3,3 +3,5 @@ pub mod Entries
 pub mod Leading
 pub mod Meetings
 pub mod Merging
+pub mod Observations
+pub mod Refusals

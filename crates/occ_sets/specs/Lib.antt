@@ -2,3 +2,4 @@ pub mod Merging
 pub mod Overlays
 pub mod Seen
 pub mod Sets
+pub mod Shareable

@@ -1,17 +1,19 @@
 //! Private copies.
-ghost use Rattle.std.specs.Prelude.{◌≡◌, [], false, cond, None, Some, IfOk, IfErr, OnOk, OnErr, MatchResult};
+ghost use Rattle.std.specs.Prelude.{◌≡◌, ◌==◌, ◌<◌, [], false, cond, length, slice_get, None, Some, IfOk, IfErr, IfSome, OnOk, OnErr, MatchResult, IsOkUnless};
 ghost use Rattle.std.specs.Option.{option_copied, option_map};
 ghost use Rattle.occ_types.specs.declared.fault.Fault.TheVariants.{SetFull, Memory};
-ghost use Rattle.occ_types.specs.Seen.{object_of, question_of};
+ghost use Rattle.occ_types.specs.declared.limits.TheConstants as limit;
+ghost use Rattle.occ_types.specs.Seen.{key_of, object_of, question_of};
 ghost use Rattle.occ_model.specs.Overlay.{set, own, overlay};
 ghost use Rattle.occ_sets.specs.Seen.{answer_of};
-ghost use Rattle.occ_sets.specs.Sets.{is_full_for};
+ghost use Rattle.occ_sets.specs.Sets.{IsWriteSet, is_full_for};
 
+use crate::maps::{Write, WriteMap};
 use crate::overlays::{over_row, over_rows};
 use crate::reads::Answer;
-use crate::writes::{RefusedWrite, WriteSet};
-use occ_types::{Object, Question, Row};
-use std::alloc::{AllocError, Allocator};
+use crate::writes::WriteSet;
+use occ_types::{Fault, Key, Object, Question, Refused, Row};
+use std::alloc::Allocator;
 use std::marker::Model;
 
 /// What a transaction keeps to itself in its read phase: its number, the counter as it began, and its writes so far.
@@ -20,7 +22,7 @@ use std::marker::Model;
 pub struct PrivateCopy<A: Allocator> {
     number: u64,
     start: u64,
-    writes: WriteSet<A>,
+    writes: WriteMap<A>,
 }
 
 impl<A: Allocator> Model for PrivateCopy<A> {
@@ -39,16 +41,17 @@ impl<A: Allocator + Copy> PrivateCopy<A> {
         PrivateCopy {
             number,
             start,
-            writes: WriteSet::new(alloc),
+            writes: WriteMap::new(alloc),
         }
     }
 
-    /// What the transaction sees where the table answers `given`: for a single key its own write where there is one, for a range the given rows with its own writes of the range done. An error where there is no memory; the copy stays as it is.
-    pub fn overlay(&self, question: &Question<A>, given: Answer<A>) -> Result<Answer<A>, AllocError>
-        ensures { IfOk result (λ seen. answer_of seen ≡ overlay (question_of question.now) self.now.writes (answer_of given)) }
+    /// What the transaction sees where the table answers `given`: for a single key its own write where there is one, for a range the given rows with its own writes of the range done. Refused with `Memory` where there is none; the copy stays as it is.
+    pub fn overlay(&self, question: &Question<A>, given: Answer<A>) -> Result<Answer<A>, Fault>
+        ensures seen { IfOk result (λ seen. answer_of seen ≡ overlay (question_of question.now) self.now.writes (answer_of given)) }
+        ensures memory { IsOkUnless result Memory }
     {
         match question {
-            Question::One(object) => over_row(&self.writes, object, given),
+            Question::One(object) => Ok(over_row(&self.writes, object, given)?),
             Question::Span { .. } => match given {
                 Answer::Found(row) => Ok(Answer::Found(row)),
                 Answer::Rows(rows) => Ok(Answer::Rows(over_rows(&self.writes, question, rows)?)),
@@ -72,11 +75,34 @@ impl<A: Allocator> PrivateCopy<A> {
         self.start
     }
 
-    /// The writes so far.
-    pub fn writes(&self) -> &WriteSet<A>
+    // The writes so far.
+    pub(crate) fn writes(&self) -> &WriteMap<A>
         ensures { result.now ≡ self.now.writes }
     {
         &self.writes
+    }
+
+    /// How many objects are written so far.
+    pub fn len(&self) -> usize
+        ensures value { result ≡ length self.now.writes }
+        ensures fits { IsWriteSet self.now.writes }
+    {
+        self.writes.len()
+    }
+
+    /// Whether no object is written so far.
+    pub fn is_empty(&self) -> bool
+        ensures { result ≡ (length self.now.writes == 0) }
+    {
+        self.len() == 0
+    }
+
+    /// The write at a place, in the order of the first writes.
+    pub fn write_at(&self, place: usize) -> Option<(&Object<A>, Option<&Row<A>>)>
+        ensures value { option_map (λ w. (object_of w.0.now, option_copied w.1)) result ≡ slice_get self.now.writes place }
+        ensures few { IfSome result (λ _. place < limit.MAX_WRITES) }
+    {
+        self.writes.write_at(place)
     }
 
     /// The own write of an object: none where there is none, and else its new row, or none where it is deleted.
@@ -86,30 +112,34 @@ impl<A: Allocator> PrivateCopy<A> {
         self.writes.own(object)
     }
 
-    /// Writes an object, and refuses as `WriteSet::set` does.
-    pub fn put(&mut self, object: Object<A>, row: Row<A>) -> Result<(), RefusedWrite<A>>
-        ensures ok { OnOk result (self.new ≡ record self.old { writes = set self.old.writes (object_of object) (Some row) }) }
+    /// Writes an object of a table. A new object goes last; one that is there keeps its place and takes the new row, which needs no memory and has room always. A new one is refused with `SetFull` where there are 256 writes, and else with `Memory` where the copy cannot grow; both leave the copy as it was and hand the write back.
+    pub fn put(&mut self, table: usize, key: Key<A>, row: Row<A>) -> Result<(), Refused<Write<A>>>
+        ensures ok { OnOk result (self.new ≡ record self.old { writes = set self.old.writes (table, key_of key) (Some row) }) }
         ensures err { OnErr result (self.new ≡ self.old) }
-        ensures handed_back { IfErr result (λ refused. (refused.object ≡ object) × (refused.row ≡ Some row)) }
+        ensures handed_back { IfErr result (λ refused. refused.value ≡ (record { table = table; key = key }, Some row)) }
+
+        // `Memory` comes only where there is room for the write, and neither comes to an object that is there.
         ensures fault { MatchResult result
-            (λ _. is_full_for self.old.writes (object_of object) ≡ false)
-            (λ refused. refused.fault ≡ cond (is_full_for self.old.writes (object_of object)) SetFull Memory) }
-        ensures only_new { OnErr result (own self.old.writes (object_of object) ≡ None) }
+            (λ _. is_full_for self.old.writes (table, key_of key) ≡ false)
+            (λ refused. refused.fault ≡ cond (is_full_for self.old.writes (table, key_of key)) SetFull Memory) }
+        ensures only_new { OnErr result (own self.old.writes (table, key_of key) ≡ None) }
     {
-        self.writes.set(object, Some(row))
+        self.writes.set(Object { table, key }, Some(row))
     }
 
-    /// Deletes an object, which is a write also where the table has no such row, and refuses as `WriteSet::set` does.
-    pub fn delete(&mut self, object: Object<A>) -> Result<(), RefusedWrite<A>>
-        ensures ok { OnOk result (self.new ≡ record self.old { writes = set self.old.writes (object_of object) None }) }
+    /// Deletes an object of a table, which is a write also where the table has no such row, and refuses as `put` does.
+    pub fn delete(&mut self, table: usize, key: Key<A>) -> Result<(), Refused<Write<A>>>
+        ensures ok { OnOk result (self.new ≡ record self.old { writes = set self.old.writes (table, key_of key) None }) }
         ensures err { OnErr result (self.new ≡ self.old) }
-        ensures handed_back { IfErr result (λ refused. (refused.object ≡ object) × (refused.row ≡ None)) }
+        ensures handed_back { IfErr result (λ refused. refused.value ≡ (record { table = table; key = key }, None)) }
+
+        // `Memory` comes only where there is room for the write, and neither comes to an object that is there.
         ensures fault { MatchResult result
-            (λ _. is_full_for self.old.writes (object_of object) ≡ false)
-            (λ refused. refused.fault ≡ cond (is_full_for self.old.writes (object_of object)) SetFull Memory) }
-        ensures only_new { OnErr result (own self.old.writes (object_of object) ≡ None) }
+            (λ _. is_full_for self.old.writes (table, key_of key) ≡ false)
+            (λ refused. refused.fault ≡ cond (is_full_for self.old.writes (table, key_of key)) SetFull Memory) }
+        ensures only_new { OnErr result (own self.old.writes (table, key_of key) ≡ None) }
     {
-        self.writes.set(object, None)
+        self.writes.set(Object { table, key }, None)
     }
 
     /// The number, the start and the writes, for the request to enter. It takes no memory.
@@ -121,6 +151,6 @@ impl<A: Allocator> PrivateCopy<A> {
             start,
             writes,
         } = self;
-        (number, start, writes)
+        (number, start, WriteSet::from_map(writes))
     }
 }

@@ -1,18 +1,20 @@
 //! What a transaction writes and reads: its write set, its read set, and the tests whether these meet.
 #![tactic(auto)]
 
-pub mod copies;
-pub mod meets;
+mod copies;
+mod maps;
+mod meets;
 mod overlays;
-pub mod prepared;
-pub mod reads;
-pub mod shared;
+mod prepared;
+mod reads;
+mod shareable;
 #[cfg(test)]
 mod tests;
-pub mod writes;
+mod writes;
 
 pub use copies::PrivateCopy;
+pub use maps::Write;
+pub use meets::{meets_reads, meets_writes};
 pub use prepared::Prepared;
-pub use reads::{Answer, Observation, ReadSet, RefusedObservation};
-pub use shared::{SharedReads, SharedWrites};
-pub use writes::{RefusedWrite, WriteSet};
+pub use reads::{Answer, Observation, ReadSet};
+pub use writes::WriteSet;

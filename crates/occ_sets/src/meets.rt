@@ -20,5 +20,6 @@ pub fn meets_reads<A: Allocator>(writes: &WriteSet<A>, reads: &ReadSet<A>) -> bo
 pub fn meets_writes<A: Allocator>(writes: &WriteSet<A>, others: &WriteSet<A>) -> bool
     ensures { result ≡ meets_writes writes.now others.now }
 {
+    let others = others.map();
     others.entries.keys().any(|object| writes.writes(object))
 }

@@ -11,15 +11,15 @@ ghost use Rattle.occ_model.specs.State.{Write};
 ghost use Rattle.occ_sets.specs.Overlays.{Agrees, FollowsWrite, FollowsWrites, over_row, rows_over};
 ghost use Rattle.occ_sets.specs.Seen.{answer_of, rows_of};
 
+use crate::maps::WriteMap;
 use crate::reads::Answer;
-use crate::writes::WriteSet;
 use occ_types::{Key, Object, Question, Row};
 use std::alloc::{AllocError, Allocator};
 use std::collections::BTreeMap;
 
 // The answer for a single key, from the own write where there is one.
 pub(crate) fn over_row<A: Allocator + Clone>(
-    writes: &WriteSet<A>,
+    writes: &WriteMap<A>,
     object: &Object<A>,
     given: Answer<A>,
 ) -> Result<Answer<A>, AllocError>
@@ -34,7 +34,7 @@ pub(crate) fn over_row<A: Allocator + Clone>(
 
 // The rows of a range with the own writes over them.
 pub(crate) fn over_rows<A: Allocator + Copy>(
-    writes: &WriteSet<A>,
+    writes: &WriteMap<A>,
     question: &Question<A>,
     rows: Vec<(Key<A>, Row<A>), A>,
 ) -> Result<Vec<(Key<A>, Row<A>), A>, AllocError>
@@ -81,7 +81,7 @@ fn put<A: Allocator + Copy>(
 fn write_all<A: Allocator + Copy>(
     seen: &mut BTreeMap<Key<A>, Row<A>, A>,
     question: &Question<A>,
-    writes: &WriteSet<A>,
+    writes: &WriteMap<A>,
 ) -> Result<(), AllocError>
     ensures { OnOk result (FollowsWrites (question_of question.now) seen.old.entries seen.new.entries writes.now) }
 {
@@ -95,7 +95,7 @@ fn write_all<A: Allocator + Copy>(
 fn write<A: Allocator + Copy>(
     seen: &mut BTreeMap<Key<A>, Row<A>, A>,
     question: &Question<A>,
-    writes: &WriteSet<A>,
+    writes: &WriteMap<A>,
     place: usize,
 ) -> Result<(), AllocError>
     ensures { OnOk result ((write : Write) → slice_get writes.now place ≡ Some write → FollowsWrite (question_of question.now) seen.old.entries seen.new.entries write) }

@@ -1,8 +1,9 @@
 //! What a private copy takes before a range is asked for, so that its own writes go over the answer without memory.
-ghost use Rattle.std.specs.Prelude.{◌≡◌, ◌+◌, ◌≤◌, ◌<◌, ◌++◌, Some, slice_get, length, vec_len, vec_capacity, IfOk, OnOk};
+ghost use Rattle.std.specs.Prelude.{◌≡◌, ◌+◌, ◌≤◌, ◌<◌, ◌++◌, Some, slice_get, length, vec_len, vec_capacity, IfOk, OnOk, IsOkUnless};
 ghost use Rattle.std.specs.BTreeMap.{btree_map_len};
 ghost use Rattle.std.specs.Option.{option_copied};
 ghost use Rattle.std.specs.Ordering.{on};
+ghost use Rattle.occ_types.specs.declared.fault.Fault.TheVariants.{Memory};
 ghost use Rattle.occ_types.specs.declared.limits.TheConstants as limit;
 ghost use Rattle.occ_types.specs.Key.{key_cmp};
 ghost use Rattle.occ_types.specs.Seen.{key_of, question_of};
@@ -12,9 +13,9 @@ ghost use Rattle.occ_sets.specs.Merging.{LaysFirst, LaysRow, Led, LedFurther, fi
 ghost use Rattle.occ_sets.specs.Seen.{rows_of};
 
 use crate::copies::PrivateCopy;
-use crate::writes::WriteSet;
+use crate::maps::WriteMap;
 use occ_types::limits::MAX_ANSWER_ROWS;
-use occ_types::{Key, Question, Row};
+use occ_types::{Fault, Key, Question, Row};
 use std::alloc::{AllocError, Allocator};
 use std::cmp::Ordering;
 use std::collections::BTreeMap;
@@ -24,7 +25,7 @@ use std::marker::Model;
 #[derive(Drop)]
 pub struct Prepared<'a, A: Allocator> {
     question: &'a Question<A>,
-    writes: &'a WriteSet<A>,
+    writes: &'a WriteMap<A>,
     own: BTreeMap<Key<A>, Option<Row<A>>, A>,
     room: Vec<(Key<A>, Row<A>), A>,
 }
@@ -48,9 +49,10 @@ impl<'a, A: Allocator> Model for Prepared<'a, A> {
 }
 
 impl<A: Allocator + Copy> PrivateCopy<A> {
-    /// Takes what it needs to lay the own writes over the answer to a question: copies of those that are asked for, and room for them and for the most rows that an answer may have. An error where there is no memory.
-    pub fn prepare<'a>(&'a self, question: &'a Question<A>) -> Result<Prepared<'a, A>, AllocError>
-        ensures { IfOk result (λ prepared. prepared ≡ record { question = question_of question.now; writes = self.now.writes }) }
+    /// Takes what it needs to lay the own writes over the answer to a question: copies of those that are asked for, and room for them and for the most rows that an answer may have. Refused with `Memory` where there is none.
+    pub fn prepare<'a>(&'a self, question: &'a Question<A>) -> Result<Prepared<'a, A>, Fault>
+        ensures prepared { IfOk result (λ prepared. prepared ≡ record { question = question_of question.now; writes = self.now.writes }) }
+        ensures memory { IsOkUnless result Memory }
     {
         let writes = self.writes();
         let alloc = *writes.entries.allocator();
@@ -153,7 +155,7 @@ fn first_to<A: Allocator>(own: &BTreeMap<Key<A>, Option<Row<A>>, A>, key: &Key<A
 fn own_asked<A: Allocator + Copy>(
     alloc: A,
     question: &Question<A>,
-    writes: &WriteSet<A>,
+    writes: &WriteMap<A>,
 ) -> Result<BTreeMap<Key<A>, Option<Row<A>>, A>, AllocError>
     ensures { IfOk result (λ own. (state : State) → Led (question_of question.now) own.entries state (apply state writes.now)) }
 {
@@ -168,7 +170,7 @@ fn own_asked<A: Allocator + Copy>(
 fn note_write<A: Allocator + Copy>(
     own: &mut BTreeMap<Key<A>, Option<Row<A>>, A>,
     question: &Question<A>,
-    writes: &WriteSet<A>,
+    writes: &WriteMap<A>,
     place: usize,
 ) -> Result<(), AllocError>
     ensures { OnOk result ((write : Write) → slice_get writes.now place ≡ Some write → LedFurther (question_of question.now) own.old.entries own.new.entries write) }

@@ -1,17 +1,18 @@
 //! The read set of a transaction.
-ghost use Rattle.std.specs.Prelude.{◌≡◌, ◌==◌, ◌≤◌, ◌++◌, [], ◌∷◌, false, cond, length, slice_get, IfErr, OnOk, OnErr, MatchResult};
-ghost use Rattle.std.specs.Option.{option_copied, option_map};
+ghost use Rattle.std.specs.Prelude.{◌≡◌, ◌==◌, ◌≤◌, ◌++◌, [], ◌∷◌, false, cond, length, IfErr, IfOk, OnOk, OnErr, MatchResult, IsOkUnless};
 ghost use Rattle.occ_types.specs.declared.fault.Fault.TheVariants.{SetFull, Memory};
 ghost use Rattle.occ_types.specs.declared.limits.TheConstants as limit;
 ghost use Rattle.occ_types.specs.Seen.{question_of};
 ghost use Rattle.occ_sets.specs.Seen.{answer_of, observation_of, observations_of};
 ghost use Rattle.occ_sets.specs.Sets.{is_full};
+ghost use Rattle.occ_sets.specs.Shareable.{held};
 
-use occ_types::fault::Fault;
+use crate::shareable::Shareable;
 use occ_types::limits::MAX_QUESTIONS;
-use occ_types::{Key, Question, Row};
-use std::alloc::{AllocFailed, Allocator};
+use occ_types::{Fault, Key, Question, Refused, Row};
+use std::alloc::{AllocError, AllocFailed, Allocator};
 use std::marker::Model;
+use std::mem;
 
 /// What a question is answered.
 #[derive(Drop)]
@@ -21,6 +22,17 @@ pub enum Answer<A: Allocator> {
     Found(Option<Row<A>>),
     /// To a range its keys and rows, in the order of the keys.
     Rows(Vec<(Key<A>, Row<A>), A>),
+}
+
+impl<A: Allocator + Clone> Clone for Answer<A> {
+    ghost is_clone = { λ source copy. answer_of copy ≡ answer_of source };
+
+    fn clone(&self) -> Result<Answer<A>, AllocError> {
+        match self {
+            Answer::Found(row) => Ok(Answer::Found(row.clone()?)),
+            Answer::Rows(rows) => Ok(Answer::Rows(rows.clone()?)),
+        }
+    }
 }
 
 /// A question and its answer.
@@ -33,23 +45,22 @@ pub struct Observation<A: Allocator> {
     pub answer: Answer<A>,
 }
 
-/// An observation that was refused, handed back.
-#[derive(Drop)]
-#[derive_where(Debug)]
-pub struct RefusedObservation<A: Allocator> {
-    /// What was asked.
-    pub question: Question<A>,
-    /// What the table answered.
-    pub answer: Answer<A>,
-    /// `SetFull` or `Memory`.
-    pub fault: Fault,
+impl<A: Allocator + Clone> Clone for Observation<A> {
+    ghost is_clone = { λ source copy. observation_of copy ≡ observation_of source };
+
+    fn clone(&self) -> Result<Observation<A>, AllocError> {
+        Ok(Observation {
+            question: self.question.clone()?,
+            answer: self.answer.clone()?,
+        })
+    }
 }
 
-/// What a transaction read: each question with the table's answer, in the order asked. Clauses see the list of the plain observations.
+/// What a transaction read: each question with the table's answer, in the order asked. One owner has it by itself, or several share it, also across threads. Clauses see the list of the plain observations.
 #[derive(Drop)]
 #[derive_where(Debug)]
 pub struct ReadSet<A: Allocator> {
-    observations: Vec<Observation<A>, A>,
+    content: Shareable<Vec<Observation<A>, A>, A>,
 }
 
 impl<A: Allocator> Model for ReadSet<A> {
@@ -60,10 +71,11 @@ impl<A: Allocator> Model for ReadSet<A> {
     ghost Value = { List Seen };
 
     ghost use Rattle.occ_sets.specs.Seen.{observations_of};
+    ghost use Rattle.occ_sets.specs.Shareable.{held};
 
-    ghost view = { λ s. observations_of s.observations.items };
+    ghost view = { λ s. observations_of (held s.content).items };
 
-    ghost invariant = { λ s. length s.observations.items ≤ MAX_QUESTIONS };
+    ghost invariant = { λ s. length (held s.content).items ≤ MAX_QUESTIONS };
 }
 
 impl<A: Allocator> ReadSet<A> {
@@ -72,7 +84,7 @@ impl<A: Allocator> ReadSet<A> {
         ensures { result ≡ [] }
     {
         ReadSet {
-            observations: Vec::new(alloc),
+            content: Shareable::Plain(Vec::new(alloc)),
         }
     }
 
@@ -81,7 +93,7 @@ impl<A: Allocator> ReadSet<A> {
         ensures value { result ≡ length self.now }
         ensures few { result ≤ limit.MAX_QUESTIONS }
     {
-        self.observations.len()
+        self.content.get().len()
     }
 
     /// Whether no question was asked.
@@ -91,48 +103,95 @@ impl<A: Allocator> ReadSet<A> {
         self.len() == 0
     }
 
-    /// Notes a question and the table's answer after the others. Refused with `SetFull` where 256 are noted, and else with `Memory` where the set cannot grow; both leave the set as it was and hand back what was to be noted.
+    /// What was noted, in the order asked.
+    pub fn observations(&self) -> &[Observation<A>]
+        ensures { observations_of result.now ≡ self.now }
+    {
+        self.content.get().as_slice()
+    }
+}
+
+impl<A: Allocator + Copy> ReadSet<A> {
+    /// From now on a clone of the set is one more owner of it, and copies nothing. Refused with `Memory` where there is none for the handle. The set has its observations either way.
+    pub fn share(&mut self) -> Result<(), Fault>
+        ensures kept { self.new ≡ self.old }
+        ensures memory { IsOkUnless result Memory }
+    {
+        let alloc = *self.content.get().allocator();
+        self.content.share(alloc, Vec::new(alloc))?;
+        Ok(())
+    }
+
+    /// Notes a question and the table's answer after the others. What others share is copied first. Refused with `SetFull` where 256 are noted, and else with `Memory` where the set cannot grow or be copied; both leave the set as it was and hand back what was to be noted.
     pub fn note(
         &mut self,
         question: Question<A>,
         answer: Answer<A>,
-    ) -> Result<(), RefusedObservation<A>>
+    ) -> Result<(), Refused<Observation<A>>>
         ensures ok { OnOk result (self.new ≡ self.old ++ (question_of question, answer_of answer) ∷ []) }
         ensures err { OnErr result (self.new ≡ self.old) }
-        ensures handed_back { IfErr result (λ refused. (refused.question ≡ question) × (refused.answer ≡ answer)) }
+        ensures handed_back { IfErr result (λ refused. refused.value ≡ record { question = question; answer = answer }) }
 
         // `Memory` comes only where there is room for the observation.
         ensures fault { MatchResult result
             (λ _. is_full self.old ≡ false)
             (λ refused. refused.fault ≡ cond (is_full self.old) SetFull Memory) }
     {
-        if self.observations.len() >= MAX_QUESTIONS {
-            return Err(RefusedObservation {
-                question,
-                answer,
+        let seen = Observation { question, answer };
+        if self.len() >= MAX_QUESTIONS {
+            return Err(Refused {
+                value: seen,
                 fault: Fault::SetFull,
             });
         }
-        match self.observations.push(Observation { question, answer }) {
-            Ok(()) => Ok(()),
-            Err(
-                AllocFailed {
-                    value: Observation { question, answer },
-                },
-            ) => {
-                Err(RefusedObservation {
-                    question,
-                    answer,
-                    fault: Fault::Memory,
-                })
-            }
-        }
+        let empty = Vec::new(*self.content.get().allocator());
+        let content = mem::replace(&mut self.content, Shareable::Plain(empty));
+        let (content, done) = note_in(content, seen);
+        self.content = content;
+        done
     }
+}
 
-    /// What was noted, in the order asked.
-    pub fn observations(&self) -> &[Observation<A>]
-        ensures { observations_of result.now ≡ self.now }
-    {
-        self.observations.as_slice()
+// Notes an observation. It is refused, and handed back, where there is no memory.
+fn note_in<A: Allocator + Clone>(
+    content: Shareable<Vec<Observation<A>, A>, A>,
+    seen: Observation<A>,
+) -> (
+    Shareable<Vec<Observation<A>, A>, A>,
+    Result<(), Refused<Observation<A>>>,
+)
+    ensures ok { OnOk result.1 (observations_of (held result.0).items ≡ observations_of (held content).items ++ observation_of seen ∷ []) }
+    ensures err { OnErr result.1 (observations_of (held result.0).items ≡ observations_of (held content).items) }
+    ensures handed_back { IfErr result.1 (λ refused. refused.value ≡ seen) }
+    ensures memory { IfErr result.1 (λ refused. refused.fault ≡ Memory) }
+{
+    let mut observations = match content.into_plain() {
+        Ok(observations) => observations,
+        Err(content) => return (content, Err(memory(seen))),
+    };
+    match observations.push(seen) {
+        Ok(()) => (Shareable::Plain(observations), Ok(())),
+        Err(AllocFailed { value }) => (Shareable::Plain(observations), Err(memory(value))),
+    }
+}
+
+// There is no memory for what was to be noted.
+fn memory<A: Allocator>(value: Observation<A>) -> Refused<Observation<A>>
+    ensures { result ≡ record { value = value; fault = Memory } }
+{
+    Refused {
+        value,
+        fault: Fault::Memory,
+    }
+}
+
+impl<A: Allocator + Clone> Clone for ReadSet<A> {
+    ghost is_clone = { λ source copy. copy ≡ source };
+
+    // One more owner of a set that is shared, and else a copy.
+    fn clone(&self) -> Result<ReadSet<A>, AllocError> {
+        Ok(ReadSet {
+            content: self.content.clone()?,
+        })
     }
 }

@@ -7,11 +7,7 @@ ghost use Rattle.occ_types.specs.Seen.{question_of};
 ghost use Rattle.occ_model.specs.State.{State, Rows, answer};
 ghost use Rattle.occ_sets.specs.Seen.{rows_of};
 
-use crate::copies::PrivateCopy;
-use crate::meets::{meets_reads, meets_writes};
-use crate::reads::{Answer, ReadSet};
-use crate::shared::SharedWrites;
-use crate::writes::WriteSet;
+use crate::{Answer, Observation, PrivateCopy, ReadSet, WriteSet, meets_reads, meets_writes};
 use occ_types::limits::{MAX_ANSWER_ROWS, MAX_WRITES};
 use occ_types::{Cell, Key, Object, Question, Row};
 use std::alloc::Global;
@@ -27,10 +23,8 @@ fn object(table: usize, key: u64) -> Object<Global> {
 // A set that deletes one key of table 0.
 fn deletes(alloc: Global, key: u64) -> Option<WriteSet<Global>> {
     let mut set = WriteSet::new(alloc);
-    match set.set(object(0, key), None) {
-        Ok(()) => Some(set),
-        Err(_refused) => None,
-    }
+    set.set(0, Key::Num(key), None).ok()?;
+    Some(set)
 }
 
 // A read set that asked for the keys 5 to 8 of table 0.
@@ -41,10 +35,8 @@ fn asked(alloc: Global) -> Option<ReadSet<Global>> {
         lower: Some(Key::Num(5)),
         upper: Some(Key::Num(8)),
     };
-    match reads.note(question, Answer::Found(None)) {
-        Ok(()) => Some(reads),
-        Err(_refused) => None,
-    }
+    reads.note(question, Answer::Found(None)).ok()?;
+    Some(reads)
 }
 
 // Whether the deletion of a key meets what was asked.
@@ -80,9 +72,8 @@ fn deletions_of_one_key_collide(rt: HostRuntime) -> Result<(), Fail> {
 // How many writes a copy has after two deletions, and the number that it hands in.
 fn copied(alloc: Global, key: u64, other: u64) -> Option<(u64, usize)> {
     let mut copy = PrivateCopy::new(alloc, 3, 17);
-    if copy.delete(object(0, key)).is_err() || copy.delete(object(0, other)).is_err() {
-        return None;
-    }
+    copy.delete(0, Key::Num(key)).ok()?;
+    copy.delete(0, Key::Num(other)).ok()?;
     let (number, _start, writes) = copy.into_request();
     Some((number, writes.len()))
 }
@@ -95,17 +86,37 @@ fn a_second_write_takes_no_place(rt: HostRuntime) -> Result<(), Fail> {
     Ok(())
 }
 
-// How many writes the second owner of a set sees.
-fn shared(alloc: Global) -> Option<usize> {
-    let set = deletes(alloc, 1)?;
-    let first = SharedWrites::new(alloc, set).ok()?;
-    let second = first.share().ok()?;
-    Some(second.get().len())
+// How many writes two owners of one set see, after the first has done one more.
+fn shared(alloc: Global) -> Option<(usize, usize)> {
+    let mut first = deletes(alloc, 1)?;
+    first.share().ok()?;
+    let second = first.clone().ok()?;
+    first.set(0, Key::Num(2), None).ok()?;
+    Some((first.len(), second.len()))
 }
 
 #[test]
-fn owners_see_the_same_set(rt: HostRuntime) -> Result<(), Fail> {
-    assert!(rt; shared(rt.alloc()) == Some(1));
+fn a_write_is_not_seen_by_other_owners(rt: HostRuntime) -> Result<(), Fail> {
+    assert!(rt; shared(rt.alloc()) == Some((2, 1)));
+    Ok(())
+}
+
+// How many observations two owners of one set see, after the first has noted one more, and its only owner another.
+fn shared_reads(alloc: Global) -> Option<(usize, usize)> {
+    let mut first = asked(alloc)?;
+    first.share().ok()?;
+    let second = first.clone().ok()?;
+    let question = Question::One(object(0, 1));
+    first.note(question, Answer::Rows(Vec::new(alloc))).ok()?;
+    first.share().ok()?;
+    let seen: Observation<Global> = first.observations().first()?.clone().ok()?;
+    first.note(seen.question, seen.answer).ok()?;
+    Some((first.len(), second.len()))
+}
+
+#[test]
+fn a_read_is_not_seen_by_other_owners(rt: HostRuntime) -> Result<(), Fail> {
+    assert!(rt; shared_reads(rt.alloc()) == Some((3, 1)));
     Ok(())
 }
 
@@ -181,8 +192,8 @@ fn written(alloc: Global, writes: &[(u64, Option<i64>)]) -> Option<PrivateCopy<G
     let mut copy = PrivateCopy::new(alloc, 1, 0);
     for (key, number) in writes {
         match number {
-            None => copy.delete(object(0, *key)).ok()?,
-            Some(number) => copy.put(object(0, *key), row(alloc, *number)?).ok()?,
+            None => copy.delete(0, Key::Num(*key)).ok()?,
+            Some(number) => copy.put(0, Key::Num(*key), row(alloc, *number)?).ok()?,
         }
     }
     Some(copy)

@@ -1,52 +1,37 @@
 //! The write set of a transaction.
-ghost use Rattle.std.specs.Prelude.{◌≡◌, ◌==◌, ◌<◌, ◌≤◌, [], false, cond, length, slice_get, is_some, None, IfErr, IfSome, OnOk, OnErr, MatchResult};
+ghost use Rattle.std.specs.Prelude.{◌≡◌, ◌==◌, ◌<◌, [], false, cond, length, slice_get, is_some, IfErr, IfSome, IfOk, OnOk, OnErr, MatchResult, IsOkUnless};
 ghost use Rattle.std.specs.Option.{option_copied, option_map};
 ghost use Rattle.occ_types.specs.declared.fault.Fault.TheVariants.{SetFull, Memory};
 ghost use Rattle.occ_types.specs.declared.limits.TheConstants as limit;
-ghost use Rattle.occ_types.specs.Seen.{object_of, question_of};
+ghost use Rattle.occ_types.specs.Seen.{object_of, key_of, question_of};
 ghost use Rattle.occ_model.specs.State.{meets_question};
 ghost use Rattle.occ_model.specs.Overlay.{set, own};
 ghost use Rattle.occ_sets.specs.Sets.{IsWriteSet, is_full_for};
+ghost use Rattle.occ_sets.specs.Shareable.{held};
 
-use indexmap::IndexMap;
-use occ_types::fault::Fault;
-use occ_types::limits::MAX_WRITES;
-use occ_types::{Object, Question, Row};
-use std::alloc::{AllocFailed, Allocator};
-use std::hash::{BuildHasherDefault, FoldHasher};
+use crate::maps::{Write, WriteMap};
+use crate::shareable::Shareable;
+use occ_types::{Fault, Key, Object, Question, Refused, Row};
+use std::alloc::{AllocError, Allocator};
 use std::marker::Model;
+use std::mem;
 
-/// What a transaction writes: each object with its new row, or with none where it is deleted, in the order of the first writes. Clauses see the list of the plain writes.
+/// What a transaction writes: each object with its new row, or with none where it is deleted, in the order of the first writes. One owner has it by itself, or several share it, also across threads. Clauses see the list of the plain writes.
 #[derive(Drop)]
 #[derive_where(Debug)]
 pub struct WriteSet<A: Allocator> {
-    pub(crate) entries: IndexMap<Object<A>, Option<Row<A>>, BuildHasherDefault<FoldHasher>, A>,
+    content: Shareable<WriteMap<A>, A>,
 }
 
 impl<A: Allocator> Model for WriteSet<A> {
-    ghost use Rattle.std.specs.Prelude.{◌≤◌, List, length};
-    ghost use Rattle.occ_types.specs.declared.limits.TheConstants.{MAX_WRITES};
+    ghost use Rattle.std.specs.Prelude.{List};
     ghost use Rattle.occ_model.specs.State.{Write};
 
     ghost Value = { List Write };
 
-    ghost use Rattle.occ_sets.specs.Seen.{writes_of};
+    ghost use Rattle.occ_sets.specs.Shareable.{held};
 
-    ghost view = { λ s. writes_of s.entries.entries };
-
-    ghost invariant = { λ s. length s.entries.entries ≤ MAX_WRITES };
-}
-
-/// A write that was refused, handed back.
-#[derive(Drop)]
-#[derive_where(Debug)]
-pub struct RefusedWrite<A: Allocator> {
-    /// The object.
-    pub object: Object<A>,
-    /// Its new row.
-    pub row: Option<Row<A>>,
-    /// `SetFull` or `Memory`.
-    pub fault: Fault,
+    ghost view = { λ s. held s.content };
 }
 
 impl<A: Allocator + Copy> WriteSet<A> {
@@ -54,19 +39,33 @@ impl<A: Allocator + Copy> WriteSet<A> {
     pub fn new(alloc: A) -> WriteSet<A>
         ensures { result ≡ [] }
     {
-        WriteSet {
-            entries: IndexMap::new(alloc),
-        }
+        WriteSet::from_map(WriteMap::new(alloc))
     }
 }
 
 impl<A: Allocator> WriteSet<A> {
+    // The set of some writes, which takes no memory.
+    pub(crate) fn from_map(map: WriteMap<A>) -> WriteSet<A>
+        ensures { result ≡ map }
+    {
+        WriteSet {
+            content: Shareable::Plain(map),
+        }
+    }
+
+    // The writes.
+    pub(crate) fn map(&self) -> &WriteMap<A>
+        ensures { result.now ≡ self.now }
+    {
+        self.content.get()
+    }
+
     /// How many objects are written.
     pub fn len(&self) -> usize
         ensures value { result ≡ length self.now }
         ensures fits { IsWriteSet self.now }
     {
-        self.entries.len()
+        self.map().len()
     }
 
     /// Whether no object is written.
@@ -76,51 +75,18 @@ impl<A: Allocator> WriteSet<A> {
         self.len() == 0
     }
 
-    /// Writes an object, or deletes it where `row` is none. A new object goes last; one that is there keeps its place and takes the new row, which needs no memory and has room always. A new one is refused with `SetFull` where there are 256 writes, and else with `Memory` where the set cannot grow; both leave the set as it was and hand the write back.
-    pub fn set(&mut self, object: Object<A>, row: Option<Row<A>>) -> Result<(), RefusedWrite<A>>
-        ensures ok { OnOk result (self.new ≡ set self.old (object_of object) row) }
-        ensures err { OnErr result (self.new ≡ self.old) }
-        ensures handed_back { IfErr result (λ refused. (refused.object ≡ object) × (refused.row ≡ row)) }
-
-        // `Memory` comes only where there is room for the write, and neither comes to an object that is there.
-        ensures fault { MatchResult result
-            (λ _. is_full_for self.old (object_of object) ≡ false)
-            (λ refused. refused.fault ≡ cond (is_full_for self.old (object_of object)) SetFull Memory) }
-        ensures only_new { OnErr result (own self.old (object_of object) ≡ None) }
-    {
-        if self.entries.len() >= MAX_WRITES && !self.entries.contains_key(&object) {
-            return Err(RefusedWrite {
-                object,
-                row,
-                fault: Fault::SetFull,
-            });
-        }
-        match self.entries.insert(object, row) {
-            Ok(_) => Ok(()),
-            Err(
-                AllocFailed {
-                    value: (object, row),
-                },
-            ) => Err(RefusedWrite {
-                object,
-                row,
-                fault: Fault::Memory,
-            }),
-        }
-    }
-
     /// The own write of an object: none where there is none, and else its new row, or none where it is deleted.
     pub fn own(&self, object: &Object<A>) -> Option<Option<&Row<A>>>
         ensures { option_map option_copied result ≡ own self.now (object_of object.now) }
     {
-        self.entries.get(object).map(|row| row.as_ref())
+        self.map().own(object)
     }
 
     /// Whether an object is written.
     pub fn writes(&self, object: &Object<A>) -> bool
         ensures { result ≡ is_some (own self.now (object_of object.now)) }
     {
-        self.entries.contains_key(object)
+        self.map().writes(object)
     }
 
     /// The write at a place, in the order of the first writes.
@@ -128,21 +94,95 @@ impl<A: Allocator> WriteSet<A> {
         ensures value { option_map (λ w. (object_of w.0.now, option_copied w.1)) result ≡ slice_get self.now place }
         ensures few { IfSome result (λ _. place < limit.MAX_WRITES) }
     {
-        self.entries
-            .get_index(place)
-            .map(|(object, row)| (object, row.as_ref()))
+        self.map().write_at(place)
     }
 
     /// Whether the set writes what the question asks for: one look-up for a single key, one pass for a range.
     pub fn meets(&self, question: &Question<A>) -> bool
         ensures { result ≡ meets_question self.now (question_of question.now) }
     {
-        match question {
-            Question::One(object) => self.writes(object),
-            Question::Span { .. } => self
-                .entries
-                .keys()
-                .any(|object| question.asks(object.table, &object.key)),
+        self.map().meets(question)
+    }
+}
+
+impl<A: Allocator + Copy> WriteSet<A> {
+    /// From now on a clone of the set is one more owner of it, and copies nothing. Refused with `Memory` where there is none for the handle. The set has its writes either way.
+    pub fn share(&mut self) -> Result<(), Fault>
+        ensures kept { self.new ≡ self.old }
+        ensures memory { IsOkUnless result Memory }
+    {
+        let alloc = *self.map().entries.allocator();
+        self.content.share(alloc, WriteMap::new(alloc))?;
+        Ok(())
+    }
+
+    /// Writes an object of a table, or deletes it where `row` is none. A new object goes last; one that is there keeps its place and takes the new row. What others share is copied first.
+    ///
+    /// A new object is refused with `SetFull` where there are 256 writes, and else with `Memory` where the set cannot grow. An object that is there is refused only where there is no memory for that copy. A refusal leaves the set as it was and hands the write back.
+    pub fn set(
+        &mut self,
+        table: usize,
+        key: Key<A>,
+        row: Option<Row<A>>,
+    ) -> Result<(), Refused<Write<A>>>
+        ensures ok { OnOk result (self.new ≡ set self.old (table, key_of key) row) }
+        ensures err { OnErr result (self.new ≡ self.old) }
+        ensures handed_back { IfErr result (λ refused. refused.value ≡ (record { table = table; key = key }, row)) }
+
+        // `Memory` comes only where there is room for the write.
+        ensures fault { MatchResult result
+            (λ _. is_full_for self.old (table, key_of key) ≡ false)
+            (λ refused. refused.fault ≡ cond (is_full_for self.old (table, key_of key)) SetFull Memory) }
+    {
+        let object = Object { table, key };
+        if self.map().is_full_for(&object) {
+            return Err(Refused {
+                value: (object, row),
+                fault: Fault::SetFull,
+            });
         }
+        let empty = WriteMap::new(*self.map().entries.allocator());
+        let content = mem::replace(&mut self.content, Shareable::Plain(empty));
+        let (content, done) = set_in(content, (object, row));
+        self.content = content;
+        done
+    }
+}
+
+// Does a write that there is room for. It is refused, and handed back, where there is no memory.
+fn set_in<A: Allocator + Clone>(
+    content: Shareable<WriteMap<A>, A>,
+    write: Write<A>,
+) -> (Shareable<WriteMap<A>, A>, Result<(), Refused<Write<A>>>)
+    requires room { is_full_for (held content) (object_of write.0) ≡ false }
+    ensures ok { OnOk result.1 (held result.0 ≡ set (held content) (object_of write.0) write.1) }
+    ensures err { OnErr result.1 (held result.0 ≡ held content) }
+    ensures handed_back { IfErr result.1 (λ refused. refused.value ≡ write) }
+    ensures memory { IfErr result.1 (λ refused. refused.fault ≡ Memory) }
+{
+    match content.into_plain() {
+        Ok(mut map) => {
+            let (object, row) = write;
+            let done = map.set(object, row);
+            (Shareable::Plain(map), done)
+        }
+        Err(content) => (
+            content,
+            Err(Refused {
+                value: write,
+                fault: Fault::Memory,
+            }),
+        ),
+    }
+}
+
+impl<A: Allocator + Clone> Clone for WriteSet<A> {
+    ghost is_clone = { λ source copy. copy ≡ source };
+
+    // One more owner of a set that is shared, and else a copy.
+    fn clone(&self) -> Result<WriteSet<A>, AllocError> {
+        Ok(WriteSet {
+            content: self.content.clone()?,
+        })
     }
 }

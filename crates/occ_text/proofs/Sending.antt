@@ -1,16 +1,10 @@
 -- What several writes send together.
-use Rattle.std.proofs.Common.{◌≡◌, ℕ, ◌+◌, ◌≤◌, List, [], ◌++◌, length, take, drop, None, Some, refl, sym, ap, subst, ◌∙◌, append_assoc, take-append-drop}
+use Rattle.std.proofs.Common.{◌≡◌, ℕ, ◌+◌, ◌≤◌, List, [], ◌++◌, length, take, drop, refl, sym, ap, subst, ◌∙◌, append_assoc, take-append-drop}
 use Rattle.std.proofs.lemmas.List.{append-nil, drop-drop, drop-append-le}
 use Rattle.std.proofs.KnownBytes.{Appends-nil, Appends-trans, Appends-kept}
 use Rattle.std.specs.declared.option.Option.{Option}
 use Rattle.std.specs.Io.KnownBytes.{Appends, Keeps}
 use Rattle.occ_text.specs.Sending.{Sends}
-
--- a writer that took nothing is as it was
-pub Keeps-from_nothing : (a b : Option (List ℕ)) → Appends a b [] → Keeps a b
-Keeps-from_nothing None b h = tt
-Keeps-from_nothing (Some x) None h = absurd h
-Keeps-from_nothing (Some x) (Some y) h = h ∙ append-nil x
 
 -- before the first write nothing is sent
 pub Sends-none : (a : Option (List ℕ)) (bytes : List ℕ) → Sends a a bytes bytes
@@ -31,11 +25,6 @@ Sends-on a b c bytes all m n h w = subst (Sends a c bytes) (drop-drop n m all) (
 -- a write that failed sent nothing
 pub Sends-kept : (a b c : Option (List ℕ)) (bytes held : List ℕ) → Sends a b bytes held → Keeps b c → Sends a c bytes held
 Sends-kept a b c bytes held h k = record { sent = h.sent; written = Appends-kept a b c h.sent h.written k; whole = h.whole }
-
--- where nothing is held back, all was sent
-pub Appends-all : (a b : Option (List ℕ)) (bytes held : List ℕ) → Sends a b bytes held → held ≡ [] → Appends a b bytes
-Appends-all a b bytes held h none =
-    subst (Appends a b) (sym (h.whole ∙ ap (λ (l : List ℕ). h.sent ++ l) none ∙ append-nil h.sent)) h.written
 
 -- what is held grows at its end
 pub held_more : (sent : ℕ) (text bytes old new : List ℕ) → sent ≤ length text → drop sent text ≡ old → new ≡ text ++ bytes → drop sent new ≡ old ++ bytes

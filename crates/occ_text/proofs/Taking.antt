@@ -1,10 +1,11 @@
 -- Taking the lines of a header.
-use Rattle.std.proofs.Common.{◌≡◌, ◌≢◌, ◌==◌, not, ℕ, ◌+◌, ◌<◌, ◌≤◌, Bool, true, false, List, [], ◌∷◌, ◌++◌, length, map, Option, Some, None, Result, Err, refl, sym, ap, subst, ◌∙◌, arith, length-append}
-use Rattle.std.specs.Prelude.{codes, IsTrue, ◌↔◌, option_and_then}
+use Rattle.std.proofs.Common.{◌≡◌, ◌≢◌, ◌==◌, not, ℕ, ◌+◌, ◌<◌, Bool, true, false, List, [], ◌∷◌, ◌++◌, length, map, Option, Some, None, Result, Ok, Err, refl, sym, ap, subst, ◌∙◌, arith, length-append}
+use Rattle.std.specs.Prelude.{codes, IsTrue, ◌↔◌, ok_or, option_and_then}
 use Rattle.std.specs.List.{All, list_any, list_all}
+use Rattle.std.specs.Result.{IsErrAnd}
 use Rattle.std.specs.Io.KnownBytes.{Consumes}
 use Rattle.std.proofs.KnownBytes.{Consumes-trans}
-use Rattle.std.proofs.lemmas.Bool.{lt-ltb, le-ltb}
+use Rattle.std.proofs.lemmas.Bool.{lt-ltb}
 use Rattle.std.proofs.lemmas.List.{append-nil, map-append, length-map}
 use Rattle.std.proofs.lemmas.List.Elements.{All-weaker}
 use Rattle.std.proofs.lemmas.List.Sums.{AllPass-from_list_all}
@@ -16,24 +17,49 @@ use Rattle.occ_types.specs.declared.fault.Fault.{Fault}
 use Rattle.occ_types.specs.Schema.{Table, Schema, check_tables}
 use Rattle.occ_text.specs.declared.tokens.Unread.{Unread}
 use Rattle.occ_text.specs.declared.tokens.Unread.TheVariants as unread
-use Rattle.occ_text.specs.declared.trouble.Trouble.{Trouble}
-use Rattle.occ_text.specs.declared.trouble.Trouble.TheVariants as troubles
+use Rattle.occ_text.specs.declared.faults.LineFault.{LineFault}
+use Rattle.occ_text.specs.declared.faults.LineFault.TheVariants as line_faults
+use Rattle.occ_text.specs.declared.faults.ReadFault.{ReadFault}
+use Rattle.occ_text.specs.declared.faults.ReadFault.TheVariants as faults
 use Rattle.occ_text.specs.Reading.{Reads}
 use Rattle.occ_text.specs.Escapes.{Gives}
 use Rattle.occ_text.specs.Headers.{table_text}
 use Rattle.occ_text.specs.HeaderReading.{table_of_line}
-use Rattle.occ_text.specs.Line.{IsLine, lines_text}
-use Rattle.occ_text.specs.HeaderTaking.{CannotStand, OtherLine, TablesSoFar, if_free, table_behind, GoesOn, NextTaken, TablesTaken, trouble_at}
+use Rattle.occ_text.specs.Faults.{told, widened}
+use Rattle.occ_text.specs.Line.{IsLine, CannotStand, AtEnd, NoLine, OtherLine, NoneTaken, Taken, lines_text}
+use Rattle.occ_text.specs.HeaderTaking.{TablesSoFar, if_free, table_behind, GoesOn, NextTaken, TablesTaken}
 use Rattle.occ_text.proofs.SchemaLines.{line_refused, steps_refused, table_next}
+
+-- what is no line of a kind is none of a narrower kind
+CannotStand-narrower : (P Q : List ℕ → Type 0) (rest : Option (List ℕ)) → ((line : List ℕ) → Q line → P line) → CannotStand P rest → CannotStand Q rest
+CannotStand-narrower P Q rest h (AtEnd ended) = AtEnd ended
+CannotStand-narrower P Q rest h (NoLine none) = NoLine none
+CannotStand-narrower P Q rest h (OtherLine line after taken alone other) = OtherLine line after taken alone (λ q. other (h line q))
+
+pub NoneTaken-narrower : (P Q : List ℕ → Type 0) (fault : ReadFault) (a b : Option (List ℕ)) (taken : ℕ) → ((line : List ℕ) → Q line → P line) → NoneTaken P fault a b taken → NoneTaken Q fault a b taken
+NoneTaken-narrower P Q (faults.Malformed n) a b taken h t = (CannotStand-narrower P Q a h t.0, t.1)
+NoneTaken-narrower P Q faults.Read a b taken h t = t
+NoneTaken-narrower P Q faults.Memory a b taken h t = tt
 
 feedless : (line : List ℕ) → list_all (λ byte. not (byte == 10)) line ≡ true → All (λ byte. byte ≢ 10) line
 feedless line h = All-weaker (λ (byte : ℕ). not (byte == 10) ≡ true) (λ (byte : ℕ). byte ≢ 10) (λ byte p e. absurd (grind (arith, nat_tests))) line (AllPass-from_list_all (λ byte. not (byte == 10)) line h)
 
--- a line that is spelled by nothing of its grammar can't stand
-pub line_unread : {Y : Type 0} (spell : Y → List ℕ) (fits : Y → Type 0) (shown line : List ℕ) (a b : Option (List ℕ)) → Consumes a b (line ++ 10 ∷ []) → IsLine line → shown ≡ line → Reads spell fits shown None
-    → CannotStand (λ l. (y : Y) × fits y × (l ≡ spell y)) a
-line_unread spell fits shown line a b taken alone same reads =
-    OtherLine line b taken alone (λ p. let e = reads.again p.0 p.1 (same ∙ p.2) in cc e)
+-- a line that was taken is shown by the input, and numbered
+pub record ShownLine (shown : List ℕ) (a b : Option (List ℕ)) (n first last : ℕ) : Type 0 where
+  pub line : List ℕ
+  pub taken : Consumes a b (line ++ 10 ∷ []) × (last ≡ first + 1) × IsLine line
+  pub same : shown ≡ line
+  pub here : n ≡ last
+
+-- a line is read, or it can't stand
+pub line_found : {Y : Type 0} (spell : Y → List ℕ) (fits : Y → Type 0) (read : Option Y) (result : Result Y LineFault) (shown : List ℕ) (a b : Option (List ℕ)) (n first last : ℕ)
+    → ShownLine shown a b n first last → Reads spell fits shown read → result ≡ ok_or read (line_faults.Malformed n) → Taken (λ y. y) spell fits (widened result) a b first last
+line_found {Y} spell fits (Some y) result shown a b n first last line reads is =
+    subst (λ (r : Result Y LineFault). Taken (λ y. y) spell fits (widened r) a b first last) (sym is)
+    (subst (λ (l : List ℕ). Consumes a b (l ++ 10 ∷ [])) (sym line.same ∙ reads.found.0) line.taken.0, reads.found.1, line.taken.1)
+line_found {Y} spell fits None result shown a b n first last line reads is =
+    subst (λ (r : Result Y LineFault). Taken (λ y. y) spell fits (widened r) a b first last) (sym is)
+    (OtherLine line.line b line.taken.0 line.taken.2 (λ p. let e = reads.again p.0 p.1 (line.same ∙ p.2) in cc e), line.here ∙ line.taken.1)
 
 -- a line that isn't the one that is wanted can't stand
 pub another_line : (Y : Type 0) (fits : Y → Type 0) (wanted shown line : List ℕ) (a b : Option (List ℕ)) (test : Bool) → Consumes a b (line ++ 10 ∷ []) → IsLine line → shown ≡ line → (IsTrue test ↔ shown ≡ wanted) → test ≡ false
@@ -49,15 +75,18 @@ next_read tables table shown line a b first last so_far taken same read =
     (subst (λ (l : List ℕ). Consumes a b (l ++ 10 ∷ [])) (sym same ∙ n.spelled) taken.0, n.so_far, taken.1)
 
 -- a line that can't stand behind those of the tables, or memory was refused for it
-pub next_unread : {X Y : Type 0} (view : X → Table) (seen : Y → Table) (tables : List Table) (why : Unread) (trouble : Trouble) (shown again line : List ℕ) (a b : Option (List ℕ)) (n first last : ℕ) (test : Bool)
+pub next_unread : {X Y : Type 0} (view : X → Table) (seen : Y → Table) (read : Result Y Unread) (fault : ReadFault) (result : Result (Option X) ReadFault) (tables : List Table) (shown again line : List ℕ) (a b : Option (List ℕ)) (n first last : ℕ) (test : Bool)
     → TablesSoFar tables → Consumes a b (line ++ 10 ∷ []) × (last ≡ first + 1) × IsLine line → shown ≡ line → again ≡ line → (IsTrue test ↔ shown ≡ codes "steps") → test ≡ false
-    → Gives seen (Err why) (table_behind tables again) → trouble ≡ trouble_at why n → n ≡ last → NextTaken view (Err trouble) tables a b first last
-next_unread view seen tables unread.Malformed trouble shown again line a b n first last test so_far taken same too is not_it none ends here =
+    → Gives seen read (table_behind tables again) → Err fault ≡ told read n → result ≡ Err fault → n ≡ last → NextTaken view result tables a b first last
+next_unread view seen (Ok x) fault result tables shown again line a b n first last test so_far taken same too is not_it gives told_so ends here = absurd cc
+next_unread view seen (Err unread.Malformed) fault result tables shown again line a b n first last test so_far taken same too is not_it gives told_so ends here =
     let other : line ≡ codes "steps" → ⊥ = λ e. let yes = is.1 (same ∙ e) in let f : false ≡ true = sym not_it ∙ yes in cc f in
-    let refused = line_refused tables line so_far other (ap (table_behind tables) (sym too) ∙ none) in
-    subst (λ (t : Trouble). NextTaken view (Err t) tables a b first last) (sym ends) (OtherLine line b taken.0 taken.2 refused, here ∙ taken.1)
-next_unread view seen tables unread.Memory trouble shown again line a b n first last test so_far taken same too is not_it none ends here =
-    subst (λ (t : Trouble). NextTaken view (Err t) tables a b first last) (sym ends) tt
+    let refused = line_refused tables line so_far other (ap (table_behind tables) (sym too) ∙ gives) in
+    let malformed : fault ≡ faults.Malformed n = cc told_so in
+    subst (λ (r : Result (Option _) ReadFault). NextTaken view r tables a b first last) (sym (ends ∙ ap Err malformed)) (OtherLine line b taken.0 taken.2 refused, here ∙ taken.1)
+next_unread view seen (Err unread.Memory) fault result tables shown again line a b n first last test so_far taken same too is not_it gives told_so ends here =
+    let memory : fault ≡ faults.Memory = cc told_so in
+    subst (λ (r : Result (Option _) ReadFault). NextTaken view r tables a b first last) (sym (ends ∙ ap Err memory)) tt
 
 -- ---- the table of a line behind others
 
@@ -78,12 +107,6 @@ behind_taken view tables line name table taken read few called is clash =
     list_any-map (has_name table.name) view tables ∙ ap (λ (n : List ℕ). list_any (λ t. has_name n (view t)) tables) (sym called) ∙ sym is ∙ clash in
     let n = length-map tables view in
     ap (option_and_then (if_free (map view tables))) read ∙ rw (some, lt-ltb (length (map view tables)) 32 (omega arith)) refl
-
-pub behind_full : {X : Type 0} (view : X → Table) (tables : List X) (line : List ℕ) (table : Table) → table_of_line line ≡ Some table → 32 ≤ length tables → table_behind (map view tables) line ≡ None
-unfolding table_behind
-behind_full view tables line table read full =
-    let n = length-map tables view in
-    ap (option_and_then (if_free (map view tables))) read ∙ rw (le-ltb (length (map view tables)) 32 (omega arith)) refl
 
 -- ---- all tables
 
@@ -123,11 +146,10 @@ IsLine-steps = record {
 }
 
 pub tables_none : (tables : List Table) (fault : Fault) (a b c : Option (List ℕ)) (first mid last n : ℕ) → Consumes a b (lines_text (map table_text tables)) → TablesSoFar tables → mid ≡ first + length tables
-    → Consumes b c (codes "steps" ++ 10 ∷ []) × (last ≡ mid + 1) → check_tables tables ≡ Some fault → n ≡ last
-    → (ts : List Table) × (rest : Option (List ℕ)) × Consumes a rest (lines_text (map table_text ts)) × TablesSoFar ts × CannotStand (GoesOn ts) rest × (n ≡ first + length ts + 1)
+    → Consumes b c (codes "steps" ++ 10 ∷ []) × (last ≡ mid + 1) → check_tables tables ≡ Some fault → n ≡ last → TablesTaken (Err (faults.Malformed n)) a c first last
 tables_none tables fault a b c first mid last n taken so_far number next bad here =
     let step = next.1 in
-    (tables, b, taken, so_far, OtherLine (codes "steps") c next.0 IsLine-steps (steps_refused tables fault so_far bad), omega arith)
+    (tables, b, taken, so_far, (OtherLine (codes "steps") c next.0 IsLine-steps (steps_refused tables fault so_far bad), omega arith))
 
 -- the tables, as the code has them
 pub table_pushed_by : {X : Type 0} (view : X → Table) (items shown pushed : List X) (x : X) (a b c : Option (List ℕ)) (first mid last : ℕ) → shown ≡ items → pushed ≡ items ++ x ∷ []
@@ -141,13 +163,20 @@ table_pushed_by view items shown pushed x a b c first mid last same is taken num
     let q = subst (λ (ts : List Table). Pushed ts a c first last) (sym all) p in
     (q.taken, q.so_far, q.number ∙ ap (λ (k : ℕ). first + k) (length-map pushed view))
 
--- the line behind the tables ends them with trouble
-pub tables_stop : {X : Type 0} (view : X → Table) (trouble : Trouble) (result : Result Schema Trouble) (tables shown : List Table) (a b c : Option (List ℕ)) (first mid last : ℕ) → result ≡ Err trouble → shown ≡ tables
-    → Consumes a b (lines_text (map table_text tables)) → TablesSoFar tables → mid ≡ first + length tables → NextTaken view (Err trouble) shown b c mid last → TablesTaken result a c first last
-tables_stop view (troubles.Malformed n) result tables shown a b c first mid last is same taken so_far number t =
-    subst (λ (r : Result Schema Trouble). TablesTaken r a c first last) (sym is)
-    (tables, b, taken, so_far, subst (λ (ts : List Table). CannotStand (GoesOn ts) b) same t.0, t.1 ∙ ap (λ (k : ℕ). k + 1) number)
-tables_stop view troubles.Read result tables shown a b c first mid last is same taken so_far number t =
-    subst (λ (r : Result Schema Trouble). TablesTaken r a c first last) (sym is) (tables, t.0, so_far, t.1, Consumes-trans a b c (lines_text (map table_text tables)) t.0 taken t.2)
-tables_stop view troubles.Write result tables shown a b c first mid last is same taken so_far number t = absurd t
-tables_stop view troubles.Memory result tables shown a b c first mid last is same taken so_far number t = subst (λ (r : Result Schema Trouble). TablesTaken r a c first last) (sym is) tt
+-- the line behind the tables wasn't taken
+pub tables_stop : (fault : ReadFault) (result : Result Schema ReadFault) (tables shown : List Table) (a b c : Option (List ℕ)) (first mid last : ℕ) → IsErrAnd result (λ e. e ≡ fault) → shown ≡ tables
+    → Consumes a b (lines_text (map table_text tables)) → TablesSoFar tables → mid ≡ first + length tables → NoneTaken (GoesOn shown) fault b c mid → TablesTaken result a c first last
+tables_stop fault (Ok schema) tables shown a b c first mid last is same taken so_far number t = absurd is
+tables_stop fault (Err e) tables shown a b c first mid last is same taken so_far number t = (
+  tables,
+  b,
+  taken,
+  so_far,
+  subst (λ (ts : List Table). NoneTaken (GoesOn ts) e b c (first + length tables)) same (subst (NoneTaken (GoesOn shown) e b c) number (subst (λ (f : ReadFault). NoneTaken (GoesOn shown) f b c mid) (sym is) t)),
+)
+
+-- memory was refused for a table
+pub tables_refused : (result : Result Schema ReadFault) (tables : List Table) (a b c : Option (List ℕ)) (first last : ℕ) → IsErrAnd result (λ e. e ≡ faults.Memory) → Consumes a b (lines_text (map table_text tables)) → TablesSoFar tables
+    → TablesTaken result a c first last
+tables_refused (Ok schema) tables a b c first last is taken so_far = absurd is
+tables_refused (Err e) tables a b c first last is taken so_far = (tables, b, taken, so_far, subst (λ (f : ReadFault). NoneTaken (GoesOn tables) f b c (first + length tables)) (sym is) tt)

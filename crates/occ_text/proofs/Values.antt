@@ -1,6 +1,6 @@
 -- Texts, keys, cells and rows: what is read is spelled so, and what is spelled so is read again.
 use Rattle.std.proofs.Common.{◌≡◌, ◌≢◌, ℕ, pos, negsuc, ◌-◌, ◌^◌, Bool, true, false, cond, eqb, List, [], ◌∷◌, length, map, drop, Option, Some, None, Result, Ok, Err, option_map, IfOk, IfSome, lit<, refl, sym, ap, subst, ◌∙◌, arith}
-use Rattle.std.specs.Prelude.{option_and_then}
+use Rattle.std.specs.Prelude.{option_and_then, ok_or}
 use Rattle.std.specs.List.{All, slice_split, join_with_byte}
 use Rattle.std.specs.Str.{IsUtf8, is_utf8}
 use Rattle.std.proofs.lemmas.Bool.{false_from_ne_true, false≢true}
@@ -13,13 +13,14 @@ use Rattle.occ_types.specs.Key as keys
 use Rattle.occ_types.specs.Row.{Cell, Row}
 use Rattle.occ_types.specs.Row as rows
 use Rattle.occ_text.specs.declared.tokens.Unread.{Unread}
+use Rattle.occ_text.specs.declared.tokens.Unread.TheVariants.{Malformed}
 use Rattle.occ_text.specs.Spelling.{is_plain, text_text, key_text, cell_text, row_text, IsText, KeyFits, CellFits, RowFits}
 use Rattle.occ_text.specs.Reading.{Reads, begins_with, number_of, int_of}
 use Rattle.occ_text.specs.Escapes.{Gives, unescaped, if_text, text_of, read_key, read_cell, read_cells, read_row}
 use Rattle.occ_text.proofs.Numbers.{first_is, number_takes, number_again, int_takes, int_again, decimal_begins_otherwise, some_or_none}
 use Rattle.occ_text.proofs.Escapes.{some_is, bind_value, map_value, unescaped_takes, unescaped_again}
 use Rattle.occ_text.proofs.Words.{split_joined}
-use Rattle.occ_text.proofs.Spelled.{OfSpellings, of_cell, of_key, pos_small}
+use Rattle.occ_text.proofs.Spelled.{OfSpellings, of_cell, pos_small}
 
 -- ---- from a reader of lists to a call
 
@@ -31,6 +32,11 @@ found_by view (Err e) read spell fits token gives reads = tt
 pub again_by : {X Y : Type 0} (view : X → Y) (r : Result X Unread) (read : Option Y) (spell : Y → List ℕ) (fits : Y → Type 0) (token : List ℕ)
     → Gives view r read → Reads spell fits token read → (y : Y) → fits y → token ≡ spell y → Gives view r (Some y)
 again_by view r read spell fits token gives reads y fit e = subst (Gives view r) (reads.again y fit e) gives
+
+-- what needed no memory was read, or its token is malformed
+pub Gives-from_option : {X Y : Type 0} (view : X → Y) (o : Option X) (r : Result X Unread) (read : Option Y) → r ≡ ok_or o Malformed → option_map view o ≡ read → Gives view r read
+Gives-from_option view (Some x) r read is same = subst (λ s. Gives view s read) (sym is) (sym same)
+Gives-from_option view None r read is same = subst (λ s. Gives view s read) (sym is) (sym same)
 
 -- ---- texts
 
@@ -140,22 +146,9 @@ comma_separates = record {
   letter = λ n le lt e. omega arith;
 }
 
-pub colon_separates : Separates 58
-colon_separates = record {
-  plain = λ byte h. plain_differs 58 byte refl h;
-  percent = λ e. omega arith;
-  quote = λ e. omega arith;
-  minus = λ e. omega arith;
-  digit = λ n lt e. omega arith;
-  letter = λ n le lt e. omega arith;
-}
-
 -- no separator stands in a cell, or in a key
 pub cell_lacks : (separator : ℕ) (cell : Cell) → Separates separator → CellFits cell → Lacks separator (cell_text cell)
 cell_lacks separator cell s fits = of_cell (λ byte. byte ≢ separator) cell s fits
-
-pub key_lacks : (separator : ℕ) (key : Key) → Separates separator → KeyFits key → Lacks separator (key_text key)
-key_lacks separator key s fits = of_key (λ byte. byte ≢ separator) key s fits
 
 -- cells that were read are spelled by their parts, and fit
 record Cells (parts : List (List ℕ)) (cells : Row) : Type 0 where

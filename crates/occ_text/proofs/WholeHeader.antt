@@ -1,6 +1,7 @@
 -- A whole header, line by line, and the line at which there is none.
-use Rattle.std.proofs.Common.{◌≡◌, ℕ, ◌+◌, ◌≤◌, List, [], ◌∷◌, ◌++◌, length, map, Option, None, Result, Err, refl, sym, ap, subst, ◌∙◌, arith, append_assoc, length-append}
+use Rattle.std.proofs.Common.{◌≡◌, ℕ, ◌+◌, ◌<◌, ◌≤◌, List, [], ◌∷◌, ◌++◌, length, map, Option, None, Result, Ok, Err, refl, sym, ap, subst, ◌∙◌, arith, append_assoc, length-append}
 use Rattle.std.specs.Prelude.{codes}
+use Rattle.std.specs.Result.{IsErrAnd}
 use Rattle.std.specs.Io.KnownBytes.{Consumes}
 use Rattle.std.proofs.KnownBytes.{Consumes-nil, Consumes-trans}
 use Rattle.std.proofs.lemmas.List.{length-map}
@@ -8,21 +9,129 @@ use Rattle.std.proofs.lemmas.Grind.{flat_map-append}
 use Rattle.occ_types.specs.declared.kind.Kind.TheVariants as cells
 use Rattle.occ_types.specs.declared.kind.KeyKind.TheVariants as keys
 use Rattle.occ_types.specs.Schema.{Table, Schema, check_tables}
-use Rattle.occ_text.specs.declared.trouble.Trouble.{Trouble}
-use Rattle.occ_text.specs.declared.trouble.Trouble.TheVariants as troubles
-use Rattle.occ_text.specs.Headers.{Header, Within, HeaderFits, header_text, table_text, count_text}
-use Rattle.occ_text.specs.Line.{lines_text}
-use Rattle.occ_text.specs.HeaderTaking.{CannotStand, AtEnd, NoLine, OtherLine, Taken, TablesSoFar, GoesOn, TablesTaken, BeginsHeader, HeaderTaken}
+use Rattle.occ_text.specs.declared.headers.Limits.{Limits}
+use Rattle.occ_text.specs.declared.faults.LineFault.{LineFault}
+use Rattle.occ_text.specs.declared.faults.ReadFault.{ReadFault}
+use Rattle.occ_text.specs.Faults.{read_fault}
+use Rattle.occ_text.specs.Headers.{Header, Within, LimitsFit, HeaderFits, limits_of, limits_lines, header_text, table_text, count_text}
+use Rattle.occ_text.specs.Line.{NoneTaken, IsSpelled, lines_text}
+use Rattle.occ_text.specs.HeaderTaking.{TablesSoFar, GoesOn, TablesTaken, BeginsLimits, LimitsTaken, BeginsHeader, HeaderTaken}
 use Rattle.occ_text.proofs.SchemaLines.{first_line, later_lines, check-from_IsSchema}
-use Rattle.occ_text.proofs.Taking.{taken_more}
+use Rattle.occ_text.proofs.Taking.{NoneTaken-narrower, taken_more}
 
--- what can't stand as one of a wider kind can't stand as one of a narrower kind
-CannotStand-narrower : (P Q : List ℕ → Type 0) (rest : Option (List ℕ)) → ((line : List ℕ) → Q line → P line) → CannotStand P rest → CannotStand Q rest
-CannotStand-narrower P Q rest h (AtEnd e) = AtEnd e
-CannotStand-narrower P Q rest h (NoLine n) = NoLine n
-CannotStand-narrower P Q rest h (OtherLine line after taken alone other) = OtherLine line after taken alone (λ q. other (h line q))
+-- ---- limits that begin so
 
--- ---- headers that begin so
+abbrev pub of_counts : ℕ → ℕ → ℕ → Limits
+of_counts s q k = record { sessions = s; queue = q; keep = k }
+
+fits_with : (s q k : ℕ) → Within 1 64 s → Within 1 1024 q → Within 1 4096 k → LimitsFit (of_counts s q k)
+fits_with s q k sf qf kf = record { sessions = sf; queue = qf; keep = kf }
+
+one_within : (most : ℕ) → 1 ≤ most → Within 1 most 1
+one_within most le = record { least_count = omega arith; most_count = le }
+
+abbrev pub session_line : ℕ → List ℕ
+session_line s = count_text (codes "sessions") s
+
+abbrev pub queue_line : ℕ → List ℕ
+queue_line q = count_text (codes "queue") q
+
+abbrev pub keep_line : ℕ → List ℕ
+keep_line k = count_text (codes "keep") k
+
+pub begins_4 : (s q k : ℕ) → Within 1 64 s → Within 1 1024 q → Within 1 4096 k → BeginsLimits (codes "occ 1" ∷ session_line s ∷ queue_line q ∷ keep_line k ∷ [])
+begins_4 s q k sf qf kf = (of_counts s q k, fits_with s q k sf qf kf, [], refl)
+
+pub begins_3 : (s q : ℕ) → Within 1 64 s → Within 1 1024 q → BeginsLimits (codes "occ 1" ∷ session_line s ∷ queue_line q ∷ [])
+begins_3 s q sf qf = (of_counts s q 1, fits_with s q 1 sf qf (one_within 4096 (omega arith)), keep_line 1 ∷ [], refl)
+
+pub begins_2 : (s : ℕ) → Within 1 64 s → BeginsLimits (codes "occ 1" ∷ session_line s ∷ [])
+begins_2 s sf = (of_counts s 1 1, fits_with s 1 1 sf (one_within 1024 (omega arith)) (one_within 4096 (omega arith)), queue_line 1 ∷ keep_line 1 ∷ [], refl)
+
+pub begins_1 : BeginsLimits (codes "occ 1" ∷ [])
+begins_1 =
+    (of_counts 1 1 1, fits_with 1 1 1 (one_within 64 (omega arith)) (one_within 1024 (omega arith)) (one_within 4096 (omega arith)), session_line 1 ∷ queue_line 1 ∷ keep_line 1 ∷ [], refl)
+
+begins_0 : BeginsLimits []
+begins_0 = (begins_1.0, begins_1.1, limits_lines begins_1.0, refl)
+
+-- ---- the lines that were taken
+
+-- lines were taken that limits begin with
+pub record Behind (lines : List (List ℕ)) (a b : Option (List ℕ)) (first last : ℕ) : Type 0 where
+  pub taken : Consumes a b (lines_text lines)
+  pub number : last ≡ first + length lines
+
+behind_more : (lines : List (List ℕ)) (line : List ℕ) (a b c : Option (List ℕ)) (first mid last : ℕ) → Behind lines a b first mid → Consumes b c (line ++ 10 ∷ []) → last ≡ mid + 1 → Behind (lines ++ line ∷ []) a c first last
+behind_more lines line a b c first mid last so_far taken number =
+    let before = so_far.number in
+    record { taken = taken_more lines line a b c so_far.taken taken; number = omega (arith, length-append lines (line ∷ [])) }
+
+abbrev pub TookVersion : Option (List ℕ) → Option (List ℕ) → ℕ → ℕ → Type 0
+TookVersion a b first last = Consumes a b (codes "occ 1" ++ 10 ∷ []) × Unit {0} × (last ≡ first + 1)
+
+abbrev pub Took : List ℕ → ℕ → ℕ → Option (List ℕ) → Option (List ℕ) → ℕ → ℕ → Type 0
+Took word most n a b first last = Consumes a b (count_text word n ++ 10 ∷ []) × Within 1 most n × (last ≡ first + 1)
+
+behind_0 : (a : Option (List ℕ)) (first : ℕ) → Behind [] a a first first
+behind_0 a first = record { taken = Consumes-nil a; number = omega arith }
+
+behind_1 : (a b : Option (List ℕ)) (n0 n1 : ℕ) → TookVersion a b n0 n1 → Behind (codes "occ 1" ∷ []) a b n0 n1
+behind_1 a b n0 n1 v = behind_more [] (codes "occ 1") a a b n0 n0 n1 (behind_0 a n0) v.0 v.2
+
+behind_2 : (a b c : Option (List ℕ)) (s n0 n1 n2 : ℕ) → TookVersion a b n0 n1 → Took (codes "sessions") 64 s b c n1 n2 → Behind (codes "occ 1" ∷ session_line s ∷ []) a c n0 n2
+behind_2 a b c s n0 n1 n2 v st = behind_more (codes "occ 1" ∷ []) (session_line s) a b c n0 n1 n2 (behind_1 a b n0 n1 v) st.0 st.2
+
+behind_3 : (a b c d : Option (List ℕ)) (s q n0 n1 n2 n3 : ℕ) → TookVersion a b n0 n1 → Took (codes "sessions") 64 s b c n1 n2 → Took (codes "queue") 1024 q c d n2 n3 → Behind (codes "occ 1" ∷ session_line s ∷ queue_line q ∷ []) a d n0 n3
+behind_3 a b c d s q n0 n1 n2 n3 v st qt = behind_more (codes "occ 1" ∷ session_line s ∷ []) (queue_line q) a c d n0 n2 n3 (behind_2 a b c s n0 n1 n2 v st) qt.0 qt.2
+
+pub limits_taken : (a b c d e : Option (List ℕ)) (s q k n0 n1 n2 n3 n4 : ℕ) → TookVersion a b n0 n1 → Took (codes "sessions") 64 s b c n1 n2 → Took (codes "queue") 1024 q c d n2 n3 → Took (codes "keep") 4096 k d e n3 n4
+    → Consumes a e (lines_text (limits_lines (of_counts s q k))) × LimitsFit (of_counts s q k) × (n4 ≡ n0 + 4)
+limits_taken a b c d e s q k n0 n1 n2 n3 n4 v st qt kt =
+    let all = behind_more (codes "occ 1" ∷ session_line s ∷ queue_line q ∷ []) (keep_line k) a d e n0 n3 n4 (behind_3 a b c d s q n0 n1 n2 n3 v st qt) kt.0 kt.2 in
+    (all.taken, fits_with s q k st.1 qt.1 kt.1, all.number)
+
+-- ---- the limits' ends
+
+-- no line of a kind was taken behind some lines that begin limits, and only one of that kind can stand there
+limits_stop : (IsKind : List ℕ → Type 0) (fault : LineFault) (result : Result Limits LineFault) (lines : List (List ℕ)) (a b c : Option (List ℕ)) (first mid last : ℕ) → IsErrAnd result (λ e. e ≡ fault) → NoneTaken IsKind (read_fault fault) b c mid
+    → Behind lines a b first mid → BeginsLimits lines → length lines < 4 → ((line : List ℕ) → BeginsLimits (lines ++ line ∷ []) → IsKind line) → LimitsTaken result a c first last
+limits_stop IsKind fault (Ok limits) lines a b c first mid last is t so_far begins few kind = absurd is
+limits_stop IsKind fault (Err e) lines a b c first mid last is t so_far begins few kind =
+    let Next : List ℕ → Type 0 = λ line. BeginsLimits (lines ++ line ∷ []) in (
+      lines,
+      b,
+      so_far.taken,
+      begins,
+      few,
+      subst (λ (f : LineFault). NoneTaken Next (read_fault f) b c (first + length lines)) (sym is) (subst (NoneTaken Next (read_fault fault) b c) so_far.number (NoneTaken-narrower IsKind Next (read_fault fault) b c mid kind t)),
+    )
+
+pub end_version : (fault : LineFault) (result : Result Limits LineFault) (a b : Option (List ℕ)) (n0 n1 : ℕ) → IsErrAnd result (λ e. e ≡ fault)
+    → NoneTaken (IsSpelled {Y = Unit {0}} (λ version. codes "occ 1") (λ version. Unit {0})) (read_fault fault) a b n0 → LimitsTaken result a b n0 n1
+end_version fault result a b n0 n1 is t =
+    limits_stop (IsSpelled {Y = Unit {0}} (λ version. codes "occ 1") (λ version. Unit {0})) fault result [] a a b n0 n0 n1 is t (behind_0 a n0) begins_0 (omega arith)
+    (λ line g. (tt, tt, sym (ap first_line g.3)))
+
+pub end_sessions : (fault : LineFault) (result : Result Limits LineFault) (a b c : Option (List ℕ)) (n0 n1 n2 : ℕ) → IsErrAnd result (λ e. e ≡ fault) → TookVersion a b n0 n1
+    → NoneTaken (IsSpelled session_line (Within 1 64)) (read_fault fault) b c n1 → LimitsTaken result a c n0 n2
+end_sessions fault result a b c n0 n1 n2 is v t =
+    limits_stop (IsSpelled session_line (Within 1 64)) fault result (codes "occ 1" ∷ []) a b c n0 n1 n2 is t (behind_1 a b n0 n1 v) begins_1 (omega arith)
+    (λ line g. (g.0.sessions, g.1.sessions, sym (ap (λ (l : List (List ℕ)). first_line (later_lines l)) g.3)))
+
+pub end_queue : (fault : LineFault) (result : Result Limits LineFault) (a b c d : Option (List ℕ)) (s n0 n1 n2 n3 : ℕ) → IsErrAnd result (λ e. e ≡ fault) → TookVersion a b n0 n1 → Took (codes "sessions") 64 s b c n1 n2
+    → NoneTaken (IsSpelled queue_line (Within 1 1024)) (read_fault fault) c d n2 → LimitsTaken result a d n0 n3
+end_queue fault result a b c d s n0 n1 n2 n3 is v st t =
+    limits_stop (IsSpelled queue_line (Within 1 1024)) fault result (codes "occ 1" ∷ session_line s ∷ []) a c d n0 n2 n3 is t (behind_2 a b c s n0 n1 n2 v st) (begins_2 s st.1) (omega arith)
+    (λ line g. (g.0.queue, g.1.queue, sym (ap (λ (l : List (List ℕ)). first_line (later_lines (later_lines l))) g.3)))
+
+pub end_keep : (fault : LineFault) (result : Result Limits LineFault) (a b c d e : Option (List ℕ)) (s q n0 n1 n2 n3 n4 : ℕ) → IsErrAnd result (λ e. e ≡ fault) → TookVersion a b n0 n1 → Took (codes "sessions") 64 s b c n1 n2 → Took (codes "queue") 1024 q c d n2 n3
+    → NoneTaken (IsSpelled keep_line (Within 1 4096)) (read_fault fault) d e n3 → LimitsTaken result a e n0 n4
+end_keep fault result a b c d e s q n0 n1 n2 n3 n4 is v st qt t =
+    limits_stop (IsSpelled keep_line (Within 1 4096)) fault result (codes "occ 1" ∷ session_line s ∷ queue_line q ∷ []) a d e n0 n3 n4 is t (behind_3 a b c d s q n0 n1 n2 n3 v st qt) (begins_3 s q st.1 qt.1) (omega arith)
+    (λ line g. (g.0.keep, g.1.keep, sym (ap (λ (l : List (List ℕ)). first_line (later_lines (later_lines (later_lines l)))) g.3)))
+
+-- ---- from limits to headers
 
 example : Schema
 example = record { name = 97 ∷ []; key = keys.Num; columns = cells.Int ∷ [] } ∷ []
@@ -31,174 +140,101 @@ example_fits : check_tables example ≡ None
 unfolding example
 example_fits = refl
 
-abbrev pub with_counts : ℕ → ℕ → ℕ → Schema → Header
-with_counts s q k tables = record { sessions = s; queue = q; keep = k; tables = tables }
+abbrev pub with_tables : Limits → Schema → Header
+with_tables limits tables = record { sessions = limits.sessions; queue = limits.queue; keep = limits.keep; tables = tables }
 
-fits_with : (s q k : ℕ) (tables : Schema) → Within 1 64 s → Within 1 1024 q → Within 1 4096 k → check_tables tables ≡ None → HeaderFits (with_counts s q k tables)
-fits_with s q k tables sf qf kf tf = record { sessions = sf; queue = qf; keep = kf; tables = tf }
-
-one_within : (most : ℕ) → 1 ≤ most → Within 1 most 1
-one_within most le = record { least_count = omega arith; most_count = le }
-
--- the lines before the tables
-abbrev pub front_lines : ℕ → ℕ → ℕ → List (List ℕ)
-front_lines s q k = codes "occ 1" ∷ count_text (codes "sessions") s ∷ count_text (codes "queue") q ∷ count_text (codes "keep") k ∷ []
+header_fits : (limits : Limits) (tables : Schema) → LimitsFit limits → check_tables tables ≡ None → HeaderFits (with_tables limits tables)
+header_fits limits tables lf tf = record { sessions = lf.sessions; queue = lf.queue; keep = lf.keep; tables = tf }
 
 abbrev pub table_lines : Schema → List (List ℕ)
 table_lines tables = map table_text tables ++ codes "steps" ∷ []
 
-begins_0 : BeginsHeader []
-begins_0 = (with_counts 1 1 1 example, fits_with 1 1 1 example (one_within 64 (omega arith)) (one_within 1024 (omega arith)) (one_within 4096 (omega arith)) example_fits, header_text (with_counts 1 1 1 example), refl)
+-- what limits begin with a header begins with
+header_begins : (lines : List (List ℕ)) → BeginsLimits lines → BeginsHeader lines
+header_begins lines g = (
+  with_tables g.0 example,
+  header_fits g.0 example g.1 example_fits,
+  g.2 ++ table_lines example,
+  ap (λ (l : List (List ℕ)). l ++ table_lines example) g.3 ∙ append_assoc lines g.2 (table_lines example),
+)
 
-begins_1 : BeginsHeader (codes "occ 1" ∷ [])
-begins_1 =
-    let more = count_text (codes "sessions") 1 ∷ count_text (codes "queue") 1 ∷ count_text (codes "keep") 1 ∷ table_lines example in
-    (with_counts 1 1 1 example, fits_with 1 1 1 example (one_within 64 (omega arith)) (one_within 1024 (omega arith)) (one_within 4096 (omega arith)) example_fits, more, refl)
+front_of : {X : Type 0} (xs ys zs ws : List X) → length zs ≤ length xs → xs ++ ys ≡ zs ++ ws → (more : List X) × (xs ≡ zs ++ more)
+front_of xs ys [] ws le e = (xs, refl)
+front_of [] ys (z ∷ zs) ws le e = absurd (omega arith)
+front_of {X} (x ∷ xs) ys (z ∷ zs) ws le e =
+    let first : x ≡ z = cc e in
+    let later : xs ++ ys ≡ zs ++ ws = cc e in
+    let r = front_of xs ys zs ws (omega arith) later in
+    (r.0, λ i. first i ∷ r.1 i)
 
-begins_2 : (s : ℕ) → Within 1 64 s → BeginsHeader (codes "occ 1" ∷ count_text (codes "sessions") s ∷ [])
-begins_2 s sf =
-    let more = count_text (codes "queue") 1 ∷ count_text (codes "keep") 1 ∷ table_lines example in
-    (with_counts s 1 1 example, fits_with s 1 1 example sf (one_within 1024 (omega arith)) (one_within 4096 (omega arith)) example_fits, more, refl)
+-- the first four lines that a header begins with limits begin with
+limits_begin : (lines : List (List ℕ)) → length lines ≤ 4 → BeginsHeader lines → BeginsLimits lines
+limits_begin lines few g =
+    let r = front_of (limits_lines (limits_of g.0)) (table_lines g.0.tables) lines g.2 (omega arith) g.3 in
+    (limits_of g.0, record { sessions = g.1.sessions; queue = g.1.queue; keep = g.1.keep }, r.0, r.1)
 
-begins_3 : (s q : ℕ) → Within 1 64 s → Within 1 1024 q → BeginsHeader (codes "occ 1" ∷ count_text (codes "sessions") s ∷ count_text (codes "queue") q ∷ [])
-begins_3 s q sf qf =
-    let more = count_text (codes "keep") 1 ∷ table_lines example in
-    (with_counts s q 1 example, fits_with s q 1 example sf qf (one_within 4096 (omega arith)) example_fits, more, refl)
+begins_tables : (limits : Limits) (tables : List Table) → LimitsFit limits → TablesSoFar tables → BeginsHeader (limits_lines limits ++ map table_text tables)
+begins_tables limits [] lf so_far = (with_tables limits example, header_fits limits example lf example_fits, table_lines example, refl)
+begins_tables limits (table ∷ tables) lf so_far =
+    (with_tables limits (table ∷ tables), header_fits limits (table ∷ tables) lf (check-from_IsSchema (table ∷ tables) (omega arith) so_far), codes "steps" ∷ [], refl)
 
-begins_4 : (s q k : ℕ) (tables : List Table) → Within 1 64 s → Within 1 1024 q → Within 1 4096 k → TablesSoFar tables → BeginsHeader (front_lines s q k ++ map table_text tables)
-begins_4 s q k [] sf qf kf so_far = (with_counts s q k example, fits_with s q k example sf qf kf example_fits, table_lines example, refl)
-begins_4 s q k (table ∷ tables) sf qf kf so_far =
-    (with_counts s q k (table ∷ tables), fits_with s q k (table ∷ tables) sf qf kf (check-from_IsSchema (table ∷ tables) (omega arith) so_far), codes "steps" ∷ [], refl)
+-- ---- the header's ends
 
--- ---- the lines that were taken
-
-pub record Front (a e : Option (List ℕ)) (s q k last : ℕ) : Type 0 where
-  pub taken : Consumes a e (lines_text (front_lines s q k))
-  pub sessions : Within 1 64 s
-  pub queue : Within 1 1024 q
-  pub keep : Within 1 4096 k
-  pub number : last ≡ 4
-
-abbrev pub TookVersion : Option (List ℕ) → Option (List ℕ) → ℕ → ℕ → Type 0
-TookVersion a b first last = Consumes a b (codes "occ 1" ++ 10 ∷ []) × Unit {0} × (last ≡ first + 1)
-
-abbrev pub Took : List ℕ → ℕ → ℕ → Option (List ℕ) → Option (List ℕ) → ℕ → ℕ → Type 0
-Took word most n a b first last = Consumes a b (count_text word n ++ 10 ∷ []) × Within 1 most n × (last ≡ first + 1)
-
-lines_1 : (a b : Option (List ℕ)) → Consumes a b (codes "occ 1" ++ 10 ∷ []) → Consumes a b (lines_text (codes "occ 1" ∷ []))
-lines_1 a b v = taken_more [] (codes "occ 1") a a b (Consumes-nil a) v
-
--- ---- the ends
-
--- malformed behind some lines that begin a header
-pub stops : {X Y V : Type 0} (view : X → Y) (spell : Y → List ℕ) (fits : Y → Type 0) (shown : V → Header) (trouble : Trouble) (result : Result V Trouble) (lines : List (List ℕ)) (a b c : Option (List ℕ)) (first last over : ℕ)
-    → result ≡ Err trouble → Taken view spell fits (Err trouble) b c first last → Consumes a b (lines_text lines) → BeginsHeader lines → first ≡ length lines
-    → ((line : List ℕ) → BeginsHeader (lines ++ line ∷ []) → (y : Y) × fits y × (line ≡ spell y)) → HeaderTaken shown result a c over
-stops view spell fits shown (troubles.Malformed n) result lines a b c first last over is t taken begins count kind =
-    subst (λ (r : Result _ Trouble). HeaderTaken shown r a c over) (sym is)
-    (lines, b, taken, begins, CannotStand-narrower (λ line. (y : _) × fits y × (line ≡ spell y)) (λ line. BeginsHeader (lines ++ line ∷ [])) b kind t.0, t.1 ∙ ap (λ (k : ℕ). k + 1) count)
-stops view spell fits shown troubles.Read result lines a b c first last over is t taken begins count kind =
-    subst (λ (r : Result _ Trouble). HeaderTaken shown r a c over) (sym is) (lines, t.0, begins, t.1, Consumes-trans a b c (lines_text lines) t.0 taken t.2)
-stops view spell fits shown troubles.Write result lines a b c first last over is t taken begins count kind = absurd t
-stops view spell fits shown troubles.Memory result lines a b c first last over is t taken begins count kind = subst (λ (r : Result _ Trouble). HeaderTaken shown r a c over) (sym is) tt
-
-pub end_version : {V : Type 0} (shown : V → Header) (trouble : Trouble) (result : Result V Trouble) (a b : Option (List ℕ)) (n0 n1 : ℕ) → result ≡ Err trouble → n0 ≡ 0
-    → Taken {X = Unit {0}} {Y = Unit {0}} (λ taken. taken) (λ version. codes "occ 1") (λ version. Unit {0}) (Err trouble) a b n0 n1 → HeaderTaken shown result a b n1
-end_version shown trouble result a b n0 n1 is start t =
-    stops (λ (taken : Unit {0}). taken) (λ version. codes "occ 1") (λ version. Unit {0}) shown trouble result [] a a b n0 n1 n1 is t (Consumes-nil a) begins_0 start
-    (λ line g. (tt, tt, sym (ap first_line g.3)))
-
-pub end_sessions : {V : Type 0} (shown : V → Header) (trouble : Trouble) (result : Result V Trouble) (a b c : Option (List ℕ)) (n0 n1 n2 : ℕ) → result ≡ Err trouble → n0 ≡ 0 → TookVersion a b n0 n1
-    → Taken (λ n. n) (count_text (codes "sessions")) (Within 1 64) (Err trouble) b c n1 n2 → HeaderTaken shown result a c n2
-end_sessions shown trouble result a b c n0 n1 n2 is start v t =
-    let n = v.2 in
-    stops (λ (n : ℕ). n) (count_text (codes "sessions")) (Within 1 64) shown trouble result (codes "occ 1" ∷ []) a b c n1 n2 n2 is t (lines_1 a b v.0) begins_1 (omega arith)
-    (λ line g. (g.0.sessions, g.1.sessions, sym (ap (λ (l : List (List ℕ)). first_line (later_lines l)) g.3)))
-
-lines_2 : (a b c : Option (List ℕ)) (s n0 n1 n2 : ℕ) → TookVersion a b n0 n1 → Took (codes "sessions") 64 s b c n1 n2 → Consumes a c (lines_text (codes "occ 1" ∷ count_text (codes "sessions") s ∷ []))
-lines_2 a b c s n0 n1 n2 v t = taken_more (codes "occ 1" ∷ []) (count_text (codes "sessions") s) a b c (lines_1 a b v.0) t.0
-
-pub end_queue : {V : Type 0} (shown : V → Header) (trouble : Trouble) (result : Result V Trouble) (a b c d : Option (List ℕ)) (s n0 n1 n2 n3 : ℕ) → result ≡ Err trouble → n0 ≡ 0 → TookVersion a b n0 n1
-    → Took (codes "sessions") 64 s b c n1 n2 → Taken (λ n. n) (count_text (codes "queue")) (Within 1 1024) (Err trouble) c d n2 n3 → HeaderTaken shown result a d n3
-end_queue shown trouble result a b c d s n0 n1 n2 n3 is start v st t =
-    let n = v.2 in
-    let m = st.2 in
-    stops (λ (n : ℕ). n) (count_text (codes "queue")) (Within 1 1024) shown trouble result (codes "occ 1" ∷ count_text (codes "sessions") s ∷ []) a c d n2 n3 n3 is t
-    (lines_2 a b c s n0 n1 n2 v st) (begins_2 s st.1) (omega arith)
-    (λ line g. (g.0.queue, g.1.queue, sym (ap (λ (l : List (List ℕ)). first_line (later_lines (later_lines l))) g.3)))
-
-lines_3 : (a b c d : Option (List ℕ)) (s q n0 n1 n2 n3 : ℕ) → TookVersion a b n0 n1 → Took (codes "sessions") 64 s b c n1 n2 → Took (codes "queue") 1024 q c d n2 n3
-    → Consumes a d (lines_text (codes "occ 1" ∷ count_text (codes "sessions") s ∷ count_text (codes "queue") q ∷ []))
-lines_3 a b c d s q n0 n1 n2 n3 v st qt = taken_more (codes "occ 1" ∷ count_text (codes "sessions") s ∷ []) (count_text (codes "queue") q) a c d (lines_2 a b c s n0 n1 n2 v st) qt.0
-
-pub end_keep : {V : Type 0} (shown : V → Header) (trouble : Trouble) (result : Result V Trouble) (a b c d e : Option (List ℕ)) (s q n0 n1 n2 n3 n4 : ℕ) → result ≡ Err trouble → n0 ≡ 0 → TookVersion a b n0 n1
-    → Took (codes "sessions") 64 s b c n1 n2 → Took (codes "queue") 1024 q c d n2 n3 → Taken (λ n. n) (count_text (codes "keep")) (Within 1 4096) (Err trouble) d e n3 n4 → HeaderTaken shown result a e n4
-end_keep shown trouble result a b c d e s q n0 n1 n2 n3 n4 is start v st qt t =
-    let n = v.2 in
-    let m = st.2 in
-    let o = qt.2 in
-    stops (λ (n : ℕ). n) (count_text (codes "keep")) (Within 1 4096) shown trouble result (codes "occ 1" ∷ count_text (codes "sessions") s ∷ count_text (codes "queue") q ∷ []) a d e n3 n4 n4 is t
-    (lines_3 a b c d s q n0 n1 n2 n3 v st qt) (begins_3 s q st.1 qt.1) (omega arith)
-    (λ line g. (g.0.keep, g.1.keep, sym (ap (λ (l : List (List ℕ)). first_line (later_lines (later_lines (later_lines l)))) g.3)))
-
-pub front : (a b c d e : Option (List ℕ)) (s q k n0 n1 n2 n3 n4 : ℕ) → n0 ≡ 0 → TookVersion a b n0 n1 → Took (codes "sessions") 64 s b c n1 n2 → Took (codes "queue") 1024 q c d n2 n3 → Took (codes "keep") 4096 k d e n3 n4
-    → Front a e s q k n4
-front a b c d e s q k n0 n1 n2 n3 n4 start v st qt kt =
-    let n = v.2 in
-    let m = st.2 in
-    let o = qt.2 in
-    let p = kt.2 in
-    record {
-      taken = taken_more (codes "occ 1" ∷ count_text (codes "sessions") s ∷ count_text (codes "queue") q ∷ []) (count_text (codes "keep") k) a d e (lines_3 a b c d s q n0 n1 n2 n3 v st qt) kt.0;
-      sessions = st.1;
-      queue = qt.1;
-      keep = kt.1;
-      number = omega arith;
-    }
+pub end_limits : {V : Type 0} (shown : V → Header) (fault : LineFault) (result : Result V ReadFault) (a b : Option (List ℕ)) (first last : ℕ) → IsErrAnd result (λ e. e ≡ read_fault fault) → first ≡ 0 → LimitsTaken (Err fault) a b first last
+    → HeaderTaken shown result a b last
+end_limits shown fault (Ok x) a b first last is start t = absurd is
+end_limits shown fault (Err e) a b first last is start t =
+    let lines = t.0 in
+    let few = t.4 in
+    let Next : List ℕ → Type 0 = λ line. BeginsHeader (lines ++ line ∷ []) in
+    let count : first + length lines ≡ length lines = ap (λ (k : ℕ). k + length lines) start ∙ omega arith in (
+      lines,
+      t.1,
+      t.2,
+      header_begins lines t.3,
+      subst (λ (f : ReadFault). NoneTaken Next f t.1 b (length lines)) (sym is) (subst (NoneTaken Next (read_fault fault) t.1 b) count
+          (NoneTaken-narrower (λ line. BeginsLimits (lines ++ line ∷ [])) Next (read_fault fault) t.1 b (first + length lines)
+          (λ line g. limits_begin (lines ++ line ∷ []) (omega (arith, length-append lines (line ∷ []))) g) t.5)),
+    )
 
 both_lines : (first later : List (List ℕ)) (a b c : Option (List ℕ)) → Consumes a b (lines_text first) → Consumes b c (lines_text later) → Consumes a c (lines_text (first ++ later))
 both_lines first later a b c p q =
     subst (Consumes a c) (sym (flat_map-append (λ (l : List ℕ). l ++ 10 ∷ []) first later)) (Consumes-trans a b c (lines_text first) (lines_text later) p q)
 
 -- a line behind the tables of a header goes on
-behind_tables : (s q k : ℕ) (tables : List Table) (line : List ℕ) → BeginsHeader ((front_lines s q k ++ map table_text tables) ++ line ∷ []) → GoesOn tables line
-behind_tables s q k tables line g = (
+behind_tables : (limits : Limits) (tables : List Table) (line : List ℕ) → BeginsHeader ((limits_lines limits ++ map table_text tables) ++ line ∷ []) → GoesOn tables line
+behind_tables limits tables line g = (
   g.0.tables,
   g.1.tables,
   g.2,
   ap (λ (l : List (List ℕ)). later_lines (later_lines (later_lines (later_lines l)))) g.3 ∙ append_assoc (map table_text tables) (line ∷ []) g.2,
 )
 
-pub end_tables : {V : Type 0} (shown : V → Header) (trouble : Trouble) (result : Result V Trouble) (a b c : Option (List ℕ)) (s q k first last : ℕ) → result ≡ Err trouble → Front a b s q k first
-    → TablesTaken (Err trouble) b c first last → HeaderTaken shown result a c last
-end_tables shown (troubles.Malformed n) result a b c s q k first last is f t =
-    let lines = front_lines s q k ++ map table_text t.0 in
-    let four = f.number in
-    let here = t.5 in
-    let count : length (front_lines s q k ++ map table_text t.0) ≡ 4 + length t.0 = omega (arith, length-append (front_lines s q k) (map table_text t.0), length-map t.0 table_text) in
-    subst (λ (r : Result _ Trouble). HeaderTaken shown r a c last) (sym is) (
+abbrev LimitsBehind : Limits → Option (List ℕ) → Option (List ℕ) → ℕ → ℕ → Type 0
+LimitsBehind limits a b first last = Consumes a b (lines_text (limits_lines limits)) × LimitsFit limits × (last ≡ first + 4)
+
+pub end_tables : {V : Type 0} (shown : V → Header) (fault : ReadFault) (result : Result V ReadFault) (limits : Limits) (a b c : Option (List ℕ)) (first mid last : ℕ) → IsErrAnd result (λ e. e ≡ fault) → first ≡ 0 → LimitsBehind limits a b first mid
+    → TablesTaken (Err fault) b c mid last → HeaderTaken shown result a c last
+end_tables shown fault (Ok x) limits a b c first mid last is start f t = absurd is
+end_tables shown fault (Err e) limits a b c first mid last is start f t =
+    let lines = limits_lines limits ++ map table_text t.0 in
+    let Next : List ℕ → Type 0 = λ line. BeginsHeader (lines ++ line ∷ []) in
+    let four = f.2 in
+    let all : length (limits_lines limits ++ map table_text t.0) ≡ 4 + length t.0 = omega (arith, length-append (limits_lines limits) (map table_text t.0), length-map t.0 table_text) in
+    let count : mid + length t.0 ≡ length (limits_lines limits ++ map table_text t.0) = omega arith in (
       lines,
       t.1,
-      both_lines (front_lines s q k) (map table_text t.0) a b t.1 f.taken t.2,
-      begins_4 s q k t.0 f.sessions f.queue f.keep t.3,
-      CannotStand-narrower (GoesOn t.0) (λ line. BeginsHeader (lines ++ line ∷ [])) t.1 (λ line g. behind_tables s q k t.0 line g) t.4,
-      omega arith,
+      both_lines (limits_lines limits) (map table_text t.0) a b t.1 f.0 t.2,
+      begins_tables limits t.0 f.1 t.3,
+      subst (λ (f : ReadFault). NoneTaken Next f t.1 c (length lines)) (sym is) (subst (NoneTaken Next fault t.1 c) count
+          (NoneTaken-narrower (GoesOn t.0) Next fault t.1 c (mid + length t.0) (λ line g. behind_tables limits t.0 line g) t.4)),
     )
-end_tables shown troubles.Read result a b c s q k first last is f t =
-    let lines = front_lines s q k ++ map table_text t.0 in
-    let rest = lines_text (map table_text t.0) in
-    let all : lines_text (front_lines s q k) ++ (lines_text (map table_text t.0) ++ t.1) ≡ lines_text (front_lines s q k ++ map table_text t.0) ++ t.1 =
-    sym (append_assoc (lines_text (front_lines s q k)) rest t.1) ∙ ap (λ (l : List ℕ). l ++ t.1) (sym (flat_map-append (λ (l : List ℕ). l ++ 10 ∷ []) (front_lines s q k) (map table_text t.0))) in
-    subst (λ (r : Result _ Trouble). HeaderTaken shown r a c last) (sym is)
-    (lines, t.1, begins_4 s q k t.0 f.sessions f.queue f.keep t.2, t.3, subst (Consumes a c) all (Consumes-trans a b c (lines_text (front_lines s q k)) (rest ++ t.1) f.taken t.4))
-end_tables shown troubles.Write result a b c s q k first last is f t = absurd t
-end_tables shown troubles.Memory result a b c s q k first last is f t = subst (λ (r : Result _ Trouble). HeaderTaken shown r a c last) (sym is) tt
 
-pub whole : (a b c : Option (List ℕ)) (s q k first last : ℕ) (tables : Schema) → Front a b s q k first
-    → Consumes b c (lines_text (map table_text tables ++ codes "steps" ∷ [])) × (check_tables tables ≡ None) × (last ≡ first + length tables + 1)
-    → Consumes a c (lines_text (header_text (with_counts s q k tables))) × HeaderFits (with_counts s q k tables) × (last ≡ length (header_text (with_counts s q k tables)))
-whole a b c s q k first last tables f t =
-    let four = f.number in
+pub whole : (limits : Limits) (tables : Schema) (a b c : Option (List ℕ)) (first mid last : ℕ) → first ≡ 0 → LimitsBehind limits a b first mid
+    → Consumes b c (lines_text (table_lines tables)) × (check_tables tables ≡ None) × (last ≡ mid + length tables + 1)
+    → Consumes a c (lines_text (header_text (with_tables limits tables))) × HeaderFits (with_tables limits tables) × (last ≡ length (header_text (with_tables limits tables)))
+whole limits tables a b c first mid last start f t =
+    let four = f.2 in
     let end = t.2 in
     let count : length (table_lines tables) ≡ length tables + 1 = omega (arith, length-append (map table_text tables) (codes "steps" ∷ []), length-map tables table_text) in
-    (both_lines (front_lines s q k) (table_lines tables) a b c f.taken t.0, fits_with s q k tables f.sessions f.queue f.keep t.1, omega arith)
+    (both_lines (limits_lines limits) (table_lines tables) a b c f.0 t.0, header_fits limits tables f.1 t.1, omega arith)

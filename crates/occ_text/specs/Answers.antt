@@ -57,7 +57,7 @@ module _ {Z : Type 0} where
   answer_of (answers.Finished number) = Finished number
   answer_of (answers.BackedUp number) = BackedUp number
   answer_of (answers.Counted counts) = Counted counts
-  answer_of (answers.Refused fault) = Refused fault
+  answer_of (answers.Refused refusal) = Refused refusal.fault
 
 -- the number of a fault
 abbrev pub fault_number : Fault → ℕ

@@ -1,5 +1,6 @@
 pub mod Answers
 pub mod Escapes
+pub mod Faults
 pub mod HeaderReading
 pub mod HeaderTaking
 pub mod Headers

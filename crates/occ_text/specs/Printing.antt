@@ -1,7 +1,6 @@
 -- What printing leaves: all of a text was pushed, or a beginning of it.
-use Rattle.std.specs.Prelude.{◌≡◌, ◌<◌, ℕ, List, [], ◌∷◌, ◌++◌, Option, Result, Ok, Err, length}
-use Rattle.occ_text.specs.declared.trouble.Trouble.{Trouble}
-use Rattle.occ_text.specs.declared.trouble.Trouble.TheVariants.{Read, Write, Memory, Malformed}
+use Rattle.std.specs.Prelude.{◌≡◌, ◌<◌, ℕ, List, ◌++◌, Option, Result, Ok, Err, length}
+use Rattle.occ_text.specs.declared.faults.WriteFault.{WriteFault}
 use Rattle.occ_text.specs.Sending.{Sends}
 
 -- the bytes were pushed behind those that were held, and what was less than a full block is less than one still
@@ -17,9 +16,6 @@ pub record PushedFront (before after : Option (List ℕ)) (old new text : List �
   pub sends : Sends before after (old ++ front) new
 
 -- what printing a text leaves, by its outcome
-abbrev pub PrintGives : {T : Type 0} → Result T Trouble → Option (List ℕ) → Option (List ℕ) → List ℕ → List ℕ → List ℕ → Type 0
+abbrev pub PrintGives : {T : Type 0} → Result T WriteFault → Option (List ℕ) → Option (List ℕ) → List ℕ → List ℕ → List ℕ → Type 0
 PrintGives (Ok done) before after old new text = Pushed before after old new text
-PrintGives (Err Write) before after old new text = PushedFront before after old new text
-PrintGives (Err Memory) before after old new text = PushedFront before after old new text
-PrintGives (Err Read) before after old new text = ⊥
-PrintGives (Err (Malformed line)) before after old new text = ⊥
+PrintGives (Err fault) before after old new text = PushedFront before after old new text

@@ -6,10 +6,10 @@ ghost use Rattle.occ_sets.specs.Seen.{rows_of};
 ghost use Rattle.occ_types.specs.Seen.{key_of};
 ghost use Rattle.occ_text.specs.Answers.{Wrote, Refused, answer_of, answer_text, fault_number, verdict_text, found_text, pair_text, rows_text, counts_text};
 
+use crate::refusals::Refusal;
 use crate::writers::{write_key, write_row};
-use occ_model::verdict::{Cause, Verdict};
-use occ_types::fault::Fault;
-use occ_types::{Key, Row, Text};
+use occ_model::{Cause, Verdict};
+use occ_types::{Fault, Key, Row, Text};
 use std::alloc::{AllocError, Allocator};
 
 /// What `show` counts.
@@ -67,7 +67,7 @@ pub enum Answer<A: Allocator> {
     /// `counter T low L log K state R active A`: what there is.
     Counted(Counts),
     /// `refused Fn`: the step is refused.
-    Refused(Fault),
+    Refused(Refusal),
 }
 
 /// Appends the line of an answer, without a line feed. Where memory is refused, a beginning of it may stand.
@@ -91,7 +91,7 @@ pub fn write_answer<A: Allocator>(
         Answer::Finished(number) => write!(line, "finished {number}"),
         Answer::BackedUp(number) => write!(line, "backed {number}"),
         Answer::Counted(counts) => write_counts(line, counts),
-        Answer::Refused(fault) => write_refused(line, *fault),
+        Answer::Refused(refusal) => write_refused(line, refusal.fault),
     }
 }
 

@@ -1,12 +1,11 @@
 //! Lines of schedules, each form once, and lines that are none.
 
-use crate::headers::{Header, read_header};
+use crate::faults::ReadFault;
+use crate::headers::{Header, Limits, read_header};
 use crate::input::Input;
 use crate::steps::{Act, Step, read_step};
 use crate::tokens::Unread;
-use crate::trouble::Trouble;
-use occ_types::Key;
-use occ_types::kind::{KeyKind, Kind};
+use occ_types::{Key, KeyKind, Kind};
 use std::alloc::Global;
 use std::test::Fail;
 
@@ -90,7 +89,7 @@ fn lines_that_are_no_step(rt: HostRuntime) -> Result<(), Fail> {
     Ok(())
 }
 
-fn header_of(alloc: Global, text: &str) -> Result<Header<Global>, Trouble> {
+fn header_of(alloc: Global, text: &str) -> Result<Header<Global>, ReadFault> {
     let mut input = Input::new(alloc)?;
     let mut reader = text.as_bytes();
     read_header(alloc, &mut input, &mut reader)
@@ -102,8 +101,17 @@ fn a_header_is_read(rt: HostRuntime) -> Result<(), Fail> {
         "occ 1\nsessions 64\nqueue 1024\nkeep 4096\ntable stock text int text\ntable n num int\nsteps\nshow\n";
     let header = header_of(rt.alloc(), text);
     assert!(rt;
-        matches!(&header, Ok(header)
-        if header.sessions == 64 && header.queue == 1024 && header.keep == 4096)
+        matches!(
+            &header,
+            Ok(Header {
+                limits: Limits {
+                    sessions: 64,
+                    queue: 1024,
+                    keep: 4096
+                },
+                ..
+            })
+        )
     );
     if let Ok(header) = header {
         let tables = header.schema.tables();
@@ -148,7 +156,7 @@ fn headers_are_malformed_at_a_line(rt: HostRuntime) -> Result<(), Fail> {
         let text = format!(in rt.alloc(); "{start}{rest}")?;
         let header = header_of(rt.alloc(), text.as_str());
         assert!(rt;
-            matches!(header, Err(Trouble::Malformed(at)) if at == line),
+            matches!(header, Err(ReadFault::Malformed(at)) if at == line),
             "{rest:?}"
         );
     }
@@ -168,7 +176,7 @@ fn a_33rd_table_is_malformed(rt: HostRuntime) -> Result<(), Fail> {
         text.push_str("steps\n")?;
         let header = header_of(alloc, text.as_str());
         assert!(rt; header.is_ok() == fits);
-        assert!(rt; fits || matches!(header, Err(Trouble::Malformed(37))));
+        assert!(rt; fits || matches!(header, Err(ReadFault::Malformed(37))));
     }
     Ok(())
 }

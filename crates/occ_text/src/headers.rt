@@ -1,43 +1,45 @@
-//! The header of a schedule: the readers of its lines, and of the whole.
+//! The header of a schedule: the readers of its lines, and of the whole. A book begins with the same lines up to its tables.
 
-ghost use Rattle.std.specs.Prelude.{◌≡◌, ◌<◌, ◌^◌, ◌↔◌, Some, IfOk, IsTrue, codes, length, ok_or, List, ℕ};
-ghost use Rattle.std.specs.Result.{result_ok};
+ghost use Rattle.std.specs.Prelude.{◌≡◌, ◌↔◌, Some, IfOk, IsTrue, codes};
 ghost use Rattle.std.specs.List.{list_any};
 ghost use Rattle.std.specs.Io.KnownBytes.{prepend_known};
 ghost use Rattle.occ_types.specs.Schema as plain;
 ghost use Rattle.occ_types.specs.Fits.{has_name};
 ghost use Rattle.occ_types.specs.Seen.{table_of, tables_of};
 ghost use Rattle.occ_text.specs.Escapes.{Gives};
+ghost use Rattle.occ_text.specs.Faults.{widened};
 ghost use Rattle.occ_text.specs.HeaderReading.{count_of_parts, count_of_tokens, count_of_line, key_kind_of, kind_of, columns_of, table_of_parts, table_of_tokens, table_of_line};
-ghost use Rattle.occ_text.specs.HeaderTaking.{trouble_at, LineTaken, Taken, TablesSoFar, table_behind, NextTaken, TablesTaken, HeaderTaken, header_of};
+ghost use Rattle.occ_text.specs.HeaderTaking.{TablesSoFar, table_behind, NextTaken, TablesTaken, LimitsTaken, HeaderTaken, header_of};
 ghost use Rattle.occ_text.specs.Headers.{count_text, table_text, Within, TableFits};
+ghost use Rattle.occ_text.specs.Line.{Taken};
 ghost use Rattle.occ_text.specs.Reading.{Reads};
 ghost use Rattle.occ_text.specs.Spelling.{IsToken};
 
-use crate::input::{Input, Next};
+use crate::faults::{LineFault, ReadFault, read_at_line};
+use crate::input::Input;
 use crate::parts::Parts;
-use crate::tokens::{Unread, is_word, name, number_value, tokens, tokens_value};
-use crate::trouble::Trouble;
-use occ_types::kind::{KeyKind, Kind};
-use occ_types::limits::{MAX_COLUMNS, MAX_SESSIONS, MAX_TABLES};
-use occ_types::{Schema, TableDef, Text};
+use crate::tokens::{Unread, is_word, name, number, tokens};
+use occ_types::limits::{MAX_COLUMNS, MAX_KEEP, MAX_QUEUE, MAX_SESSIONS, MAX_TABLES};
+use occ_types::{KeyKind, Kind, Schema, TableDef, Text};
 use std::alloc::Allocator;
 use std::io::Read;
 
-/// The greatest capacity of a queue.
-pub const MAX_QUEUE: u64 = 1024;
-/// The greatest number of write sets that are kept for testing.
-pub const MAX_KEEP: u64 = 4096;
-
-/// What a schedule begins with.
-#[derive(Drop)]
-pub struct Header<A: Allocator> {
+/// How a store is opened beside its tables.
+#[derive(Clone, Copy, Debug, PartialEq, Eq)]
+pub struct Limits {
     /// How many sessions there are, 1 to 64.
     pub sessions: usize,
-    /// The capacity of each queue, 1 to 1,024.
+    /// How many items may wait in the queue of a session, 1 to 1,024.
     pub queue: usize,
     /// How many write sets are kept for testing, 1 to 4,096.
     pub keep: usize,
+}
+
+/// How a store is opened: what a schedule begins with, and a book.
+#[derive(Drop)]
+pub struct Header<A: Allocator> {
+    /// The sessions, the queues and the window.
+    pub limits: Limits,
     /// The tables.
     pub schema: Schema<A>,
 }
@@ -56,6 +58,7 @@ pub fn is_steps(line: &[u8]) -> bool
     is_word(line, "steps")
 }
 
+// The number of a word and a number, if the word is the one that is wanted and the number lies within limits.
 #[tactic(auto, unfolding(crate::specs::HeaderReading::count_of_parts))]
 fn count_of_parts(wanted: &str, least: u64, most: u64, word: &[u8], digits: &[u8]) -> Option<u64>
     ensures { result ≡ count_of_parts wanted.now least most word.now digits.now }
@@ -63,10 +66,11 @@ fn count_of_parts(wanted: &str, least: u64, most: u64, word: &[u8], digits: &[u8
     if !is_word(word, wanted) {
         return None;
     }
-    let count = number_value(digits, most)?;
+    let count = number(digits, most)?;
     if least <= count { Some(count) } else { None }
 }
 
+// The number of two tokens.
 fn count_of_tokens(wanted: &str, least: u64, most: u64, mut parts: Parts<'_>) -> Option<u64>
     ensures { result ≡ count_of_tokens wanted.now least most parts.entry }
 {
@@ -78,46 +82,42 @@ fn count_of_tokens(wanted: &str, least: u64, most: u64, mut parts: Parts<'_>) ->
     }
 }
 
+/// The number of a line of a word and a number within limits. None where the line is none.
 #[tactic(auto, unfolding(crate::specs::HeaderReading::count_of_line))]
-fn count_value(line: &[u8], word: &str, least: u64, most: u64) -> Option<u64>
-    ensures { result ≡ count_of_line word.now least most line.now }
+pub fn count(line: &[u8], word: &str, least: u64, most: u64) -> Option<u64>
+    requires { IsToken word.now }
+    ensures exact { result ≡ count_of_line word.now least most line.now }
+    ensures grammar { Reads (count_text word.now) (Within least most) line.now result }
 {
-    let parts = tokens_value(line)?;
+    let parts = tokens(line)?;
     count_of_tokens(word, least, most, parts)
 }
 
-/// The number of a line of a word and a number within limits. `Malformed` where the line is none.
-pub fn count(line: &[u8], word: &str, least: u64, most: u64) -> Result<u64, Unread>
-    requires { IsToken word.now }
-    ensures exact { result ≡ ok_or (count_of_line word.now least most line.now) Unread.Malformed }
-    ensures grammar { Reads (count_text word.now) (Within least most) line.now (result_ok result) }
-{
-    count_value(line, word, least, most).ok_or(Unread::Malformed)
-}
-
+// The kind of keys that a word names.
 #[tactic(auto, unfolding(crate::specs::HeaderReading::key_kind_of))]
-fn key_kind(word: &[u8]) -> Result<KeyKind, Unread>
-    ensures { Gives (λ kind. kind) result (key_kind_of word.now) }
+fn key_kind(word: &[u8]) -> Option<KeyKind>
+    ensures { result ≡ key_kind_of word.now }
 {
     if is_word(word, "num") {
-        Ok(KeyKind::Num)
+        Some(KeyKind::Num)
     } else if is_word(word, "text") {
-        Ok(KeyKind::Text)
+        Some(KeyKind::Text)
     } else {
-        Err(Unread::Malformed)
+        None
     }
 }
 
+// The kind of cells that a word names.
 #[tactic(auto, unfolding(crate::specs::HeaderReading::kind_of))]
-fn kind(word: &[u8]) -> Result<Kind, Unread>
-    ensures { Gives (λ kind. kind) result (kind_of word.now) }
+fn kind(word: &[u8]) -> Option<Kind>
+    ensures { result ≡ kind_of word.now }
 {
     if is_word(word, "int") {
-        Ok(Kind::Int)
+        Some(Kind::Int)
     } else if is_word(word, "text") {
-        Ok(Kind::Text)
+        Some(Kind::Text)
     } else {
-        Err(Unread::Malformed)
+        None
     }
 }
 
@@ -128,7 +128,7 @@ fn columns<A: Allocator>(alloc: A, mut words: Parts<'_>) -> Result<Vec<Kind, A>,
 {
     let mut kinds = Vec::new(alloc);
     while let Some(word) = words.take_part() {
-        kinds.push(kind(word)?)?;
+        kinds.push(kind(word).ok_or(Unread::Malformed)?)?;
     }
     if kinds.is_empty() || kinds.len() > MAX_COLUMNS {
         return Err(Unread::Malformed);
@@ -149,8 +149,8 @@ fn table_of_parts<A: Allocator + Copy>(
     if !is_word(word, "table") {
         return Err(Unread::Malformed);
     }
-    let name = name(called)?;
-    let key = key_kind(keyed)?;
+    let name = name(called).ok_or(Unread::Malformed)?;
+    let key = key_kind(keyed).ok_or(Unread::Malformed)?;
     let columns = columns(alloc, words)?;
     let name = Text::new(alloc, name)?;
     Ok(TableDef { name, key, columns })
@@ -178,7 +178,7 @@ fn table_of_tokens<A: Allocator + Copy>(
 fn table_value<A: Allocator + Copy>(alloc: A, line: &[u8]) -> Result<TableDef<A>, Unread>
     ensures { Gives table_of result (table_of_line line.now) }
 {
-    let parts = tokens(line)?;
+    let parts = tokens(line).ok_or(Unread::Malformed)?;
     table_of_tokens(alloc, parts)
 }
 
@@ -191,68 +191,62 @@ pub fn table<A: Allocator + Copy>(alloc: A, line: &[u8]) -> Result<TableDef<A>, 
     table_value(alloc, line)
 }
 
-/// What a line that wasn't read ends an engine with.
-pub fn trouble_at(unread: Unread, line: u64) -> Trouble
-    ensures { result ≡ trouble_at unread line }
-{
-    match unread {
-        Unread::Malformed => Trouble::Malformed(line),
-        Unread::Memory => Trouble::Memory,
-    }
-}
-
-/// Takes the line that has to stand next.
-fn take_line<R: Read, A: Allocator>(input: &mut Input<A>, reader: &mut R) -> Result<(), Trouble>
-    requires { input.old.number < 2 ^ 32 }
-    ensures { LineTaken result (prepend_known input.old.unread (R.remaining reader.old))
-        (prepend_known input.new.unread (R.remaining reader.new)) input.old input.new }
-{
-    match input.next_line(reader)? {
-        Next::Line => Ok(()),
-        Next::End => Err(Trouble::Malformed(input.number() + 1)),
-    }
-}
-
-/// Takes the line `occ 1`.
-///
-/// `Malformed` where another line stands next, or none; `Read` where the reader fails.
-pub fn take_version<R: Read, A: Allocator>(
+// Takes the line `occ 1`.
+fn take_version<R: Read, A: Allocator>(
     input: &mut Input<A>,
     reader: &mut R,
-) -> Result<(), Trouble>
-    requires { input.old.number < 2 ^ 32 }
-    ensures { Taken (λ taken. taken) (λ version. codes "occ 1") (λ version. Unit {0}) result
+) -> Result<(), LineFault>
+    ensures { Taken (λ taken. taken) (λ version. codes "occ 1") (λ version. Unit {0}) (widened result)
         (prepend_known input.old.unread (R.remaining reader.old))
         (prepend_known input.new.unread (R.remaining reader.new)) input.old.number input.new.number }
 {
-    take_line(input, reader)?;
+    input.take_line(reader)?;
     if is_version(input.line()) {
         Ok(())
     } else {
-        Err(Trouble::Malformed(input.number()))
+        Err(LineFault::Malformed(input.number()))
     }
 }
 
-/// Takes a line of a word and a number from 1 to `most`, and answers the number.
+/// Takes a line of a word and a number from `least` to `most`, and answers the number.
 ///
 /// `Malformed` where another line stands next, or none; `Read` where the reader fails.
 pub fn take_count<R: Read, A: Allocator>(
     input: &mut Input<A>,
     reader: &mut R,
     word: &str,
+    least: u64,
     most: u64,
-) -> Result<u64, Trouble>
-    requires word { IsToken word.now }
-    requires early { input.old.number < 2 ^ 32 }
-    ensures { Taken (λ n. n) (count_text word.now) (Within 1 most) result
+) -> Result<u64, LineFault>
+    requires { IsToken word.now }
+    ensures { Taken (λ n. n) (count_text word.now) (Within least most) (widened result)
         (prepend_known input.old.unread (R.remaining reader.old))
         (prepend_known input.new.unread (R.remaining reader.new)) input.old.number input.new.number }
 {
-    take_line(input, reader)?;
-    match count(input.line(), word, 1, most) {
-        Ok(count) => Ok(count),
-        Err(_) => Err(Trouble::Malformed(input.number())),
-    }
+    input.take_line(reader)?;
+    count(input.line(), word, least, most).ok_or(LineFault::Malformed(input.number()))
+}
+
+/// Takes the first four lines of a schedule or a book: `occ 1`, `sessions N`, `queue N` and `keep N`.
+///
+/// `Malformed` at the first line that can't stand where it stands, also where the text ends before; `Read` where the reader
+/// fails. After any of them the input is of no more use.
+pub fn take_limits<R: Read, A: Allocator>(
+    input: &mut Input<A>,
+    reader: &mut R,
+) -> Result<Limits, LineFault>
+    ensures { LimitsTaken result (prepend_known input.old.unread (R.remaining reader.old))
+        (prepend_known input.new.unread (R.remaining reader.new)) input.old.number input.new.number }
+{
+    take_version(input, reader)?;
+    let sessions = take_count(input, reader, "sessions", 1, MAX_SESSIONS as u64)?;
+    let queue = take_count(input, reader, "queue", 1, MAX_QUEUE as u64)?;
+    let keep = take_count(input, reader, "keep", 1, MAX_KEEP as u64)?;
+    Ok(Limits {
+        sessions: sessions as usize,
+        queue: queue as usize,
+        keep: keep as usize,
+    })
 }
 
 /// Whether one of the tables has the name.
@@ -287,21 +281,18 @@ fn take_next<R: Read, A: Allocator + Copy>(
     input: &mut Input<A>,
     reader: &mut R,
     tables: &[TableDef<A>],
-) -> Result<Option<TableDef<A>>, Trouble>
-    requires early { input.old.number < 2 ^ 32 }
-    requires tables { TablesSoFar (tables_of tables.now) }
+) -> Result<Option<TableDef<A>>, ReadFault>
+    requires { TablesSoFar (tables_of tables.now) }
     ensures { NextTaken table_of result (tables_of tables.now)
         (prepend_known input.old.unread (R.remaining reader.old))
         (prepend_known input.new.unread (R.remaining reader.new)) input.old.number input.new.number }
 {
-    take_line(input, reader)?;
+    input.take_line(reader)?;
     if is_steps(input.line()) {
         return Ok(None);
     }
-    match table_behind(alloc, tables, input.line()) {
-        Ok(table) => Ok(Some(table)),
-        Err(unread) => Err(trouble_at(unread, input.number())),
-    }
+    let table = read_at_line(table_behind(alloc, tables, input.line()), input.number())?;
+    Ok(Some(table))
 }
 
 /// Takes the lines of the tables, and `steps`.
@@ -309,8 +300,7 @@ fn take_tables<R: Read, A: Allocator + Copy>(
     alloc: A,
     input: &mut Input<A>,
     reader: &mut R,
-) -> Result<Schema<A>, Trouble>
-    requires { input.old.number < 2 ^ 16 }
+) -> Result<Schema<A>, ReadFault>
     ensures { TablesTaken result (prepend_known input.old.unread (R.remaining reader.old))
         (prepend_known input.new.unread (R.remaining reader.new)) input.old.number input.new.number }
 {
@@ -323,7 +313,7 @@ fn take_tables<R: Read, A: Allocator + Copy>(
     }
     match Schema::new(tables) {
         Ok(schema) => Ok(schema),
-        Err(_) => Err(Trouble::Malformed(input.number())),
+        Err(_) => Err(ReadFault::Malformed(input.number())),
     }
 }
 
@@ -335,20 +325,12 @@ pub fn read_header<R: Read, A: Allocator + Copy>(
     alloc: A,
     input: &mut Input<A>,
     reader: &mut R,
-) -> Result<Header<A>, Trouble>
+) -> Result<Header<A>, ReadFault>
     requires { input.old.number ≡ 0 }
     ensures { HeaderTaken header_of result (prepend_known input.old.unread (R.remaining reader.old))
         (prepend_known input.new.unread (R.remaining reader.new)) input.new.number }
 {
-    take_version(input, reader)?;
-    let sessions = take_count(input, reader, "sessions", MAX_SESSIONS as u64)?;
-    let queue = take_count(input, reader, "queue", MAX_QUEUE)?;
-    let keep = take_count(input, reader, "keep", MAX_KEEP)?;
+    let limits = take_limits(input, reader)?;
     let schema = take_tables(alloc, input, reader)?;
-    Ok(Header {
-        sessions: sessions as usize,
-        queue: queue as usize,
-        keep: keep as usize,
-        schema,
-    })
+    Ok(Header { limits, schema })
 }

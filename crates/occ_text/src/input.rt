@@ -1,12 +1,12 @@
 //! Input that is taken line by line, in a bounded room whatever the text is.
 
-ghost use Rattle.std.specs.Prelude.{◌≡◌, ◌≤◌, ◌<◌, [], length, IfOk, IfErr, true, false};
+ghost use Rattle.std.specs.Prelude.{◌≡◌, ◌≤◌, ◌<◌, ◌+◌, [], length, IfOk, true, false};
 ghost use Rattle.std.specs.Io.KnownBytes.{Keeps, IsAtEnd, ReadConsumes, prepend_known};
-ghost use Rattle.occ_text.specs.Line.{LineGives, GatherGives, PieceGives, TakesPiece};
+ghost use Rattle.occ_text.specs.Line.{LineGives, LineTaken, GatherGives, PieceGives, TakesPiece};
 
+use crate::faults::{LineFault, ReadFailed};
 use crate::parts::find;
-use crate::trouble::Trouble;
-use std::alloc::Allocator;
+use std::alloc::{AllocError, Allocator};
 use std::io::{ErrorKind, Read};
 use std::marker::Model;
 
@@ -71,11 +71,10 @@ impl<A: Allocator> Model for Input<A> {
 
 impl<A: Allocator> Input<A> {
     /// An input from which nothing was taken. All the memory that it needs is asked for here.
-    pub fn new(alloc: A) -> Result<Self, Trouble>
+    pub fn new(alloc: A) -> Result<Self, AllocError>
     where
         A: Clone,
-        ensures ok { IfOk result (λ input. input ≡ record { unread = []; line = []; number = 0 }) }
-        ensures err { IfErr result (λ trouble. trouble ≡ Trouble.Memory) }
+        ensures { IfOk result (λ input. input ≡ record { unread = []; line = []; number = 0 }) }
     {
         let block = vec![in alloc.clone()?; 0u8; BLOCK]?;
         let line = Vec::with_capacity(alloc, MAX_LINE)?;
@@ -106,12 +105,12 @@ impl<A: Allocator> Input<A> {
     ///
     /// `Malformed` where no line of at most 8,192 bytes and a line feed stands next, with its number; `Read` where the
     /// reader fails, and after 2^64 - 1 lines. After either of them the input is of no more use.
-    pub fn next_line<R: Read>(&mut self, reader: &mut R) -> Result<Next, Trouble>
+    pub fn next_line<R: Read>(&mut self, reader: &mut R) -> Result<Next, LineFault>
         ensures { LineGives result (prepend_known self.old.unread (R.remaining reader.old))
             (prepend_known self.new.unread (R.remaining reader.new)) self.old self.new }
     {
         if self.number == u64::MAX {
-            return Err(Trouble::Read);
+            return Err(LineFault::Read);
         }
         self.line.clear();
         match self.gather(reader)? {
@@ -120,12 +119,33 @@ impl<A: Allocator> Input<A> {
                 Ok(Next::Line)
             }
             Piece::Nothing if self.line.is_empty() => Ok(Next::End),
-            Piece::Nothing | Piece::Long | Piece::Part => Err(Trouble::Malformed(self.number + 1)),
+            Piece::Nothing | Piece::Long | Piece::Part => Err(self.malformed()),
         }
     }
 
+    /// Takes the line that has to stand next, which `line` then shows.
+    ///
+    /// `Malformed` also where the text is at its end; else as `next_line` fails. After that the input is of no more use.
+    pub fn take_line<R: Read>(&mut self, reader: &mut R) -> Result<(), LineFault>
+        ensures { LineTaken result (prepend_known self.old.unread (R.remaining reader.old))
+            (prepend_known self.new.unread (R.remaining reader.new)) self.old self.new }
+    {
+        match self.next_line(reader)? {
+            Next::Line => Ok(()),
+            Next::End => Err(self.malformed()),
+        }
+    }
+
+    // The fault of what stands behind the lines taken so far, or doesn't stand there.
+    fn malformed(&self) -> LineFault
+        requires { self.now.number < u64.MAX }
+        ensures { result ≡ LineFault.Malformed (self.now.number + 1) }
+    {
+        LineFault::Malformed(self.number + 1)
+    }
+
     /// Takes pieces up to the end of a line, or to where none can be.
-    fn gather<R: Read>(&mut self, reader: &mut R) -> Result<Piece, Trouble>
+    fn gather<R: Read>(&mut self, reader: &mut R) -> Result<Piece, ReadFailed>
         requires { self.old.line ≡ [] }
         ensures gives { GatherGives result (prepend_known self.old.unread (R.remaining reader.old))
             (prepend_known self.new.unread (R.remaining reader.new)) self.new.line }
@@ -139,7 +159,7 @@ impl<A: Allocator> Input<A> {
         }
     }
 
-    fn take_piece<R: Read>(&mut self, reader: &mut R) -> Result<Piece, Trouble>
+    fn take_piece<R: Read>(&mut self, reader: &mut R) -> Result<Piece, ReadFailed>
         ensures gives { PieceGives result (prepend_known self.old.unread (R.remaining reader.old))
             (prepend_known self.new.unread (R.remaining reader.new)) self.old self.new }
         ensures number { self.new.number ≡ self.old.number }
@@ -151,12 +171,11 @@ impl<A: Allocator> Input<A> {
     }
 
     /// Reads where nothing is unread, and says whether something is then.
-    fn refill<R: Read>(&mut self, reader: &mut R) -> Result<bool, Trouble>
+    fn refill<R: Read>(&mut self, reader: &mut R) -> Result<bool, ReadFailed>
         ensures kept { Keeps (prepend_known self.old.unread (R.remaining reader.old))
             (prepend_known self.new.unread (R.remaining reader.new)) }
         ensures more { IfOk result (λ more. more ≡ true → 0 < length self.new.unread) }
         ensures end { IfOk result (λ more. more ≡ false → IsAtEnd (prepend_known self.new.unread (R.remaining reader.new))) }
-        ensures err { IfErr result (λ trouble. trouble ≡ Trouble.Read) }
         ensures line { self.new.line ≡ self.old.line }
         ensures number { self.new.number ≡ self.old.number }
     {
@@ -192,10 +211,9 @@ impl<A: Allocator> Input<A> {
 }
 
 /// One read, tried again where a signal interrupts it.
-fn read_some<R: Read>(reader: &mut R, block: &mut [u8]) -> Result<usize, Trouble>
+fn read_some<R: Read>(reader: &mut R, block: &mut [u8]) -> Result<usize, ReadFailed>
     ensures within { IfOk result (λ count. count ≤ length block.new) }
     ensures bytes { ReadConsumes (R.remaining reader.old) (R.remaining reader.new) result block.new }
-    ensures err { IfErr result (λ trouble. trouble ≡ Trouble.Read) }
 {
     let mut tries = u64::MAX;
     while tries > 0 {
@@ -203,11 +221,11 @@ fn read_some<R: Read>(reader: &mut R, block: &mut [u8]) -> Result<usize, Trouble
             Ok(count) => return Ok(count),
             Err(error) => {
                 if error.kind() != ErrorKind::Interrupted {
-                    return Err(Trouble::Read);
+                    return Err(ReadFailed);
                 }
             }
         }
         tries -= 1;
     }
-    Err(Trouble::Read)
+    Err(ReadFailed)
 }

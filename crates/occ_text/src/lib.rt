@@ -2,12 +2,14 @@
 #![tactic(auto)]
 
 pub mod answers;
+pub mod faults;
 #[cfg(test)]
 mod grammar_tests;
 pub mod headers;
 pub mod input;
 pub mod output;
 pub mod parts;
+pub mod refusals;
 pub mod steps;
 #[cfg(test)]
 mod tests;

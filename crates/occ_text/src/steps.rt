@@ -1,6 +1,6 @@
 //! The steps of a schedule, and the reader of their lines.
 
-ghost use Rattle.std.specs.Prelude.{◌≡◌, Some, IfOk};
+ghost use Rattle.std.specs.Prelude.{◌≡◌, Some, IfOk, option_map};
 ghost use Rattle.occ_text.specs.Escapes.{Gives};
 ghost use Rattle.occ_text.specs.Reading.{number_of};
 ghost use Rattle.occ_text.specs.StepReading.{act_of, bare_step, act_step, get_step, delete_step, scan_step, put_step, key_step, last_step, step_of_tokens, step_of_line};
@@ -112,32 +112,32 @@ fn act_of(word: &[u8]) -> Option<Act>
 }
 
 /// A session, which may be one that doesn't exist.
-fn session(token: &[u8]) -> Result<usize, Unread>
-    ensures { Gives (λ session. session) result (number_of 255 token.now) }
+fn session(token: &[u8]) -> Option<usize>
+    ensures { result ≡ number_of 255 token.now }
 {
-    Ok(number(token, 255)? as usize)
+    Some(number(token, 255)? as usize)
 }
 
 /// `show`.
 #[tactic(auto, unfolding(crate::specs::StepReading::bare_step))]
-fn bare_step<'a, A: Allocator>(word: &[u8]) -> Result<Step<'a, A>, Unread>
-    ensures { Gives step_of result (bare_step word.now) }
+fn bare_step<'a, A: Allocator>(word: &[u8]) -> Option<Step<'a, A>>
+    ensures { option_map step_of result ≡ bare_step word.now }
 {
     if is_word(word, "show") {
-        Ok(Step::Show)
+        Some(Step::Show)
     } else {
-        Err(Unread::Malformed)
+        None
     }
 }
 
 /// `WORD S`.
 #[tactic(auto, unfolding(crate::specs::StepReading::act_step))]
-fn act_step<'a, A: Allocator>(word: &[u8], session: &[u8]) -> Result<Step<'a, A>, Unread>
-    ensures { Gives step_of result (act_step word.now session.now) }
+fn act_step<'a, A: Allocator>(word: &[u8], session: &[u8]) -> Option<Step<'a, A>>
+    ensures { option_map step_of result ≡ act_step word.now session.now }
 {
-    let act = act_of(word).ok_or(Unread::Malformed)?;
+    let act = act_of(word)?;
     let session = self::session(session)?;
-    Ok(Step::Does { act, session })
+    Some(Step::Does { act, session })
 }
 
 /// `get S NAME KEY`.
@@ -150,8 +150,8 @@ fn get_step<'a, A: Allocator>(
 ) -> Result<Step<'a, A>, Unread>
     ensures { Gives step_of result (get_step session.now table.now key.now) }
 {
-    let session = self::session(session)?;
-    let table = name(table)?;
+    let session = self::session(session).ok_or(Unread::Malformed)?;
+    let table = name(table).ok_or(Unread::Malformed)?;
     let key = texts::key(alloc, key)?;
     Ok(Step::Get {
         session,
@@ -170,8 +170,8 @@ fn delete_step<'a, A: Allocator>(
 ) -> Result<Step<'a, A>, Unread>
     ensures { Gives step_of result (delete_step session.now table.now key.now) }
 {
-    let session = self::session(session)?;
-    let table = name(table)?;
+    let session = self::session(session).ok_or(Unread::Malformed)?;
+    let table = name(table).ok_or(Unread::Malformed)?;
     let key = texts::key(alloc, key)?;
     Ok(Step::Delete {
         session,
@@ -191,8 +191,8 @@ fn scan_step<'a, A: Allocator + Copy>(
 ) -> Result<Step<'a, A>, Unread>
     ensures { Gives step_of result (scan_step session.now table.now lower.now upper.now) }
 {
-    let session = self::session(session)?;
-    let table = name(table)?;
+    let session = self::session(session).ok_or(Unread::Malformed)?;
+    let table = name(table).ok_or(Unread::Malformed)?;
     let lower = texts::key(alloc, lower)?;
     let upper = texts::key(alloc, upper)?;
     Ok(Step::Scan {
@@ -214,8 +214,8 @@ fn put_step<'a, A: Allocator + Copy>(
 ) -> Result<Step<'a, A>, Unread>
     ensures { Gives step_of result (put_step session.now table.now key.now row.now) }
 {
-    let session = self::session(session)?;
-    let table = name(table)?;
+    let session = self::session(session).ok_or(Unread::Malformed)?;
+    let table = name(table).ok_or(Unread::Malformed)?;
     let key = texts::key(alloc, key)?;
     let row = texts::row(alloc, row)?;
     Ok(Step::Put {
@@ -278,10 +278,10 @@ fn step_of_parts<'a, A: Allocator + Copy>(
         return Err(Unread::Malformed);
     };
     let Some(session) = parts.take_part() else {
-        return bare_step(word);
+        return bare_step(word).ok_or(Unread::Malformed);
     };
     let Some(table) = parts.take_part() else {
-        return act_step(word, session);
+        return act_step(word, session).ok_or(Unread::Malformed);
     };
     let Some(key) = parts.take_part() else {
         return Err(Unread::Malformed);
@@ -299,7 +299,7 @@ fn step_of_parts<'a, A: Allocator + Copy>(
 fn step_value<'a, A: Allocator + Copy>(alloc: A, line: &'a [u8]) -> Result<Step<'a, A>, Unread>
     ensures { Gives step_of result (step_of_line line.now) }
 {
-    let parts = tokens(line)?;
+    let parts = tokens(line).ok_or(Unread::Malformed)?;
     step_of_parts(alloc, parts)
 }
 

@@ -90,7 +90,7 @@ fn key_value<A: Allocator>(alloc: A, token: &[u8]) -> Result<Key<A>, Unread>
     if begins_with(token, b'\'') {
         return Ok(Key::Text(text_value(alloc, token)?));
     }
-    Ok(Key::Num(number(token, u64::MAX)?))
+    Ok(Key::Num(number(token, u64::MAX).ok_or(Unread::Malformed)?))
 }
 
 #[tactic(auto, unfolding(crate::specs::Escapes::read_cell))]
@@ -100,7 +100,7 @@ fn cell_value<A: Allocator>(alloc: A, token: &[u8]) -> Result<Cell<A>, Unread>
     if begins_with(token, b'\'') {
         return Ok(Cell::Text(text_value(alloc, token)?));
     }
-    Ok(Cell::Int(int(token)?))
+    Ok(Cell::Int(int(token).ok_or(Unread::Malformed)?))
 }
 
 #[tactic(auto, unfolding(crate::specs::Escapes::read_row))]

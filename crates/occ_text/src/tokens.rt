@@ -1,7 +1,6 @@
 //! Readers of single tokens. What they read has one spelling.
 
-ghost use Rattle.std.specs.Prelude.{◌≡◌, ◌≤◌, ◌^◌, ok_or, FitsSigned, IfSome, IfErr, Some, drop, option_map};
-ghost use Rattle.std.specs.Result.{result_ok};
+ghost use Rattle.std.specs.Prelude.{◌≡◌, ◌≤◌, ◌^◌, FitsSigned, IfSome, Some, drop, option_map};
 ghost use Rattle.std.specs.Int.{w64};
 ghost use Rattle.std.specs.List.{list_all};
 ghost use Rattle.std.specs.Str.{bytes_eq};
@@ -66,24 +65,17 @@ fn are_tokens(line: &[u8]) -> bool
     true
 }
 
-/// The tokens of a line, if it has them.
+/// The tokens of a line: at least one, each of at least one byte 33 to 126, with one space between two of them. None where the
+/// line has another form.
 #[tactic(auto, unfolding(crate::specs::Reading::tokens_of))]
-pub(crate) fn tokens_value(line: &[u8]) -> Option<Parts<'_>>
-    ensures { result ≡ tokens_of line.now }
+pub fn tokens(line: &[u8]) -> Option<Parts<'_>>
+    ensures exact { result ≡ tokens_of line.now }
+    ensures grammar { Reads line_text AreTokens line.now result }
 {
     if !are_tokens(line) {
         return None;
     }
     Some(Parts::new(line, b' '))
-}
-
-/// The tokens of a line: at least one, each of at least one byte 33 to 126, with one space between two of them. `Malformed`
-/// where the line has another form.
-pub fn tokens(line: &[u8]) -> Result<Parts<'_>, Unread>
-    ensures exact { result ≡ ok_or (tokens_of line.now) Unread.Malformed }
-    ensures grammar { Reads line_text AreTokens line.now (result_ok result) }
-{
-    tokens_value(line).ok_or(Unread::Malformed)
 }
 
 /// Whether the first byte is this one.
@@ -138,11 +130,12 @@ fn decimal_value(token: &[u8]) -> Option<u64>
     text.parse().ok()
 }
 
-/// A number up to `limit`, if the bytes spell one.
+/// A number up to `limit`. None where the token spells none.
 #[tactic(auto, unfolding(crate::specs::Reading::number_of))]
-pub(crate) fn number_value(token: &[u8], limit: u64) -> Option<u64>
+pub fn number(token: &[u8], limit: u64) -> Option<u64>
     ensures exact { result ≡ number_of limit token.now }
     ensures within { IfSome result (λ number. number ≤ limit) }
+    ensures grammar { Reads decimal (λ n. n ≤ limit) token.now result }
 {
     let number = decimal_value(token)?;
     if number <= limit { Some(number) } else { None }
@@ -159,30 +152,16 @@ fn negative(size: u64) -> Option<i64>
     Some(-((size - 1) as i64) - 1)
 }
 
+/// A whole number of 64 bits: a number, or `-` and a number other than 0. None where the token spells none.
 #[tactic(auto, unfolding(crate::specs::Reading::int_of))]
-fn int_value(token: &[u8]) -> Option<i64>
-    ensures { result ≡ int_of token.now }
+pub fn int(token: &[u8]) -> Option<i64>
+    ensures exact { result ≡ int_of token.now }
+    ensures grammar { Reads signed_decimal (FitsSigned w64) token.now result }
 {
     if begins_with(token, b'-') {
-        return negative(number_value(without_first(token), 1 << 63)?);
+        return negative(number(without_first(token), 1 << 63)?);
     }
-    Some(number_value(token, i64::MAX as u64)? as i64)
-}
-
-/// A number up to `limit`. `Malformed` where the token is none.
-pub fn number(token: &[u8], limit: u64) -> Result<u64, Unread>
-    ensures exact { result ≡ ok_or (number_of limit token.now) Unread.Malformed }
-    ensures grammar { Reads decimal (λ n. n ≤ limit) token.now (result_ok result) }
-{
-    number_value(token, limit).ok_or(Unread::Malformed)
-}
-
-/// A whole number of 64 bits: a number, or `-` and a number other than 0. `Malformed` where the token is none.
-pub fn int(token: &[u8]) -> Result<i64, Unread>
-    ensures exact { result ≡ ok_or (int_of token.now) Unread.Malformed }
-    ensures grammar { Reads signed_decimal (FitsSigned w64) token.now (result_ok result) }
-{
-    int_value(token).ok_or(Unread::Malformed)
+    Some(number(token, i64::MAX as u64)? as i64)
 }
 
 fn are_letters(bytes: &[u8]) -> bool
@@ -198,21 +177,14 @@ fn is_name(token: &[u8]) -> bool
     !token.is_empty() && token.len() <= 16 && are_letters(token)
 }
 
+/// A name: 1 to 16 letters a to z. None where the token is none.
 #[tactic(auto, unfolding(crate::specs::Reading::name_of))]
-fn name_value(token: &[u8]) -> Option<&str>
-    ensures { option_map (λ name. name.now) result ≡ name_of token.now }
+pub fn name(token: &[u8]) -> Option<&str>
+    ensures exact { option_map (λ name. name.now) result ≡ name_of token.now }
+    ensures grammar { Reads (λ name. name) IsName token.now (option_map (λ name. name.now) result) }
 {
     if !is_name(token) {
         return None;
     }
     str::from_utf8(token).ok()
-}
-
-/// A name: 1 to 16 letters a to z. `Malformed` where the token is none.
-pub fn name(token: &[u8]) -> Result<&str, Unread>
-    ensures exact { option_map (λ name. name.now) (result_ok result) ≡ name_of token.now }
-    ensures err { IfErr result (λ unread. unread ≡ Unread.Malformed) }
-    ensures grammar { Reads (λ name. name) IsName token.now (option_map (λ name. name.now) (result_ok result)) }
-{
-    name_value(token).ok_or(Unread::Malformed)
 }

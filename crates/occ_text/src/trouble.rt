@@ -1,9 +1,11 @@
 //! What ends an engine before its text is whole, and the exit status of each end.
 
 ghost use Rattle.std.specs.Prelude.{◌≡◌};
+ghost use Rattle.occ_text.specs.Faults.{read_fault, read_trouble, write_trouble};
 ghost use Rattle.occ_text.specs.Status.{status};
-ghost use Rattle.occ_text.specs.declared.trouble.Trouble.TheVariants.{Memory};
+ghost use Rattle.occ_text.specs.declared.trouble.Trouble.TheVariants.{Memory, Write};
 
+use crate::faults::{LineFault, ReadFault, WriteFailed, WriteFault};
 use std::alloc::{AllocError, AllocFailed};
 use thiserror::Error;
 
@@ -37,6 +39,48 @@ impl<T: Drop> From<AllocFailed<T>> for Trouble {
 
     fn from(_refused: AllocFailed<T>) -> Trouble {
         Trouble::Memory
+    }
+}
+
+impl From<LineFault> for Trouble {
+    ghost from_gives = { λ fault trouble. trouble ≡ read_trouble (read_fault fault) };
+
+    fn from(fault: LineFault) -> Trouble {
+        match fault {
+            LineFault::Read => Trouble::Read,
+            LineFault::Malformed(line) => Trouble::Malformed(line),
+        }
+    }
+}
+
+impl From<ReadFault> for Trouble {
+    ghost from_gives = { λ fault trouble. trouble ≡ read_trouble fault };
+
+    fn from(fault: ReadFault) -> Trouble {
+        match fault {
+            ReadFault::Read => Trouble::Read,
+            ReadFault::Malformed(line) => Trouble::Malformed(line),
+            ReadFault::Memory => Trouble::Memory,
+        }
+    }
+}
+
+impl From<WriteFailed> for Trouble {
+    ghost from_gives = { λ _ trouble. trouble ≡ Write };
+
+    fn from(_failed: WriteFailed) -> Trouble {
+        Trouble::Write
+    }
+}
+
+impl From<WriteFault> for Trouble {
+    ghost from_gives = { λ fault trouble. trouble ≡ write_trouble fault };
+
+    fn from(fault: WriteFault) -> Trouble {
+        match fault {
+            WriteFault::Write => Trouble::Write,
+            WriteFault::Memory => Trouble::Memory,
+        }
     }
 }
 

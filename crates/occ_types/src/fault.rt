@@ -1,4 +1,8 @@
-//! Why a call is refused.
+//! Why a call is refused, and what comes back with a refusal.
+ghost use Rattle.std.specs.Prelude.{◌≡◌};
+ghost use Rattle.occ_types.specs.declared.fault.Fault.TheVariants.{Memory};
+
+use std::alloc::{AllocError, AllocFailed};
 
 /// Why a call is refused. A refused call leaves everything as it was, and hands back what was handed in.
 #[derive(Clone, Copy, Debug, PartialEq, Eq)]
@@ -59,4 +63,37 @@ pub enum Fault {
     ReadOpen,
     /// No transaction of this session is open.
     NoReadOpen,
+}
+
+impl From<AllocError> for Fault {
+    ghost from_gives = { λ _ fault. fault ≡ Memory };
+
+    fn from(_refused: AllocError) -> Fault {
+        Fault::Memory
+    }
+}
+
+impl<T: Drop> From<AllocFailed<T>> for Fault {
+    ghost from_gives = { λ _ fault. fault ≡ Memory };
+
+    fn from(_refused: AllocFailed<T>) -> Fault {
+        Fault::Memory
+    }
+}
+
+/// A refusal of a call that takes a value: why, and the value, which comes back whole.
+#[derive(Debug, Drop)]
+pub struct Refused<T> {
+    /// What was handed in.
+    pub value: T,
+    /// Why it was refused.
+    pub fault: Fault,
+}
+
+impl<T: Drop> From<Refused<T>> for Fault {
+    ghost from_gives = { λ refused fault. fault ≡ refused.fault };
+
+    fn from(refused: Refused<T>) -> Fault {
+        refused.fault
+    }
 }

@@ -1,25 +1,27 @@
 //! The types of the table store: kinds, cells, keys and their one total order, rows, schema and its checks, questions, faults and limits.
 #![tactic(auto)]
 
-pub mod cells;
-pub mod fault;
-pub mod keys;
-pub mod kind;
+mod cells;
+mod fault;
+mod keys;
+mod kind;
 pub mod limits;
-pub mod objects;
-pub mod questions;
-pub mod rows;
-pub mod schemas;
-pub mod tables;
+mod objects;
+mod questions;
+mod rows;
+mod schemas;
+mod tables;
 #[cfg(test)]
 mod tests;
-pub mod texts;
+mod texts;
 
 pub use cells::Cell;
+pub use fault::{Fault, Refused};
 pub use keys::Key;
+pub use kind::{KeyKind, Kind};
 pub use objects::Object;
 pub use questions::Question;
 pub use rows::Row;
-pub use schemas::{RefusedTables, Schema};
+pub use schemas::Schema;
 pub use tables::TableDef;
 pub use texts::Text;

@@ -8,7 +8,7 @@ ghost use Rattle.occ_types.specs.Question.{Span};
 ghost use Rattle.occ_types.specs.declared.fault.Fault.TheVariants.{NoTable};
 ghost use Rattle.occ_types.specs.Seen.{key_of, end_of, question_of, table_of, tables_of};
 
-use crate::fault::Fault;
+use crate::fault::{Fault, Refused};
 use crate::keys::Key;
 use crate::limits::MAX_TABLES;
 use crate::questions::Question;
@@ -37,26 +37,16 @@ impl<A: Allocator> Model for Schema<A> {
     ghost invariant = { λ schema. check_tables (tables_of schema.tables.items) ≡ None };
 }
 
-/// Tables that make no schema, handed back.
-#[derive(Drop)]
-#[derive_where(Debug)]
-pub struct RefusedTables<A: Allocator> {
-    /// The tables.
-    pub tables: Vec<TableDef<A>, A>,
-    /// `BadSchema`.
-    pub fault: Fault,
-}
-
 impl<A: Allocator> Schema<A> {
     /// The schema of some tables, which takes no memory. Refused with `BadSchema`, and the tables handed back, where there are not 1 to 32 of them, a name is not 1 to 16 letters a to z or stands twice, or a table has not 1 to 8 columns.
-    pub fn new(tables: Vec<TableDef<A>, A>) -> Result<Schema<A>, RefusedTables<A>>
+    pub fn new(tables: Vec<TableDef<A>, A>) -> Result<Schema<A>, Refused<Vec<TableDef<A>, A>>>
         ensures { MatchResult result
             (λ schema. (check_tables (tables_of tables.items) ≡ None) × (schema ≡ tables_of tables.items))
-            (λ refused. (check_tables (tables_of tables.items) ≡ Some refused.fault) × (refused.tables ≡ tables)) }
+            (λ refused. (check_tables (tables_of tables.items) ≡ Some refused.fault) × (refused.value ≡ tables)) }
     {
         if tables.is_empty() || tables.len() > MAX_TABLES || !are_tables(tables.as_slice()) {
-            return Err(RefusedTables {
-                tables,
+            return Err(Refused {
+                value: tables,
                 fault: Fault::BadSchema,
             });
         }

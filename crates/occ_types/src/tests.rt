@@ -1,7 +1,5 @@
 //! Each public function once, on its happy path.
-use crate::fault::Fault;
-use crate::kind::{KeyKind, Kind};
-use crate::{Cell, Key, Object, Question, Row, Schema, TableDef, Text};
+use crate::{Cell, Fault, Key, KeyKind, Kind, Object, Question, Row, Schema, TableDef, Text};
 use std::alloc::{AllocError, Global};
 use std::cmp::Ordering;
 use std::test::Fail;
@@ -135,7 +133,7 @@ fn schemas(rt: HostRuntime) -> Result<(), Fail> {
         return Ok(());
     };
     assert_eq!(rt; refused.fault, Fault::BadSchema);
-    assert_eq!(rt; refused.tables.len(), 4);
+    assert_eq!(rt; refused.value.len(), 4);
     assert!(rt; Schema::new(Vec::<TableDef<Global>>::new(alloc)).is_err());
     Ok(())
 }

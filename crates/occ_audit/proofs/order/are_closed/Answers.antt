@@ -9,11 +9,6 @@ use Rattle.occ_model.proofs.Tests.{clash}
 use Rattle.occ_audit.proofs.Orders.{AreDue, closed-due}
 use Rattle.occ_audit.proofs.order.are_closed.Goals as goal
 
-pub loop-session-init : goal.loop-session-init
-loop-session-init g c =
-    let start : c.into_iter-session-iterator.result ≡ c.args.marks.now.entries = c.into_iter-session-iterator.ensures.into_iter_gives.0 in
-    λ h. subst (AreDue c.args.last.now) start h
-
 pub returns-then-not-is_due : goal.returns-then-not-is_due
 returns-then-not-is_due g c =
     let start : c.into_iter-session-iterator.result ≡ c.args.marks.now.entries = c.into_iter-session-iterator.ensures.into_iter_gives.0 in
@@ -22,10 +17,6 @@ returns-then-not-is_due g c =
       λ (e : false ≡ true). cc,
       λ closed. clash c.is_due.result (c.is_due.ensures.1 (closed c.in-Some.session.now c.in-Some.mark.now there)) c.if-not-is_due.true,
     )
-
-pub loop-session-preserved : goal.loop-session-preserved
-loop-session-preserved g c = λ h.
-    c.loop-session.invariant (subst (AreDue c.args.last.now) (sym c.in-Some.ensures.steps) (c.is_due.ensures.0 c.if-not-is_due.false, h))
 
 pub returns : goal.returns
 returns g c = (

@@ -1,14 +1,17 @@
-use Rattle.std.proofs.Common.{◌∙◌, ap, subst}
-use Rattle.occ_text.specs.Escapes.{Gives}
-use Rattle.occ_books.proofs.LinesAgain.{counts_line-again}
-use Rattle.occ_books.specs.Heads.{counts_of_line}
-use Rattle.occ_books.specs.declared.heads.Counts.{Counts}
-use Rattle.occ_books.proofs.Found.{found}
-use Rattle.occ_books.proofs.HeadLines.{counts_line-takes}
+use Rattle.std.proofs.Common.{◌≡◌, subst, rules}
+use Rattle.occ_text.specs.Reading.{Reads}
+use Rattle.occ_books.specs.Heads.{counts_text, CountsFit, counts_of_line}
+use Rattle.occ_books.proofs.LinesAgain.{counts_reads}
 use Rattle.occ_books.proofs.heads.read_counts.Goals as goal
 
-pub returns-clause-found : goal.returns-clause-found
-returns-clause-found c = found (λ (x : Counts). x) c.counts_value.result (counts_of_line c.args.line.now) _ c.counts_value.ensures (counts_line-takes c.args.line.now)
+pub returns-in_err-parts-clause-grammar : goal.returns-in_err-parts-clause-grammar
+unfolding counts_of_line
+returns-in_err-parts-clause-grammar c =
+    let exact : counts_of_line c.args.line.now ≡ c.from_residual.result = search rules in
+    subst (Reads counts_text CountsFit c.args.line.now) exact (counts_reads c.args.line.now)
 
-pub returns-clause-again : goal.returns-clause-again
-returns-clause-again c = λ counts fits e. subst (Gives (λ (x : Counts). x) c.counts_value.result) (ap (counts_of_line) e ∙ counts_line-again counts fits) c.counts_value.ensures
+pub returns-clause-grammar : goal.returns-clause-grammar
+unfolding counts_of_line
+returns-clause-grammar c =
+    let exact : counts_of_line c.args.line.now ≡ c.counts_of.result = search rules in
+    subst (Reads counts_text CountsFit c.args.line.now) exact (counts_reads c.args.line.now)

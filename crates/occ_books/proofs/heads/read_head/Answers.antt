@@ -1,14 +1,17 @@
-use Rattle.std.proofs.Common.{◌∙◌, ap, subst}
-use Rattle.occ_text.specs.Escapes.{Gives}
-use Rattle.occ_books.proofs.LinesAgain.{head_line-again}
-use Rattle.occ_books.specs.Heads.{head_of_line}
-use Rattle.occ_books.specs.declared.heads.Head.{Head}
-use Rattle.occ_books.proofs.Found.{found}
-use Rattle.occ_books.proofs.HeadLines.{head_line-takes}
+use Rattle.std.proofs.Common.{◌≡◌, subst, rules}
+use Rattle.occ_text.specs.Reading.{Reads}
+use Rattle.occ_books.specs.Heads.{head_text, HeadFits, head_of_line}
+use Rattle.occ_books.proofs.LinesAgain.{head_reads}
 use Rattle.occ_books.proofs.heads.read_head.Goals as goal
 
-pub returns-clause-found : goal.returns-clause-found
-returns-clause-found c = found (λ (x : Head). x) c.head_value.result (head_of_line c.args.sessions c.args.line.now) _ c.head_value.ensures (head_line-takes c.args.sessions c.args.line.now)
+pub returns-in_err-parts-clause-grammar : goal.returns-in_err-parts-clause-grammar
+unfolding head_of_line
+returns-in_err-parts-clause-grammar c =
+    let exact : head_of_line c.args.sessions c.args.line.now ≡ c.from_residual.result = search rules in
+    subst (Reads head_text (HeadFits c.args.sessions) c.args.line.now) exact (head_reads c.args.sessions c.args.line.now c.ranges.sessions.fits)
 
-pub returns-clause-again : goal.returns-clause-again
-returns-clause-again c = λ head fits e. subst (Gives (λ (x : Head). x) c.head_value.result) (ap (head_of_line c.args.sessions) e ∙ head_line-again c.args.sessions head c.ranges.sessions.fits fits) c.head_value.ensures
+pub returns-clause-grammar : goal.returns-clause-grammar
+unfolding head_of_line
+returns-clause-grammar c =
+    let exact : head_of_line c.args.sessions c.args.line.now ≡ c.head_of.result = search rules in
+    subst (Reads head_text (HeadFits c.args.sessions) c.args.line.now) exact (head_reads c.args.sessions c.args.line.now c.ranges.sessions.fits)

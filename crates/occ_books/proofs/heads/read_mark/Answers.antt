@@ -1,14 +1,17 @@
-use Rattle.std.proofs.Common.{◌∙◌, ap, subst}
-use Rattle.occ_text.specs.Escapes.{Gives}
-use Rattle.occ_books.proofs.LinesAgain.{mark_line-again}
-use Rattle.occ_books.specs.Heads.{mark_of_line}
-use Rattle.occ_books.specs.declared.heads.Mark.{Mark}
-use Rattle.occ_books.proofs.Found.{found}
-use Rattle.occ_books.proofs.HeadLines.{mark_line-takes}
+use Rattle.std.proofs.Common.{◌≡◌, subst, rules}
+use Rattle.occ_text.specs.Reading.{Reads}
+use Rattle.occ_books.specs.Heads.{mark_text, MarkFits, mark_of_line}
+use Rattle.occ_books.proofs.LinesAgain.{mark_reads}
 use Rattle.occ_books.proofs.heads.read_mark.Goals as goal
 
-pub returns-clause-found : goal.returns-clause-found
-returns-clause-found c = found (λ (x : Mark). x) c.mark_value.result (mark_of_line c.args.sessions c.args.line.now) _ c.mark_value.ensures (mark_line-takes c.args.sessions c.args.line.now)
+pub returns-in_err-parts-clause-grammar : goal.returns-in_err-parts-clause-grammar
+unfolding mark_of_line
+returns-in_err-parts-clause-grammar c =
+    let exact : mark_of_line c.args.sessions c.args.line.now ≡ c.from_residual.result = search rules in
+    subst (Reads mark_text (MarkFits c.args.sessions) c.args.line.now) exact (mark_reads c.args.sessions c.args.line.now c.ranges.sessions.fits)
 
-pub returns-clause-again : goal.returns-clause-again
-returns-clause-again c = λ mark fits e. subst (Gives (λ (x : Mark). x) c.mark_value.result) (ap (mark_of_line c.args.sessions) e ∙ mark_line-again c.args.sessions mark c.ranges.sessions.fits fits) c.mark_value.ensures
+pub returns-clause-grammar : goal.returns-clause-grammar
+unfolding mark_of_line
+returns-clause-grammar c =
+    let exact : mark_of_line c.args.sessions c.args.line.now ≡ c.mark_of.result = search rules in
+    subst (Reads mark_text (MarkFits c.args.sessions) c.args.line.now) exact (mark_reads c.args.sessions c.args.line.now c.ranges.sessions.fits)

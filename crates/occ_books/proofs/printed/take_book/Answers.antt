@@ -1,13 +1,12 @@
-use Rattle.std.proofs.Common.{◌≤◌, ◌^◌, ◌-◌, ◌∙◌, [], Err, length, ap, arith}
+use Rattle.std.proofs.Common.{◌≤◌, ◌^◌, ◌-◌, [], length, arith}
 use Rattle.std.proofs.lemmas.List.{length-map}
-use Rattle.std.proofs.lemmas.Result.{err_from_is_err_and}
 use Rattle.occ_core.specs.Rows.{log_of, log_row_of}
 use Rattle.occ_core.specs.Core.{marks_of}
-use Rattle.occ_books.specs.declared.heads.Counts.{Counts}
+use Rattle.occ_text.specs.Faults.{read_fault}
 use Rattle.occ_books.specs.Places.{Version, Tables, Marks, State, Counter, Audit, frame_of, rows_to_come}
 use Rattle.occ_books.proofs.Leading.{led_nothing}
 use Rattle.occ_books.proofs.Sections.{whole_book}
-use Rattle.occ_books.proofs.PartsLeading.{part_fault, end_fault, led_ended, counts_fault, upto_log, upto_marks, upto_state, upto_counter, upto_audit}
+use Rattle.occ_books.proofs.PartsLeading.{limits_led, limits_fail, part_failed, led_ended, counts_fail, upto_log, upto_marks, upto_state, upto_counter, upto_audit}
 use Rattle.occ_books.proofs.printed.take_book.Goals as goal
 
 pub returns-clause-taken : goal.returns-clause-taken
@@ -18,68 +17,62 @@ returns-clause-taken g c =
     let small = rows.small in
     let all = c.in_ok-log.ensures.taken.1 in
     let few : c.in_ok-opening.opening.rows ≤ 2 ^ 64 - 1 = omega arith in
-    whole_book c.in_ok-settings.settings c.in_ok-opening.opening.schema c.in_ok-opening.opening.rows (length c.in_ok-log.log.items) (log_of c.in_ok-log.log.items) (marks_of c.in_ok-marks.marks) c.in_ok-tables.tables.state c.in_ok-counts.counts
-    _ _ _ _ _ _ _ c.in_ok-settings.ensures.taken c.in_ok-opening.ensures.taken c.in_ok-log.ensures.taken.0 (length-map c.in_ok-log.log.items log_row_of) c.in_ok-log.ensures.taken.1 few
+    whole_book c.in_ok-limits.limits c.in_ok-opening.opening.schema c.in_ok-opening.opening.rows (length c.in_ok-log.log.items) (log_of c.in_ok-log.log.items) (marks_of c.in_ok-marks.marks) c.in_ok-tables.tables.state c.in_ok-counts.counts
+    _ _ _ _ _ _ _ _ _ c.in_ok-limits.ensures c.in_ok-opening.ensures.taken c.in_ok-log.ensures.taken.0 (length-map c.in_ok-log.log.items log_row_of) c.in_ok-log.ensures.taken.1 few
     c.in_ok-marks.ensures.taken c.in_ok-tables.ensures.taken c.in_ok-counts.ensures.taken c.in_ok-take_end.ensures.taken
 
-pub returns-in_err-settings-clause-led : goal.returns-in_err-settings-clause-led
-returns-in_err-settings-clause-led g c =
-    let h = err_from_is_err_and c.from_residual.result c.from_residual.ensures.1 in
-    part_fault c.in_err-settings.field-0.0 c.from_residual.result Version Version (λ settings. Tables settings.sessions []) _ _ _ _ _ _ (h.1 ∙ ap Err h.2) (led_nothing Version _ _) c.in_err-settings.ensures.led
+pub returns-in_err-limits-clause-led : goal.returns-in_err-limits-clause-led
+returns-in_err-limits-clause-led g c =
+    let fault = read_fault c.in_err-limits.field-0.0 in
+    part_failed fault c.from_residual.result Version Version _ _ _ _ _ c.from_residual.ensures.1 (led_nothing Version _ _) (limits_fail c.in_err-limits.field-0.0 _ _ _ c.take_limits.new.input.number c.in_err-limits.ensures)
 
 pub returns-in_err-opening-clause-led : goal.returns-in_err-opening-clause-led
 returns-in_err-opening-clause-led g c =
-    let h = err_from_is_err_and c.from_residual-in_err-opening.result c.from_residual-in_err-opening.ensures.1 in
-    let s = c.in_ok-settings.settings in
-    part_fault c.in_err-opening.field-0.0 c.from_residual-in_err-opening.result Version (Tables s.sessions []) (λ opening. rows_to_come (frame_of opening.schema s.sessions) opening.rows) _ _ _ _ _ _ (h.1 ∙ ap Err h.2)
-    c.in_ok-settings.ensures.led (c.in_err-opening.ensures.led s.sessions)
+    let s = c.in_ok-limits.limits in
+    part_failed c.in_err-opening.field-0.0 c.from_residual-in_err-opening.result Version (Tables s.sessions []) _ _ _ _ _ c.from_residual-in_err-opening.ensures.1 (limits_led s _ _ _ _ c.in_ok-limits.ensures) (c.in_err-opening.ensures.led s.sessions)
 
 pub returns-in_err-log-clause-led : goal.returns-in_err-log-clause-led
 returns-in_err-log-clause-led g c =
-    let h = err_from_is_err_and c.from_residual-in_err-log.result c.from_residual-in_err-log.ensures.1 in
-    let s = c.in_ok-settings.settings in
+    let s = c.in_ok-limits.limits in
     let frame = frame_of c.in_ok-opening.opening.schema s.sessions in
-    part_fault c.in_err-log.field-0.0 c.from_residual-in_err-log.result Version (rows_to_come frame c.in_ok-opening.opening.rows) (λ log. Marks frame) _ _ _ _ _ _ (h.1 ∙ ap Err h.2)
-    (upto_log s.sessions frame c.in_ok-opening.opening.rows _ _ _ _ _ _ c.in_ok-settings.ensures.led (c.in_ok-opening.ensures.led s.sessions)) c.in_err-log.ensures.led
+    part_failed c.in_err-log.field-0.0 c.from_residual-in_err-log.result Version (rows_to_come frame c.in_ok-opening.opening.rows) _ _ _ _ _ c.from_residual-in_err-log.ensures.1
+    (upto_log s.sessions frame c.in_ok-opening.opening.rows _ _ _ _ _ _ (limits_led s _ _ _ _ c.in_ok-limits.ensures) (c.in_ok-opening.ensures.led s.sessions)) c.in_err-log.ensures.led
 
 pub returns-in_err-marks-clause-led : goal.returns-in_err-marks-clause-led
 returns-in_err-marks-clause-led g c =
-    let h = err_from_is_err_and c.from_residual-in_err-marks.result c.from_residual-in_err-marks.ensures.1 in
-    let s = c.in_ok-settings.settings in
+    let s = c.in_ok-limits.limits in
     let frame = frame_of c.in_ok-opening.opening.schema s.sessions in
-    part_fault c.in_err-marks.field-0.0 c.from_residual-in_err-marks.result Version (Marks frame) (λ marks. State frame) _ _ _ _ _ _ (h.1 ∙ ap Err h.2)
-    (upto_marks s.sessions frame c.in_ok-opening.opening.rows _ _ _ _ _ _ _ _ c.in_ok-settings.ensures.led (c.in_ok-opening.ensures.led s.sessions) c.in_ok-log.ensures.led) (c.in_err-marks.ensures.led c.in_ok-opening.opening.schema)
+    part_failed c.in_err-marks.field-0.0 c.from_residual-in_err-marks.result Version (Marks frame) _ _ _ _ _ c.from_residual-in_err-marks.ensures.1
+    (upto_marks s.sessions frame c.in_ok-opening.opening.rows _ _ _ _ _ _ _ _ (limits_led s _ _ _ _ c.in_ok-limits.ensures) (c.in_ok-opening.ensures.led s.sessions) c.in_ok-log.ensures.led) (c.in_err-marks.ensures.led c.in_ok-opening.opening.schema)
 
 pub returns-in_err-tables-clause-led : goal.returns-in_err-tables-clause-led
 returns-in_err-tables-clause-led g c =
-    let h = err_from_is_err_and c.from_residual-in_err-tables.result c.from_residual-in_err-tables.ensures.1 in
-    let s = c.in_ok-settings.settings in
+    let s = c.in_ok-limits.limits in
     let frame = frame_of c.in_ok-opening.opening.schema s.sessions in
-    part_fault c.in_err-tables.field-0.0 c.from_residual-in_err-tables.result Version (State frame) (λ tables. Counter) _ _ _ _ _ _ (h.1 ∙ ap Err h.2)
-    (upto_state s.sessions frame c.in_ok-opening.opening.rows _ _ _ _ _ _ _ _ _ _ c.in_ok-settings.ensures.led (c.in_ok-opening.ensures.led s.sessions) c.in_ok-log.ensures.led (c.in_ok-marks.ensures.led c.in_ok-opening.opening.schema)) (c.in_err-tables.ensures.led s.sessions)
+    part_failed c.in_err-tables.field-0.0 c.from_residual-in_err-tables.result Version (State frame) _ _ _ _ _ c.from_residual-in_err-tables.ensures.1
+    (upto_state s.sessions frame c.in_ok-opening.opening.rows _ _ _ _ _ _ _ _ _ _ (limits_led s _ _ _ _ c.in_ok-limits.ensures) (c.in_ok-opening.ensures.led s.sessions) c.in_ok-log.ensures.led (c.in_ok-marks.ensures.led c.in_ok-opening.opening.schema)) (c.in_err-tables.ensures.led s.sessions)
 
 pub returns-in_err-counts-clause-led : goal.returns-in_err-counts-clause-led
 returns-in_err-counts-clause-led g c =
-    let h = err_from_is_err_and c.from_residual-in_err-counts.result c.from_residual-in_err-counts.ensures.1 in
-    let s = c.in_ok-settings.settings in
+    let s = c.in_ok-limits.limits in
     let frame = frame_of c.in_ok-opening.opening.schema s.sessions in
-    part_fault c.in_err-counts.field-0.0 c.from_residual-in_err-counts.result Version Counter (λ (counts : Counts). Audit) _ _ _ _ _ _ (h.1 ∙ ap Err h.2)
-    (upto_counter s.sessions frame c.in_ok-opening.opening.rows _ _ _ _ _ _ _ _ _ _ _ _ c.in_ok-settings.ensures.led (c.in_ok-opening.ensures.led s.sessions) c.in_ok-log.ensures.led (c.in_ok-marks.ensures.led c.in_ok-opening.opening.schema) (c.in_ok-tables.ensures.led s.sessions))
-    (counts_fault c.in_err-counts.field-0.0 _ _ _ _ c.in_err-counts.ensures.led)
+    let fault = read_fault c.in_err-counts.field-0.0 in
+    part_failed fault c.from_residual-in_err-counts.result Version Counter _ _ _ _ _ c.from_residual-in_err-counts.ensures.1
+    (upto_counter s.sessions frame c.in_ok-opening.opening.rows _ _ _ _ _ _ _ _ _ _ _ _ (limits_led s _ _ _ _ c.in_ok-limits.ensures) (c.in_ok-opening.ensures.led s.sessions) c.in_ok-log.ensures.led (c.in_ok-marks.ensures.led c.in_ok-opening.opening.schema) (c.in_ok-tables.ensures.led s.sessions))
+    (counts_fail fault _ _ _ c.in_err-counts.ensures.led)
 
 pub returns-in_err-take_end-clause-led : goal.returns-in_err-take_end-clause-led
 returns-in_err-take_end-clause-led g c =
-    let h = err_from_is_err_and c.from_residual-in_err-take_end.result c.from_residual-in_err-take_end.ensures.1 in
-    let s = c.in_ok-settings.settings in
+    let s = c.in_ok-limits.limits in
     let frame = frame_of c.in_ok-opening.opening.schema s.sessions in
-    end_fault (Unit {0}) c.in_err-take_end.field-0.0 c.from_residual-in_err-take_end.result Version Audit _ _ _ _ _ (h.1 ∙ ap Err h.2)
-    (upto_audit s.sessions frame c.in_ok-opening.opening.rows c.in_ok-counts.counts _ _ _ _ _ _ _ _ _ _ _ _ _ _ c.in_ok-settings.ensures.led (c.in_ok-opening.ensures.led s.sessions) c.in_ok-log.ensures.led (c.in_ok-marks.ensures.led c.in_ok-opening.opening.schema)
+    part_failed (read_fault c.in_err-take_end.field-0.0) c.from_residual-in_err-take_end.result Version Audit _ _ _ _ _ c.from_residual-in_err-take_end.ensures.1
+    (upto_audit s.sessions frame c.in_ok-opening.opening.rows c.in_ok-counts.counts _ _ _ _ _ _ _ _ _ _ _ _ _ _ (limits_led s _ _ _ _ c.in_ok-limits.ensures) (c.in_ok-opening.ensures.led s.sessions) c.in_ok-log.ensures.led (c.in_ok-marks.ensures.led c.in_ok-opening.opening.schema)
     (c.in_ok-tables.ensures.led s.sessions) c.in_ok-counts.ensures.led) c.in_err-take_end.ensures.led
 
 pub returns-clause-led : goal.returns-clause-led
 returns-clause-led g c =
-    let s = c.in_ok-settings.settings in
+    let s = c.in_ok-limits.limits in
     let frame = frame_of c.in_ok-opening.opening.schema s.sessions in
     led_ended Version Audit _ _ _ _
-    (upto_audit s.sessions frame c.in_ok-opening.opening.rows c.in_ok-counts.counts _ _ _ _ _ _ _ _ _ _ _ _ _ _ c.in_ok-settings.ensures.led (c.in_ok-opening.ensures.led s.sessions) c.in_ok-log.ensures.led (c.in_ok-marks.ensures.led c.in_ok-opening.opening.schema)
+    (upto_audit s.sessions frame c.in_ok-opening.opening.rows c.in_ok-counts.counts _ _ _ _ _ _ _ _ _ _ _ _ _ _ (limits_led s _ _ _ _ c.in_ok-limits.ensures) (c.in_ok-opening.ensures.led s.sessions) c.in_ok-log.ensures.led (c.in_ok-marks.ensures.led c.in_ok-opening.opening.schema)
     (c.in_ok-tables.ensures.led s.sessions) c.in_ok-counts.ensures.led) c.in_ok-take_end.ensures.led

@@ -1,9 +1,8 @@
-use Rattle.std.proofs.Common.{◌∙◌, Err, ap, sym}
-use Rattle.std.proofs.lemmas.Result.{err_from_is_err_and}
+use Rattle.std.proofs.Common.{◌∙◌, sym}
 use Rattle.occ_books.specs.Places.{Audit, End}
 use Rattle.occ_books.proofs.Leading.{led_nothing, led_stopped}
 use Rattle.occ_books.proofs.Sections.{end_here, end_behind, truth}
-use Rattle.occ_books.proofs.PartsLeading.{ended_here, next_fault, another_stands, audit_led, no_audit}
+use Rattle.occ_books.proofs.PartsLeading.{ended_here, next_failed, another_stands, audit_led, no_audit}
 use Rattle.occ_books.proofs.printed.take_end.Goals as goal
 
 pub returns-in-End-clause-taken : goal.returns-in-End-clause-taken
@@ -30,8 +29,7 @@ returns-in-End-2-clause-led g c =
 
 pub returns-in_err-next_line-clause-led : goal.returns-in_err-next_line-clause-led
 returns-in_err-next_line-clause-led g c =
-    let h = err_from_is_err_and c.from_residual.result c.from_residual.ensures.1 in
-    next_fault c.in_err-next_line.field-0.0 c.from_residual.result Audit Audit _ _ _ c.args.input.now _ _ (h.1 ∙ ap Err h.2) (led_nothing Audit _ c.args.input.now.number) c.in_err-next_line.ensures
+    next_failed c.in_err-next_line.field-0.0 c.from_residual.result Audit Audit _ _ _ c.args.input.now _ _ c.from_residual.ensures.1 (led_nothing Audit _ c.args.input.now.number) c.in_err-next_line.ensures
 
 pub returns-then-not-is_audit-clause-led : goal.returns-then-not-is_audit-clause-led
 returns-then-not-is_audit-clause-led g c =
@@ -40,9 +38,8 @@ returns-then-not-is_audit-clause-led g c =
 
 pub returns-in_err-next_line-2-clause-led : goal.returns-in_err-next_line-2-clause-led
 returns-in_err-next_line-2-clause-led g c =
-    let h = err_from_is_err_and c.from_residual-in_err-next_line-2.result c.from_residual-in_err-next_line-2.ensures.1 in
     let l = rw c.in-Line.is at c.in_ok-next_line.ensures in
-    next_fault c.in_err-next_line-2.field-0.0 c.from_residual-in_err-next_line-2.result Audit End _ _ _ c.next_line.new.self _ _ (h.1 ∙ ap Err h.2)
+    next_failed c.in_err-next_line-2.field-0.0 c.from_residual-in_err-next_line-2.result Audit End _ _ _ c.next_line.new.self _ _ c.from_residual-in_err-next_line-2.ensures.1
     (audit_led c.line.result.now _ _ _ _ _ l.0 l.2 c.line.ensures (truth _ _ c.is_audit.ensures c.if-not-is_audit.false)) c.in_err-next_line-2.ensures
 
 pub returns-in-Line-2-clause-led : goal.returns-in-Line-2-clause-led

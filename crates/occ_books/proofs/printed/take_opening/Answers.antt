@@ -1,11 +1,10 @@
-use Rattle.std.proofs.Common.{◌∙◌, Err, ap, codes}
-use Rattle.std.proofs.lemmas.Result.{err_from_is_err_and}
+use Rattle.std.proofs.Common.{[], ap, codes}
 use Rattle.occ_types.specs.Seen.{table_of, tables_of}
 use Rattle.occ_text.specs.Headers.{count_text}
-use Rattle.occ_books.specs.Places.{rows_to_come}
-use Rattle.occ_books.specs.Taking.{further_of}
+use Rattle.occ_books.specs.Places.{Tables, rows_to_come}
+use Rattle.occ_books.proofs.Leading.{failed}
 use Rattle.occ_books.proofs.Sections.{tables_next, tables_end}
-use Rattle.occ_books.proofs.PartsLeading.{no_tables_led, no_tables_taken, table_led, opening_led, opening_barred, opening_fault}
+use Rattle.occ_books.proofs.PartsLeading.{no_tables_led, no_tables_taken, table_led, opening_led, opening_barred, opening_fails}
 use Rattle.occ_books.proofs.printed.take_opening.Goals as goal
 
 pub loop-tables-init : goal.loop-tables-init
@@ -36,9 +35,8 @@ returns-in-Ok-clause-led g c = λ sessions.
 
 pub returns-in_err-table-clause-led : goal.returns-in_err-table-clause-led
 returns-in_err-table-clause-led g c = λ sessions.
-    let h = err_from_is_err_and c.from_residual.result c.from_residual.ensures.1 in
-    opening_fault (further_of {Z = g.row.A.Denot}) c.in_err-table.field-0.0 c.from_residual.result (λ opening. rows_to_come (record { schema = opening.schema; sessions = sessions }) opening.rows) (tables_of c.loop-tables.tables.items)
-    (tables_of c.as_slice.result.now) sessions _ _ _ _ _ _ _ (h.1 ∙ ap Err h.2) (ap tables_of c.as_slice.ensures.value) (c.loop-tables.invariant.led sessions) c.in_err-table.ensures.led
+    failed c.in_err-table.field-0.0 c.from_residual.result (Tables sessions []) (λ opening. rows_to_come (record { schema = opening.schema; sessions = sessions }) opening.rows) _ _ _ _ c.from_residual.ensures.1
+    (opening_fails c.in_err-table.field-0.0 (tables_of c.loop-tables.tables.items) (tables_of c.as_slice.result.now) sessions _ _ _ _ _ (ap tables_of c.as_slice.ensures.value) (c.loop-tables.invariant.led sessions) c.in_err-table.ensures.led)
 
 pub returns-in-Err-clause-led : goal.returns-in-Err-clause-led
 returns-in-Err-clause-led g c = λ sessions.

@@ -1,5 +1,4 @@
-use Rattle.std.proofs.Common.{[], ◌∷◌, length, None, Err, sym, ap, subst, ◌∙◌}
-use Rattle.std.proofs.lemmas.Result.{err_from_is_err_and}
+use Rattle.std.proofs.Common.{[], ◌∷◌, length, None, sym, ap, subst}
 use Rattle.occ_types.specs.Seen.{key_of}
 use Rattle.occ_print.specs.Books.{pair_line}
 use Rattle.occ_books.specs.Entries.{pair_of, PairFits}
@@ -7,8 +6,8 @@ use Rattle.occ_books.specs.Taking.{RisesFrom}
 use Rattle.occ_books.specs.Places.{IsAbove, last_key, pairs_to_come, reads_to_come}
 use Rattle.occ_books.proofs.Gathering.{nothing_viewed, viewed_next, viewed_more, count_more}
 use Rattle.occ_books.proofs.RowTaking.{rises-more}
-use Rattle.occ_books.proofs.Leading.{turned}
-use Rattle.occ_books.proofs.RowLeading.{pairs_begun, pairs_more, pairs_fault}
+use Rattle.occ_books.proofs.Leading.{failed, turned}
+use Rattle.occ_books.proofs.RowLeading.{pairs_begun, pairs_more, pairs_fail}
 use Rattle.occ_sets.specs.Seen.{rows_of}
 use Rattle.occ_books.proofs.transactions.take_pairs.Goals as goal
 
@@ -33,9 +32,9 @@ loop-preserved g c = record {
 
 pub returns-in_err-pair-clause-led : goal.returns-in_err-pair-clause-led
 returns-in_err-pair-clause-led g c = λ row same reads.
-    let h = err_from_is_err_and c.from_residual.result c.from_residual.ensures.1 in
-    pairs_fault (pair_of {Z = g.row.A.Denot}) c.in_err-pair.field-0.0 c.from_residual.result c.loop.rows.items c.as_slice.result.now row c.args.schema.now reads c.args.table c.args.count c.loop.counter (pairs_to_come row reads c.args.table c.args.count None)
-    (λ _. reads_to_come row reads) _ _ _ _ _ c.take_pair.new.input.number _ (h.1 ∙ ap Err h.2) c.as_slice.ensures.value same c.loop-test.true (c.loop.invariant.led row same reads) c.in_err-pair.ensures.led
+    failed c.in_err-pair.field-0.0 c.from_residual.result (pairs_to_come row reads c.args.table c.args.count None) (λ _. reads_to_come row reads) _ _ _ _ c.from_residual.ensures.1
+    (pairs_fail (pair_of {Z = g.row.A.Denot}) c.in_err-pair.field-0.0 c.loop.rows.items c.as_slice.result.now row c.args.schema.now reads c.args.table c.args.count c.loop.counter (pairs_to_come row reads c.args.table c.args.count None)
+    _ _ _ _ _ c.as_slice.ensures.value same c.loop-test.true (c.loop.invariant.led row same reads) c.in_err-pair.ensures.led)
 
 pub returns-clause-led : goal.returns-clause-led
 returns-clause-led g c = λ row same reads.

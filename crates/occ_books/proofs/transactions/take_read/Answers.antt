@@ -1,13 +1,12 @@
-use Rattle.std.proofs.Common.{Ok, Err, ap, ◌∙◌}
-use Rattle.std.proofs.lemmas.Result.{err_from_is_err_and}
+use Rattle.std.proofs.Common.{Ok, Err, ◌∙◌}
 use Rattle.std.proofs.lemmas.List.{length-map}
 use Rattle.occ_types.specs.Seen.{question_of, object_of}
 use Rattle.occ_sets.specs.Seen.{rows_of}
-use Rattle.occ_books.specs.Entries.{AskedOne, asked_of}
+use Rattle.occ_books.specs.Entries.{AskedOne}
 use Rattle.occ_books.specs.Places.{ReadOf, reads_to_come}
 use Rattle.occ_books.proofs.RowTaking.{span_taken}
-use Rattle.occ_books.proofs.Leading.{fault_on}
-use Rattle.occ_books.proofs.RowLeading.{asked_fault, asked_led, span_led}
+use Rattle.occ_books.proofs.Leading.{failed}
+use Rattle.occ_books.proofs.RowLeading.{asked_fails, asked_led, span_led}
 use Rattle.occ_books.proofs.transactions.take_read.Goals as goal
 
 pub returns-in_ok-rows-in-Span-clause-taken : goal.returns-in_ok-rows-in-Span-clause-taken
@@ -18,8 +17,8 @@ returns-in_ok-rows-in-Span-clause-taken g c =
 
 pub returns-in_err-object-clause-led : goal.returns-in_err-object-clause-led
 returns-in_err-object-clause-led g c = λ row same reads.
-    let h = err_from_is_err_and c.from_residual.result c.from_residual.ensures.1 in
-    asked_fault (asked_of {Z = g.row.A.Denot}) c.in_err-object.field-0.0 c.from_residual.result row c.args.schema.now reads (λ _. reads_to_come row reads) _ _ _ c.take_asked.new.input.number _ same (h.1 ∙ ap Err h.2) c.in_err-object.ensures.led
+    failed c.in_err-object.field-0.0 c.from_residual.result (ReadOf row reads) (λ _. reads_to_come row reads) _ _ _ _ c.from_residual.ensures.1
+    (asked_fails c.in_err-object.field-0.0 row c.args.schema.now reads _ _ _ same c.in_err-object.ensures.led)
 
 pub returns-in-One-clause-led : goal.returns-in-One-clause-led
 returns-in-One-clause-led g c = λ row same reads.
@@ -34,6 +33,6 @@ returns-in_ok-rows-in-Span-clause-led g c = λ row same reads.
 pub returns-in_err-rows-in-Span-clause-led : goal.returns-in_err-rows-in-Span-clause-led
 returns-in_err-rows-in-Span-clause-led g c = λ row same reads.
     let head = rw c.in-Span.is at c.in_ok-object.ensures.led in
-    let h = err_from_is_err_and c.from_residual-in_err-rows-in-Span.result c.from_residual-in_err-rows-in-Span.ensures.1 in
-    fault_on c.in_err-rows-in-Span.field-0.0 c.from_residual-in_err-rows-in-Span.result (ReadOf row reads) (λ _. reads_to_come row reads) (λ _. reads_to_come row reads) _ _ _ c.take_pairs.new.input.number _ (h.1 ∙ ap Err h.2)
-    (span_led (Err c.in_err-rows-in-Span.field-0.0) (question_of c.in-Span.question) c.in-Span.count c.table-table.result row c.args.schema.now reads _ _ _ _ _ _ same c.table-table.ensures head (c.in_err-rows-in-Span.ensures.led row same reads))
+    failed c.in_err-rows-in-Span.field-0.0 c.from_residual-in_err-rows-in-Span.result (ReadOf row reads) (λ _. reads_to_come row reads) _ _ _ _ c.from_residual-in_err-rows-in-Span.ensures.1
+    (span_led {X = Unit {0}} (Err c.in_err-rows-in-Span.field-0.0) (question_of c.in-Span.question) c.in-Span.count c.table-table.result row c.args.schema.now reads _ _ _ _ _ c.take_pairs.new.input.number same c.table-table.ensures head
+    (c.in_err-rows-in-Span.ensures.led row same reads))

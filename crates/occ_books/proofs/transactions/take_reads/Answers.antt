@@ -1,11 +1,11 @@
-use Rattle.std.proofs.Common.{◌+◌, ◌-◌, [], Ok, Err, length, ap, ◌∙◌}
-use Rattle.std.proofs.lemmas.Result.{err_from_is_err_and}
+use Rattle.std.proofs.Common.{◌+◌, ◌-◌, [], Ok, length, ap}
+use Rattle.occ_text.specs.declared.faults.ReadFault.TheVariants.{Memory}
 use Rattle.occ_sets.specs.Seen.{observation_of}
 use Rattle.occ_print.specs.Books.{read_lines}
 use Rattle.occ_books.specs.Taking.{ReadFits}
 use Rattle.occ_books.specs.Places.{reads_to_come, writes_to_come}
 use Rattle.occ_books.proofs.Gathering.{nothing_yet, gathered_next, count_more}
-use Rattle.occ_books.proofs.Leading.{memory_fault, begun, turn, turn_fault, turned}
+use Rattle.occ_books.proofs.Leading.{failed, begun, turn, turn_fails, turned}
 use Rattle.occ_books.proofs.transactions.take_reads.Goals as goal
 
 pub loop-init : goal.loop-init
@@ -17,8 +17,8 @@ loop-init g c = record {
 
 pub loop-preserved : goal.loop-preserved
 loop-preserved g c = record {
-  taken = gathered_next (read_lines c.args.schema.now) (ReadFits c.args.schema.now) c.loop.reads c.note.new.reads (observation_of c.in_ok-read.read) _ _ _ c.in_ok-note.ensures.ok c.loop.invariant.taken c.in_ok-read.ensures.taken;
-  count = count_more c.loop.reads c.note.new.reads (observation_of c.in_ok-read.read) c.loop.counter c.in_ok-note.ensures.ok c.loop.invariant.count;
+  taken = gathered_next (read_lines c.args.schema.now) (ReadFits c.args.schema.now) c.loop.reads c.note.new.reads (observation_of c.in_ok-read.read) _ _ _ c.in_ok-note.ensures c.loop.invariant.taken c.in_ok-read.ensures.taken;
+  count = count_more c.loop.reads c.note.new.reads (observation_of c.in_ok-read.read) c.loop.counter c.in_ok-note.ensures c.loop.invariant.count;
   led = λ row same.
       let more = c.args.count - (c.loop.counter + 1) in
       turn (reads_to_come row) (Ok c.in_ok-read.read) (reads_to_come row c.args.count) (λ _. reads_to_come row more) _ _ _ _ _ _ c.args.count c.loop.counter c.loop-test.true (c.loop.invariant.led row same) (c.in_ok-read.ensures.led row same more);
@@ -26,15 +26,12 @@ loop-preserved g c = record {
 
 pub returns-in_err-read-clause-led : goal.returns-in_err-read-clause-led
 returns-in_err-read-clause-led g c = λ row same.
-    let h = err_from_is_err_and c.from_residual.result c.from_residual.ensures.1 in
-    let more = c.args.count - (c.loop.counter + 1) in
-    turn_fault (reads_to_come row) c.in_err-read.field-0.0 c.from_residual.result (reads_to_come row c.args.count) (λ _. reads_to_come row more) (λ _. writes_to_come row row.head.writes []) _ _ _ _ _ c.take_read.new.input.number _ c.args.count c.loop.counter
-    (h.1 ∙ ap Err h.2) c.loop-test.true (c.loop.invariant.led row same) (c.in_err-read.ensures.led row same more)
+    failed c.in_err-read.field-0.0 c.from_residual.result (reads_to_come row c.args.count) (λ _. writes_to_come row row.head.writes []) _ _ _ _ c.from_residual.ensures.1
+    (turn_fails (reads_to_come row) c.in_err-read.field-0.0 (reads_to_come row c.args.count) _ _ _ _ _ c.args.count c.loop.counter c.loop-test.true (c.loop.invariant.led row same) (c.in_err-read.ensures.led row same (c.args.count - (c.loop.counter + 1))))
 
 pub returns-clause-led : goal.returns-clause-led
 returns-clause-led g c = λ row same. turned (reads_to_come row) (reads_to_come row c.args.count) _ _ _ _ c.args.count c.loop.counter c.loop-test.false (c.loop.invariant.led row same)
 
 pub returns-in_err-note-clause-led : goal.returns-in_err-note-clause-led
 returns-in_err-note-clause-led g c = λ row same.
-    let h = err_from_is_err_and c.from_residual-in_err-note.result c.from_residual-in_err-note.ensures.1 in
-    memory_fault c.from_residual-in_err-note.result (reads_to_come row c.args.count) (λ _. writes_to_come row row.head.writes []) _ _ _ _ (h.1 ∙ ap Err (h.2 ∙ c.in_err-note.ensures.err))
+    failed Memory c.from_residual-in_err-note.result (reads_to_come row c.args.count) (λ _. writes_to_come row row.head.writes []) _ _ _ _ c.from_residual-in_err-note.ensures.1 tt

@@ -1,11 +1,10 @@
-use Rattle.std.proofs.Common.{◌+◌, ◌-◌, Ok, Err, length, ap, ◌∙◌}
-use Rattle.std.proofs.lemmas.Result.{err_from_is_err_and}
+use Rattle.std.proofs.Common.{◌+◌, ◌-◌, Ok, length, ap}
 use Rattle.occ_core.specs.Rows.{log_row_of}
 use Rattle.occ_print.specs.Books.{row_lines}
 use Rattle.occ_books.specs.Taking.{LogRowFits}
 use Rattle.occ_books.specs.Places.{Marks, frame_of, rows_to_come}
 use Rattle.occ_books.proofs.Gathering.{nothing_viewed, viewed_next, count_more}
-use Rattle.occ_books.proofs.Leading.{begun, turn, turn_fault, turned}
+use Rattle.occ_books.proofs.Leading.{failed, begun, turn, turn_fails, turned}
 use Rattle.occ_books.proofs.transactions.take_rows.Goals as goal
 
 pub loop-init : goal.loop-init
@@ -27,11 +26,9 @@ loop-preserved g c = record {
 
 pub returns-in_err-row-clause-led : goal.returns-in_err-row-clause-led
 returns-in_err-row-clause-led g c =
-    let h = err_from_is_err_and c.from_residual.result c.from_residual.ensures.1 in
     let frame = frame_of c.args.schema.now c.args.sessions in
-    let more = c.args.count - (c.loop.counter + 1) in
-    turn_fault (rows_to_come frame) c.in_err-row.field-0.0 c.from_residual.result (rows_to_come frame c.args.count) (λ _. rows_to_come frame more) (λ _. Marks frame) _ _ _ _ _ c.take_row.new.input.number _ c.args.count c.loop.counter
-    (h.1 ∙ ap Err h.2) c.loop-test.true c.loop.invariant.led (c.in_err-row.ensures.led more)
+    failed c.in_err-row.field-0.0 c.from_residual.result (rows_to_come frame c.args.count) (λ _. Marks frame) _ _ _ _ c.from_residual.ensures.1
+    (turn_fails (rows_to_come frame) c.in_err-row.field-0.0 (rows_to_come frame c.args.count) _ _ _ _ _ c.args.count c.loop.counter c.loop-test.true c.loop.invariant.led (c.in_err-row.ensures.led (c.args.count - (c.loop.counter + 1))))
 
 pub returns-clause-led : goal.returns-clause-led
 returns-clause-led g c =

@@ -1,19 +1,17 @@
 use Rattle.std.proofs.Common.{◌∙◌, ap, sym}
-use Rattle.std.proofs.lemmas.Result.{err_from_is_err_and}
 use Rattle.occ_text.specs.Line.{Source}
 use Rattle.occ_cli.proofs.WholeReplay.{ended_unflushed, ended_flushed, ended_amid_flush}
 use Rattle.occ_cli.proofs.replay.replay_text.Goals as goal
 
 pub returns-then-is_cut_short : goal.returns-then-is_cut_short
 returns-then-is_cut_short g c =
-    ended_unflushed c.replay_lines-outcome.result c.args.quiet _ _ _ _ _ _ _ _ (sym c.is_cut_short.ensures ∙ c.if-is_cut_short.true) (ap (λ (s : Source). s.unread) c.in_ok-input.ensures.ok) c.new-output.ensures c.replay_lines-outcome.ensures
+    ended_unflushed c.replay_lines-outcome.result c.args.quiet _ _ _ _ _ _ _ _ (sym c.is_cut_short.ensures ∙ c.if-is_cut_short.true) (ap (λ (s : Source). s.unread) c.in_ok-input.ensures) c.new-output.ensures c.replay_lines-outcome.ensures
 
 pub returns-in_err-flush : goal.returns-in_err-flush
 returns-in_err-flush g c =
-    let p = err_from_is_err_and c.from_residual-in_err-flush.result c.from_residual-in_err-flush.ensures.1 in
-    ended_amid_flush c.from_residual-in_err-flush.result c.replay_lines-outcome.result p.0 c.in_err-flush.field-0.0 c.args.quiet _ _ _ _ _ _ _ _ _ _ p.1 p.2 (ap (λ (s : Source). s.unread) c.in_ok-input.ensures.ok) c.new-output.ensures
+    ended_amid_flush c.from_residual-in_err-flush.result c.replay_lines-outcome.result c.args.quiet _ _ _ _ _ _ _ _ _ _ c.from_residual-in_err-flush.ensures.1 (ap (λ (s : Source). s.unread) c.in_ok-input.ensures) c.new-output.ensures
     c.in_err-flush.ensures c.replay_lines-outcome.ensures
 
 pub returns : goal.returns
 returns g c =
-    ended_flushed c.replay_lines-outcome.result c.args.quiet _ _ _ _ _ _ _ _ _ (ap (λ (s : Source). s.unread) c.in_ok-input.ensures.ok) c.new-output.ensures c.in_ok-flush.ensures.0 c.replay_lines-outcome.ensures
+    ended_flushed c.replay_lines-outcome.result c.args.quiet _ _ _ _ _ _ _ _ _ (ap (λ (s : Source). s.unread) c.in_ok-input.ensures) c.new-output.ensures c.in_ok-flush.ensures.0 c.replay_lines-outcome.ensures

@@ -1,11 +1,10 @@
 use Rattle.std.proofs.Common.{◌≡◌, ◌≤◌, ◌+◌, [], ◌++◌, None, Ok, map, refl, sym, ap, ◌∙◌, append_assoc, arith}
 use Rattle.std.proofs.lemmas.List.{append-nil}
-use Rattle.std.proofs.lemmas.Result.{err_from_is_err_and}
 use Rattle.std.specs.FinMap.{get, entries}
 use Rattle.occ_types.specs.Object.{Object}
 use Rattle.occ_print.specs.Books.{at_line, rows_at}
 use Rattle.occ_print.proofs.TableRows.{rows_from, rows_from-first, rows_from-split, rows_from-last}
-use Rattle.occ_print.proofs.Printing.{values_more, values_stopped, lines_same, Pushed-nothing}
+use Rattle.occ_print.proofs.Printing.{failed, values_more, values_front, lines_same, Pushed-nothing}
 use Rattle.occ_print.proofs.books.print_all_rows.Goals as goal
 
 pub loop-place-init : goal.loop-place-init
@@ -14,12 +13,12 @@ loop-place-init g c = record { done = []; whole = sym (rows_from-first c.args.ta
 pub returns-in_err-print_rows_at : goal.returns-in_err-print_rows_at
 returns-in_err-print_rows_at g c =
     let r = c.from_residual.result in
-    let p = err_from_is_err_and r c.from_residual.ensures.1 in
     let state = c.args.tables.now.state in
     let place = c.loop-place.place in
     let done = c.loop-place.invariant.done in
-    values_stopped (at_line c.args.schema.now) r p.0 _ _ _ _ _ _ _ done (rows_at place state) (rows_from (place + 1) state) (entries state) p.1 p.2
-    (c.loop-place.invariant.whole ∙ ap (λ l. done ++ l) (rows_from-split place state)) c.loop-place.invariant.printed c.in_err-print_rows_at.ensures
+    failed _ r _ _ _ _ _ c.from_residual.ensures.1
+    (values_front (at_line c.args.schema.now) _ _ _ _ _ _ done (rows_at place state) (rows_from (place + 1) state) (entries state)
+    (c.loop-place.invariant.whole ∙ ap (λ l. done ++ l) (rows_from-split place state)) c.loop-place.invariant.printed c.in_err-print_rows_at.ensures)
 
 pub loop-place-preserved : goal.loop-place-preserved
 loop-place-preserved g c =

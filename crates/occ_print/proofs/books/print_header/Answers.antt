@@ -1,16 +1,14 @@
-use Rattle.std.proofs.Common.{refl, ap, map}
-use Rattle.std.proofs.lemmas.Result.{err_from_is_err_and}
-use Rattle.occ_print.specs.Books.{book_of, settings_lines}
-use Rattle.occ_text.specs.Headers.{table_text}
-use Rattle.occ_print.proofs.Printing.{part_stopped, lines_then, lines_same}
+use Rattle.std.proofs.Common.{ap, map}
+use Rattle.occ_text.specs.Headers.{limits_lines, table_text}
+use Rattle.occ_print.proofs.Printing.{failed, front_before, lines_then, lines_same}
 use Rattle.occ_print.proofs.books.print_header.Goals as goal
 
-pub returns-in_err-print_settings : goal.returns-in_err-print_settings
-returns-in_err-print_settings g c =
-    let p = err_from_is_err_and c.from_residual.result c.from_residual.ensures.1 in
-    part_stopped c.from_residual.result p.0 _ _ _ _ _ (settings_lines (book_of c.args.book.now).header) (settings_lines (book_of c.args.book.now).header) (map table_text c.args.book.now.schema.now) p.1 p.2 refl c.in_err-print_settings.ensures
+pub returns-in_err-print_limits : goal.returns-in_err-print_limits
+returns-in_err-print_limits g c =
+    failed _ c.from_residual.result _ _ _ _ _ c.from_residual.ensures.1
+    (front_before _ _ _ _ (limits_lines c.args.book.now.limits) (map table_text c.args.book.now.schema.now) c.in_err-print_limits.ensures)
 
 pub returns : goal.returns
 returns g c =
-    lines_then c.print_tables.result _ _ _ _ _ _ (settings_lines (book_of c.args.book.now).header) (map table_text c.args.book.now.schema.now) c.in_ok-print_settings.ensures
+    lines_then c.print_tables.result _ _ _ _ _ _ (limits_lines c.args.book.now.limits) (map table_text c.args.book.now.schema.now) c.in_ok-print_limits.ensures
     (lines_same c.print_tables.result _ _ _ _ _ (map table_text c.args.book.now.schema.now) (ap (map table_text) c.tables.ensures.value) c.print_tables.ensures)

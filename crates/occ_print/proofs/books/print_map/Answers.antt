@@ -1,24 +1,23 @@
 use Rattle.std.proofs.Common.{[], ◌∷◌, Ok, map, ap}
-use Rattle.std.proofs.lemmas.Result.{err_from_is_err_and}
 use Rattle.std.specs.Map.Iter.{deref_pair}
 use Rattle.std.proofs.lemmas.Map.Iter.{rest_more, rest_so_far, iter_end}
 use Rattle.occ_types.specs.Seen.{key_of}
 use Rattle.occ_core.specs.Kept.{placed}
 use Rattle.occ_print.specs.Books.{at_line}
-use Rattle.occ_print.proofs.Printing.{values_more, values_stopped, lines_same}
+use Rattle.occ_print.proofs.Printing.{failed, values_more, values_front, lines_same}
 use Rattle.occ_print.proofs.TableRows.{placed_more, placed_amid}
 use Rattle.occ_print.proofs.books.print_map.Goals as goal
 
 pub returns-in_err-print_at : goal.returns-in_err-print_at
 returns-in_err-print_at g c =
     let r = c.from_residual.result in
-    let p = err_from_is_err_and r c.from_residual.ensures.1 in
     let place = c.args.place in
     let so_far = rest_so_far deref_pair c.loop-key.yielded c.into_iter-key-iterator.result c.loop-key.key-iterator c.loop-key.yielded_by in
     let more = rest_more deref_pair c.loop-key.key-iterator c.next.new.self c.next.result (c.in-Some.key, c.in-Some.row) c.in-Some.is c.next.ensures.steps in
-    values_stopped (at_line c.args.schema.now) r p.0 _ _ _ _ _ _ _ (placed place (map deref_pair c.loop-key.yielded)) (((place, key_of c.in-Some.key.now), c.in-Some.row.now) ∷ []) (placed place c.next.new.self) (placed place c.args.rows.now.entries) p.1 p.2
+    failed _ r _ _ _ _ _ c.from_residual.ensures.1
+    (values_front (at_line c.args.schema.now) _ _ _ _ _ _ (placed place (map deref_pair c.loop-key.yielded)) (((place, key_of c.in-Some.key.now), c.in-Some.row.now) ∷ []) (placed place c.next.new.self) (placed place c.args.rows.now.entries)
     (placed_amid deref_pair place c.args.rows.now.entries c.into_iter-key-iterator.result c.loop-key.key-iterator c.next.new.self c.loop-key.yielded (c.in-Some.key, c.in-Some.row) c.into_iter-key-iterator.ensures.into_iter_gives.0 so_far more)
-    c.loop-key.invariant c.in_err-print_at.ensures
+    c.loop-key.invariant c.in_err-print_at.ensures)
 
 pub loop-key-preserved : goal.loop-key-preserved
 loop-key-preserved g c =

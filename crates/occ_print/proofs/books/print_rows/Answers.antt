@@ -1,14 +1,13 @@
-use Rattle.std.proofs.lemmas.Result.{err_from_is_err_and}
 use Rattle.occ_core.specs.Rows.{log_row_of}
 use Rattle.occ_print.specs.Books.{row_lines}
-use Rattle.occ_print.proofs.Printing.{loop_more, loop_stopped}
+use Rattle.occ_print.proofs.Printing.{failed, loop_more, loop_front}
 use Rattle.occ_print.proofs.books.print_rows.Goals as goal
 
 pub returns-in_err-print_row : goal.returns-in_err-print_row
 returns-in_err-print_row g c =
-    let p = err_from_is_err_and c.from_residual.result c.from_residual.ensures.1 in
-    loop_stopped (row_lines c.args.schema.now) log_row_of c.from_residual.result p.0 _ _ _ _ _ _ _ c.args.log.now c.loop-row.row-index c.row-item.result p.1 p.2 c.loop-row-test.true c.row-item.is
-    c.loop-row.invariant c.in_err-print_row.ensures
+    failed _ c.from_residual.result _ _ _ _ _ c.from_residual.ensures.1
+    (loop_front (row_lines c.args.schema.now) log_row_of _ _ _ _ _ _ c.args.log.now c.loop-row.row-index c.row-item.result c.loop-row-test.true c.row-item.is
+    c.loop-row.invariant c.in_err-print_row.ensures)
 
 pub loop-row-preserved : goal.loop-row-preserved
 loop-row-preserved g c =

@@ -1,18 +1,16 @@
 use Rattle.std.proofs.Common.{ap, map, codes}
-use Rattle.std.proofs.lemmas.Result.{err_from_is_err_and}
 use Rattle.std.specs.FinMap.{entries}
 use Rattle.occ_print.specs.Books.{row_count, at_line}
 use Rattle.occ_text.specs.Headers.{count_text}
-use Rattle.occ_print.proofs.Printing.{line_stopped, line_then}
+use Rattle.occ_print.proofs.Printing.{failed, front_line, line_then}
 use Rattle.occ_print.proofs.books.print_state.Goals as goal
 
 pub returns-in_err-print_count : goal.returns-in_err-print_count
 returns-in_err-print_count g c =
     let r = c.from_residual.result in
-    let p = err_from_is_err_and r c.from_residual.ensures.1 in
     let state = c.args.tables.now.state in
-    line_stopped r p.0 _ _ _ _ _ (count_text (codes "state") (row_count state)) _ (map (at_line c.args.schema.now) (entries state)) p.1 p.2
-    (ap (count_text (codes "state")) c.len.ensures) c.in_err-print_count.ensures
+    failed _ r _ _ _ _ _ c.from_residual.ensures.1
+    (front_line _ _ _ _ (count_text (codes "state") (row_count state)) _ (map (at_line c.args.schema.now) (entries state)) (ap (count_text (codes "state")) c.len.ensures) c.in_err-print_count.ensures)
 
 pub returns : goal.returns
 returns g c =

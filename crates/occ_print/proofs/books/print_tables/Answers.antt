@@ -1,14 +1,13 @@
-use Rattle.std.proofs.lemmas.Result.{err_from_is_err_and}
 use Rattle.occ_types.specs.Seen.{table_of}
 use Rattle.occ_text.specs.Headers.{table_text}
-use Rattle.occ_print.proofs.Printing.{each_more, each_stopped}
+use Rattle.occ_print.proofs.Printing.{failed, each_more, each_front}
 use Rattle.occ_print.proofs.books.print_tables.Goals as goal
 
 pub returns-in_err-print_table : goal.returns-in_err-print_table
 returns-in_err-print_table g c =
-    let p = err_from_is_err_and c.from_residual.result c.from_residual.ensures.1 in
-    each_stopped table_text table_of c.from_residual.result p.0 _ _ _ _ _ _ _ c.args.tables.now c.loop-table.table-index c.table-item.result p.1 p.2 c.loop-table-test.true c.table-item.is
-    c.loop-table.invariant c.in_err-print_table.ensures
+    failed _ c.from_residual.result _ _ _ _ _ c.from_residual.ensures.1
+    (each_front table_text table_of _ _ _ _ _ _ c.args.tables.now c.loop-table.table-index c.table-item.result c.loop-table-test.true c.table-item.is
+    c.loop-table.invariant c.in_err-print_table.ensures)
 
 pub loop-table-preserved : goal.loop-table-preserved
 loop-table-preserved g c =

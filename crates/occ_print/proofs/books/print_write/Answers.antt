@@ -1,8 +1,6 @@
-use Rattle.std.proofs.lemmas.Result.{err_from_is_err_and}
 use Rattle.occ_print.proofs.Printing.{printed_nothing}
 use Rattle.occ_print.proofs.books.print_write.Goals as goal
 
 pub returns-in_err-write_line : goal.returns-in_err-write_line
 returns-in_err-write_line g c =
-    let p = err_from_is_err_and c.from_residual.result c.from_residual.ensures.1 in
-    printed_nothing c.from_residual.result p.0 _ _ _ p.1 p.2
+    printed_nothing _ c.from_residual.result _ _ _ c.from_residual.ensures.1

@@ -15,4 +15,4 @@ returns g c =
     let writes = c.args.writes.now in
     let es = c.others.inside.entries.entries in
     let found : c.any.result ≡ list_any (λ o. is_some (own writes (object_of o))) (keys_of es) = any_from_yields_List (λ o. is_some (own writes (object_of o))) _ _ c.any.result c.any.ensures.ran (YieldsList-from_rest (keys_of es) cc) (λ x b q k. search (rules, tests)) in
-    found ∙ meets_writes-keys writes es ∙ ap (meets_writes writes) c.others.view_is
+    found ∙ meets_writes-keys writes es ∙ ap (meets_writes writes) (c.others.view_is ∙ c.map-others.ensures)

@@ -1,10 +1,8 @@
-use Rattle.std.proofs.Common.{◌∙◌}
 use Rattle.occ_text.specs.Headers.{count_text, Within}
-use Rattle.occ_text.proofs.Taking.{line_unread}
+use Rattle.occ_text.proofs.Taking.{line_found}
 use Rattle.occ_text.proofs.headers.take_count.Goals as goal
 
-pub returns-in-Err : goal.returns-in-Err
-returns-in-Err g c = (
-  line_unread (count_text c.args.word.now) (Within 1 c.args.most) c.line.result.now _ _ _ c.in_ok-take_line.ensures.0 c.in_ok-take_line.ensures.2 c.line.ensures c.in-Err.ensures.grammar,
-  c.number.ensures ∙ c.in_ok-take_line.ensures.1,
-)
+pub returns : goal.returns
+returns g c =
+    line_found (count_text c.args.word.now) (Within c.args.least c.args.most) c.count.result c.ok_or.result c.line.result.now _ _ c.number.result _ _
+    (record { line = c.take_line.new.self.line; taken = c.in_ok-take_line.ensures; same = c.line.ensures; here = c.number.ensures }) c.count.ensures.grammar c.ok_or.ensures.value

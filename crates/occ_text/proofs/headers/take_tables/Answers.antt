@@ -1,8 +1,7 @@
-use Rattle.std.proofs.Common.{Err, ◌∙◌, ◌+◌, sym, ap}
+use Rattle.std.proofs.Common.{◌∙◌, ◌+◌, sym, ap}
 use Rattle.std.proofs.lemmas.List.{length-map}
-use Rattle.std.proofs.lemmas.Result.{err_from_is_err_and}
 use Rattle.occ_types.specs.Seen.{table_of, tables_of}
-use Rattle.occ_text.proofs.Taking.{table_pushed_by, tables_end, tables_none, tables_stop}
+use Rattle.occ_text.proofs.Taking.{table_pushed_by, tables_end, tables_none, tables_stop, tables_refused}
 use Rattle.occ_text.proofs.headers.take_tables.Goals as goal
 
 pub loop-tables-preserved : goal.loop-tables-preserved
@@ -28,7 +27,11 @@ returns g c =
 
 pub returns-in_err-table : goal.returns-in_err-table
 returns-in_err-table g c =
-    let h = err_from_is_err_and c.from_residual.result c.from_residual.ensures.1 in
     let i = c.loop-tables.invariant in
-    tables_stop (table_of {Z = g.row.A.Denot}) c.in_err-table.field-0.0 c.from_residual.result (tables_of c.loop-tables.tables.items) (tables_of c.as_slice.result.now) _ _ _ c.args.input.now.number c.loop-tables.input.number _ (h.1 ∙ ap Err h.2)
-    (ap tables_of c.as_slice.ensures.value) i.taken i.so_far (i.number ∙ ap (λ (k : _). c.args.input.now.number + k) (sym (length-map c.loop-tables.tables.items table_of))) c.in_err-table.ensures
+    tables_stop c.in_err-table.field-0.0 c.from_residual.result (tables_of c.loop-tables.tables.items) (tables_of c.as_slice.result.now) _ _ _ c.args.input.now.number c.loop-tables.input.number _ c.from_residual.ensures.1 (ap tables_of c.as_slice.ensures.value)
+    i.taken i.so_far (i.number ∙ ap (λ (k : _). c.args.input.now.number + k) (sym (length-map c.loop-tables.tables.items table_of))) c.in_err-table.ensures
+
+pub returns-in_err-push-in-Some : goal.returns-in_err-push-in-Some
+returns-in_err-push-in-Some g c =
+    let i = c.loop-tables.invariant in
+    tables_refused c.from_residual-in_err-push-in-Some.result (tables_of c.loop-tables.tables.items) _ _ _ c.args.input.now.number _ c.from_residual-in_err-push-in-Some.ensures.1 i.taken i.so_far

@@ -1,8 +1,9 @@
-use Rattle.std.proofs.Common.{ℕ, List, ap, sym, subst}
+use Rattle.std.proofs.Common.{ℕ, List, ap, sym, subst, ◌∙◌}
 use Rattle.occ_text.specs.Escapes.{Gives}
 use Rattle.occ_text.specs.StepReading.{step_of_tokens}
 use Rattle.occ_text.specs.Steps.{step_of}
 use Rattle.occ_text.proofs.StepLines.{behind}
+use Rattle.occ_text.proofs.Values.{Gives-from_option}
 use Rattle.occ_text.proofs.steps.step_of_parts.Goals as goal
 
 pub returns-in_default : goal.returns-in_default
@@ -13,13 +14,13 @@ pub returns-in_default-take_part : goal.returns-in_default-take_part
 unfolding step_of_tokens
 returns-in_default-take_part g c =
     let all = behind c.in-Some.ensures c.in_default-take_part.ensures.0 in
-    subst (λ (l : List (List ℕ)). Gives step_of c.bare_step.result (step_of_tokens l)) (sym all) c.bare_step.ensures
+    Gives-from_option step_of c.bare_step.result c.ok_or.result (step_of_tokens c.args.parts) c.ok_or.ensures.value (c.bare_step.ensures ∙ sym (ap step_of_tokens all))
 
 pub returns-in_default-take_part-2 : goal.returns-in_default-take_part-2
 unfolding step_of_tokens
 returns-in_default-take_part-2 g c =
     let all = behind c.in-Some.ensures (behind c.in-Some-take_part.ensures c.in_default-take_part-2.ensures.0) in
-    subst (λ (l : List (List ℕ)). Gives step_of c.act_step.result (step_of_tokens l)) (sym all) c.act_step.ensures
+    Gives-from_option step_of c.act_step.result c.ok_or-in_default-take_part-2.result (step_of_tokens c.args.parts) c.ok_or-in_default-take_part-2.ensures.value (c.act_step.ensures ∙ sym (ap step_of_tokens all))
 
 pub returns-in_default-take_part-3 : goal.returns-in_default-take_part-3
 unfolding step_of_tokens

@@ -1,18 +1,16 @@
-use Rattle.std.proofs.Common.{◌≡◌, true, false, sym, ap, ◌∙◌}
-use Rattle.std.specs.FinMap.{get}
+use Rattle.std.proofs.Common.{◌≡◌, true, false, sym, ap}
 use Rattle.occ_types.specs.Seen.{object_of, question_of}
 use Rattle.occ_sets.specs.Seen.{answer_of}
-use Rattle.occ_audit.proofs.Replicas.{get-state_of}
 use Rattle.occ_audit.proofs.Ranges.{one-decides, one-not-rows, span-not-found}
 use Rattle.occ_audit.proofs.replica.Replica.answers.Goals as goal
 
 pub returns-in-One-Found : goal.returns-in-One-Found
 returns-in-One-Found g c =
     let object = object_of c.in-One-Found.object in
-    one-decides (answer_of c.args.given.now) (question_of c.args.question.now) object c.in-One-Found.row c.args.self.now c.get.result c.as_ref.result c.eq.result
+    one-decides (answer_of c.args.given.now) (question_of c.args.question.now) object c.in-One-Found.row c.args.self.now c.row.result c.as_ref.result c.eq.result
     (ap question_of c.in-One-Found.is-0)
     (ap answer_of c.in-One-Found.is-1)
-    (ap (λ s. get s object) (sym c.self.view_is) ∙ get-state_of c.self.inside.rows.entries object ∙ sym c.get.ensures.value)
+    (sym c.row.ensures)
     c.as_ref.ensures.value
     c.eq.ensures
 

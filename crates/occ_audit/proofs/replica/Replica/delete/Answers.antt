@@ -1,6 +1,27 @@
-use Rattle.occ_audit.proofs.Replicas.{state_of-remove}
+use Rattle.std.proofs.Common.{◌≡◌, Some, None, refl, sym, ap, subst, ◌∙◌}
+use Rattle.std.specs.Option.{IsSome, option_copied_mut}
+use Rattle.occ_types.specs.Seen.{key_of, object_of}
+use Rattle.occ_audit.specs.Replica.{state_of}
+use Rattle.occ_audit.proofs.Lent.{table_at, put-kept, get-in}
+use Rattle.occ_audit.proofs.Writes.{put-nothing}
 use Rattle.occ_audit.proofs.replica.Replica.delete.Goals as goal
+use Rattle.occ_audit.proofs.replica.Replica.delete.Goals.{in-Some, in_default}
 
 pub returns : goal.returns
 returns g c =
-    state_of-remove c.self.inside.rows c.remove-deleted.new.self c.args.object.now c.args.self.now c.self.view_is c.remove-deleted.ensures.updates.0
+    let object = c.args.object.now in
+    let tables = c.self.inside.tables.entries in
+    elim c.match-get_mut.branch [
+      | in-Some w ↦
+          let m = w.in-Some.rows.now in
+          let n = w.remove-deleted.new.self in
+          let at : table_at tables object.table ≡ Some m = sym c.get_mut.ensures.value ∙ ap option_copied_mut w.in-Some.is in
+          ap (λ t. state_of t.tables.entries) w.self-inside-is
+          ∙ put-kept tables _ object.table object.key None m n c.args.self.now c.self.view_is at ((c.get_mut.follows.holds n).3 (subst IsSome (sym at) refl)).0 w.remove-deleted.ensures.updates.0
+      | in_default w ↦
+          let at : table_at tables object.table ≡ None = sym c.get_mut.ensures.value ∙ ap option_copied_mut w.in_default.is in
+          ap (λ t. state_of t.tables.entries) w.self-inside-is
+          ∙ ap (λ t. state_of t.entries) c.get_mut.follows.holds-at-none
+          ∙ c.self.view_is
+          ∙ put-nothing c.args.self.now (object_of object) (get-in tables object.table c.args.self.now None c.self.view_is at (key_of object.key))
+    ]

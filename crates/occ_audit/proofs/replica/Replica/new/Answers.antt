@@ -1,5 +1,7 @@
-use Rattle.occ_audit.proofs.Replicas.{state_of-empty}
+use Rattle.occ_audit.specs.Replica.{state_of}
+use Rattle.std.proofs.Common.{ap}
 use Rattle.occ_audit.proofs.replica.Replica.new.Goals as goal
 
 pub returns : goal.returns
-returns g c = state_of-empty c.new.result.entries c.new.ensures.empty
+unfolding state_of
+returns g c = ap state_of c.new.ensures.empty

@@ -1,7 +1,5 @@
-use Rattle.std.proofs.Common.{◌≡◌, drop, sym, ap, ◌∙◌, arith}
-use Rattle.std.proofs.lemmas.List.{drop_all}
-use Rattle.occ_model.specs.State.{apply}
-use Rattle.occ_audit.proofs.Replicas.{write-more, no_write}
+use Rattle.std.proofs.Common.{sym, ◌∙◌, arith}
+use Rattle.occ_audit.proofs.Writes.{write-more, no_write}
 use Rattle.occ_audit.proofs.replica.Replica.write.Goals as goal
 use Rattle.occ_audit.proofs.replica.Replica.write.Goals.{in-Some+in_ok-put, in_default}
 
@@ -15,8 +13,3 @@ loop-place-preserved g c =
           ∙ c.loop-place.invariant
       | in_default w ↦ absurd (no_write writes place (omega arith) (sym w.in_default.ensures.value))
     ]
-
-pub returns : goal.returns
-returns g c =
-    let done : drop c.loop-place.place c.args.writes.now ≡ _ = drop_all c.loop-place.place c.args.writes.now (omega arith) in
-    sym (ap (apply c.loop-place.self) done) ∙ c.loop-place.invariant

@@ -4,4 +4,4 @@ use Rattle.occ_audit.proofs.replica.Replica.write.Given as goal
 
 -- the writes that are left lead to the same end
 abbrev pub invariant-loop-place : goal.invariant-loop-place
-invariant-loop-place g l = apply l.self (drop l.place l.writes) ≡ apply l.fn.self (drop l.fn.from l.writes)
+invariant-loop-place g l = apply l.self (drop l.place l.writes) ≡ apply l.fn.self l.writes

@@ -1,10 +1,11 @@
-use Rattle.std.proofs.Common.{ap, sym, subst, ◌∙◌, ◌-◌, Err}
+use Rattle.std.proofs.Common.{ap, sym, subst, ◌∙◌, ◌-◌, length, Err}
 use Rattle.occ_core.specs.Slots.{HoldsArePlaced, last_of}
 use Rattle.occ_core.proofs.Changes.{placed-free}
 use Rattle.std.proofs.lemmas.Result.{err_from_is_err_and}
 use Rattle.occ_core.specs.Core.{parts_of}
 use Rattle.occ_core.specs.Rows.{log_row_of}
 use Rattle.occ_core.proofs.Calls.{back_exit, back_kept, back_whole, row_stands, slot_below}
+use Rattle.occ_core.proofs.Places.{length-set}
 use Rattle.occ_core.proofs.core_state.Core.back_up.Goals as goal
 
 pub returns-in_err-place : goal.returns-in_err-place
@@ -27,6 +28,7 @@ invariant_of-self g c = record {
   sound = (back_whole (parts_of c.self.inside) c.args.self.now.world (ap (λ s. s.world) c.self.view_is) c.self.invariant.sound c.args.session c.in_ok-place.place (log_row_of c.in-Some.row.now)
       (sym c.in_ok-place.ensures) (sym c.in-Some.ensures) (sym c.in_default-back_fault.ensures) c.last-last.result c.last-last.ensures c.release-row.new.self c.release-row.ensures.released).1;
   tables_match = c.self.invariant.tables_match;
+  marks_match = c.self.invariant.marks_match ∙ sym (ap length c.release-row.ensures.released ∙ length-set c.self.inside.sessions (c.args.session - 1) _);
   placed = subst (HoldsArePlaced c.self.inside.tables.tables) (sym c.release-row.ensures.released) (placed-free c.self.inside.tables.tables c.self.inside.sessions (c.args.session - 1) (last_of c.self.inside.sessions (c.args.session - 1)) c.self.invariant.placed);
 }
 

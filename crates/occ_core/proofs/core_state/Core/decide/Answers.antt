@@ -1,6 +1,7 @@
 use Rattle.std.proofs.Common.{ap, sym, ◌∙◌, Err}
 use Rattle.std.specs.Prelude.{slice_set}
 use Rattle.std.proofs.lemmas.Result.{err_from_is_err_and}
+use Rattle.occ_model.specs.Validity.{verdict}
 use Rattle.occ_core.specs.Core.{parts_of}
 use Rattle.occ_core.specs.Rows.{log_row_of, standing_of}
 use Rattle.occ_core.proofs.Calls.{decide_exit, decide_exit_late, row_stands, decide_whole}
@@ -26,14 +27,15 @@ stand-requires g c = slice_get-below c.self.inside.log c.in_ok-place.place (log_
 pub invariant_of-self : goal.invariant_of-self
 invariant_of-self g c = record {
   sound = (decide_whole (parts_of c.self.inside) c.args.self.now.world (ap (λ s. s.world) c.self.view_is) c.self.invariant.sound c.args.session c.in_ok-place.place (log_row_of c.in-Some.row.now) c.in-Open.open.index c.in-Open.open.case
-      (sym c.in_ok-place.ensures) (sym c.in-Some.ensures) (ap standing_of c.in-Open.is) c.verdict-verdict.result c.verdict-verdict.ensures c.stand.new.self
+      (sym c.in_ok-place.ensures) (sym c.in-Some.ensures) (ap standing_of c.in-Open.is) c.verdict-verdict.result (c.verdict-verdict.ensures ∙ ap verdict c.case.ensures) c.stand.new.self
       (c.stand.ensures (log_row_of c.in-Some.row.now) (sym c.in-Some.ensures) ∙ ap (λ s. slice_set c.self.inside.log c.in_ok-place.place (record (log_row_of c.in-Some.row.now) { standing = s })) c.decided.ensures)).1;
   tables_match = c.self.invariant.tables_match;
+  marks_match = c.self.invariant.marks_match;
   placed = c.self.invariant.placed;
 }
 
 pub returns : goal.returns
 returns g c =
     (decide_whole (parts_of c.self.inside) c.args.self.now.world (ap (λ s. s.world) c.self.view_is) c.self.invariant.sound c.args.session c.in_ok-place.place (log_row_of c.in-Some.row.now) c.in-Open.open.index c.in-Open.open.case
-    (sym c.in_ok-place.ensures) (sym c.in-Some.ensures) (ap standing_of c.in-Open.is) c.verdict-verdict.result c.verdict-verdict.ensures c.stand.new.self
+    (sym c.in_ok-place.ensures) (sym c.in-Some.ensures) (ap standing_of c.in-Open.is) c.verdict-verdict.result (c.verdict-verdict.ensures ∙ ap verdict c.case.ensures) c.stand.new.self
     (c.stand.ensures (log_row_of c.in-Some.row.now) (sym c.in-Some.ensures) ∙ ap (λ s. slice_set c.self.inside.log c.in_ok-place.place (record (log_row_of c.in-Some.row.now) { standing = s })) c.decided.ensures)).0

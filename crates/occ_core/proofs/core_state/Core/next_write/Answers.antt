@@ -1,5 +1,5 @@
 use Rattle.std.proofs.Common.{ap, sym, ◌∙◌}
-use Rattle.std.specs.Prelude.{slice_get, option_map}
+use Rattle.std.specs.Prelude.{option_map}
 use Rattle.occ_core.specs.Core.{parts_of}
 use Rattle.occ_core.specs.Rows.{log_row_of}
 use Rattle.occ_core.proofs.Calls.{row_stands}
@@ -20,7 +20,7 @@ returns-in-Err-writes_done-clause-object g c =
 
 pub returns-in-Some-write_at-clause-object : goal.returns-in-Some-write_at-clause-object
 returns-in-Some-write_at-clause-object g c =
-    ap (option_map (λ w. w.0)) (c.in-Some-write_at.ensures.value ∙ ap (λ w. slice_get w c.in-Ok-writes_done.done) c.get.ensures)
+    ap (option_map (λ w. w.0)) c.in-Some-write_at.ensures.value
     ∙ sym (next_at (parts_of c.self.inside) c.args.self.now.world (ap (λ s. s.world) c.self.view_is) c.self.invariant.sound c.args.session c.in-Ok.place (log_row_of c.in-Some.row.now) c.in-Ok-writes_done.done
     (sym c.in-Ok.ensures) (sym c.in-Some.ensures) (sym c.in-Ok-writes_done.ensures))
 
@@ -31,6 +31,6 @@ returns-in-Some-write_at-clause-free g c = λ _.
 
 pub returns-in-None-clause-object : goal.returns-in-None-clause-object
 returns-in-None-clause-object g c =
-    ap (option_map (λ w. w.0)) (c.in-None.ensures.value ∙ ap (λ w. slice_get w c.in-Ok-writes_done.done) c.get.ensures)
+    ap (option_map (λ w. w.0)) c.in-None.ensures.value
     ∙ sym (next_at (parts_of c.self.inside) c.args.self.now.world (ap (λ s. s.world) c.self.view_is) c.self.invariant.sound c.args.session c.in-Ok.place (log_row_of c.in-Some.row.now) c.in-Ok-writes_done.done
     (sym c.in-Ok.ensures) (sym c.in-Some.ensures) (sym c.in-Ok-writes_done.ensures))

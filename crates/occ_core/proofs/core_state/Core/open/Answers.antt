@@ -1,8 +1,6 @@
 use Rattle.std.proofs.Common.{ap, sym, subst, ◌∙◌, length}
-use Rattle.std.specs.FinMap as finite
-use Rattle.occ_core.specs.Core.{marks_of}
 use Rattle.occ_core.specs.Parts.{world_of, AreSound}
-use Rattle.occ_core.proofs.Openings.{opened_world, opened_sound, opened_is}
+use Rattle.occ_core.proofs.Openings.{opened_world, opened_sound, opened_is, idle_length}
 use Rattle.occ_types.specs.Seen.{table_of}
 use Rattle.occ_core.specs.Slots.{HoldsArePlaced}
 use Rattle.occ_core.proofs.Changes.{length-map, idle-placed}
@@ -10,13 +8,16 @@ use Rattle.occ_core.proofs.core_state.Core.open.Goals as goal
 
 pub invariant_of-result : goal.invariant_of-result
 invariant_of-result g c = record {
-  sound = subst AreSound (sym (opened_is c.args.schema c.args.sessions c.args.keep c.in_ok-tables.tables _ c.in_ok-tables.ensures c.in_ok-states.states c.in_ok-states.ensures c.in_ok-window.window c.in_ok-window.ensures c.new-4.result c.new-4.ensures c.new-5.result c.new-5.ensures (marks_of c.new-6.result) (ap finite.from_entries c.new-6.ensures.empty)))
+  sound = subst AreSound (sym (opened_is c.args.schema c.args.sessions c.args.keep c.in-Ok.parts.0 _ c.in-Ok.ensures.tables c.in-Ok.parts.1 c.in-Ok.ensures.sessions c.in-Ok.parts.2 c.in-Ok.ensures.window c.new.result c.new.ensures c.new-2.result c.new-2.ensures c.in-Ok.parts.3.marks (ap (λ m. m.marks) c.in-Ok.ensures.marks)))
       (opened_sound c.args.schema c.args.sessions c.args.keep);
-  tables_match = ap (λ t. t.tables) c.in_ok-tables.ensures ∙ sym (length-map table_of c.tables-count.result.now) ∙ ap length c.tables-count.ensures.value;
-  placed = subst (HoldsArePlaced c.in_ok-tables.tables.tables) (sym c.in_ok-states.ensures) (idle-placed c.in_ok-tables.tables.tables c.args.sessions);
+  tables_match = ap (λ t. t.tables) c.in-Ok.ensures.tables ∙ sym (length-map table_of c.tables-count.result.now) ∙ ap length c.tables-count.ensures.value;
+  marks_match = ap (λ m. m.sessions) c.in-Ok.ensures.marks ∙ sym (ap length c.in-Ok.ensures.sessions ∙ idle_length c.args.sessions);
+  placed = subst (HoldsArePlaced c.in-Ok.parts.0.tables) (sym c.in-Ok.ensures.sessions) (idle-placed c.in-Ok.parts.0.tables c.args.sessions);
 }
 
 pub returns : goal.returns
-returns g c =
-    ap world_of (opened_is c.args.schema c.args.sessions c.args.keep c.in_ok-tables.tables _ c.in_ok-tables.ensures c.in_ok-states.states c.in_ok-states.ensures c.in_ok-window.window c.in_ok-window.ensures c.new-4.result c.new-4.ensures c.new-5.result c.new-5.ensures (marks_of c.new-6.result) (ap finite.from_entries c.new-6.ensures.empty))
-    ∙ opened_world c.args.schema c.args.sessions c.args.keep
+returns g c = record {
+  opened = ap world_of (opened_is c.args.schema c.args.sessions c.args.keep c.in-Ok.parts.0 _ c.in-Ok.ensures.tables c.in-Ok.parts.1 c.in-Ok.ensures.sessions c.in-Ok.parts.2 c.in-Ok.ensures.window c.new.result c.new.ensures c.new-2.result c.new-2.ensures c.in-Ok.parts.3.marks (ap (λ m. m.marks) c.in-Ok.ensures.marks))
+      ∙ opened_world c.args.schema c.args.sessions c.args.keep;
+  handed_back = tt;
+}

@@ -36,11 +36,12 @@ returns-in_err-check_room g c =
     (Span c.args.table (end_of c.args.lower.now) (end_of c.args.upper.now)) p.0
     (refused_room _ _ _ _ _ (sym c.in_ok-check_turn.ensures) (sym c.in_ok-check_range.ensures) (sym c.in_ok-check_size.ensures) (sym c.in_err-check_room.ensures ∙ ap Some (sym p.2))))
 
-pub returns-in_default : goal.returns-in_default
-returns-in_default g c =
-    read_unmoved (parts_of c.self.inside) c.args.self.now.world (ap (λ s. s.world) c.self.view_is) c.self.invariant.sound c.args.session c.args.number c.args.start
+pub returns-in_err-seen : goal.returns-in_err-seen
+returns-in_err-seen g c =
+    let p = err_from_is_err_and c.from_residual-in_err-seen.result c.from_residual-in_err-seen.ensures.1 in
+    scanning_err _ _ _ _ _ (p.1 ∙ ap Err (p.2 ∙ c.in_err-seen.ensures.memory)) (read_unmoved (parts_of c.self.inside) c.args.self.now.world (ap (λ s. s.world) c.self.view_is) c.self.invariant.sound c.args.session c.args.number c.args.start
     (Span c.args.table (end_of c.args.lower.now) (end_of c.args.upper.now))
-    (not_refused_read _ _ _ _ (sym c.in_ok-check_turn.ensures) (sym c.in_ok-check_range.ensures) (sym c.in_ok-check_size.ensures) (sym c.in_ok-check_room.ensures))
+    (not_refused_read _ _ _ _ (sym c.in_ok-check_turn.ensures) (sym c.in_ok-check_range.ensures) (sym c.in_ok-check_size.ensures) (sym c.in_ok-check_room.ensures)))
 
 pub returns-in_err-note : goal.returns-in_err-note
 returns-in_err-note g c =
@@ -55,6 +56,7 @@ invariant_of-self g c = record {
       (Span c.args.table (end_of c.args.lower.now) (end_of c.args.upper.now))
       (not_refused_read _ _ _ _ (sym c.in_ok-check_turn.ensures) (sym c.in_ok-check_range.ensures) (sym c.in_ok-check_size.ensures) (sym c.in_ok-check_room.ensures)) c.note.new.phases c.in_err-note.ensures.err).1;
   tables_match = c.self.invariant.tables_match;
+  marks_match = c.self.invariant.marks_match;
   placed = c.self.invariant.placed;
 }
 
@@ -62,8 +64,9 @@ pub invariant_of-self-2 : goal.invariant_of-self-2
 invariant_of-self-2 g c = record {
   sound = (read_whole (parts_of c.self.inside) c.args.self.now.world (ap (λ s. s.world) c.self.view_is) c.self.invariant.sound c.args.session c.args.number c.args.start
       (Span c.args.table (end_of c.args.lower.now) (end_of c.args.upper.now))
-      (not_refused_read _ _ _ _ (sym c.in_ok-check_turn.ensures) (sym c.in_ok-check_range.ensures) (sym c.in_ok-check_size.ensures) (sym c.in_ok-check_room.ensures)) (observation_of c.in-Ok.seen) c.in-Ok.ensures.0 c.note.new.phases c.in_ok-note.ensures.ok (Rows (rows_of c.in-Ok.rows.items)) c.in-Ok.ensures.1).1;
+      (not_refused_read _ _ _ _ (sym c.in_ok-check_turn.ensures) (sym c.in_ok-check_range.ensures) (sym c.in_ok-check_size.ensures) (sym c.in_ok-check_room.ensures)) (observation_of c.in_ok-seen.seen) c.in_ok-seen.ensures.answered.0 c.note.new.phases c.in_ok-note.ensures.ok (Rows (rows_of c.in_ok-seen.rows.items)) c.in_ok-seen.ensures.answered.1).1;
   tables_match = c.self.invariant.tables_match;
+  marks_match = c.self.invariant.marks_match;
   placed = c.self.invariant.placed;
 }
 
@@ -71,4 +74,4 @@ pub returns : goal.returns
 returns g c =
     (read_whole (parts_of c.self.inside) c.args.self.now.world (ap (λ s. s.world) c.self.view_is) c.self.invariant.sound c.args.session c.args.number c.args.start
     (Span c.args.table (end_of c.args.lower.now) (end_of c.args.upper.now))
-    (not_refused_read _ _ _ _ (sym c.in_ok-check_turn.ensures) (sym c.in_ok-check_range.ensures) (sym c.in_ok-check_size.ensures) (sym c.in_ok-check_room.ensures)) (observation_of c.in-Ok.seen) c.in-Ok.ensures.0 c.note.new.phases c.in_ok-note.ensures.ok (Rows (rows_of c.in-Ok.rows.items)) c.in-Ok.ensures.1).0
+    (not_refused_read _ _ _ _ (sym c.in_ok-check_turn.ensures) (sym c.in_ok-check_range.ensures) (sym c.in_ok-check_size.ensures) (sym c.in_ok-check_room.ensures)) (observation_of c.in_ok-seen.seen) c.in_ok-seen.ensures.answered.0 c.note.new.phases c.in_ok-note.ensures.ok (Rows (rows_of c.in_ok-seen.rows.items)) c.in_ok-seen.ensures.answered.1).0

@@ -1,16 +1,18 @@
 use Rattle.std.proofs.Common.{◌≡◌, ap, sym, subst, ◌∙◌, ◌+◌, Err}
-use Rattle.std.specs.Prelude.{slice_get, is_some}
+use Rattle.std.specs.Prelude.{is_some}
 use Rattle.std.specs.Option.{option_copied}
 use Rattle.std.proofs.lemmas.Result.{err_from_is_err_and}
 use Rattle.occ_types.specs.Seen.{object_of}
+use Rattle.occ_model.specs.State.{Write}
 use Rattle.occ_core.specs.Core.{parts_of}
+use Rattle.occ_core.specs.Parts.{AreSound}
 use Rattle.occ_core.specs.Slots.{written_in, HoldsArePlaced}
 use Rattle.occ_model.specs.Log.{Writing}
-use Rattle.occ_core.proofs.Changes.{on_ok, on_err, puts_some}
+use Rattle.occ_core.proofs.Changes.{puts_some}
 use Rattle.occ_core.specs.Rows.{log_row_of}
 use Rattle.occ_core.proofs.Calls.{row_stands}
 use Rattle.occ_core.proofs.Places.{slice_get-below}
-use Rattle.occ_core.proofs.Finishes.{write_exit, write_kept, write_none, write_starved, write_placed, write_named, write_whole}
+use Rattle.occ_core.proofs.Finishes.{write_exit, write_kept, write_none, write_starved, write_placed, write_named, write_whole, write_err}
 use Rattle.occ_core.proofs.core_state.Core.write_one.Goals as goal
 
 pub returns-in_err-place-clause-step : goal.returns-in_err-place-clause-step
@@ -31,46 +33,56 @@ pub returns-in_default-write_at-clause-step : goal.returns-in_default-write_at-c
 returns-in_default-write_at-clause-step g c =
     write_none (parts_of c.self.inside) c.args.self.now.world (ap (λ s. s.world) c.self.view_is) c.self.invariant.sound c.args.session c.in_ok-place.place (log_row_of c.in-Some.row.now) c.in_ok-done.done
     (sym c.in_ok-place.ensures) (sym c.in-Some.ensures) (sym c.in_ok-done.ensures)
-    (ap (λ w. slice_get w c.in_ok-done.done) (sym c.get.ensures) ∙ sym c.in_default-write_at.ensures.value)
+    (sym c.in_default-write_at.ensures.value)
 
 pub put-requires : goal.put-requires
 put-requires g c =
     write_placed (parts_of c.self.inside) c.self.invariant.sound c.args.session c.in_ok-place.place (log_row_of c.in-Some.row.now) c.self.inside.tables.tables c.self.invariant.placed
     (sym c.in_ok-place.ensures) (sym c.in-Some.ensures) c.in_ok-done.done (object_of c.in-Some-write_at.object.now, option_copied c.in-Some-write_at.write)
-    (ap (λ w. slice_get w c.in_ok-done.done) (sym c.get.ensures) ∙ sym c.in-Some-write_at.ensures.value)
+    (sym c.in-Some-write_at.ensures.value)
 
-pub returns-then-is_err-clause-step : goal.returns-then-is_err-clause-step
-returns-then-is_err-clause-step g c =
-    write_starved (parts_of c.self.inside) c.args.self.now.world (ap (λ s. s.world) c.self.view_is) c.self.invariant.sound c.args.session c.in_ok-place.place (log_row_of c.in-Some.row.now) c.in_ok-done.done
-    (object_of c.in-Some-write_at.object.now, option_copied c.in-Some-write_at.write)
-    (sym c.in_ok-place.ensures) (sym c.in-Some.ensures) (sym c.in_ok-done.ensures)
-    (ap (λ w. slice_get w c.in_ok-done.done) (sym c.get.ensures) ∙ sym c.in-Some-write_at.ensures.value)
-    (puts_some c.put.result (option_copied c.in-Some-write_at.write) (sym c.if-is_err.ensures.value) c.put.ensures.deletes)
-    c.put.new.self.state (ap (λ t. t.state) (on_err c.put.result (sym c.if-is_err.ensures.value) c.put.ensures.err))
+pub returns-in_err-put-clause-step : goal.returns-in_err-put-clause-step
+returns-in_err-put-clause-step g c =
+    let p = err_from_is_err_and c.from_residual-in_err-put.result c.from_residual-in_err-put.ensures.1 in
+    let write : Write = (object_of c.in-Some-write_at.object.now, option_copied c.in-Some-write_at.write) in
+    write_err c.args.self.now.world _ c.args.session c.self.inside.log c.from_residual-in_err-put.result (p.1 ∙ ap Err (p.2 ∙ c.in_err-put.ensures.memory))
+    (write_starved (parts_of c.self.inside) c.args.self.now.world (ap (λ s. s.world) c.self.view_is) c.self.invariant.sound c.args.session c.in_ok-place.place (log_row_of c.in-Some.row.now) c.in_ok-done.done write
+    (sym c.in_ok-place.ensures) (sym c.in-Some.ensures) (sym c.in_ok-done.ensures) (sym c.in-Some-write_at.ensures.value)
+    (puts_some write.1 c.in_err-put.ensures.deletes)
+    c.put.new.self.state (ap (λ t. t.state) c.in_err-put.ensures.err))
+
+pub invariant_of-self : goal.invariant_of-self
+invariant_of-self g c = record {
+  sound = subst (λ t. AreSound (record (parts_of c.self.inside) { table = t })) (sym (ap (λ t. t.state) c.in_err-put.ensures.err)) c.self.invariant.sound;
+  tables_match = ap (λ t. t.tables) c.in_err-put.ensures.err ∙ c.self.invariant.tables_match;
+  marks_match = c.self.invariant.marks_match;
+  placed = subst (λ n. HoldsArePlaced n c.self.inside.sessions) (sym (ap (λ t. t.tables) c.in_err-put.ensures.err)) c.self.invariant.placed;
+}
 
 pub stand-requires : goal.stand-requires
 stand-requires g c = slice_get-below c.self.inside.log c.in_ok-place.place (log_row_of c.in-Some.row.now) (sym c.in-Some.ensures)
 
 pub invariant_of-self-2 : goal.invariant_of-self-2
 invariant_of-self-2 g c =
-    let done = on_ok c.put.result (sym c.if-is_err.ensures.value) c.put.ensures.ok in
+    let done = c.in_ok-put.ensures.ok in
     record {
       sound = (write_whole (parts_of c.self.inside) c.args.self.now.world (ap (λ s. s.world) c.self.view_is) c.self.invariant.sound c.args.session c.in_ok-place.place (log_row_of c.in-Some.row.now) c.in_ok-done.done
           (object_of c.in-Some-write_at.object.now, option_copied c.in-Some-write_at.write)
           (sym c.in_ok-place.ensures) (sym c.in-Some.ensures) (sym c.in_ok-done.ensures)
-          (ap (λ w. slice_get w c.in_ok-done.done) (sym c.get.ensures) ∙ sym c.in-Some-write_at.ensures.value)
+          (sym c.in-Some-write_at.ensures.value)
           c.stand.new.self (c.stand.ensures (log_row_of c.in-Some.row.now) (sym c.in-Some.ensures)) c.put.new.self.state (ap (λ t. t.state) done)).1;
       tables_match = ap (λ t. t.tables) done ∙ c.self.invariant.tables_match;
+      marks_match = c.self.invariant.marks_match;
       placed = subst (λ n. HoldsArePlaced n c.self.inside.sessions) (sym (ap (λ t. t.tables) done)) c.self.invariant.placed;
     }
 
 pub returns-clause-step : goal.returns-clause-step
 returns-clause-step g c =
-    let done = on_ok c.put.result (sym c.if-is_err.ensures.value) c.put.ensures.ok in
+    let done = c.in_ok-put.ensures.ok in
     (write_whole (parts_of c.self.inside) c.args.self.now.world (ap (λ s. s.world) c.self.view_is) c.self.invariant.sound c.args.session c.in_ok-place.place (log_row_of c.in-Some.row.now) c.in_ok-done.done
     (object_of c.in-Some-write_at.object.now, option_copied c.in-Some-write_at.write)
     (sym c.in_ok-place.ensures) (sym c.in-Some.ensures) (sym c.in_ok-done.ensures)
-    (ap (λ w. slice_get w c.in_ok-done.done) (sym c.get.ensures) ∙ sym c.in-Some-write_at.ensures.value)
+    (sym c.in-Some-write_at.ensures.value)
     c.stand.new.self (c.stand.ensures (log_row_of c.in-Some.row.now) (sym c.in-Some.ensures)) c.put.new.self.state (ap (λ t. t.state) done)).0
 
 pub returns-clause-named : goal.returns-clause-named
@@ -80,4 +92,4 @@ returns-clause-named g c = λ row write is.
     ap (λ p. is_some (written_in c.stand.new.self p write)) (sym row_is) ∙ ap (λ p. is_some (written_in c.stand.new.self c.in_ok-place.place p)) (sym write_is)
     ∙ ap is_some (write_named c.stand.new.self c.self.inside.log c.in_ok-place.place (log_row_of c.in-Some.row.now) (Writing (c.in_ok-done.done + 1)) c.in_ok-done.done
     (object_of c.in-Some-write_at.object.now, option_copied c.in-Some-write_at.write) (sym c.in-Some.ensures) (c.stand.ensures (log_row_of c.in-Some.row.now) (sym c.in-Some.ensures))
-    (ap (λ w. slice_get w c.in_ok-done.done) (sym c.get.ensures) ∙ sym c.in-Some-write_at.ensures.value))
+    (sym c.in-Some-write_at.ensures.value))

@@ -7,7 +7,6 @@ use Rattle.occ_core.proofs.phases.ReadPhases.questions.Goals as goal
 pub returns-in-Some : goal.returns-in-Some
 returns-in-Some g c =
     c.len.ensures.value
-    ∙ ap length c.get-in-Some.ensures
     ∙ ap (λ phase. length (reads_of phase)) (phase-found c.self.inside.phases (c.args.session, c.args.number) (Some c.in-Some.phase.now) c.args.self.now c.self.view_is (sym (ap option_copied c.in-Some.is) ∙ c.get.ensures.value))
 
 pub returns-in-None : goal.returns-in-None

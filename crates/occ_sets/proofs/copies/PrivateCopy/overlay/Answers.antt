@@ -8,8 +8,8 @@ use Rattle.occ_sets.proofs.Agreement.{overlay-Span}
 use Rattle.occ_sets.proofs.copies.PrivateCopy.overlay.Goals as goal
 
 -- the rows of a range have the own writes over them
-pub returns-in_ok-over_rows-in-Rows : goal.returns-in_ok-over_rows-in-Rows
-returns-in_ok-over_rows-in-Rows g c =
+pub returns-in_ok-over_rows-in-Rows-clause-seen : goal.returns-in_ok-over_rows-in-Rows-clause-seen
+returns-in_ok-over_rows-in-Rows-clause-seen g c =
     let writes = c.self.inside.writes in
     let rows = rows_of c.in-Rows.rows.items in
     ap Rows c.in_ok-over_rows-in-Rows.ensures

@@ -1,0 +1,7 @@
+use Rattle.std.proofs.Common.{◌≡◌, [], length}
+use Rattle.occ_book.specs.Marks.{marks_from}
+use Rattle.occ_book.proofs.marks.Marks.new.Given as goal
+
+-- the slots so far have no mark
+abbrev pub invariant-loop : goal.invariant-loop
+invariant-loop g l = record { counted : length l.slots.items ≡ l.counter; empty : marks_from 1 l.slots.items ≡ [] }

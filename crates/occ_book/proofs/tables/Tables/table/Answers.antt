@@ -1,0 +1,12 @@
+use Rattle.std.proofs.Common.{sym, ap, ◌∙◌, None}
+use Rattle.std.specs.Prelude.{map}
+use Rattle.occ_model.specs.State.{Rows}
+use Rattle.occ_book.specs.Kept.{seen}
+use Rattle.occ_book.proofs.Views.{table-at, answer-found}
+use Rattle.occ_book.proofs.Sizes.{all_within}
+use Rattle.occ_book.proofs.tables.Tables.table.Goals as goal
+
+pub returns-in-Some : goal.returns-in-Some
+returns-in-Some g c =
+    ap (λ es. Rows (map seen es)) (sym (all_within c.in-Some.map.now.entries))
+    ∙ sym (answer-found c.self.inside.maps.items c.args.table c.in-Some.map.now None None c.args.self.now c.self.view_is (table-at _ _ _ _ _ c.deref.ensures.value c.get.ensures.lookup c.in-Some.is) c.len-rows.ensures.ordered)

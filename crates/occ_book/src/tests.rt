@@ -1,0 +1,106 @@
+//! That calls succeed where there is memory, which no clause says.
+use crate::{Book, LogRow, Marks, Standing, Tables};
+use occ_case::Cause;
+use occ_sets::{ReadSet, WriteSet};
+use occ_types::{Cell, Key, Row};
+use std::alloc::Global;
+use std::test::Fail;
+
+// Two tables, of which the first has rows of one number under the keys 7 and 9.
+fn stock(alloc: Global) -> Option<Tables<Global>> {
+    let mut tables = Tables::new(alloc, 2).ok()?;
+    for key in [9, 7] {
+        if tables.count() == 0 {
+            return None;
+        }
+        let row = Row::from_cells(vec![in alloc; Cell::Int(100)].ok()?);
+        tables.put(0, &Key::Num(key), Some(&row)).ok()?;
+    }
+    Some(tables)
+}
+
+#[test]
+fn tables(rt: HostRuntime) -> Result<(), Fail> {
+    let Some(tables) = stock(rt.alloc()) else {
+        assert!(rt; false, "there is memory");
+        return Ok(());
+    };
+    let copy = tables.clone()?;
+    assert_eq!(rt; copy.count(), 2);
+    assert_eq!(rt; copy.len(), 2);
+    assert!(rt; copy.row(0, &Key::Num(7)).is_some());
+    assert!(rt; copy.row(1, &Key::Num(7)).is_none());
+    let upper = Some(Key::Num(9));
+    assert_eq!(rt; copy.count_rows(0, &None, &upper), 1);
+    assert!(rt;
+        copy.rows(0, &None, &upper)
+            .is_ok_and(|rows| rows.len() == 1)
+    );
+    assert!(rt; copy.named_rows().is_ok_and(|rows| rows.len() == 2));
+    assert!(rt; copy.table(0).is_some_and(|rows| rows.len() == 2));
+    Ok(())
+}
+
+// Marks of two sessions, of which the second has one.
+fn closed(alloc: Global) -> Option<Marks<Global>> {
+    let mut marks = Marks::new(alloc, 2).ok()?;
+    if marks.sessions() < 2 {
+        return None;
+    }
+    marks.set(2, 5);
+    Some(marks)
+}
+
+#[test]
+fn marks(rt: HostRuntime) -> Result<(), Fail> {
+    let Some(marks) = closed(rt.alloc()) else {
+        assert!(rt; false, "there is memory");
+        return Ok(());
+    };
+    let copy = marks.clone()?;
+    assert_eq!(rt; copy.sessions(), 2);
+    assert_eq!(rt; copy.len(), 1);
+    assert!(rt; !copy.is_empty());
+    for (session, mark) in [(0, None), (1, None), (2, Some(5)), (3, None)] {
+        assert!(rt; copy.get(session) == mark);
+    }
+    Ok(())
+}
+
+// A row without reads and writes, which was backed up.
+fn row(alloc: Global) -> LogRow<Global, ()> {
+    LogRow {
+        place: 0,
+        session: 2,
+        number: 4,
+        start: 0,
+        finish: 1,
+        reads: ReadSet::new(alloc),
+        writes: WriteSet::new(alloc),
+        standing: Standing::Back(Cause::Conflict),
+    }
+}
+
+#[test]
+fn books(rt: HostRuntime) -> Result<(), Fail> {
+    let alloc = rt.alloc();
+    let (Some(table), Some(marks)) = (stock(alloc), closed(alloc)) else {
+        assert!(rt; false, "there is memory");
+        return Ok(());
+    };
+    let book = Book {
+        log: vec![in alloc; row(alloc), row(alloc).clone()?]?,
+        table,
+        marks,
+        low: 0,
+        tnc: 1,
+    };
+    let lent = book.view();
+    assert_eq!(rt; lent.log.len(), 2);
+    assert!(rt; lent.log[1].standing == Standing::Back(Cause::Conflict));
+    assert_eq!(rt; lent.table.len(), 2);
+    assert_eq!(rt; lent.marks.len(), 1);
+    assert_eq!(rt; lent.low, 0);
+    assert_eq!(rt; lent.tnc, 1);
+    Ok(())
+}

@@ -1,7 +1,0 @@
-use Rattle.std.proofs.Common.{◌≡◌, [], length}
-use Rattle.occ_core.specs.Kept.{placed_from}
-use Rattle.occ_core.proofs.tables.Tables.new.Given as goal
-
--- the maps so far have no rows
-abbrev pub invariant-loop : goal.invariant-loop
-invariant-loop g l = record { counted : length l.maps.items ≡ l.counter; empty : placed_from 0 l.maps.items ≡ [] }

@@ -1,0 +1,10 @@
+//! What a session hands in, and the queue in which it waits.
+#![tactic(auto)]
+
+mod items;
+mod queues;
+#[cfg(test)]
+mod tests;
+
+pub use items::Item;
+pub use queues::Queue;

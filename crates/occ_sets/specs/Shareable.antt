@@ -1,0 +1,10 @@
+-- What clauses see of a value that may be shared: the value.
+use Rattle.std.specs.Arc.{arc_value}
+use Rattle.occ_sets.specs.declared.shareable.Shareable as code
+use Rattle.occ_sets.specs.declared.shareable.Shareable.TheVariants.{Plain, Shared}
+
+module _ {X Z : Type 0} where
+  -- the value that an owner has
+  abbrev pub held : code.Shareable X Z → X
+  held (Plain value) = value
+  held (Shared shared) = arc_value shared
