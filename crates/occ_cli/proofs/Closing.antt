@@ -1,6 +1,7 @@
 -- What stands behind the answers of a replay: its book and the audit of it.
 use Rattle.std.proofs.Common.{◌≡◌, ℕ, Bool, List, [], ◌∷◌, Option, Result, Ok, Err, refl, sym, subst, ◌∙◌, inl, inr, append-nil}
 use Rattle.std.specs.Bool.{Decides}
+use Rattle.std.specs.Result.{IsErrAnd}
 use Rattle.std.specs.Io.KnownBytes.{Keeps}
 use Rattle.std.specs.FinMap.{FinMap}
 use Rattle.std.specs.Ordering.{nat_cmp}
@@ -47,6 +48,12 @@ behind_book (Ok done) a b c old mid new book h k = (k.0, k.1, lines_then (Ok tt)
 behind_book (Err faults.Write) a b c old mid new book h k = inr (k.0, k.1, front_behind a b c old mid new (book_lines book) (audit_line k.0 ∷ []) h k.2)
 behind_book (Err faults.Memory) a b c old mid new book h (inl k) = inl (front_no_more a b c old mid new (book_text book) h k)
 behind_book (Err faults.Memory) a b c old mid new book h (inr k) = inr (k.0, k.1, front_behind a b c old mid new (book_lines book) (audit_line k.0 ∷ []) h k.2)
+
+-- a beginning of the book was pushed alone
+pub cut_in_book : {T : Type 0} (Q : WriteFault → Type 0) (result : Result T WriteFault) (a b : Option (List ℕ)) (old new : List ℕ) (said book : Book) → IsErrAnd result Q → said ≡ book → PushedFront a b old new (book_text said)
+    → ClosingGives (Pushed a b old new) (PushedFront a b old new) result book
+cut_in_book Q (Ok done) a b old new said book is same h = absurd is
+cut_in_book Q (Err fault) a b old new said book is same h = inl (subst (λ (x : Book). PushedFront a b old new (book_text x)) same h)
 
 pub closing : {T : Type 0} (result : Result T WriteFault) (a b c : Option (List ℕ)) (old mid new : List ℕ) (said book : Book) → said ≡ book → Pushed a b old mid (book_text said)
     → AuditGives (Pushed b c mid new) (PushedFront b c mid new) result (IsAudited said) → ClosingGives (Pushed a c old new) (PushedFront a c old new) result book

@@ -18,7 +18,7 @@ use occ_queue::{Item, Queue};
 use occ_sets::PrivateCopy;
 use occ_text::answers::Answer;
 use occ_types::limits::MAX_NUMBER;
-use occ_types::{Fault, Key, Object, Refused, Row, Schema};
+use occ_types::{Fault, Key, Object, Row, Schema};
 use std::alloc::Allocator;
 use std::marker::Model;
 
@@ -167,9 +167,9 @@ impl<A: Allocator + Copy> Client<A> {
         };
         match core.enter(session, item) {
             Ok(entered) => Ok(Answer::Entered(entered.place)),
-            Err(Refused { value, fault }) => {
-                self.kept = Some(value);
-                Err(fault)
+            Err(refused) => {
+                self.kept = Some(refused.value);
+                Err(refused.fault)
             }
         }
     }

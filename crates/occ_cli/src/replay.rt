@@ -2,12 +2,14 @@
 
 ghost use Rattle.std.specs.Prelude.{◌≡◌, ◌<◌, ◌^◌, ◌∷◌, [], true, IfOk};
 ghost use Rattle.std.specs.Io.KnownBytes.{Appends, prepend_known};
+ghost use Rattle.occ_model.specs.Log.{Audited};
+ghost use Rattle.occ_model.specs.World.{empty_base};
+ghost use Rattle.occ_core.specs.Rows.{log_of};
 ghost use Rattle.occ_text.specs.Answers.{answer_of, answer_text};
 ghost use Rattle.occ_text.specs.Line.{lines_text};
 ghost use Rattle.occ_text.specs.Printing.{Pushed, PushedFront, PrintGives};
-ghost use Rattle.occ_print.specs.Books.{book_of};
-ghost use Rattle.occ_cli.specs.Schedules.{ReplayGives, AppendsFront, book_at};
 ghost use Rattle.occ_text.specs.Steps.{step_of};
+ghost use Rattle.occ_cli.specs.Schedules.{ReplayGives, AppendsFront, book_at};
 ghost use Rattle.occ_cli.specs.Turns.{AnswerGives, TurnGives, TurnsGive, ClosingGives, AuditGives, is_cut_short};
 
 use crate::replays::Replay;
