@@ -4,6 +4,8 @@
 #[cfg(test)]
 mod device_tests;
 #[cfg(test)]
+mod limit_tests;
+#[cfg(test)]
 mod text_tests;
 
 use occ_cli::{audit_text, replay_text, status_of};
