@@ -1,8 +1,9 @@
 -- What stands behind the answers of a replay: its book and the audit of it.
 use Rattle.std.proofs.Common.{◌≡◌, ℕ, Bool, List, [], ◌∷◌, Option, Result, Ok, Err, refl, sym, subst, ◌∙◌, inl, inr, append-nil}
 use Rattle.std.specs.Bool.{Decides}
+use Rattle.std.specs.Result.{IsErrAnd}
 use Rattle.std.specs.Io.KnownBytes.{Keeps}
-use Rattle.std.specs.FinMap.{FinMap, empty}
+use Rattle.std.specs.FinMap.{FinMap}
 use Rattle.std.specs.Ordering.{nat_cmp}
 use Rattle.std.proofs.KnownBytes.{Appends-nil, Appends-kept}
 use Rattle.occ_types.specs.Schema.{Schema}
@@ -29,42 +30,48 @@ nothing_pushed a b old new kept same = record {
 }
 
 -- the line of an audit
-said_so : {T : Type 0} (result : Result T WriteFault) (a b : Option (List ℕ)) (old new : List ℕ) (book : Book) (holds : Bool) → Decides holds (IsAudited book) → PushGives result a b old new (lines_text (audit_line holds ∷ []))
-    → AuditGives (Pushed a b old new) (PushedFront a b old new) result book
-said_so (Ok done) a b old new book holds decides h = (holds, decides, record { sends = h.0; few = λ k. h.1 })
-said_so (Err faults.Write) a b old new book holds decides h =
+said_so : {T : Type 0} (result : Result T WriteFault) (a b : Option (List ℕ)) (old new : List ℕ) (Claim : Type 0) (holds : Bool) → Decides holds Claim → PushGives result a b old new (lines_text (audit_line holds ∷ []))
+    → AuditGives (Pushed a b old new) (PushedFront a b old new) result Claim
+said_so (Ok done) a b old new Claim holds decides h = (holds, decides, record { sends = h.0; few = λ k. h.1 })
+said_so (Err faults.Write) a b old new Claim holds decides h =
     (holds, decides, record { front = lines_text (audit_line holds ∷ []); rest = []; whole = sym (append-nil (lines_text (audit_line holds ∷ []))); sends = h })
-said_so (Err faults.Memory) a b old new book holds decides h = inl (nothing_pushed a b old new h.0 h.1)
+said_so (Err faults.Memory) a b old new Claim holds decides h = inl (nothing_pushed a b old new h.0 h.1)
 
-pub audit_said : {T : Type 0} (result : Result T WriteFault) (a b : Option (List ℕ)) (old new bytes : List ℕ) (book : Book) (marks : FinMap nat_cmp ℕ) (holds : Bool) → marks ≡ book.marks → bytes ≡ lines_text (audit_line holds ∷ [])
-    → Decides holds (Audited empty_base marks book.state book.log) → PushGives result a b old new bytes → AuditGives (Pushed a b old new) (PushedFront a b old new) result book
-audit_said result a b old new bytes book marks holds none is decides h =
-    said_so result a b old new book holds (subst (λ (m : FinMap nat_cmp ℕ). Decides holds (Audited empty_base m book.state book.log)) none decides) (subst (PushGives result a b old new) is h)
+pub audit_said : {T : Type 0} (result : Result T WriteFault) (a b : Option (List ℕ)) (old new bytes : List ℕ) (Claim : Type 0) (holds : Bool) → bytes ≡ lines_text (audit_line holds ∷ [])
+    → Decides holds Claim → PushGives result a b old new bytes → AuditGives (Pushed a b old new) (PushedFront a b old new) result Claim
+audit_said result a b old new bytes Claim holds is decides h = said_so result a b old new Claim holds decides (subst (PushGives result a b old new) is h)
 
 -- the audit behind the book
 behind_book : {T : Type 0} (result : Result T WriteFault) (a b c : Option (List ℕ)) (old mid new : List ℕ) (book : Book) → Pushed a b old mid (book_text book)
-    → AuditGives (Pushed b c mid new) (PushedFront b c mid new) result book → ClosingGives (Pushed a c old new) (PushedFront a c old new) result book
+    → AuditGives (Pushed b c mid new) (PushedFront b c mid new) result (IsAudited book) → ClosingGives (Pushed a c old new) (PushedFront a c old new) result book
 behind_book (Ok done) a b c old mid new book h k = (k.0, k.1, lines_then (Ok tt) a b c old mid new (book_lines book) (audit_line k.0 ∷ []) h k.2)
 behind_book (Err faults.Write) a b c old mid new book h k = inr (k.0, k.1, front_behind a b c old mid new (book_lines book) (audit_line k.0 ∷ []) h k.2)
 behind_book (Err faults.Memory) a b c old mid new book h (inl k) = inl (front_no_more a b c old mid new (book_text book) h k)
 behind_book (Err faults.Memory) a b c old mid new book h (inr k) = inr (k.0, k.1, front_behind a b c old mid new (book_lines book) (audit_line k.0 ∷ []) h k.2)
 
+-- a beginning of the book was pushed alone
+pub cut_in_book : {T : Type 0} (Q : WriteFault → Type 0) (result : Result T WriteFault) (a b : Option (List ℕ)) (old new : List ℕ) (said book : Book) → IsErrAnd result Q → said ≡ book → PushedFront a b old new (book_text said)
+    → ClosingGives (Pushed a b old new) (PushedFront a b old new) result book
+cut_in_book Q (Ok done) a b old new said book is same h = absurd is
+cut_in_book Q (Err fault) a b old new said book is same h = inl (subst (λ (x : Book). PushedFront a b old new (book_text x)) same h)
+
 pub closing : {T : Type 0} (result : Result T WriteFault) (a b c : Option (List ℕ)) (old mid new : List ℕ) (said book : Book) → said ≡ book → Pushed a b old mid (book_text said)
-    → AuditGives (Pushed b c mid new) (PushedFront b c mid new) result said → ClosingGives (Pushed a c old new) (PushedFront a c old new) result book
+    → AuditGives (Pushed b c mid new) (PushedFront b c mid new) result (IsAudited said) → ClosingGives (Pushed a c old new) (PushedFront a c old new) result book
 closing result a b c old mid new said book same h k =
     subst (λ (x : Book). ClosingGives (Pushed a c old new) (PushedFront a c old new) result x) same (behind_book result a b c old mid new said h k)
 
-abbrev the_book : ℕ → ℕ → ℕ → Schema → List LogRow → State → ℕ → ℕ → Book
-the_book sessions queue keep tables log state counter low = record {
+abbrev the_book : ℕ → ℕ → ℕ → Schema → List LogRow → FinMap nat_cmp ℕ → State → ℕ → ℕ → Book
+the_book sessions queue keep tables log marks state counter low = record {
   header = record { sessions = sessions; queue = queue; keep = keep; tables = tables };
   log = log;
-  marks = empty;
+  marks = marks;
   state = state;
   counter = counter;
   low = low;
 }
 
 -- the same book, part by part
-pub same_book : (sessions queue keep : ℕ) (schema tables : Schema) (rows log : List LogRow) (content state : State) (count counter lowest low : ℕ) → schema ≡ tables → rows ≡ log → content ≡ state → count ≡ counter → lowest ≡ low
-    → the_book sessions queue keep schema rows content count lowest ≡ the_book sessions queue keep tables log state counter low
-same_book sessions queue keep schema tables rows log content state count counter lowest low a b c d e = λ j. the_book sessions queue keep (a j) (b j) (c j) (d j) (e j)
+pub same_book : (sessions queue keep : ℕ) (schema tables : Schema) (rows log : List LogRow) (seen marks : FinMap nat_cmp ℕ) (content state : State) (count counter lowest low : ℕ)
+    → schema ≡ tables → rows ≡ log → seen ≡ marks → content ≡ state → count ≡ counter → lowest ≡ low
+    → the_book sessions queue keep schema rows seen content count lowest ≡ the_book sessions queue keep tables log marks state counter low
+same_book sessions queue keep schema tables rows log seen marks content state count counter lowest low a b m c d e = λ j. the_book sessions queue keep (a j) (b j) (m j) (c j) (d j) (e j)

@@ -1,103 +1,148 @@
 -- Exits and calls of a replay, over plain data.
 use Rattle.std.proofs.Common.{◌≡◌, ℕ, zero, suc, ◌-◌, ◌<◌, ◌⊎◌, ◌≤◌, List, [], ◌∷◌, length, get_or, Option, Some, None, Result, Ok, Err, refl, sym, ap, subst, ◌∙◌, inl, inr, arith}
-use Rattle.std.specs.Prelude.{Bool, true, false, cond, ◌≢◌, slice_get, slice_set, drop, filter, MatchOption, MatchResult, IfOk, OnErr}
+use Rattle.std.specs.Prelude.{Bool, true, false, ◌≢◌, slice_get, slice_set, MatchOption, MatchResult, IfOk, OnErr}
 use Rattle.std.specs.Option.{ok_or}
 use Rattle.std.proofs.lemmas.List.{set-get_or}
 use Rattle.occ_types.specs.Key.{Key}
 use Rattle.occ_types.specs.declared.fault.Fault.{Fault}
 use Rattle.occ_types.specs.declared.fault.Fault.TheVariants as faults
-use Rattle.occ_model.specs.Log.{is_active}
+use Rattle.occ_model.specs.State.{Write}
+use Rattle.occ_model.specs.State as states
 use Rattle.occ_model.specs.World.{World}
-use Rattle.occ_model.specs.Event.{Event, Reply}
+use Rattle.occ_model.specs.Event.{Event, Item, Reply}
 use Rattle.occ_model.specs.Event as events
 use Rattle.occ_model.specs.Step.{Step}
-use Rattle.occ_sets.specs.Sets.{Copied}
-use Rattle.occ_core.specs.Rows.{standing_of, log_row_of, log_of}
+use Rattle.occ_model.proofs.Headlines.{refusals_leave}
 use Rattle.occ_core.specs.Replies.{single, next_object, writing}
 use Rattle.occ_core.specs.declared.core_state.SingleWrite.{SingleWrite}
 use Rattle.occ_core.proofs.SingleWrites.{single_is}
-use Rattle.occ_core.specs.declared.rows.LogRow as code_row
 use Rattle.occ_types.specs.Object.{Object}
 use Rattle.occ_types.specs.Question.{Question, One}
 use Rattle.occ_types.specs.Row.{Row}
+use Rattle.occ_types.specs.Schema.{Schema}
 use Rattle.occ_model.specs.Overlay.{own}
 use Rattle.occ_text.specs.Steps as steps
 use Rattle.occ_text.specs.declared.steps.Act.TheVariants as acts
+use Rattle.occ_sets.specs.Sets.{Copied}
 use Rattle.occ_sets.specs.declared.reads.Answer as code_seen
 use Rattle.occ_text.specs.declared.answers.Answer as code_answer
 use Rattle.occ_text.specs.Answers.{Answer, answer_of}
 use Rattle.occ_text.specs.Answers as says
-use Rattle.occ_cli.specs.Waiting.{Waiting}
-use Rattle.occ_cli.specs.Replaying.{AtMostOneStep, PlayedIn, PlayedBy, PlayedWith, Starved, takes_memory, Plays, Begins, Submits, Writes, Gets, GetsIn, Scans, next_item, still_waiting, kept_after, copy_of, object_named, Client, Replayed, Given, client_of, span_named, Tells, ScansIn, ByStore, ByClient, ByAsking, Enters, told, overlaid, replied, played}
+use Rattle.occ_cli.specs.Replaying.{AtMostOneStep, PlayedIn, PlayedBy, Starved, takes_own_memory, Plays, Begins, Submits, Writes, Gets, GetsIn, Scans, next_item, still_waiting, kept_after, copy_of, object_named, Client, Replayed, Given, client_of, span_named, Tells, ScansIn, ByStore, ByClient, ByAsking, Enters, told, overlaid, replied, played}
 
--- At most one step.
+-- What is played of the store.
 
--- where a fault stands in the place of a value, nothing changes
-given_steps : {X Y : Type 0} (f : Y → World) (r : Result X Fault) (old : Y) (answer : Answer) (new : Y) (P : X → Type 0) → ((x : X) → P x → AtMostOneStep (f old) (f new)) → Given r old answer new P → AtMostOneStep (f old) (f new)
-given_steps f (Ok x) old answer new P steps h = steps x h
-given_steps f (Err e) old answer new P steps h = inl (ap f h.1)
+-- where a refusal is answered, the store replied it
+abbrev pub IsSaid : Answer → Reply → Type 0
+IsSaid answer reply = (fault : Fault) → answer ≡ says.Refused fault → reply ≡ events.Refused fault
 
-tells_steps : (old : World) (event : Event) (answer : Answer) (new : World) → Tells old event answer new → AtMostOneStep old new
-tells_steps old event answer new h = inr (event, h.0, h.1)
+told_said : (schema : Schema) (reply : Reply) (answer : Answer) → told schema reply ≡ Some answer → IsSaid answer reply
+told_said schema (events.Refused known) answer tells fault is = cc
+told_said schema (events.Answered (states.Found row)) answer tells fault is = cc
+told_said schema (events.Answered (states.Rows rows)) answer tells fault is = cc
+told_said schema (events.Forgotten known) answer tells fault is = cc
+told_said schema (events.Entered place index) answer tells fault is = cc
+told_said schema events.Closed answer tells fault is = cc
+told_said schema (events.Decided verdict) answer tells fault is = cc
+told_said schema (events.Wrote object) answer tells fault is = cc
+told_said schema events.NoMore answer tells fault is = cc
+told_said schema (events.Finished number) answer tells fault is = cc
+told_said schema (events.BackedUp number) answer tells fault is = cc
+told_said schema (events.EndedBack cause) answer tells fault is = cc
+told_said schema (events.RanAlone number answers) answer tells fault is = cc
+told_said schema (events.Folded rows) answer tells fault is = cc
 
-own_steps : (old : World) (event : Event) (answer : Answer) (new : World) (row : Option (Option Row)) → MatchOption row (Tells old event answer new) (λ r. (answer ≡ says.Found r) × (new ≡ old)) → AtMostOneStep old new
-own_steps old event answer new None h = tells_steps old event answer new h
-own_steps old event answer new (Some row) h = inl h.1
+-- the own writes leave a refusal as it is
+overlaid_refused : (question : Question) (writes : List Write) (reply : Reply) (fault : Fault) → overlaid question writes reply ≡ events.Refused fault → reply ≡ events.Refused fault
+overlaid_refused question writes (events.Refused known) fault is = is
+overlaid_refused question writes (events.Answered given) fault is = cc
+overlaid_refused question writes (events.Forgotten known) fault is = is
+overlaid_refused question writes (events.Entered place index) fault is = is
+overlaid_refused question writes events.Closed fault is = is
+overlaid_refused question writes (events.Decided verdict) fault is = is
+overlaid_refused question writes (events.Wrote object) fault is = is
+overlaid_refused question writes events.NoMore fault is = is
+overlaid_refused question writes (events.Finished number) fault is = is
+overlaid_refused question writes (events.BackedUp number) fault is = is
+overlaid_refused question writes (events.EndedBack cause) fault is = is
+overlaid_refused question writes (events.RanAlone number answers) fault is = is
+overlaid_refused question writes (events.Folded rows) fault is = is
 
-gets_steps : (old : World) (session : ℕ) (name : List ℕ) (key : Key) (client : Client) (answer : Answer) (new : World) → Gets old session name key client answer new → AtMostOneStep old new
-gets_steps old session name key client answer new h =
-    given_steps (λ (w : World). w) (copy_of client) old answer new (λ copy. GetsIn old session name key copy answer new)
-    (λ copy g. given_steps (λ (w : World). w) (object_named old.settings.schema name key) old answer new
-    (λ object. MatchOption (own copy.writes object) (Tells old (events.Read session copy.number copy.start (One object.0 object.1)) answer new) (λ row. (answer ≡ says.Found row) × (new ≡ old)))
-    (λ object m. own_steps old (events.Read session copy.number copy.start (One object.0 object.1)) answer new (own copy.writes object) m) g)
-    h
+-- whatever is played, the store stands as it was, or it did one step, whose refusal is answered as such
+module _ {C : Type 0} (old new : Replayed) (answer : Answer) (stays : new.world ≡ old.world → C) (does : (event : Event) (reply : Reply) → Step old.world event reply new.world → IsSaid answer reply → C) where
+  given_by : {X Y : Type 0} (r : Result X Fault) (before after : Y) (P : X → Type 0) → (after ≡ before → new.world ≡ old.world) → ((x : X) → P x → C) → Given r before answer after P → C
+  given_by (Ok x) before after P same by h = by x h
+  given_by (Err fault) before after P same by h = stays (same h.1)
 
-scans_steps : (old : World) (session : ℕ) (name : List ℕ) (lower upper : Key) (client : Client) (answer : Answer) (new : World) → Scans old session name lower upper client answer new → AtMostOneStep old new
-scans_steps old session name lower upper client answer new h =
-    given_steps (λ (w : World). w) (copy_of client) old answer new (λ copy. ScansIn old session name lower upper copy answer new)
-    (λ copy g. given_steps (λ (w : World). w) (span_named old.settings.schema name lower upper) old answer new
-    (λ question. (reply : Reply) × Step old (events.Read session copy.number copy.start question) reply new × (told old.settings.schema (overlaid question copy.writes reply) ≡ Some answer))
-    (λ question m. inr (events.Read session copy.number copy.start question, m.0, m.1)) g)
-    h
+  tells_by : (event : Event) → Tells old.world event answer new.world → C
+  tells_by event h = does event h.0 h.1 (told_said old.world.settings.schema h.0 answer h.2)
 
-item_steps : (old : World) (session : ℕ) (client : Client) (answer : Answer) (next : Client) (new : World) (item : Option Copied)
-    → MatchOption item ((answer ≡ says.Empty) × (next ≡ client) × (new ≡ old))
-    (λ i. (reply : Reply) × Step old (events.Enter session (events.Request i.number i.start i.writes)) reply new × (told old.settings.schema reply ≡ Some answer) × (next ≡ record client { queue = still_waiting client; kept = kept_after i reply }))
-    → AtMostOneStep old new
-item_steps old session client answer next new None h = inl h.2
-item_steps old session client answer next new (Some i) h = inr (events.Enter session (events.Request i.number i.start i.writes), h.0, h.1)
+  own_by : (event : Event) (row : Option (Option Row)) → MatchOption row (Tells old.world event answer new.world) (λ r. (answer ≡ says.Found r) × (new.world ≡ old.world)) → C
+  own_by event None h = tells_by event h
+  own_by event (Some row) h = stays h.1
 
-client_steps : (old : Replayed) (session : ℕ) (answer : Answer) (new : Replayed) (Moves : Client → Client → Type 0) → ByClient old session answer new Moves → AtMostOneStep old.world new.world
-client_steps old session answer new Moves h =
-    given_steps (λ (r : Replayed). r.world) (client_of old.clients session) old answer new (λ client. (next : Client) × Moves client next × (new ≡ record old { clients = slice_set old.clients (session - 1) next }))
-    (λ client m. inl (ap (λ (r : Replayed). r.world) m.2)) h
+  gets_by : (session : ℕ) (name : List ℕ) (key : Key) (client : Client) → Gets old.world session name key client answer new.world → C
+  gets_by session name key client h =
+      given_by (copy_of client) old.world new.world (λ copy. GetsIn old.world session name key copy answer new.world) (λ same. same)
+      (λ copy g. given_by (object_named old.world.settings.schema name key) old.world new.world
+      (λ object. MatchOption (own copy.writes object) (Tells old.world (events.Read session copy.number copy.start (One object.0 object.1)) answer new.world) (λ row. (answer ≡ says.Found row) × (new.world ≡ old.world))) (λ same. same)
+      (λ object m. own_by (events.Read session copy.number copy.start (One object.0 object.1)) (own copy.writes object) m) g)
+      h
 
-asking_steps : (old : Replayed) (session : ℕ) (answer : Answer) (new : Replayed) (Asks : Client → Type 0) → ((client : Client) → Asks client → AtMostOneStep old.world new.world) → ByAsking old session answer new Asks → AtMostOneStep old.world new.world
-asking_steps old session answer new Asks steps h =
-    given_steps (λ (r : Replayed). r.world) (client_of old.clients session) old answer new (λ client. Asks client × (new.clients ≡ old.clients)) (λ client m. steps client m.0) h
+  scans_by : (session : ℕ) (name : List ℕ) (lower upper : Key) (client : Client) → Scans old.world session name lower upper client answer new.world → C
+  scans_by session name lower upper client h =
+      given_by (copy_of client) old.world new.world (λ copy. ScansIn old.world session name lower upper copy answer new.world) (λ same. same)
+      (λ copy g. given_by (span_named old.world.settings.schema name lower upper) old.world new.world
+      (λ question. (reply : Reply) × Step old.world (events.Read session copy.number copy.start question) reply new.world × (told old.world.settings.schema (overlaid question copy.writes reply) ≡ Some answer)) (λ same. same)
+      (λ question m. does (events.Read session copy.number copy.start question) m.0 m.1
+      (λ fault is. overlaid_refused question copy.writes m.0 fault (told_said old.world.settings.schema (overlaid question copy.writes m.0) answer m.2 fault is))) g)
+      h
 
-store_steps : (old : Replayed) (event : Event) (answer : Answer) (new : Replayed) → ByStore old event answer new → AtMostOneStep old.world new.world
-store_steps old event answer new h = tells_steps old.world event answer new.world h.0
+  item_by : (session : ℕ) (client next : Client) (item : Option Item)
+      → MatchOption item ((answer ≡ says.Empty) × (next ≡ client) × (new.world ≡ old.world))
+      (λ i. (reply : Reply) × Step old.world (events.Enter session i) reply new.world × (told old.world.settings.schema reply ≡ Some answer) × (next ≡ record client { queue = still_waiting client; kept = kept_after i reply }))
+      → C
+  item_by session client next None h = stays h.2
+  item_by session client next (Some i) h = does (events.Enter session i) h.0 h.1 (told_said old.world.settings.schema h.0 answer h.2)
+
+  client_by : (session : ℕ) (Moves : Client → Client → Type 0) → ByClient old session answer new Moves → C
+  client_by session Moves h =
+      given_by (client_of old.clients session) old new (λ client. (next : Client) × Moves client next × (new ≡ record old { clients = slice_set old.clients (session - 1) next }))
+      (ap (λ (r : Replayed). r.world)) (λ client m. stays (ap (λ (r : Replayed). r.world) m.2)) h
+
+  asking_by : (session : ℕ) (Asks : Client → Type 0) → ((client : Client) → Asks client → C) → ByAsking old session answer new Asks → C
+  asking_by session Asks by h =
+      given_by (client_of old.clients session) old new (λ client. Asks client × (new.clients ≡ old.clients)) (ap (λ (r : Replayed). r.world)) (λ client m. by client m.0) h
+
+  pub plays_by : (step : steps.Step) → Plays old step answer new → C
+  plays_by (steps.Does acts.Begin session) h = client_by session (λ client next. Begins old.world.counter client answer next) h
+  plays_by (steps.Does acts.Submit session) h = client_by session (λ client next. Submits client answer next) h
+  plays_by (steps.Does acts.Enter session) h =
+      given_by (client_of old.clients session) old new
+      (λ client. (next : Client) × Enters old.world session client answer next new.world × (new.clients ≡ slice_set old.clients (session - 1) next)) (ap (λ (r : Replayed). r.world))
+      (λ client m. item_by session client m.0 (next_item client) m.1) h
+  plays_by (steps.Does acts.Decide session) h = tells_by (events.Decide session) h.0
+  plays_by (steps.Does acts.Write session) h = tells_by (events.WriteOne session) h.0
+  plays_by (steps.Does acts.Finish session) h = tells_by (events.Finish session) h.0
+  plays_by (steps.Does acts.BackUp session) h = tells_by (events.BackUp session) h.0
+  plays_by (steps.Get session name key) h =
+      asking_by session (λ client. Gets old.world session name key client answer new.world) (λ client g. gets_by session name key client g) h
+  plays_by (steps.Scan session name lower upper) h =
+      asking_by session (λ client. Scans old.world session name lower upper client answer new.world) (λ client g. scans_by session name lower upper client g) h
+  plays_by (steps.Put session name key row) h = client_by session (λ client next. Writes old.world.settings.schema name key (Some row) client answer next) h
+  plays_by (steps.Delete session name key) h = client_by session (λ client next. Writes old.world.settings.schema name key None client answer next) h
+  plays_by steps.Show h = stays (ap (λ (r : Replayed). r.world) h.1)
 
 -- whatever is played, the store does at most one step
 pub plays_steps : (old : Replayed) (step : steps.Step) (answer : Answer) (new : Replayed) → Plays old step answer new → AtMostOneStep old.world new.world
-plays_steps old (steps.Does acts.Begin session) answer new h = client_steps old session answer new (λ client next. Begins old.world.counter client answer next) h
-plays_steps old (steps.Does acts.Submit session) answer new h = client_steps old session answer new (λ client next. Submits client answer next) h
-plays_steps old (steps.Does acts.Enter session) answer new h =
-    given_steps (λ (r : Replayed). r.world) (client_of old.clients session) old answer new
-    (λ client. (next : Client) × Enters old.world session client answer next new.world × (new.clients ≡ slice_set old.clients (session - 1) next))
-    (λ client m. item_steps old.world session client answer m.0 new.world (next_item client) m.1) h
-plays_steps old (steps.Does acts.Decide session) answer new h = store_steps old (events.Decide session) answer new h
-plays_steps old (steps.Does acts.Write session) answer new h = store_steps old (events.WriteOne session) answer new h
-plays_steps old (steps.Does acts.Finish session) answer new h = store_steps old (events.Finish session) answer new h
-plays_steps old (steps.Does acts.BackUp session) answer new h = store_steps old (events.BackUp session) answer new h
-plays_steps old (steps.Get session name key) answer new h =
-    asking_steps old session answer new (λ client. Gets old.world session name key client answer new.world) (λ client g. gets_steps old.world session name key client answer new.world g) h
-plays_steps old (steps.Scan session name lower upper) answer new h =
-    asking_steps old session answer new (λ client. Scans old.world session name lower upper client answer new.world) (λ client g. scans_steps old.world session name lower upper client answer new.world g) h
-plays_steps old (steps.Put session name key row) answer new h = client_steps old session answer new (λ client next. Writes old.world.settings.schema name key (Some row) client answer next) h
-plays_steps old (steps.Delete session name key) answer new h = client_steps old session answer new (λ client next. Writes old.world.settings.schema name key None client answer next) h
-plays_steps old steps.Show answer new h = inl (ap (λ (r : Replayed). r.world) h.1)
+plays_steps old step answer new h =
+    plays_by {C = AtMostOneStep old.world new.world} old new answer (λ same. inl same) (λ event reply stepped said. inr (event, reply, stepped)) step h
+
+-- where a refusal is played, the store stands as it was
+pub refused_stays : (old : Replayed) (step : steps.Step) (fault : Fault) (new : Replayed) → Plays old step (says.Refused fault) new → new.world ≡ old.world
+refused_stays old step fault new h =
+    plays_by {C = new.world ≡ old.world} old new (says.Refused fault) (λ same. same)
+    (λ event reply stepped said. refusals_leave old.world new.world event fault (subst (λ (r : Reply). Step old.world event r new.world) (said fault refl) stepped)) step h
 
 module _ {Z : Type 0} where
   -- the store refused a question
@@ -130,12 +175,18 @@ module _ {Z : Type 0} where
       (λ (g : Result Question Fault). Given g old (says.Refused f) new (λ q. (reply : Reply) × Step old (events.Read session copy.number copy.start q) reply new × (told old.settings.schema (overlaid q copy.writes reply) ≡ Some (says.Refused f))))
       asked (events.Refused f, step, refl)))
 
+  -- the store refused a step for want of memory
+  store_starves : (old : Replayed) (step : steps.Step) (new : Replayed) (r : Result (code_answer.Answer Z) Fault) → r ≡ Err faults.Memory → Plays old step (played r) new → Starved old step new
+  store_starves old step new r is so =
+      let plays = subst (λ (x : Result (code_answer.Answer Z) Fault). Plays old step (played x) new) is so in
+      (refused_stays old step faults.Memory new plays, inr plays)
+
   -- a step was refused for want of memory
-  pub starves : (b : Bool) (old : Replayed) (step : steps.Step) (new : Replayed) (r : Result (code_answer.Answer Z) Fault) → b ≡ takes_memory step → r ≡ Err faults.Memory
+  pub starves : (b : Bool) (old : Replayed) (step : steps.Step) (new : Replayed) (r : Result (code_answer.Answer Z) Fault) → b ≡ takes_own_memory step → r ≡ Err faults.Memory
       → PlayedBy b old new r (λ answer. Plays old step answer new) → Starved old step new
-  starves true old step new r takes is (inl memory) = inl (sym takes, memory.1)
-  starves true old step new r takes is (inr so) = inr (subst (λ (x : Result (code_answer.Answer Z) Fault). Plays old step (played x) new) is so)
-  starves false old step new r takes is so = inr (subst (λ (x : Result (code_answer.Answer Z) Fault). Plays old step (played x) new) is so)
+  starves true old step new r takes is (inl memory) = (ap (λ (s : Replayed). s.world) memory.1, inl (sym takes, memory.1))
+  starves true old step new r takes is (inr so) = store_starves old step new r is so
+  starves false old step new r takes is so = store_starves old step new r is so
 
 module _ {Z : Type 0} where
   -- a call that failed
@@ -158,26 +209,6 @@ wrote_as old new session done next answer is step tells =
     let same : single new.log (Ok done) ≡ writing next (Ok done) = single_is old session (Ok done) new step ∙ ap (λ n. writing n (Ok done)) (sym is) in
     (single new.log (Ok done), step, ap (told old.settings.schema) same ∙ tells)
 
--- what was taken from a queue and put back waits as it did
-first_again : (items : List Copied) (x : Copied) → Some x ≡ slice_get items 0 → x ∷ drop 1 items ≡ items
-first_again [] x is = cc
-first_again (y ∷ ys) x is = ap (λ (z : Copied). z ∷ ys) (some_same x y is)
-  where
-    some_same : (a b : Copied) → Some a ≡ Some b → a ≡ b
-    some_same a b e = cc
-
--- a client with this queue
-abbrev waiting : Option Copied → ℕ → Waiting → Option Copied → Client
-waiting copy pushed queue kept = record { copy = copy; pushed = pushed; queue = queue.items; limit = queue.limit; kept = kept }
-
-pub waits_again : (copy : Option Copied) (pushed : ℕ) (old taken new : Waiting) (was kept : Option Copied) (x y : Copied) → taken ≡ record old { items = drop 1 old.items } → Some x ≡ slice_get old.items 0 → y ≡ x
-    → new ≡ record taken { items = y ∷ taken.items } → None ≡ was → kept ≡ None
-    → waiting copy pushed new kept ≡ waiting copy pushed old was
-waits_again copy pushed old taken new was kept x y left first same back none empty =
-    let items : y ∷ drop 1 old.items ≡ old.items = ap (λ (z : Copied). z ∷ drop 1 old.items) same ∙ first_again old.items x first in
-    let queue : new ≡ old = back ∙ ap (λ (q : Waiting). record q { items = y ∷ q.items }) left ∙ ap (λ (l : List Copied). record old { items = l }) items in
-    ap (λ (q : Waiting). waiting copy pushed q kept) queue ∙ ap (waiting copy pushed old) (empty ∙ none)
-
 module _ {Z : Type 0} where
   -- what a fault ends a step with
   pub ends_ok : {E : Type 0} (b : Bool) (old : Replayed) (step : steps.Step) (new : Replayed) (fault : Fault) (result : Result (code_answer.Answer Z) E)
@@ -188,9 +219,9 @@ module _ {Z : Type 0} where
 
   pub ends_err : {E : Type 0} (old : Replayed) (step : steps.Step) (new : Replayed) (fault : Fault) (result : Result (code_answer.Answer Z) E)
       → MatchResult result (λ answer. (fault ≢ faults.Memory) × (answer_of answer ≡ says.Refused fault)) (λ e. fault ≡ faults.Memory)
-      → PlayedBy {Z = Z} (takes_memory step) old new (fails fault) (λ answer. Plays old step answer new) → OnErr result (Starved old step new)
+      → PlayedBy {Z = Z} (takes_own_memory step) old new (fails fault) (λ answer. Plays old step answer new) → OnErr result (Starved old step new)
   ends_err old step new fault (Ok answer) is so = tt
-  ends_err old step new fault (Err e) is so = starves (takes_memory step) old step new (fails fault) refl (ap fails is) so
+  ends_err old step new fault (Err e) is so = starves (takes_own_memory step) old step new (fails fault) refl (ap fails is) so
 
 -- an element stands at its place
 pub found_at : {X : Type 0} (xs : List X) (place : ℕ) (x : X) → place < length xs → x ≡ get_or xs place x → slice_get xs place ≡ Some x
@@ -198,15 +229,14 @@ found_at [] place x lt is = absurd (omega arith)
 found_at (y ∷ ys) zero x lt is = ap Some (sym is)
 found_at (y ∷ ys) (suc place) x lt is = found_at ys place x (omega arith) is
 
-counted : {X Y : Type 0} (b : Bool) (x : X) (y : Y) (xs : List X) (ys : List Y) → length xs ≡ length ys → length (cond b (x ∷ xs) xs) ≡ length (cond b (y ∷ ys) ys)
-counted true x y xs ys e = ap suc e
-counted false x y xs ys e = e
-
--- as many rows of a log are active as are seen to be
-pub active_seen : {Z : Type 0} (rows : List (code_row.LogRow Z)) → length (filter (λ row. is_active (standing_of row.standing)) rows) ≡ length (filter (λ row. is_active row.standing) (log_of rows))
-active_seen [] = refl
-active_seen (row ∷ rows) =
-    counted (is_active (standing_of row.standing)) row (log_row_of row) (filter (λ r. is_active (standing_of r.standing)) rows) (filter (λ r. is_active r.standing) (log_of rows)) (active_seen rows)
+-- an item that the store refused is kept
+pub kept_again : (old : World) (session : ℕ) (client : Client) (item handed : Item) (fault : Fault) (next : Client) (new : World) → Some item ≡ next_item client → Step old (events.Enter session item) (events.Refused fault) new → handed ≡ item
+    → next ≡ record client { queue = still_waiting client; kept = Some handed } → Enters old session client (says.Refused fault) next new
+kept_again old session client item handed fault next new is step same left =
+    subst
+    (λ (o : Option Item). MatchOption o ((says.Refused fault ≡ says.Empty) × (next ≡ client) × (new ≡ old))
+    (λ i. (reply : Reply) × Step old (events.Enter session i) reply new × (told old.settings.schema reply ≡ Some (says.Refused fault)) × (next ≡ record client { queue = still_waiting client; kept = kept_after i reply })))
+    is (events.Refused fault, step, refl, left ∙ ap (λ (i : Item). record client { queue = still_waiting client; kept = Some i }) same)
 
 -- no element stands behind the end
 pub none_at : {X : Type 0} (xs : List X) (place : ℕ) → length xs ≤ place → slice_get xs place ≡ None
@@ -279,10 +309,10 @@ module _ {Z : Type 0} (world : World) (clients : List Client) (self : Replayed) 
 
   -- a client that enters the store isn't there
   pub no_enterer : (shown : List Client) (session : ℕ) (e f : Fault) → shown ≡ clients → r ≡ Err e → e ≡ f → client_of shown session ≡ Err f
-      → PlayedIn self self r (λ answer. Given (client_of self.clients session) self answer self
-      (λ c. (n : Client) × Enters self.world session c answer n self.world × (self.clients ≡ slice_set self.clients (session - 1) n)))
+      → Given (client_of self.clients session) self (played r) self
+      (λ c. (n : Client) × Enters self.world session c (played r) n self.world × (self.clients ≡ slice_set self.clients (session - 1) n))
   no_enterer shown session e f showing is same none =
-      inr (no_seat shown session e f (λ answer c. (n : Client) × Enters self.world session c answer n self.world × (self.clients ≡ slice_set self.clients (session - 1) n)) showing is same none)
+      no_seat shown session e f (λ answer c. (n : Client) × Enters self.world session c answer n self.world × (self.clients ≡ slice_set self.clients (session - 1) n)) showing is same none
 
   module _ (shown : List Client) (showing : shown ≡ clients) (session place : ℕ) (there : (session ≡ suc place) × (place < length shown)) (client : Client) (at : client ≡ get_or clients place client) where
     is_seated : client_of clients session ≡ Ok client
@@ -318,13 +348,10 @@ module _ {Z : Type 0} (world : World) (clients : List Client) (self : Replayed) 
     by_asking next Asks (inr does) = inr (seated (record { world = next; clients = clients }) (λ old answer c. Asks old.world answer c × (clients ≡ old.clients)) (does, refl))
 
     -- a step of a client that enters the store
-    pub by_entering : (next : Client) (later : World) → PlayedWith world client later next r (λ answer. Enters world session client answer next later)
-        → PlayedIn self (record { world = later; clients = slice_set clients place next }) r (λ answer. Given (client_of self.clients session) self answer (record { world = later; clients = slice_set clients place next })
-        (λ c. (n : Client) × Enters self.world session c answer n later × (slice_set clients place next ≡ slice_set self.clients (session - 1) n)))
-    by_entering next later (inl memory) =
-        let same : slice_set clients place next ≡ clients = set_same clients place client next at memory.2 in
-        inl (memory.0, ap (λ (w : World). record { world = w; clients = slice_set clients place next }) memory.1 ∙ ap (λ (l : List Client). record { world = world; clients = l }) same ∙ view)
-    by_entering next later (inr does) =
+    pub by_entering : (next : Client) (later : World) → Enters world session client (played r) next later
+        → Given (client_of self.clients session) self (played r) (record { world = later; clients = slice_set clients place next })
+        (λ c. (n : Client) × Enters self.world session c (played r) n later × (slice_set clients place next ≡ slice_set self.clients (session - 1) n))
+    by_entering next later does =
         let moved : slice_set clients place next ≡ slice_set clients (session - 1) next = ap (λ (k : ℕ). slice_set clients k next) is_place in
-        inr (seated (record { world = later; clients = slice_set clients place next })
-        (λ old answer c. (n : Client) × Enters old.world session c answer n later × (slice_set clients place next ≡ slice_set old.clients (session - 1) n)) (next, does, moved))
+        seated (record { world = later; clients = slice_set clients place next })
+        (λ old answer c. (n : Client) × Enters old.world session c answer n later × (slice_set clients place next ≡ slice_set old.clients (session - 1) n)) (next, does, moved)

@@ -54,13 +54,6 @@ header_stopped view fault (Err e) quiet a b after w held last is h =
     by faults.Read k = UnreadHeader h.0 k.0 b (Consumes-trans a h.1 b (lines_text h.0) k.0 h.2 k.2) h.3 k.1 (Pushed-nothing w held)
     by faults.Memory k = CutBefore (front_none w held [])
 
--- memory was refused before the first step
-pub not_opened : {T : Type 0} (result : Result T Trouble) (quiet : Bool) (a after : Option (List ℕ)) (w : Option (List ℕ)) (held : List ℕ) → IsErrAnd result (λ e. e ≡ troubles.Memory)
-    → ReplayGives quiet a (Pushed w w held held) (PushedFront w w held held) result after
-not_opened (Ok done) quiet a after w held is = absurd is
-not_opened {T} (Err e) quiet a after w held is =
-    subst (λ (t : Trouble). ReplayGives quiet a (Pushed w w held held) (PushedFront w w held held) {T = T} (Err t) after) (sym is) (CutBefore (front_none w held []))
-
 abbrev stops : Trouble → Result (Unit {0}) Trouble
 stops trouble = Err trouble
 

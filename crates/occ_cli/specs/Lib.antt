@@ -1,4 +1,3 @@
 pub mod Replaying
 pub mod Schedules
 pub mod Turns
-pub mod Waiting

@@ -17,7 +17,7 @@ use Rattle.occ_model.specs.State as states
 use Rattle.occ_model.specs.Overlay.{set, own, overlay}
 use Rattle.occ_model.specs.World.{World, Settings, opened, low, active_count}
 use Rattle.occ_model.specs.Refusal.{numbers_exhausted}
-use Rattle.occ_model.specs.Event.{Event, Reply}
+use Rattle.occ_model.specs.Event.{Event, Item, Reply}
 use Rattle.occ_model.specs.Event as events
 use Rattle.occ_model.specs.Step as model
 use Rattle.occ_sets.specs.Sets.{Copied, is_full_for}
@@ -34,9 +34,9 @@ use Rattle.occ_text.specs.declared.answers.Counts.{Counts}
 pub record Client : Type 0 where
   pub copy : Option Copied
   pub pushed : ℕ
-  pub queue : List Copied
+  pub queue : List Item
   pub limit : ℕ
-  pub kept : Option Copied
+  pub kept : Option Item
 
 -- the store, and its clients by session
 pub record Replayed : Type 0 where
@@ -121,6 +121,10 @@ abbrev pub Writes : Schema → List ℕ → Key → Option Row → Client → An
 Writes schema name key row old answer new = Given (copy_of old) old answer new (λ copy.
     (next : Copied) × WritesCopy schema name key row copy answer next × (new ≡ record old { copy = Some next }))
 
+-- what a transaction is handed in as
+abbrev pub request : Copied → Item
+request copy = events.Request copy.number copy.start copy.writes
+
 -- `submit`: the transaction to wait
 abbrev pub submitted : Client → Result Copied Fault
 submitted client = and_then (copy_of client) (λ copy. unless (fault_if (nat_le client.limit (length client.queue)) faults.QueueFull) copy)
@@ -128,7 +132,7 @@ submitted client = and_then (copy_of client) (λ copy. unless (fault_if (nat_le 
 abbrev pub Submits : Client → Answer → Client → Type 0
 Submits old answer new = Given (submitted old) old answer new (λ copy.
     (answer ≡ says.Queued copy.number)
-    × (new ≡ record old { copy = None; pushed = copy.number; queue = old.queue ++ copy ∷ [] }))
+    × (new ≡ record old { copy = None; pushed = copy.number; queue = old.queue ++ request copy ∷ [] }))
 
 -- the name of the table at a place
 abbrev pub name_at : Schema → ℕ → List ℕ
@@ -196,15 +200,15 @@ Scans old session name lower upper client answer new =
     Given (copy_of client) old answer new (λ copy. ScansIn old session name lower upper copy answer new)
 
 -- the item to be entered next: the one that was refused, or else the first one that waits
-abbrev pub next_item : Client → Option Copied
+abbrev pub next_item : Client → Option Item
 next_item client = elim client.kept [ None ↦ slice_get client.queue 0 | Some item ↦ Some item ]
 
 -- the items that wait when it is taken
-abbrev pub still_waiting : Client → List Copied
+abbrev pub still_waiting : Client → List Item
 still_waiting client = elim client.kept [ None ↦ drop 1 client.queue | Some item ↦ client.queue ]
 
 -- a refused item is kept
-abbrev pub kept_after : Copied → Reply → Option Copied
+abbrev pub kept_after : Item → Reply → Option Item
 kept_after item (events.Refused fault) = Some item
 kept_after item reply = None
 
@@ -212,7 +216,7 @@ kept_after item reply = None
 abbrev pub Enters : World → ℕ → Client → Answer → Client → World → Type 0
 Enters old session client answer next new = MatchOption (next_item client)
     ((answer ≡ says.Empty) × (next ≡ client) × (new ≡ old))
-    (λ item. (reply : Reply) × model.Step old (events.Enter session (events.Request item.number item.start item.writes)) reply new
+    (λ item. (reply : Reply) × model.Step old (events.Enter session item) reply new
     × (told old.settings.schema reply ≡ Some answer)
     × (next ≡ record client { queue = still_waiting client; kept = kept_after item reply }))
 
@@ -240,20 +244,20 @@ counts_of world = record {
   active = active_count world;
 }
 
--- whether a step may take memory
-abbrev pub takes_memory : Step → Bool
-takes_memory (Does acts.Begin session) = false
-takes_memory (Does acts.Submit session) = false
-takes_memory (Does acts.Enter session) = true
-takes_memory (Does acts.Decide session) = false
-takes_memory (Does acts.Write session) = true
-takes_memory (Does acts.Finish session) = false
-takes_memory (Does acts.BackUp session) = false
-takes_memory (Get session name key) = true
-takes_memory (Scan session name lower upper) = true
-takes_memory (Put session name key row) = true
-takes_memory (Delete session name key) = true
-takes_memory Show = false
+-- whether a step may take memory of its own, beside what the store takes for it
+abbrev pub takes_own_memory : Step → Bool
+takes_own_memory (Does acts.Begin session) = false
+takes_own_memory (Does acts.Submit session) = false
+takes_own_memory (Does acts.Enter session) = false
+takes_own_memory (Does acts.Decide session) = false
+takes_own_memory (Does acts.Write session) = true
+takes_own_memory (Does acts.Finish session) = false
+takes_own_memory (Does acts.BackUp session) = false
+takes_own_memory (Get session name key) = true
+takes_own_memory (Scan session name lower upper) = true
+takes_own_memory (Put session name key row) = true
+takes_own_memory (Delete session name key) = true
+takes_own_memory Show = false
 
 -- the store stands as it was, or has done one step
 abbrev pub AtMostOneStep : World → World → Type 0
@@ -280,9 +284,9 @@ Plays old (Delete session name key) answer new =
     ByClient old session answer new (λ client next. Writes old.world.settings.schema name key None client answer next)
 Plays old Show answer new = (answer ≡ says.Counted (counts_of old.world)) × (new ≡ old)
 
--- what want of memory leaves of a step that may take some: nothing changed, or the store refused it for want of memory, and it was played as any refusal (an item that was refused is kept)
+-- What want of memory leaves of a step: the store stands as it was. Where the step may take memory of its own, nothing at all changed; or the store refused it for want of memory, and it was played as any refusal: an item that was to enter is kept, and nothing else changed.
 abbrev pub Starved : Replayed → Step → Replayed → Type 0
-Starved old step new = ((takes_memory step ≡ true) × (new ≡ old)) ⊎ Plays old step (says.Refused faults.Memory) new
+Starved old step new = (new.world ≡ old.world) × (((takes_own_memory step ≡ true) × (new ≡ old)) ⊎ Plays old step (says.Refused faults.Memory) new)
 
 module _ {Z : Type 0} where
   -- the answer of a call; a fault is answered as a refusal
@@ -303,11 +307,7 @@ module _ {Z : Type 0} where
   abbrev pub PlayedIn : {S : Type 0} → S → S → Result (code_answer.Answer Z) Fault → (Answer → Type 0) → Type 0
   PlayedIn old new result Is = ((result ≡ Err faults.Memory) × (new ≡ old)) ⊎ Is (played result)
 
-  -- the same of a call that may change the store and a client
-  abbrev pub PlayedWith : World → Client → World → Client → Result (code_answer.Answer Z) Fault → (Answer → Type 0) → Type 0
-  PlayedWith old client new next result Is = ((result ≡ Err faults.Memory) × (new ≡ old) × (next ≡ client)) ⊎ Is (played result)
-
-  -- the same of a call that may take memory or may not
+  -- the same of a call that may take memory of its own, or may not
   abbrev pub PlayedBy : {S : Type 0} → Bool → S → S → Result (code_answer.Answer Z) Fault → (Answer → Type 0) → Type 0
   PlayedBy true old new result Is = PlayedIn old new result Is
   PlayedBy false old new result Is = Is (played result)

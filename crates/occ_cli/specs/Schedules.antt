@@ -1,7 +1,6 @@
 -- A schedule from its first line to its last, and the text that its replay writes (our own choice).
 use Rattle.std.specs.Prelude.{◌≡◌, ◌≢◌, ◌+◌, ℕ, Bool, true, false, List, [], ◌∷◌, ◌++◌, map, length, Option, Result, Ok, Err, IfSome, All}
 use Rattle.std.specs.Bool.{Decides}
-use Rattle.std.specs.FinMap.{empty}
 use Rattle.std.specs.Io.KnownBytes.{Consumes, Keeps, Appends, IsAtEnd}
 use Rattle.occ_types.specs.declared.fault.Fault.TheVariants as faults
 use Rattle.occ_model.specs.Log.{Audited}
@@ -52,12 +51,12 @@ abbrev pub answer_lines : Bool → List Turn → List (List ℕ)
 answer_lines true turns = []
 answer_lines false turns = map (λ turn. answer_text turn.1) turns
 
--- the book of a world; no step closes a session yet, so it has no marks
+-- the book of a world
 abbrev pub book_at : Header → World → Book
 book_at header world = record {
   header = header;
   log = world.log;
-  marks = empty;
+  marks = world.marks;
   state = world.table;
   counter = world.counter;
   low = low world;

@@ -90,8 +90,8 @@ module _ (Wrote WroteFront : List ℕ → Type 0) where
   ClosingGives (Ok done) book = (holds : Bool) × Decides holds (IsAudited book) × Wrote (lines_text (closing_lines book holds))
   ClosingGives (Err fault) book = WroteFront (lines_text (book_lines book)) ⊎ ((holds : Bool) × Decides holds (IsAudited book) × WroteFront (lines_text (closing_lines book holds)))
 
-  -- what the line of an audit leaves
-  abbrev pub AuditGives : {T : Type 0} → Result T WriteFault → Book → Type 0
-  AuditGives (Ok done) book = (holds : Bool) × Decides holds (IsAudited book) × Wrote (lines_text (audit_line holds ∷ []))
-  AuditGives (Err write_faults.Write) book = (holds : Bool) × Decides holds (IsAudited book) × WroteFront (lines_text (audit_line holds ∷ []))
-  AuditGives (Err write_faults.Memory) book = WroteFront [] ⊎ ((holds : Bool) × Decides holds (IsAudited book) × WroteFront (lines_text (audit_line holds ∷ [])))
+  -- what the line of an audit leaves that tells whether a claim holds
+  abbrev pub AuditGives : {T : Type 0} → Result T WriteFault → Type 0 → Type 0
+  AuditGives (Ok done) Claim = (holds : Bool) × Decides holds Claim × Wrote (lines_text (audit_line holds ∷ []))
+  AuditGives (Err write_faults.Write) Claim = (holds : Bool) × Decides holds Claim × WroteFront (lines_text (audit_line holds ∷ []))
+  AuditGives (Err write_faults.Memory) Claim = WroteFront [] ⊎ ((holds : Bool) × Decides holds Claim × WroteFront (lines_text (audit_line holds ∷ [])))

@@ -11,16 +11,15 @@ ghost use Rattle.occ_sets.specs.Seen as sets;
 ghost use Rattle.occ_text.specs.Answers.{answer_of, Found};
 ghost use Rattle.occ_cli.specs.Replaying.{GetsIn, MayAnswer, ScansIn, Tells, shown, replied, Played, PlayedIn};
 
-use crate::clients::{object_named, span_named};
-use occ_core::core_state::Core;
+use crate::named::{object_named, span_named};
+use occ_core::Core;
 use occ_sets::{Answer as Seen, Prepared, PrivateCopy};
 use occ_text::answers::Answer;
-use occ_types::Fault;
-use occ_types::{Key, Object, Question, Row};
+use occ_types::{Fault, Key, Object, Question, Row};
 use std::alloc::Allocator;
 
 /// `get` in an open transaction: its own write of the key, and else what the store answers. Refused with `NoTable`, `WrongKind` or `TooLong`, and then as the store refuses a read.
-pub fn get<A: Allocator + Copy>(
+pub(crate) fn get<A: Allocator + Copy>(
     copy: &PrivateCopy<A>,
     core: &mut Core<A>,
     session: usize,
@@ -58,12 +57,18 @@ fn read<A: Allocator + Copy>(
 ) -> Result<Answer<A>, Fault>
     ensures { PlayedIn core.old.world core.new.world result (λ answer. Tells core.old.world (events.Read session copy.now.number copy.now.start (One object.now.table (key_of object.now.key))) answer core.new.world) }
 {
-    let row = core.read(session, copy.number(), copy.start(), object)?;
+    let row = core.read(
+        session,
+        copy.number(),
+        copy.start(),
+        object.table,
+        &object.key,
+    )?;
     Ok(Answer::Found(row))
 }
 
 /// `scan` in an open transaction: what the store answers, with the own writes over it. All memory that these need is taken before the store is asked. Refused with `NoTable`, `WrongKind`, `TooLong` or `EmptyRange`, with `Memory`, and then as the store refuses a read.
-pub fn scan<A: Allocator + Copy>(
+pub(crate) fn scan<A: Allocator + Copy>(
     copy: &PrivateCopy<A>,
     core: &mut Core<A>,
     session: usize,
@@ -74,9 +79,7 @@ pub fn scan<A: Allocator + Copy>(
     ensures { PlayedIn core.old.world core.new.world result (λ answer. ScansIn core.old.world session table.now (key_of lower) (key_of upper) copy.now answer core.new.world) }
 {
     let question = span_named(core.schema(), table, lower, upper)?;
-    let Ok(prepared) = copy.prepare(&question) else {
-        return Err(Fault::Memory);
-    };
+    let prepared = copy.prepare(&question)?;
     let given = ask(core, session, copy, &question)?;
     Ok(over(prepared, given))
 }
@@ -103,7 +106,13 @@ fn ask<A: Allocator + Copy>(
 {
     match question {
         Question::One(object) => {
-            let row = core.read(session, copy.number(), copy.start(), object)?;
+            let row = core.read(
+                session,
+                copy.number(),
+                copy.start(),
+                object.table,
+                &object.key,
+            )?;
             Ok(Seen::Found(row))
         }
         Question::Span {

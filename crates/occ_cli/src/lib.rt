@@ -1,9 +1,12 @@
 //! The engines of the store: a schedule goes in; answers, the book and an audit come out.
 #![tactic(auto)]
 
-pub mod asking;
-pub mod clients;
-pub mod queues;
-pub mod replay;
-pub mod replays;
-pub mod requests;
+mod asking;
+mod clients;
+mod named;
+mod replay;
+mod replays;
+
+pub use occ_audit::audit_rows;
+pub use occ_text::trouble::{Trouble, status_of};
+pub use replay::replay_text;

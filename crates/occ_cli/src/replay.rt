@@ -2,17 +2,21 @@
 
 ghost use Rattle.std.specs.Prelude.{◌≡◌, ◌<◌, ◌^◌, ◌∷◌, [], true, IfOk};
 ghost use Rattle.std.specs.Io.KnownBytes.{Appends, prepend_known};
+ghost use Rattle.occ_model.specs.Log.{Audited};
+ghost use Rattle.occ_model.specs.World.{empty_base};
+ghost use Rattle.occ_core.specs.Rows.{log_of};
 ghost use Rattle.occ_text.specs.Answers.{answer_of, answer_text};
 ghost use Rattle.occ_text.specs.Line.{lines_text};
 ghost use Rattle.occ_text.specs.Printing.{Pushed, PushedFront, PrintGives};
-ghost use Rattle.occ_print.specs.Books.{book_of};
-ghost use Rattle.occ_cli.specs.Schedules.{ReplayGives, AppendsFront, book_at};
 ghost use Rattle.occ_text.specs.Steps.{step_of};
+ghost use Rattle.occ_cli.specs.Schedules.{ReplayGives, AppendsFront, book_at};
 ghost use Rattle.occ_cli.specs.Turns.{AnswerGives, TurnGives, TurnsGive, ClosingGives, AuditGives, is_cut_short};
 
 use crate::replays::Replay;
 use occ_audit::audit_rows;
-use occ_print::books::{Book, push_line, write_book};
+use occ_book::BookView;
+use occ_case::OpenCase;
+use occ_print::books::{push_line, write_book};
 use occ_print::lines::audit_line;
 use occ_text::answers::{Answer, write_answer};
 use occ_text::faults::{WriteFault, read_at_line};
@@ -22,7 +26,6 @@ use occ_text::output::Output;
 use occ_text::steps::{Step, read_step};
 use occ_text::trouble::Trouble;
 use std::alloc::Allocator;
-use std::collections::BTreeMap;
 use std::io::{Read, Write};
 
 /// Replays a schedule: reads its header, does each step and answers it by a line, and then writes the book of what came of it and
@@ -74,7 +77,9 @@ fn replay_lines<R: Read, W: Write, A: Allocator + Copy>(
         (prepend_known input.new.unread (R.remaining reader.new)) }
 {
     let header = read_header(alloc, input, reader)?;
-    let mut replay = Replay::open(alloc, header.schema, header.limits)?;
+    let Ok(mut replay) = Replay::open(alloc, header.schema, header.limits) else {
+        return Err(Trouble::Memory);
+    };
     take_turns(alloc, input, reader, output, writer, &mut replay, quiet)?;
     close(alloc, output, writer, &replay, header.limits)?;
     Ok(())
@@ -171,15 +176,8 @@ fn close<W: Write, A: Allocator + Copy>(
         (book_at (record { sessions = limits.sessions; queue = limits.queue; keep = limits.keep; tables = replay.now.world.settings.schema }) replay.now.world) }
 {
     let core = replay.core();
-    let book = Book {
-        limits,
-        schema: core.schema(),
-        log: core.log(),
-        tables: core.tables(),
-        counter: core.counter(),
-        low: core.low(),
-    };
-    write_book(alloc, output, writer, &book)?;
+    let book = core.view();
+    write_book(alloc, output, writer, limits, core.schema(), &book)?;
     write_audit(alloc, output, writer, &book)
 }
 
@@ -188,17 +186,14 @@ fn write_audit<W: Write, A: Allocator + Copy>(
     alloc: A,
     output: &mut Output<A>,
     writer: &mut W,
-    book: &Book<A>,
+    book: &BookView<'_, A, OpenCase<A>>,
 ) -> Result<(), WriteFault>
     ensures { AuditGives (Pushed (W.contents writer.old) (W.contents writer.new) output.old output.new)
-        (PushedFront (W.contents writer.old) (W.contents writer.new) output.old output.new) result (book_of book.now) }
+        (PushedFront (W.contents writer.old) (W.contents writer.new) output.old output.new) result
+        (Audited empty_base book.now.marks.now.marks book.now.table.now.state (log_of book.now.log.now)) }
 {
-    let marks = BTreeMap::new(alloc);
-    let audited = occ_audit::Book {
-        log: book.log,
-        marks: &marks,
-        tables: book.tables,
+    let Ok(holds) = audit_rows(alloc, book) else {
+        return Err(WriteFault::Memory);
     };
-    let holds = audit_rows(alloc, &audited)?;
     output.push(writer, audit_line(holds).as_bytes())
 }

@@ -1,6 +1,6 @@
 //! A replay of a schedule, step by step.
 
-ghost use Rattle.std.specs.Prelude.{◌≡◌, ◌≢◌, ◌<◌, suc, Some, None, Ok, Err, length, replicate, IfOk, OnErr, MatchResult};
+ghost use Rattle.std.specs.Prelude.{◌≡◌, ◌≢◌, ◌<◌, suc, Some, None, Ok, Err, length, replicate, IfOk, IfErr, OnErr, IsOkUnless, MatchResult};
 ghost use Rattle.occ_types.specs.Seen.{key_of, object_of};
 ghost use Rattle.occ_model.specs.Event as events;
 ghost use Rattle.occ_text.specs.declared.steps.Act.TheVariants as acts;
@@ -8,22 +8,21 @@ ghost use Rattle.occ_types.specs.declared.fault.Fault.TheVariants as faults;
 ghost use Rattle.occ_text.specs.Answers.{answer_of};
 ghost use Rattle.occ_text.specs.Answers as says;
 ghost use Rattle.occ_text.specs.Steps.{step_of, Does, Get, Scan, Show};
-ghost use Rattle.occ_cli.specs.Replaying.{started, fresh, client_of, counts_of, name_at, told, ByClient, Tells, Writes, Plays, PlayedIn, PlayedBy, Starved, takes_memory, played};
+ghost use Rattle.occ_cli.specs.Replaying.{started, fresh, client_of, counts_of, name_at, told, ByClient, Tells, Writes, Plays, PlayedIn, PlayedBy, Starved, takes_own_memory, played};
 
 use crate::clients::Client;
-use occ_core::core_state::Core;
+use occ_core::Core;
 use occ_text::answers::{Answer, Counts};
 use occ_text::headers::Limits;
 use occ_text::refusals::Refusal;
 use occ_text::steps::{Act, Step};
-use occ_types::Fault;
-use occ_types::{Key, Object, Row, Schema, Text};
+use occ_types::{Fault, Key, Object, Refused, Row, Schema, Text};
 use std::alloc::{AllocError, Allocator};
 use std::marker::Model;
 
 /// A store and its clients, one for each session, as the steps of a schedule leave them.
 #[derive(Drop)]
-pub struct Replay<A: Allocator> {
+pub(crate) struct Replay<A: Allocator> {
     alloc: A,
     core: Core<A>,
     clients: Vec<Client<A>, A>,
@@ -42,12 +41,25 @@ impl<A: Allocator> Model for Replay<A> {
 }
 
 impl<A: Allocator + Copy> Replay<A> {
-    /// An empty store with these tables, and a client for each of its sessions. It is an error where there is no memory for it, and the schema is gone then.
-    pub fn open(alloc: A, schema: Schema<A>, limits: Limits) -> Result<Replay<A>, AllocError>
-        ensures { IfOk result (λ replay. replay ≡ started (record { schema = schema; sessions = limits.sessions; keep = limits.keep }) limits.queue) }
+    /// An empty store with these tables, and a client for each of its sessions. Refused with `Memory` where there is none for it, and the schema is handed back then.
+    pub(crate) fn open(
+        alloc: A,
+        schema: Schema<A>,
+        limits: Limits,
+    ) -> Result<Replay<A>, Refused<Schema<A>>>
+        ensures started { IfOk result (λ replay. replay ≡ started (record { schema = schema; sessions = limits.sessions; keep = limits.keep }) limits.queue) }
+        ensures handed_back { IfErr result (λ refused. (refused.value ≡ schema) × (refused.fault ≡ faults.Memory)) }
     {
+        let clients = match fresh_clients(alloc, limits.sessions, limits.queue) {
+            Ok(clients) => clients,
+            Err(fault) => {
+                return Err(Refused {
+                    value: schema,
+                    fault,
+                });
+            }
+        };
         let core = Core::open(alloc, schema, limits.sessions, limits.keep)?;
-        let clients = fresh_clients(alloc, limits.sessions, limits.queue)?;
         Ok(Replay {
             alloc,
             core,
@@ -56,7 +68,7 @@ impl<A: Allocator + Copy> Replay<A> {
     }
 
     /// Does a step, and answers it. It is an error where memory is refused, as it can be for `enter`, `write`, `get`, `scan`, `put` and `delete` alone: nothing has changed then, but that what the store refused to enter is kept for the next time, as after any refusal.
-    pub fn answer(&mut self, step: Step<'_, A>) -> Result<Answer<A>, AllocError>
+    pub(crate) fn answer(&mut self, step: Step<'_, A>) -> Result<Answer<A>, AllocError>
         ensures ok { IfOk result (λ answer. Plays self.old (step_of step.entry) (answer_of answer) self.new) }
         ensures fed { IfOk result (λ answer. answer_of answer ≢ says.Refused faults.Memory) }
         ensures err { OnErr result (Starved self.old (step_of step.entry) self.new) }
@@ -69,7 +81,7 @@ impl<A: Allocator + Copy> Replay<A> {
 
     // Does a step; every refusal is an error.
     fn play(&mut self, step: Step<'_, A>) -> Result<Answer<A>, Fault>
-        ensures { PlayedBy (takes_memory (step_of step.entry)) self.old self.new result (λ answer. Plays self.old (step_of step.entry) answer self.new) }
+        ensures { PlayedBy (takes_own_memory (step_of step.entry)) self.old self.new result (λ answer. Plays self.old (step_of step.entry) answer self.new) }
     {
         match step {
             Step::Does { act, session } => self.act(act, session),
@@ -101,7 +113,7 @@ impl<A: Allocator + Copy> Replay<A> {
 
     // A step that names a session and nothing else.
     fn act(&mut self, act: Act, session: usize) -> Result<Answer<A>, Fault>
-        ensures { PlayedBy (takes_memory (Does act session)) self.old self.new result (λ answer. Plays self.old (Does act session) answer self.new) }
+        ensures { PlayedBy (takes_own_memory (Does act session)) self.old self.new result (λ answer. Plays self.old (Does act session) answer self.new) }
     {
         match act {
             Act::Begin => self.begin(session),
@@ -118,7 +130,7 @@ impl<A: Allocator + Copy> Replay<A> {
         ensures { Plays self.old (Does acts.Begin session) (played result) self.new }
     {
         let place = place_of(self.clients.as_slice(), session)?;
-        let counter = self.core.counter();
+        let counter = self.core.tnc();
         let client = &mut self.clients[place];
         client.begin(self.alloc, counter)
     }
@@ -132,11 +144,11 @@ impl<A: Allocator + Copy> Replay<A> {
     }
 
     fn enter(&mut self, session: usize) -> Result<Answer<A>, Fault>
-        ensures { PlayedIn self.old self.new result (λ answer. Plays self.old (Does acts.Enter session) answer self.new) }
+        ensures { Plays self.old (Does acts.Enter session) (played result) self.new }
     {
         let place = place_of(self.clients.as_slice(), session)?;
         let client = &mut self.clients[place];
-        client.enter(self.alloc, &mut self.core, session)
+        client.enter(&mut self.core, session)
     }
 
     fn get(&mut self, session: usize, table: &str, key: Key<A>) -> Result<Answer<A>, Fault>
@@ -185,7 +197,7 @@ impl<A: Allocator + Copy> Replay<A> {
 
 impl<A: Allocator> Replay<A> {
     /// The store.
-    pub fn core(&self) -> &Core<A>
+    pub(crate) fn core(&self) -> &Core<A>
         ensures { result.now.world ≡ self.now.world }
     {
         &self.core
@@ -217,10 +229,10 @@ impl<A: Allocator> Replay<A> {
         ensures { result ≡ counts_of self.now.world }
     {
         Counts {
-            counter: self.core.counter(),
+            counter: self.core.tnc(),
             low: self.core.low(),
             log: self.core.log().len(),
-            state: self.core.tables().len(),
+            state: self.core.table().len(),
             active: self.core.active(),
         }
     }
@@ -238,13 +250,14 @@ fn refused<A: Allocator>(fault: Fault) -> Result<Answer<A>, AllocError>
     }
 }
 
-// Clients that did nothing yet.
+// Clients that did nothing yet. Refused with `Memory` where there is none for them.
 fn fresh_clients<A: Allocator + Copy>(
     alloc: A,
     sessions: usize,
     queue: usize,
-) -> Result<Vec<Client<A>, A>, AllocError>
-    ensures { IfOk result (λ clients. clients.items ≡ replicate sessions (fresh queue)) }
+) -> Result<Vec<Client<A>, A>, Fault>
+    ensures fresh { IfOk result (λ clients. clients.items ≡ replicate sessions (fresh queue)) }
+    ensures memory { IsOkUnless result faults.Memory }
 {
     let mut clients = Vec::with_capacity(alloc, sessions)?;
     for _ in 0..sessions {

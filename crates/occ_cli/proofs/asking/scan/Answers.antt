@@ -25,7 +25,7 @@ over-requires g c =
     let question = question_of c.in_ok-question.question in
     let given = sets.answer_of c.in_ok-given.given in
     let range = is_range c.args.core.now.world.settings.schema c.args.table.now lower upper question asked in
-    subst (λ q. MayAnswer q given) (sym (ap (λ p. p.question) c.in-Ok.ensures))
+    subst (λ q. MayAnswer q given) (sym (ap (λ p. p.question) c.in_ok-prepared.ensures.prepared))
     (answered c.args.core.now.world c.args.session c.args.copy.now.number c.args.copy.now.start range.0 _ _ question given c.ask.new.core.world range.1 c.in_ok-given.ensures)
 
 -- they go over it
@@ -36,4 +36,4 @@ returns g c =
     let asked = c.in_ok-question.ensures ∙ ap (λ s. span_named s c.args.table.now lower upper) c.schema.ensures in
     let given = sets.answer_of c.in_ok-given.given in
     scan_answered c.args.core.now.world c.args.session c.args.table.now lower upper c.args.copy.now (question_of c.in_ok-question.question) given c.ask.new.core.world c.over.result
-    asked c.in_ok-given.ensures (c.over.ensures ∙ ap (λ p. shown (overlay p.question p.writes given)) c.in-Ok.ensures)
+    asked c.in_ok-given.ensures (c.over.ensures ∙ ap (λ p. shown (overlay p.question p.writes given)) c.in_ok-prepared.ensures.prepared)

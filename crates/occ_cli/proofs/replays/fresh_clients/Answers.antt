@@ -2,7 +2,7 @@ use Rattle.std.proofs.Common.{◌≡◌, ap, ◌∙◌, replicate, arith}
 use Rattle.occ_cli.specs.Replaying.{fresh}
 use Rattle.occ_cli.proofs.replays.fresh_clients.Goals as goal
 
-pub returns : goal.returns
-returns g c =
+pub returns-clause-fresh : goal.returns-clause-fresh
+returns-clause-fresh g c =
     let all : c.loop.counter ≡ c.args.sessions = omega arith in
     c.loop.invariant ∙ ap (λ n. replicate n (fresh c.args.queue)) all

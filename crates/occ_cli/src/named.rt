@@ -1,0 +1,40 @@
+//! What a step names: keys and ranges of the table with a name.
+ghost use Rattle.std.specs.Prelude.{◌≡◌};
+ghost use Rattle.std.specs.Result.{result_map_both};
+ghost use Rattle.occ_types.specs.Seen.{key_of, object_of, question_of};
+ghost use Rattle.occ_cli.specs.Replaying.{object_named, span_named};
+
+use occ_types::{Fault, Key, Object, Question, Schema};
+use std::alloc::Allocator;
+
+/// The object of a key in the table with this name. Refused with `NoTable`, `WrongKind` or `TooLong`.
+pub(crate) fn object_named<A: Allocator>(
+    schema: &Schema<A>,
+    table: &str,
+    key: Key<A>,
+) -> Result<Object<A>, Fault>
+    ensures { result_map_both object_of (λ fault. fault) result ≡ object_named schema.now table.now (key_of key) }
+{
+    let table = schema.table_named(table).ok_or(Fault::NoTable)?;
+    schema.check_key(table, &key)?;
+    Ok(Object { table, key })
+}
+
+/// The question for a range of the table with this name. Refused with `NoTable`, `WrongKind`, `TooLong` or `EmptyRange`.
+pub(crate) fn span_named<A: Allocator>(
+    schema: &Schema<A>,
+    table: &str,
+    lower: Key<A>,
+    upper: Key<A>,
+) -> Result<Question<A>, Fault>
+    ensures { result_map_both question_of (λ fault. fault) result ≡ span_named schema.now table.now (key_of lower) (key_of upper) }
+{
+    let table = schema.table_named(table).ok_or(Fault::NoTable)?;
+    let question = Question::Span {
+        table,
+        lower: Some(lower),
+        upper: Some(upper),
+    };
+    schema.check_question(&question)?;
+    Ok(question)
+}
