@@ -14,3 +14,4 @@ pub mod Counting
 pub mod Entering
 pub mod Nexts
 pub mod SingleWrites
+pub mod Replied

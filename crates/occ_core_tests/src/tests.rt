@@ -1,13 +1,9 @@
 //! Steps whose replies were worked out by hand from the rules, and two threads that share a core.
-use crate::driving::{drive, take_step};
-use crate::replies::Reply;
-use crate::steps::Step;
-use occ_audit::{Book, audit_rows};
-use occ_core::core_entries::RefusedEntry;
-use occ_core::core_state::Core;
-use occ_sets::{SharedWrites, WriteSet};
-use occ_types::{KeyKind, Kind};
-use occ_types::{Cell, Key, Object, Row, Schema, TableDef, Text};
+use occ_audit::audit_rows;
+use occ_core::{Core, Reply, Step, drive};
+use occ_queue::Item;
+use occ_sets::WriteSet;
+use occ_types::{Cell, Fault, Key, KeyKind, Kind, Object, Refused, Row, Schema, TableDef, Text};
 use std::alloc::{AllocError, Global};
 use std::sync::{Mutex, Wait};
 use std::test::Fail;
@@ -15,34 +11,15 @@ use std::thread;
 use std::thread::Threads;
 
 // A store of two sessions with one table, whose keys are numbers and whose rows are one number. It keeps eight write sets.
-fn store(alloc: Global) -> Result<Core<Global>, AllocError> {
+fn store(alloc: Global) -> Result<Core<Global>, Fault> {
     let table = TableDef {
         name: Text::new(alloc, "t")?,
         key: KeyKind::Num,
         columns: vec![in alloc; Kind::Int]?,
     };
-    let Ok(schema) = Schema::new(vec![in alloc; table]?) else {
-        return Err(AllocError);
-    };
-    Core::open(alloc, schema, 2, 8)
-}
-
-fn object(key: u64) -> Object<Global> {
-    Object {
-        table: 0,
-        key: Key::Num(key),
-    }
-}
-
-// A write set with one row, the number 5.
-fn put(alloc: Global, key: u64) -> Result<SharedWrites<Global>, AllocError> {
-    let mut writes = WriteSet::new(alloc);
-    let row = Row::from_cells(vec![in alloc; Cell::Int(5)]?);
-    if writes.set(object(key), Some(row)).is_err() {
-        return Err(AllocError);
-    }
-    let shared = SharedWrites::new(alloc, writes)?;
-    Ok(shared)
+    let schema = Schema::new(vec![in alloc; table]?)?;
+    let core = Core::open(alloc, schema, 2, 8)?;
+    Ok(core)
 }
 
 // A read of a key in the first transaction of a session, which starts at 0.
@@ -51,32 +28,31 @@ fn read(session: usize, key: u64) -> Step<Global> {
         session,
         number: 1,
         start: 0,
-        object: object(key),
+        table: 0,
+        key: Key::Num(key),
     }
 }
 
-// The first transaction of a session, which starts at 0 and puts one row.
-fn enter(alloc: Global, session: usize, key: u64) -> Result<Step<Global>, AllocError> {
-    Ok(Step::Enter {
-        session,
+// The entry of the first transaction of a session, which starts at 0.
+fn enter_with(session: usize, writes: WriteSet<Global>) -> Step<Global> {
+    let item = Item::Request {
         number: 1,
         start: 0,
-        writes: put(alloc, key)?,
-    })
+        writes,
+    };
+    Step::Enter { session, item }
 }
 
-// The first transaction of session 1, which starts at 0 and writes nothing.
-fn enter_reads(alloc: Global) -> Result<Step<Global>, AllocError> {
-    Ok(Step::Enter {
-        session: 1,
-        number: 1,
-        start: 0,
-        writes: SharedWrites::new(alloc, WriteSet::new(alloc))?,
-    })
+// The entry of one that puts one row, the number 5.
+fn enter(alloc: Global, session: usize, key: u64) -> Result<Step<Global>, Fault> {
+    let mut writes = WriteSet::new(alloc);
+    let row = Row::from_cells(vec![in alloc; Cell::Int(5)]?);
+    writes.set(0, Key::Num(key), Some(row))?;
+    Ok(enter_with(session, writes))
 }
 
 // Session 1 reads the range from 1 up to 10, without 10; session 2 commits a row under the key; session 1 is decided.
-fn range_and_put(alloc: Global, key: u64) -> Result<Vec<Step<Global>, Global>, AllocError> {
+fn range_and_put(alloc: Global, key: u64) -> Result<Vec<Step<Global>, Global>, Fault> {
     let mut steps = Vec::new(alloc);
     steps.push(Step::Scan {
         session: 1,
@@ -90,7 +66,7 @@ fn range_and_put(alloc: Global, key: u64) -> Result<Vec<Step<Global>, Global>, A
     steps.push(Step::Decide(2))?;
     steps.push(Step::WriteOne(2))?;
     steps.push(Step::Finish(2))?;
-    steps.push(enter_reads(alloc)?)?;
+    steps.push(enter_with(1, WriteSet::new(alloc)))?;
     steps.push(Step::Decide(1))?;
     Ok(steps)
 }
@@ -100,10 +76,8 @@ fn told(
     alloc: Global,
     core: &mut Core<Global>,
     steps: Vec<Step<Global>, Global>,
-) -> Result<String<Global>, AllocError> {
-    let Ok(replies) = drive(alloc, core, steps) else {
-        return Err(AllocError);
-    };
+) -> Result<String<Global>, Fault> {
+    let replies = drive(alloc, core, steps)?;
     let mut words = String::new(alloc);
     for reply in &replies {
         tell(&mut words, reply)?;
@@ -125,15 +99,12 @@ fn tell(words: &mut String<Global>, reply: &Reply<Global>) -> Result<(), AllocEr
             write!(words, "entered {place}; ")
         }
         Reply::Decided(verdict) => write!(words, "{verdict:?}; "),
-        Reply::Wrote(object) => tell_key(words, &object.key),
+        Reply::Wrote(object) => tell_key(words, object),
         Reply::NoMore => words.push_str("no more; "),
         Reply::Finished(number) => write!(words, "finished {number}; "),
         Reply::BackedUp(number) => write!(words, "backed {number}; "),
         Reply::Refused(fault) => write!(words, "refused {fault:?}; "),
-        Reply::TurnedAway(RefusedEntry { writes, fault }) => {
-            let count = writes.get().len();
-            write!(words, "turned away {fault:?} with {count}; ")
-        }
+        Reply::RefusedItem(refused) => tell_refusal(words, refused),
     }
 }
 
@@ -144,11 +115,20 @@ fn tell_row(words: &mut String<Global>, row: &Row<Global>) -> Result<(), AllocEr
     }
 }
 
-fn tell_key(words: &mut String<Global>, key: &Key<Global>) -> Result<(), AllocError> {
-    match key {
+fn tell_key(words: &mut String<Global>, object: &Object<Global>) -> Result<(), AllocError> {
+    match &object.key {
         Key::Num(number) => write!(words, "wrote {number}; "),
         Key::Text(_) => words.push_str("wrote a text; "),
     }
+}
+
+fn tell_refusal(
+    words: &mut String<Global>,
+    refused: &Refused<Item<Global>>,
+) -> Result<(), AllocError> {
+    let Item::Request { writes, .. } = &refused.value;
+    let (fault, count) = (refused.fault, writes.len());
+    write!(words, "turned away {fault:?} with {count}; ")
 }
 
 #[test]
@@ -178,7 +158,7 @@ fn a_key_between_the_ends_lies_inside(rt: HostRuntime) -> Result<(), Fail> {
 }
 
 // Session 1 commits a row, and is refused three times; then session 2, which started before that, reads it.
-fn all_kinds(alloc: Global) -> Result<Vec<Step<Global>, Global>, AllocError> {
+fn all_kinds(alloc: Global) -> Result<Vec<Step<Global>, Global>, Fault> {
     let mut steps = Vec::new(alloc);
     steps.push(read(1, 7))?;
     steps.push(Step::Forget {
@@ -219,32 +199,27 @@ fn a_book_stays_as_it_is(rt: HostRuntime) -> Result<(), Fail> {
     let steps = range_and_put(alloc, 10)?;
     assert!(rt; drive(alloc, &mut core, steps).is_ok());
     let book = core.book()?;
-    let _written = take_step(&mut core, Step::WriteOne(1));
-    let _finished = take_step(&mut core, Step::Finish(1));
-    assert_eq!(rt; core.counter(), 2);
-    assert_eq!(rt; (book.counter, book.low), (1, 0));
+    let _written = core.take(Step::WriteOne(1));
+    let _finished = core.take(Step::Finish(1));
+    assert_eq!(rt; core.tnc(), 2);
+    assert_eq!(rt; (book.tnc, book.low), (1, 0));
     assert_eq!(rt;
-        (book.log.len(), book.tables.len(), book.marks.len()),
+        (book.log.len(), book.table.len(), book.marks.len()),
         (2, 1, 0)
     );
-    let audited = Book {
-        log: book.log.as_slice(),
-        marks: &book.marks,
-        tables: &book.tables,
-    };
-    assert!(rt; audit_rows(alloc, &audited)?);
+    assert!(rt; audit_rows(alloc, &book.view())?);
     Ok(())
 }
 
 // One transaction of a session, with one holding of the lock for each step. It reads nothing and writes what no other writes, so it
 // commits whatever the others do. Whether it finished.
 fn commit(rt: &impl Wait, core: &Mutex<Core<Global>>, session: usize, entry: Step<Global>) -> bool {
-    let _entered = take_step(&mut core.lock(rt), entry);
-    let _decided = take_step(&mut core.lock(rt), Step::Decide(session));
+    let _entered = core.lock(rt).take(entry);
+    let _decided = core.lock(rt).take(Step::Decide(session));
     for _ in 0..2 {
-        let _written = take_step(&mut core.lock(rt), Step::WriteOne(session));
+        let _written = core.lock(rt).take(Step::WriteOne(session));
     }
-    let finished = take_step(&mut core.lock(rt), Step::Finish(session));
+    let finished = core.lock(rt).take(Step::Finish(session));
     matches!(&finished, Reply::Finished(_))
 }
 
@@ -270,13 +245,8 @@ fn two_threads_share_a_core(rt: HostRuntime) -> Result<(), Fail> {
     let (first, second) = (enter(alloc, 1, 1)?, enter(alloc, 2, 2)?);
     assert!(rt; commit_both(&rt, &core, first, second));
     let core = core.into_inner();
-    let book = Book {
-        log: core.log(),
-        marks: core.marks(),
-        tables: core.tables(),
-    };
     assert_eq!(rt; core.log().len(), 2);
-    assert_eq!(rt; core.counter(), 2);
-    assert!(rt; audit_rows(alloc, &book)?);
+    assert_eq!(rt; core.tnc(), 2);
+    assert!(rt; audit_rows(alloc, &core.view())?);
     Ok(())
 }

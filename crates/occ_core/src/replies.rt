@@ -3,13 +3,14 @@ ghost use Rattle.std.specs.Prelude.{◌≡◌, None, Some, option_map};
 ghost use Rattle.std.specs.Result.{result_err};
 ghost use Rattle.occ_types.specs.Seen.{object_of};
 ghost use Rattle.occ_core.specs.Replies.{reading, scanning, forgetting, entering, decision, finishing, backing, writing};
-ghost use Rattle.occ_drive.specs.Runs.{reply_of, handed_back};
+ghost use Rattle.occ_core.specs.Runs.{reply_of, handed_back};
+ghost use Rattle.occ_queue.specs.Items.{item_of};
 
-use occ_core::core_entries::{Entered, RefusedEntry};
-use occ_core::core_state::SingleWrite;
-use occ_model::Verdict;
-use occ_types::Fault;
-use occ_types::{Key, Object, Row};
+use crate::core_entries::Entered;
+use crate::core_state::SingleWrite;
+use occ_case::Verdict;
+use occ_queue::Item;
+use occ_types::{Fault, Key, Object, Refused, Row};
 use std::alloc::Allocator;
 
 /// What a core replies to a step.
@@ -35,8 +36,8 @@ pub enum Reply<A: Allocator> {
     BackedUp(u64),
     /// To a step that was refused, but for an entry: why. The core is as it was.
     Refused(Fault),
-    /// To an entry that was refused: why, and the writes that were handed in. The core is as it was.
-    TurnedAway(RefusedEntry<A>),
+    /// To an entry that was refused: why, and the item that was handed in. The core is as it was.
+    RefusedItem(Refused<Item<A>>),
 }
 
 // The reply to a read.
@@ -73,13 +74,13 @@ pub(crate) fn to_forget<A: Allocator>(called: Result<bool, Fault>) -> Reply<A>
 }
 
 // The reply to an entry.
-pub(crate) fn to_entry<A: Allocator>(called: Result<Entered, RefusedEntry<A>>) -> Reply<A>
+pub(crate) fn to_entry<A: Allocator>(called: Result<Entered, Refused<Item<A>>>) -> Reply<A>
     ensures reply { reply_of result ≡ entering called }
-    ensures back { handed_back result ≡ option_map (λ refusal. refusal.writes) (result_err called) }
+    ensures back { handed_back result ≡ option_map (λ refused. item_of refused.value) (result_err called) }
 {
     match called {
         Ok(entered) => Reply::Entered(entered),
-        Err(refusal) => Reply::TurnedAway(refusal),
+        Err(refused) => Reply::RefusedItem(refused),
     }
 }
 

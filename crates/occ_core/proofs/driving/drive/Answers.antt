@@ -2,15 +2,15 @@ use Rattle.std.proofs.Common.{◌+◌, ◌≤◌, [], ◌∷◌, ◌++◌, lengt
 use Rattle.std.proofs.lemmas.List.{length_push}
 use Rattle.std.proofs.lemmas.Iterator.Consumers.{YieldsList-end}
 use Rattle.std.proofs.lemmas.Iterator.Adapters.{YieldsList-from_vec}
-use Rattle.occ_drive.specs.Runs.{Runs}
-use Rattle.occ_drive.proofs.Replied.{runs_more, run_of}
-use Rattle.occ_drive.proofs.driving.drive.Goals as goal
+use Rattle.occ_core.specs.Runs.{Runs}
+use Rattle.occ_core.proofs.Replied.{runs_more, run_of}
+use Rattle.occ_core.proofs.driving.drive.Goals as goal
 
 pub loop-step-preserved : goal.loop-step-preserved
 loop-step-preserved g c =
     let kept = c.loop-step.invariant in (
-      subst (λ rs. Runs c.args.core.now.world (c.loop-step.yielded ++ c.in-Some.step ∷ []) rs c.take_step.new.core.world) (sym c.push_reserved.ensures.items)
-          (runs_more c.args.core.now.world c.loop-step.core.world c.take_step.new.core.world c.loop-step.yielded c.loop-step.replies.items c.in-Some.step c.take_step.result kept.0 c.take_step.ensures),
+      subst (λ rs. Runs c.args.core.now.world (c.loop-step.yielded ++ c.in-Some.step ∷ []) rs c.take.new.self.world) (sym c.push_reserved.ensures.items)
+          (runs_more c.args.core.now.world c.loop-step.core.world c.take.new.self.world c.loop-step.yielded c.loop-step.replies.items c.in-Some.step c.take.result kept.0 c.take.ensures),
       c.push_reserved.ensures.len ∙ ap (λ n. n + 1) kept.1 ∙ sym (length_push c.loop-step.yielded c.in-Some.step),
       subst (λ n. length c.args.steps.items ≤ n) (sym c.push_reserved.ensures.capacity) kept.2,
     )

@@ -1,28 +1,27 @@
 -- What a list of steps does to a core, and what it is replied: a run of the model.
-use Rattle.std.specs.Prelude.{◌≡◌, ◌⊎◌, List, [], ◌∷◌, Option, None, Some, Result, Ok, Err}
-use Rattle.occ_types.specs.declared.fault.Fault.{Fault}
+use Rattle.std.specs.Prelude.{◌≡◌, ◌⊎◌, List, [], ◌∷◌, Option, None, Some}
 use Rattle.occ_types.specs.declared.fault.Fault.TheVariants.{Memory}
-use Rattle.occ_types.specs.Object.{Object}
 use Rattle.occ_types.specs.Question.{One, Span}
 use Rattle.occ_types.specs.Seen.{key_of, end_of, object_of}
-use Rattle.occ_model.specs.State.{Write, Found, Rows}
+use Rattle.occ_model.specs.State.{Found, Rows}
 use Rattle.occ_model.specs.World.{World}
-use Rattle.occ_model.specs.Event.{Event, Read, Forget, Enter, Request, Decide, WriteOne, Finish, BackUp, Reply, Refused, Answered, Forgotten, Entered, Decided, Wrote, NoMore, Finished, BackedUp}
+use Rattle.occ_model.specs.Event.{Event, Item, Read, Forget, Enter, Decide, WriteOne, Finish, BackUp, Reply, Refused, Answered, Forgotten, Entered, Decided, Wrote, NoMore, Finished, BackedUp}
 use Rattle.occ_model.specs.Refusal.{refusal}
 use Rattle.occ_model.specs.Step.{Step}
 use Rattle.occ_sets.specs.Seen.{rows_of}
-use Rattle.occ_drive.specs.declared.steps.Step as code_step
-use Rattle.occ_drive.specs.declared.steps.Step.TheVariants as steps
-use Rattle.occ_drive.specs.declared.replies.Reply as code_reply
-use Rattle.occ_drive.specs.declared.replies.Reply.TheVariants as replies
+use Rattle.occ_queue.specs.Items.{item_of}
+use Rattle.occ_core.specs.declared.steps.Step as code_step
+use Rattle.occ_core.specs.declared.steps.Step.TheVariants as steps
+use Rattle.occ_core.specs.declared.replies.Reply as code_reply
+use Rattle.occ_core.specs.declared.replies.Reply.TheVariants as replies
 
 module _ {Z : Type 0} where
   -- the event that a step is
   abbrev pub event_of : code_step.Step Z → Event
-  event_of (steps.Read session number start object) = Read session number start (One object.table (key_of object.key))
+  event_of (steps.Read session number start table key) = Read session number start (One table (key_of key))
   event_of (steps.Scan session number start table lower upper) = Read session number start (Span table (end_of lower) (end_of upper))
   event_of (steps.Forget session number) = Forget session number
-  event_of (steps.Enter session number start writes) = Enter session (Request number start writes)
+  event_of (steps.Enter session item) = Enter session (item_of item)
   event_of (steps.Decide session) = Decide session
   event_of (steps.WriteOne session) = WriteOne session
   event_of (steps.Finish session) = Finish session
@@ -40,16 +39,16 @@ module _ {Z : Type 0} where
   reply_of (replies.Finished number) = Finished number
   reply_of (replies.BackedUp number) = BackedUp number
   reply_of (replies.Refused fault) = Refused fault
-  reply_of (replies.TurnedAway refusal) = Refused refusal.fault
+  reply_of (replies.RefusedItem refused) = Refused refused.fault
 
-  -- the writes that a reply hands back
-  abbrev pub handed_back : code_reply.Reply Z → Option (List Write)
-  handed_back (replies.TurnedAway refusal) = Some refusal.writes
+  -- the item that a reply hands back
+  abbrev pub handed_back : code_reply.Reply Z → Option Item
+  handed_back (replies.RefusedItem refused) = Some (item_of refused.value)
   handed_back reply = None
 
-  -- the writes that are to be handed back: those of an entry that is refused
-  abbrev pub owed : code_step.Step Z → Reply → Option (List Write)
-  owed (steps.Enter session number start writes) (Refused fault) = Some writes
+  -- the item that is to be handed back: that of an entry which is refused
+  abbrev pub owed : code_step.Step Z → Reply → Option Item
+  owed (steps.Enter session item) (Refused fault) = Some (item_of item)
   owed step reply = None
 
   -- A single write is put off where there is no memory to name its object in the reply. (Of a deletion the model says that it takes none; its name may.)

@@ -1,12 +1,12 @@
 //! Steps: the calls of a core that change it.
-use occ_sets::SharedWrites;
-use occ_types::{Key, Object};
+use occ_queue::Item;
+use occ_types::Key;
 use std::alloc::Allocator;
 
 /// A call of a core that changes it, with all that it is handed. Sessions are numbered from 1, tables by their places from 0.
 #[derive(Drop)]
 pub enum Step<A: Allocator> {
-    /// Reads the row of an object in a read phase.
+    /// Reads the row under a key of a table in a read phase.
     Read {
         /// The session.
         session: usize,
@@ -14,8 +14,10 @@ pub enum Step<A: Allocator> {
         number: u64,
         /// The transaction counter as the transaction began.
         start: u64,
-        /// The object.
-        object: Object<A>,
+        /// The place of the table.
+        table: usize,
+        /// The key.
+        key: Key<A>,
     },
     /// Reads the rows of a range in a read phase.
     Scan {
@@ -39,16 +41,12 @@ pub enum Step<A: Allocator> {
         /// The number of the transaction.
         number: u64,
     },
-    /// Enters the request of a transaction.
+    /// Enters what a session hands in.
     Enter {
         /// The session.
         session: usize,
-        /// The number of the transaction.
-        number: u64,
-        /// The transaction counter as the transaction began.
-        start: u64,
-        /// What it writes.
-        writes: SharedWrites<A>,
+        /// What it hands in.
+        item: Item<A>,
     },
     /// Decides the transaction that this session has entered.
     Decide(usize),

@@ -2,29 +2,35 @@
 use Rattle.std.proofs.Common.{◌≡◌, List, [], ◌∷◌, ◌++◌, Some, Result, Ok, Err, ℕ, refl, sym, ap, subst, inl, inr}
 use Rattle.std.specs.Prelude.{◌⊎◌, IfErr, option_map}
 use Rattle.std.specs.Result.{result_err}
-use Rattle.occ_model.specs.State.{Write}
 use Rattle.occ_model.specs.World.{World}
 use Rattle.occ_model.specs.Event.{Event, Reply}
 use Rattle.occ_model.specs.Step.{Step, Run}
 use Rattle.occ_core.specs.Replies.{entering}
 use Rattle.occ_core.specs.declared.core_entries.Entered as entries
-use Rattle.occ_core.specs.declared.core_entries.RefusedEntry as refusals
-use Rattle.occ_drive.specs.Runs.{event_of, reply_of, handed_back, owed, IsPutOff, Answers, Runs}
-use Rattle.occ_drive.specs.declared.steps.Step as code_step
-use Rattle.occ_drive.specs.declared.steps.Step.TheVariants as steps
-use Rattle.occ_drive.specs.declared.replies.Reply as code_reply
-use Rattle.occ_drive.specs.declared.replies.Reply.TheVariants as replies
+use Rattle.occ_types.specs.declared.fault.Refused as refusals
+use Rattle.occ_queue.specs.declared.items.Item as items
+use Rattle.occ_queue.specs.Items.{item_of}
+use Rattle.occ_core.specs.Runs.{event_of, reply_of, handed_back, owed, IsPutOff, Answers, Runs}
+use Rattle.occ_core.specs.declared.steps.Step as code_step
+use Rattle.occ_core.specs.declared.steps.Step.TheVariants as steps
+use Rattle.occ_core.specs.declared.replies.Reply as code_reply
+use Rattle.occ_core.specs.declared.replies.Reply.TheVariants as replies
 
 module _ {Z : Type 0} where
   -- a reply that is the model's
   pub answered : (old : World) (step : code_step.Step Z) (reply : code_reply.Reply Z) (said : Reply) (new : World) → reply_of reply ≡ said → Step old (event_of step) said new → handed_back reply ≡ owed step (reply_of reply) → Answers old step reply new
   answered old step reply said new is stepped back = (inl (subst (λ r. Step old (event_of step) r new) (sym is) stepped), back)
 
-  -- an entry that is refused has its own writes handed back
-  pub entry_owed : (session number start : ℕ) (writes : List Write) (called : Result entries.Entered (refusals.RefusedEntry Z)) → IfErr called (λ refused. refused.writes ≡ writes)
-      → option_map (λ (r : refusals.RefusedEntry Z). r.writes) (result_err called) ≡ owed {Z = Z} (steps.Enter session number start writes) (entering called)
-  entry_owed session number start writes (Ok entered) back = refl
-  entry_owed session number start writes (Err refusal) back = ap Some back
+  -- and so where the step is known by another name
+  pub answered_as : (old : World) (step named : code_step.Step Z) (reply : code_reply.Reply Z) (said : Reply) (new : World) → step ≡ named → reply_of reply ≡ said → Step old (event_of named) said new
+      → handed_back reply ≡ owed named (reply_of reply) → Answers old step reply new
+  answered_as old step named reply said new name is stepped back = subst (λ s. Answers old s reply new) (sym name) (answered old named reply said new is stepped back)
+
+  -- an entry that is refused has its own item handed back
+  pub entry_owed : (session : ℕ) (item : items.Item Z) (called : Result entries.Entered (refusals.Refused (items.Item Z))) → IfErr called (λ refused. item_of refused.value ≡ item_of item)
+      → option_map (λ (r : refusals.Refused (items.Item Z)). item_of r.value) (result_err called) ≡ owed {Z = Z} (steps.Enter session item) (entering called)
+  entry_owed session item (Ok entered) back = refl
+  entry_owed session item (Err refused) back = ap Some back
 
   -- one step more
   pub runs_more : (old mid new : World) (done : List (code_step.Step Z)) (replies : List (code_reply.Reply Z)) (step : code_step.Step Z) (reply : code_reply.Reply Z)
@@ -36,10 +42,10 @@ module _ {Z : Type 0} where
 
   -- what is put off moves nothing
   put_off : (old : World) (step : code_step.Step Z) (reply : code_reply.Reply Z) (new : World) → IsPutOff old step reply new → new ≡ old
-  put_off old (steps.Read session number start object) reply new off = absurd off
+  put_off old (steps.Read session number start table key) reply new off = absurd off
   put_off old (steps.Scan session number start table lower upper) reply new off = absurd off
   put_off old (steps.Forget session number) reply new off = absurd off
-  put_off old (steps.Enter session number start writes) reply new off = absurd off
+  put_off old (steps.Enter session item) reply new off = absurd off
   put_off old (steps.Decide session) reply new off = absurd off
   put_off old (steps.Finish session) reply new off = absurd off
   put_off old (steps.BackUp session) reply new off = absurd off
@@ -53,7 +59,7 @@ module _ {Z : Type 0} where
   put_off old (steps.WriteOne session) (replies.Finished number) new off = absurd off
   put_off old (steps.WriteOne session) (replies.BackedUp number) new off = absurd off
   put_off old (steps.WriteOne session) (replies.Refused fault) new off = off.2
-  put_off old (steps.WriteOne session) (replies.TurnedAway refusal) new off = absurd off
+  put_off old (steps.WriteOne session) (replies.RefusedItem refused) new off = absurd off
 
   -- the steps that moved are a run of the model
   pub run_of : (old new : World) (done : List (code_step.Step Z)) (said : List (code_reply.Reply Z)) → Runs old done said new → (events : List (Event × Reply)) × Run old events new

@@ -1,6 +1,6 @@
 use Rattle.std.proofs.Common.{◌≡◌, ◌≤◌, length, vec_len, vec_capacity}
-use Rattle.occ_drive.specs.Runs.{Runs}
-use Rattle.occ_drive.proofs.driving.drive.Given as goal
+use Rattle.occ_core.specs.Runs.{Runs}
+use Rattle.occ_core.proofs.driving.drive.Given as goal
 
 -- the steps so far have their replies, and there is room for the others
 abbrev pub invariant-loop-step : goal.invariant-loop-step
