@@ -2,7 +2,7 @@ use Rattle.std.proofs.Common.{◌∙◌, ◌+◌, ◌-◌, ◌^◌, None, option
 use Rattle.std.proofs.lemmas.List.{length-map}
 use Rattle.occ_types.specs.Seen.{key_of, object_of, table_of}
 use Rattle.occ_books.specs.Entries.{at_of}
-use Rattle.occ_core.specs.Kept.{Content}
+use Rattle.occ_book.specs.Kept.{Content}
 use Rattle.occ_books.specs.Places.{State, Counter, frame_of, state_to_come}
 use Rattle.occ_books.proofs.Leading.{failed}
 use Rattle.occ_text.specs.Faults.{read_fault}
