@@ -246,7 +246,7 @@ head_is_line sessions head small fits =
     let e = decimal_width head.finish (count_small head.finish fits.finish) in
     let f = decimal_width head.reads (small_number head.reads 256 fits.reads (lit< tt)) in
     let g = decimal_width head.writes (small_number head.writes 256 fits.writes (lit< tt)) in
-    let s = stand_width head.writes head.standinging fits.writes fits.stand in
+    let s = stand_width head.writes head.standing fits.writes fits.stand in
     line_of_words (head_tokens head) (head-AreTokens sessions head small fits) (omega arith)
 
 pub mark_is_line : (sessions : ℕ) (mark : Mark) → sessions < 2 ^ 64 → MarkFits sessions mark → IsLine (mark_text mark)

@@ -56,7 +56,7 @@ head-again sessions head small fits =
       number-again (2 ^ 64 - 1) head.finish _ wide fits.finish,
       number-again 256 head.reads _ (lit< tt) fits.reads,
       number-again 256 head.writes _ (lit< tt) fits.writes,
-      stand-again head.writes head.standinging fits.writes fits.stand,
+      stand-again head.writes head.standing fits.writes fits.stand,
     ) refl
 
 pub small_number : (n limit : ℕ) → n ≤ limit → limit < 2 ^ 64 → n < 2 ^ 64
@@ -84,7 +84,7 @@ head-AreTokens sessions head small fits =
     (more_tokens (decimal head.finish) _ (token_of head.finish fits.finish)
     (more_tokens (decimal head.reads) _ (IsToken-decimal head.reads (small_number head.reads 256 fits.reads (lit< tt)))
     (more_tokens (decimal head.writes) _ (IsToken-decimal head.writes (small_number head.writes 256 fits.writes (lit< tt)))
-    (stand-AreTokens head.writes head.standinging fits.writes fits.stand))))))))
+    (stand-AreTokens head.writes head.standing fits.writes fits.stand))))))))
 
 pub head_line-again : (sessions : ℕ) (head : Head) → sessions < 2 ^ 64 → HeadFits sessions head → head_of_line sessions (head_text head) ≡ Some head
 unfolding head_of_line

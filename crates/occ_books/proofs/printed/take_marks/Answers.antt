@@ -10,7 +10,7 @@ use Rattle.occ_books.proofs.printed.take_marks.Goals as goal
 
 pub loop-init : goal.loop-init
 loop-init g c = record {
-  so_far = marks_start c.args.sessions c.in_ok-marks.marks _ c.in_ok-marks.ensures;
+  so_far = marks_start c.args.sessions c.in_ok-marks.marks _ (rw c.in_ok-marks.ensures.given at c.new.ensures.empty);
   led = λ schema. count_first (codes "marks") 0 (2 ^ 64 - 1) (Marks (frame_of schema c.args.sessions)) (λ n. marks_to_come (frame_of schema c.args.sessions) n 0) c.in_ok-count.count (c.in_ok-count.count - 0) _ _ _ _ (marks_lead (frame_of schema c.args.sessions)) (omega arith) c.in_ok-count.ensures;
 }
 
