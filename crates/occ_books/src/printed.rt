@@ -115,6 +115,7 @@ fn take_marks<R: Read, A: Allocator + Copy>(
     sessions: usize,
 ) -> Result<Marks<A>, ReadFault>
     ensures taken { IfOk result (λ marks. TakesLines (prepend_known input.old.unread (R.remaining reader.old)) (prepend_known input.new.unread (R.remaining reader.new)) (mark_lines marks.marks) × AllByRecursion (EntryFits sessions) (finite.entries marks.marks)) }
+    ensures sessions { IfOk result (λ marks. marks.sessions ≡ sessions) }
     ensures led { (schema : List Table) → TakesFrom result (MarksAt (record { schema = schema; sessions = sessions })) (λ _. State (record { schema = schema; sessions = sessions })) (prepend_known input.old.unread (R.remaining reader.old)) (prepend_known input.new.unread (R.remaining reader.new)) input.old.number input.new.number }
 {
     let count = take_count(input, reader, "marks", 0, u64::MAX)?;
@@ -185,6 +186,7 @@ pub fn take_book<R: Read, A: Allocator + Copy>(
 ) -> Result<PrintedBook<A>, ReadFault>
     requires { input.old.number ≡ 0 }
     ensures taken { IfOk result (λ printed. IsBookText (prepend_known input.old.unread (R.remaining reader.old)) (printed_book printed)) }
+    ensures sessions { IfOk result (λ printed. printed.book.marks.sessions ≡ printed.header.limits.sessions) }
     ensures led { EndsFrom result Version (prepend_known input.old.unread (R.remaining reader.old)) (prepend_known input.new.unread (R.remaining reader.new)) input.old.number }
 {
     let limits = take_limits(input, reader)?;
