@@ -15,3 +15,4 @@ pub mod Entering
 pub mod Nexts
 pub mod SingleWrites
 pub mod Replied
+pub mod Standing

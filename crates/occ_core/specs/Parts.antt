@@ -53,5 +53,3 @@ pub record AreSound (parts : Parts) : Type 0 where
   pub window_is : (start : ℕ) → low_of parts ≤ start → AreSame (drop (start - low_of parts) parts.window) (finished_opponents parts.log parts.counter (low_of parts) start)
   pub log_room : length parts.log ≤ MAX_LOG_ROWS
   pub counter_room : parts.counter + active_count (world_of parts) ≤ MAX_COUNTER
-  -- no call closes a session yet
-  pub none_closed : parts.marks ≡ finite.empty

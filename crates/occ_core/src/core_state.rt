@@ -1,9 +1,12 @@
 //! The core of the store: the world of the model, kept.
-ghost use Rattle.std.specs.Prelude.{◌≡◌, ◌≤◌, ℕ, [], IfOk, IfErr, OnOk, IsOkUnless, IsSome, Some, None, Ok, Err, is_some, true, option_map, slice_get};
+ghost use Rattle.std.specs.Prelude.{◌≡◌, ◌≤◌, ◌+◌, ℕ, [], length, IfOk, IfErr, OnOk, IsOkUnless, IsSome, Some, None, Ok, Err, is_some, true, option_map, slice_get};
 ghost use Rattle.std.specs.FinMap as finite;
 ghost use Rattle.occ_types.specs.declared.fault.Fault.TheVariants.{Memory};
 ghost use Rattle.occ_types.specs.Seen.{object_of};
-ghost use Rattle.occ_model.specs.World.{opened, low};
+ghost use Rattle.occ_types.specs.declared.limits.TheConstants.{MAX_COUNTER, MAX_LOG_ROWS, MAX_NUMBER};
+ghost use Rattle.occ_model.specs.Invariant.{Invariant};
+ghost use Rattle.occ_model.specs.Log.{Audited};
+ghost use Rattle.occ_model.specs.World.{opened, low, empty_base, active_count, has_session, last_entered};
 ghost use Rattle.occ_model.specs.Event.{Enter, Request, Decide, WriteOne, Finish, BackUp};
 ghost use Rattle.occ_model.specs.Refusal.{refusal};
 ghost use Rattle.occ_model.specs.Step.{Step, decided};
@@ -121,6 +124,21 @@ impl<A: Allocator + Copy> Core<A> {
 }
 
 impl<A: Allocator> Core<A> {
+    /// What holds of every core, between any two of its calls, for a caller to rest on: its world has the invariant that each step
+    /// keeps, so its log and tables pass the audit; each active transaction can still take a number; and the log, and the numbers of
+    /// each session, are within their limits. It computes nothing.
+    pub fn law(&self)
+        ensures invariant { Invariant self.now.world }
+        ensures base { self.now.world.base ≡ empty_base }
+        ensures audited { Audited empty_base self.now.world.marks self.now.world.table self.now.world.log }
+        ensures counter { self.now.world.counter + active_count self.now.world ≤ MAX_COUNTER }
+        ensures numbers { (session : ℕ) → has_session self.now.world session ≡ true → last_entered self.now.world session ≤ MAX_NUMBER }
+        ensures rows { length self.now.world.log ≤ MAX_LOG_ROWS }
+    {
+        // A core is opened by a look at its fields, and what its type says is known then.
+        let _opened = self.counter;
+    }
+
     /// The transaction counter.
     pub fn tnc(&self) -> u64
         ensures { result ≡ self.now.world.counter }
