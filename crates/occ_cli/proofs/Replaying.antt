@@ -230,13 +230,14 @@ found_at (y ∷ ys) zero x lt is = ap Some (sym is)
 found_at (y ∷ ys) (suc place) x lt is = found_at ys place x (omega arith) is
 
 -- an item that the store refused is kept
-pub kept_again : (old : World) (session : ℕ) (client : Client) (item handed : Item) (fault : Fault) (next : Client) (new : World) → Some item ≡ next_item client → Step old (events.Enter session item) (events.Refused fault) new → handed ≡ item
-    → next ≡ record client { queue = still_waiting client; kept = Some handed } → Enters old session client (says.Refused fault) next new
-kept_again old session client item handed fault next new is step same left =
-    subst
+pub kept_again : (old : World) (session : ℕ) (client : Client) (item handed : Item) (known fault : Fault) (next : Client) (new : World) → Some item ≡ next_item client → Step old (events.Enter session item) (events.Refused fault) new → handed ≡ item → known ≡ fault
+    → next ≡ record client { queue = still_waiting client; kept = Some handed } → Enters old session client (says.Refused known) next new
+kept_again old session client item handed known fault next new is step same told_as left =
+    subst (λ (f : Fault). Enters old session client (says.Refused f) next new) (sym told_as)
+    (subst
     (λ (o : Option Item). MatchOption o ((says.Refused fault ≡ says.Empty) × (next ≡ client) × (new ≡ old))
     (λ i. (reply : Reply) × Step old (events.Enter session i) reply new × (told old.settings.schema reply ≡ Some (says.Refused fault)) × (next ≡ record client { queue = still_waiting client; kept = kept_after i reply })))
-    is (events.Refused fault, step, refl, left ∙ ap (λ (i : Item). record client { queue = still_waiting client; kept = Some i }) same)
+    is (events.Refused fault, step, refl, left ∙ ap (λ (i : Item). record client { queue = still_waiting client; kept = Some i }) same))
 
 -- no element stands behind the end
 pub none_at : {X : Type 0} (xs : List X) (place : ℕ) → length xs ≤ place → slice_get xs place ≡ None

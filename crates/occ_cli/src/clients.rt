@@ -18,7 +18,7 @@ use occ_queue::{Item, Queue};
 use occ_sets::PrivateCopy;
 use occ_text::answers::Answer;
 use occ_types::limits::MAX_NUMBER;
-use occ_types::{Fault, Key, Object, Row, Schema};
+use occ_types::{Fault, Key, Object, Refused, Row, Schema};
 use std::alloc::Allocator;
 use std::marker::Model;
 
@@ -104,6 +104,16 @@ impl<A: Allocator> Client<A> {
             None => self.queue.take(),
         }
     }
+
+    // Keeps an item that the store refused for the next time, and tells why it did.
+    fn keep(&mut self, refused: Refused<Item<A>>) -> Fault
+        ensures kept { self.new ≡ record self.old { kept = Some (item_of refused.value) } }
+        ensures fault { result ≡ refused.fault }
+    {
+        let Refused { value, fault } = refused;
+        self.kept = Some(value);
+        fault
+    }
 }
 
 impl<A: Allocator + Copy> Client<A> {
@@ -167,10 +177,7 @@ impl<A: Allocator + Copy> Client<A> {
         };
         match core.enter(session, item) {
             Ok(entered) => Ok(Answer::Entered(entered.place)),
-            Err(refused) => {
-                self.kept = Some(refused.value);
-                Err(refused.fault)
-            }
+            Err(refused) => Err(self.keep(refused)),
         }
     }
 }
