@@ -15,7 +15,7 @@ use Rattle.occ_types.specs.Row.{Row}
 use Rattle.occ_types.specs.Same.{key_same, key_same-decides, row_same, row_same-decides}
 use Rattle.occ_types.specs.Seen.{key_of}
 use Rattle.occ_types.specs.declared.keys.Key as code_key
-use Rattle.occ_core.specs.Kept.{seen}
+use Rattle.occ_book.specs.Kept.{seen}
 use Rattle.occ_model.proofs.Tests.{clash}
 
 -- the element at a place, mapped

@@ -7,3 +7,4 @@ pub mod Tables
 pub mod Overlaid
 pub mod Orders
 pub mod Claims
+pub mod Unasked

@@ -1,17 +1,20 @@
 -- How places, numbers and closing marks are counted along a log.
-use Rattle.std.proofs.Common.{◌≡◌, ℕ, suc, ◌+◌, ◌<◌, nat_eq, Bool, true, false, cond, List, [], ◌∷◌, length, get_or, drop, Some, refl, sym, ap, subst, ◌∙◌, arith}
+use Rattle.std.proofs.Common.{◌≡◌, ℕ, zero, suc, ◌+◌, ◌<◌, ◌≤◌, nat_eq, Bool, true, false, cond, List, [], ◌∷◌, ◌++◌, length, get_or, drop, Option, None, Some, refl, sym, ap, subst, ◌∙◌, arith}
 use Rattle.std.specs.Prelude.{map, filter, unwrap_or}
 use Rattle.std.specs.Bool.{◌==◌}
 use Rattle.std.specs.Map.{lookup}
+use Rattle.std.specs.FinMap as finite
+use Rattle.std.specs.FinMap.{FinMap, find, get-entries}
 use Rattle.std.specs.BTreeMap.{BTreeMap, get}
 use Rattle.std.specs.Ordering.{nat_cmp, is_eq}
 use Rattle.std.specs.Cmp.{unsigned_tied, unsigned_Decides}
 use Rattle.std.proofs.lemmas.Bool.Decides.{Decides-eqb}
-use Rattle.occ_core.specs.declared.rows.LogRow as code_row
-use Rattle.occ_core.specs.Rows.{log_row_of, log_of}
+use Rattle.occ_book.specs.Marks.{mark_at, marks_listed}
+use Rattle.occ_book.specs.declared.rows.LogRow as code_row
 use Rattle.occ_model.specs.Log.{LogRow, Counts, numbers}
 use Rattle.occ_model.proofs.Tests.{decided, clash}
-use Rattle.occ_audit.specs.Order.{AreNumbered, last_of}
+use Rattle.occ_audit.specs.Order.{AreNumbered, AreClosed, last_of}
+use Rattle.occ_audit.specs.Rows.{log_row_of, log_of}
 use Rattle.occ_audit.proofs.Walks.{left-cons}
 
 abbrev pub places : List LogRow → List ℕ
@@ -79,31 +82,77 @@ counted-more whole left row m n c due is session = decided (nat_eq row.session s
     let apart = λ (f : row.session ≡ session). clash (nat_eq row.session session) ((unsigned_Decides row.session session).1 f) e in
     counted-elsewhere whole left row session (last_of m session) (last_of n session) (c session) apart (noted_elsewhere m n row.session row.number session is apart))
 
--- the marks of some entries are due
-abbrev pub AreDue : BTreeMap ℕ ℕ → List (ℕ × ℕ) → Type 0
-AreDue last [] = Unit {0}
-AreDue last (e ∷ es) = (e.1 ≡ suc (last_of last e.0)) × AreDue last es
+-- at first nothing is kept of any session
+pub counted-none : (whole : List LogRow) (last : BTreeMap ℕ ℕ) → last.entries ≡ [] → AreCounted whole whole last
+counted-none whole last none session =
+    let zero_kept : last_of last session ≡ 0 = ap (λ es. unwrap_or (lookup (λ x. is_eq (nat_cmp session x)) es) 0) none in
+    record {
+      onward = λ h. subst (λ n. Counts (suc n) (numbers session whole)) (sym zero_kept) h;
+      back = λ h. subst (λ n. Counts (suc n) (numbers session whole)) zero_kept h;
+      counted = omega arith;
+    }
 
-pub closed-due : (last : BTreeMap ℕ ℕ) (es : List (ℕ × ℕ)) → AreDue last es → (session mark : ℕ) → lookup (λ x. is_eq (nat_cmp session x)) es ≡ Some mark → mark ≡ suc (last_of last session)
-closed-due last [] due session mark e = cc
-closed-due last (x ∷ xs) due session mark e = by (is_eq (nat_cmp session x.0)) refl (closed-due last xs due.1 session mark)
+-- and at last all are counted
+pub counted-all : (whole left : List LogRow) (last : BTreeMap ℕ ℕ) → left ≡ [] → AreCounted whole left last → AreNumbered whole × ((session : ℕ) → last_of last session ≡ length (numbers session whole))
+counted-all whole left last nothing c = (
+  λ session. (c session).back (subst (λ l. Counts (suc (last_of last session)) (numbers session l)) (sym nothing) tt),
+  λ session.
+      let none_left = ap (λ l. length (numbers session l)) nothing in
+      let all = (c session).counted in
+      omega arith,
+)
+
+-- a mark that is found among those of so many sessions from one on is of one of these
+found-within : (marks : FinMap nat_cmp ℕ) (first count session mark : ℕ) → find nat_cmp session (marks_listed marks first count) ≡ Some mark → (first ≤ session) × (session < first + count)
+found-within marks first zero session mark e = cc
+found-within marks first (suc count) session mark e = by (finite.get marks first) e (found-within marks (suc first) count session mark)
   where
-    by : (b : Bool) → is_eq (nat_cmp session x.0) ≡ b → (lookup (λ y. is_eq (nat_cmp session y)) xs ≡ Some mark → mark ≡ suc (last_of last session)) → mark ≡ suc (last_of last session)
-    by true p later =
-        let found : Some x.1 ≡ Some mark = sym (ap (λ b. cond b (Some x.1) (lookup (λ y. is_eq (nat_cmp session y)) xs)) p) ∙ e in
-        let same : x.1 ≡ mark = cc in
-        let here : session ≡ x.0 = (unsigned_Decides session x.0).0 (sym (unsigned_tied session x.0) ∙ p) in
-        sym same ∙ due.0 ∙ ap (λ s. suc (last_of last s)) (sym here)
-    by false p later = later (sym (ap (λ b. cond b (Some x.1) (lookup (λ y. is_eq (nat_cmp session y)) xs)) p) ∙ e)
+    rest : List (ℕ × ℕ)
+    rest = marks_listed marks (suc first) count
 
-module _ {Z : Type 0} where
+    Among : Type 0
+    Among = (first ≤ session) × (session < first + suc count)
+
+    later : (find nat_cmp session rest ≡ Some mark → (suc first ≤ session) × (session < suc first + count)) → find nat_cmp session rest ≡ Some mark → Among
+    later within f = let h = within f in (omega (arith, h.0), omega (arith, h.1))
+
+    here : (other : ℕ) (b : Bool) → is_eq (nat_cmp session first) ≡ b → cond (is_eq (nat_cmp session first)) (Some other) (find nat_cmp session rest) ≡ Some mark → (find nat_cmp session rest ≡ Some mark → (suc first ≤ session) × (session < suc first + count)) → Among
+    here other true q f within =
+        let same : session ≡ first = (unsigned_Decides session first).0 (sym (unsigned_tied session first) ∙ q) in
+        (omega arith, omega arith)
+    here other false q f within =
+        later within (sym (ap (λ b. cond b (Some other) (find nat_cmp session rest)) q) ∙ f)
+
+    by : (slot : Option ℕ) → find nat_cmp session (mark_at first slot ++ rest) ≡ Some mark → (find nat_cmp session rest ≡ Some mark → (suc first ≤ session) × (session < suc first + count)) → Among
+    by None f within = later within f
+    by (Some other) f within = here other (is_eq (nat_cmp session first)) refl f within
+
+-- each mark is of one of the sessions, where the marks in their order are those of the sessions in theirs
+mark-within : (marks : FinMap nat_cmp ℕ) (sessions session mark : ℕ) → finite.entries marks ≡ marks_listed marks 1 sessions → finite.get marks session ≡ Some mark → (1 ≤ session) × (session ≤ sessions)
+mark-within marks sessions session mark listed at =
+    let h = found-within marks 1 sessions session mark (ap (find nat_cmp session) (sym listed) ∙ sym (get-entries marks session) ∙ at) in
+    (h.0, omega (arith, h.1))
+
+-- the marks of the sessions up to one are due
+abbrev pub AreClosedTo : ℕ → FinMap nat_cmp ℕ → BTreeMap ℕ ℕ → Type 0
+AreClosedTo to marks last = (session mark : ℕ) → session ≤ to → finite.get marks session ≡ Some mark → mark ≡ suc (last_of last session)
+
+pub closed-none : (marks : FinMap nat_cmp ℕ) (sessions : ℕ) (last : BTreeMap ℕ ℕ) → finite.entries marks ≡ marks_listed marks 1 sessions → AreClosedTo 0 marks last
+closed-none marks sessions last listed session mark h at =
+    let within = mark-within marks sessions session mark listed at in absurd (omega (arith, within.0))
+
+pub closed-all : (marks : FinMap nat_cmp ℕ) (sessions to : ℕ) (last : BTreeMap ℕ ℕ) → finite.entries marks ≡ marks_listed marks 1 sessions → sessions ≤ to → AreClosedTo to marks last → AreClosed marks last
+closed-all marks sessions to last listed all closed session mark at =
+    let within = mark-within marks sessions session mark listed at in closed session mark (omega (arith, within.1)) at
+
+module _ {Z O : Type 0} where
   -- one more row is counted
-  pub rows-counted : (whole : List LogRow) (log : List (code_row.LogRow Z)) (i : ℕ) (row : code_row.LogRow Z) (m n : BTreeMap ℕ ℕ) → i < length log → row ≡ get_or log i row → AreCounted whole (log_of (drop i log)) m → row.number ≡ suc (last_of m row.session) → IsNoted m n row.session row.number → AreCounted whole (log_of (drop (i + 1) log)) n
+  pub rows-counted : (whole : List LogRow) (log : List (code_row.LogRow Z O)) (i : ℕ) (row : code_row.LogRow Z O) (m n : BTreeMap ℕ ℕ) → i < length log → row ≡ get_or log i row → AreCounted whole (log_of (drop i log)) m → row.number ≡ suc (last_of m row.session) → IsNoted m n row.session row.number → AreCounted whole (log_of (drop (i + 1) log)) n
   rows-counted whole log i row m n h at c due is =
       counted-more whole (log_of (drop (i + 1) log)) (log_row_of row) m n (subst (λ rows. AreCounted whole (log_of rows) m) (left-cons log i row h at) c) due is
 
   -- a number that is not due
-  pub rows-uncounted : (whole : List LogRow) (log : List (code_row.LogRow Z)) (i : ℕ) (row : code_row.LogRow Z) (m : BTreeMap ℕ ℕ) → i < length log → row ≡ get_or log i row → AreCounted whole (log_of (drop i log)) m → (row.number ≡ suc (last_of m row.session) → ⊥) → AreNumbered whole → ⊥
+  pub rows-uncounted : (whole : List LogRow) (log : List (code_row.LogRow Z O)) (i : ℕ) (row : code_row.LogRow Z O) (m : BTreeMap ℕ ℕ) → i < length log → row ≡ get_or log i row → AreCounted whole (log_of (drop i log)) m → (row.number ≡ suc (last_of m row.session) → ⊥) → AreNumbered whole → ⊥
   rows-uncounted whole log i row m h at c undue numbered =
       let left = log_of (drop (i + 1) log) in
       let here : Counted whole (log_row_of row ∷ left) (last_of m row.session) row.session = subst (λ rows. AreCounted whole (log_of rows) m) (left-cons log i row h at) c row.session in

@@ -29,9 +29,9 @@ use Rattle.occ_types.proofs.Asked.{asks-Span}
 use Rattle.occ_sets.specs.Seen.{rows_of}
 use Rattle.occ_sets.proofs.Agreement.{answer_of_entries}
 use Rattle.occ_model.specs.State.{State, Answer, Found, Rows, answer}
-use Rattle.occ_core.specs.Kept.{is_within, is_backward, lower_bound, upper_bound, entries_within}
-use Rattle.occ_core.proofs.Views.{entries_within-backward}
-use Rattle.occ_core.proofs.Sizes.{all_within}
+use Rattle.occ_book.specs.Kept.{is_within, is_backward, lower_bound, upper_bound, entries_within}
+use Rattle.occ_book.proofs.Views.{entries_within-backward}
+use Rattle.occ_book.proofs.Sizes.{all_within}
 use Rattle.occ_audit.specs.Replica.{lent, IsInOrder}
 use Rattle.occ_audit.proofs.Lent.{row_at, code_of}
 

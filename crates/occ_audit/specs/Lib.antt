@@ -1,3 +1,4 @@
 pub mod Order
 pub mod Replica
 pub mod Rests
+pub mod Rows

@@ -2,6 +2,8 @@
 use Rattle.std.specs.Prelude.{◌≡◌, ℕ, suc, List, map, Some, unwrap_or}
 use Rattle.std.specs.Ordering.{nat_cmp}
 use Rattle.std.specs.BTreeMap.{BTreeMap, get}
+use Rattle.std.specs.FinMap as finite
+use Rattle.std.specs.FinMap.{FinMap}
 use Rattle.occ_model.specs.Log.{LogRow, Counts, numbers}
 
 -- the places of the rows count on from 0
@@ -17,5 +19,5 @@ abbrev pub last_of : BTreeMap ℕ ℕ → ℕ → ℕ
 last_of last session = unwrap_or (get nat_cmp last session) 0
 
 -- each closing mark is the number after the session's last
-abbrev pub AreClosed : BTreeMap ℕ ℕ → BTreeMap ℕ ℕ → Type 0
-AreClosed marks last = (session mark : ℕ) → get nat_cmp marks session ≡ Some mark → mark ≡ suc (last_of last session)
+abbrev pub AreClosed : FinMap nat_cmp ℕ → BTreeMap ℕ ℕ → Type 0
+AreClosed marks last = (session mark : ℕ) → finite.get marks session ≡ Some mark → mark ≡ suc (last_of last session)

@@ -1,38 +1,28 @@
 //! The audit of a log.
-ghost use Rattle.std.specs.Prelude.{◌≡◌, IfOk, IfErr};
+ghost use Rattle.std.specs.Prelude.{◌≡◌, ℕ, IfOk, IfErr};
 ghost use Rattle.std.specs.Bool.{Decides};
 ghost use Rattle.occ_types.specs.declared.fault.Fault.TheVariants.{Memory};
-ghost use Rattle.occ_core.specs.Rows.{log_of};
-ghost use Rattle.occ_model.specs.Log.{Audited};
+ghost use Rattle.occ_model.specs.Log.{Audited, Case};
 ghost use Rattle.occ_model.specs.World.{empty_base};
-ghost use Rattle.occ_core.specs.Core.{marks_of};
+ghost use Rattle.occ_book.specs.Rows.{log_of};
 
 use crate::order::{are_closed, are_placed, last_numbers};
 use crate::replay::replay;
 use crate::rests::{are_settled, rests_of};
-use occ_core::{LogRow, Tables};
+use occ_book::BookView;
 use occ_types::Fault;
 use std::alloc::Allocator;
-use std::collections::BTreeMap;
 
-/// What is audited: a whole log, from the empty state on, with the closing marks and the tables that are claimed to belong to it.
-#[derive(Drop)]
-pub struct Book<'a, A: Allocator> {
-    /// The rows, in the order of entry.
-    pub log: &'a [LogRow<A>],
-    /// The closing mark of each session that has one.
-    pub marks: &'a BTreeMap<usize, u64, A>,
-    /// The tables as they stand.
-    pub tables: &'a Tables<A>,
-}
-
-/// Whether the whole claim on a log holds: places and each session's numbers stand without a gap, and none comes after its closing mark; each committed transaction read what serial replay of those before it answers; and the tables, with the rest of each open write phase, are the replay of the whole log.
+/// Whether the whole claim on a book holds: places and each session's numbers stand without a gap, and none comes after its closing mark; each committed transaction read what serial replay of those before it answers; and the tables, with the rest of each open write phase, are the replay of the whole log from the empty state on. What is held of an open row is not asked for, so the answer is right however that is seen.
 ///
 /// The numbers of the log may be any, and its rows may write to tables that are not there. The time is linear in the log, in what its rows read and write and in the rows of the tables, but for a factor for each search in a map. No key and no row is copied: the memory is that of a map of references to the rows of the replayed state, and of a few words for each session and each write that is still to be done.
 ///
 /// It is refused with `Memory` where there is none.
-pub fn audit_rows<A: Allocator + Copy>(alloc: A, book: &Book<'_, A>) -> Result<bool, Fault>
-    ensures ok { IfOk result (λ yes. Decides yes (Audited empty_base (marks_of book.now.marks.now) book.now.tables.now.state (log_of book.now.log.now))) }
+pub fn audit_rows<A: Allocator + Copy, O>(
+    alloc: A,
+    book: &BookView<'_, A, O>,
+) -> Result<bool, Fault>
+    ensures ok { (opened : O → ℕ × Case) → IfOk result (λ yes. Decides yes (Audited empty_base book.now.marks.now.marks book.now.table.now.state (log_of opened book.now.log.now))) }
     ensures err { IfErr result (λ fault. fault ≡ Memory) }
 {
     if !are_placed(book.log) {
@@ -48,6 +38,6 @@ pub fn audit_rows<A: Allocator + Copy>(alloc: A, book: &Book<'_, A>) -> Result<b
         return Ok(false);
     };
     let rests = rests_of(alloc, book.log)?;
-    let settled = are_settled(book.tables, &rests, replayed)?;
+    let settled = are_settled(book.table, &rests, replayed)?;
     Ok(settled)
 }

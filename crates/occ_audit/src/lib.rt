@@ -1,7 +1,7 @@
 //! The audit of a decision log: whether all that a store claims of its log, its closing marks and its tables holds.
 #![tactic(auto)]
 
-pub mod audits;
+mod audits;
 mod order;
 mod replay;
 mod replica;
@@ -9,4 +9,4 @@ mod rests;
 #[cfg(test)]
 mod tests;
 
-pub use audits::{Book, audit_rows};
+pub use audits::audit_rows;

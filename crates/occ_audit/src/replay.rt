@@ -2,18 +2,18 @@
 ghost use Rattle.std.specs.Prelude.{◌≡◌, true, IfOk, MatchOption};
 ghost use Rattle.std.specs.Bool.{Decides};
 ghost use Rattle.std.specs.FinMap as finite;
-ghost use Rattle.occ_core.specs.Rows.{log_of, log_row_of, standing_of};
 ghost use Rattle.occ_model.specs.Log.{AreAnswers, Explained, is_committed, after, serial};
+ghost use Rattle.occ_audit.specs.Rows.{log_of, log_row_of, standing_of};
 
 use crate::replica::Replica;
-use occ_core::{LogRow, Standing};
+use occ_book::{LogRow, Standing};
 use occ_sets::ReadSet;
 use std::alloc::{AllocError, Allocator};
 
 // The state that serial replay of a log makes, or none where some committed row read what the replay of those before it doesn't answer.
-pub(crate) fn replay<'a, A: Allocator + Copy>(
+pub(crate) fn replay<'a, A: Allocator + Copy, O>(
     alloc: A,
-    log: &'a [LogRow<A>],
+    log: &'a [LogRow<A, O>],
 ) -> Result<Option<Replica<'a, A>>, AllocError>
     ensures { IfOk result (λ found. MatchOption found
         (Explained finite.empty (log_of log.now) → ⊥)
@@ -29,9 +29,9 @@ pub(crate) fn replay<'a, A: Allocator + Copy>(
 }
 
 // Plays one row: false where it is committed and read something else than the state answers.
-fn play<'a, A: Allocator + Copy>(
+fn play<'a, A: Allocator + Copy, O>(
     replica: &mut Replica<'a, A>,
-    row: &'a LogRow<A>,
+    row: &'a LogRow<A, O>,
 ) -> Result<bool, AllocError>
     ensures explained { IfOk result (λ yes. Decides yes (is_committed (standing_of row.now.standing) ≡ true → AreAnswers replica.old row.now.reads)) }
     ensures played { IfOk result (λ yes. yes ≡ true → replica.new ≡ after replica.old (log_row_of row.now)) }
@@ -39,15 +39,15 @@ fn play<'a, A: Allocator + Copy>(
     if !is_committed(&row.standing) {
         return Ok(true);
     }
-    if !are_answers(replica, row.reads.get()) {
+    if !are_answers(replica, &row.reads) {
         return Ok(false);
     }
-    replica.write(row.writes.get())?;
+    replica.write(&row.writes)?;
     Ok(true)
 }
 
 // Whether a row that stands so is committed.
-fn is_committed<A: Allocator>(standing: &Standing<A>) -> bool
+fn is_committed<O>(standing: &Standing<O>) -> bool
     ensures { result ≡ is_committed (standing_of standing.now) }
 {
     matches!(standing, Standing::Writing(_) | Standing::Done(_))

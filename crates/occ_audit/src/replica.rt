@@ -8,11 +8,11 @@ ghost use Rattle.occ_types.specs.Object as objects;
 ghost use Rattle.occ_types.specs.Question.{Span};
 ghost use Rattle.occ_types.specs.Seen.{end_of, object_of, question_of};
 ghost use Rattle.occ_sets.specs.Seen.{answer_of, rows_of};
-ghost use Rattle.occ_core.specs.Kept.{is_backward, lower_bound, upper_bound};
+ghost use Rattle.occ_book.specs.Kept.{is_backward, lower_bound, upper_bound};
 ghost use Rattle.occ_model.specs.State.{put, apply, answer, Rows};
 ghost use Rattle.occ_audit.specs.Replica.{lent, IsInOrder, SameTable};
 
-use occ_core::Tables;
+use occ_book::Tables;
 use occ_sets::{Answer, WriteSet};
 use occ_types::{Key, Object, Question, Row};
 use std::alloc::{AllocError, Allocator};
@@ -35,7 +35,7 @@ impl<'a, A: Allocator> Model for Replica<'a, A> {
 
     ghost Value = { State };
 
-    ghost use Rattle.occ_core.specs.Kept.{state_code};
+    ghost use Rattle.occ_book.specs.Kept.{state_code};
 
     ghost coded = { state_code };
 

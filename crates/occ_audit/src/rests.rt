@@ -1,14 +1,14 @@
 //! What the open write phases of a log have still to do.
 ghost use Rattle.std.specs.Prelude.{◌≡◌, drop, IfOk, OnOk};
 ghost use Rattle.std.specs.Bool.{Decides};
-ghost use Rattle.occ_core.specs.Rows.{log_of, log_row_of};
 ghost use Rattle.occ_model.specs.State as states;
 ghost use Rattle.occ_model.specs.State.{apply};
 ghost use Rattle.occ_model.specs.Log.{settled, rest};
 ghost use Rattle.occ_audit.specs.Rests.{writes_in};
+ghost use Rattle.occ_audit.specs.Rows.{log_of, log_row_of};
 
 use crate::replica::Replica;
-use occ_core::{LogRow, Standing, Tables};
+use occ_book::{LogRow, Standing, Tables};
 use occ_sets::WriteSet;
 use occ_types::{Object, Row};
 use std::alloc::{AllocError, Allocator};
@@ -18,9 +18,9 @@ use std::collections::BTreeMap;
 pub(crate) type Rests<'a, A> = BTreeMap<&'a Object<A>, Option<&'a Row<A>>, A>;
 
 // The rests of a log.
-pub(crate) fn rests_of<'a, A: Allocator + Copy>(
+pub(crate) fn rests_of<'a, A: Allocator + Copy, O>(
     alloc: A,
-    log: &'a [LogRow<A>],
+    log: &'a [LogRow<A, O>],
 ) -> Result<Rests<'a, A>, AllocError>
     ensures { IfOk result (λ rests. (table : states.State) → apply table (writes_in rests.entries) ≡ settled table (log_of log.now)) }
 {
@@ -32,14 +32,14 @@ pub(crate) fn rests_of<'a, A: Allocator + Copy>(
 }
 
 // Notes the rest of one row's writes.
-fn note_rest<'a, A: Allocator + Copy>(
+fn note_rest<'a, A: Allocator + Copy, O>(
     rests: &mut Rests<'a, A>,
-    row: &'a LogRow<A>,
+    row: &'a LogRow<A, O>,
 ) -> Result<(), AllocError>
     ensures { OnOk result ((table : states.State) → apply table (writes_in rests.new.entries) ≡ apply (apply table (writes_in rests.old.entries)) (rest (log_row_of row.now))) }
 {
     match &row.standing {
-        Standing::Writing(done) => note_writes(rests, row.writes.get(), *done),
+        Standing::Writing(done) => note_writes(rests, &row.writes, *done),
         _ => Ok(()),
     }
 }

@@ -1,11 +1,9 @@
 //! Short logs, and what the audit says of them.
-use crate::audits::{Book, audit_rows};
-use occ_core::{LogRow, Standing, Tables};
-use occ_sets::{Answer, ReadSet, SharedReads, SharedWrites, WriteSet};
-use occ_types::Fault;
-use occ_types::{Key, Object, Question, Row};
-use std::alloc::{AllocError, Global};
-use std::collections::BTreeMap;
+use crate::audit_rows;
+use occ_book::{Book, LogRow, Marks, Standing, Tables};
+use occ_sets::{Answer, ReadSet, WriteSet};
+use occ_types::{Fault, Key, Object, Question, Row};
+use std::alloc::Global;
 use std::test::Fail;
 
 fn object() -> Object<Global> {
@@ -21,24 +19,22 @@ fn transaction(
     (place, number): (usize, u64),
     read: (Question<Global>, Answer<Global>),
     write: (Object<Global>, Option<Row<Global>>),
-    standing: Standing<Global>,
-) -> Result<LogRow<Global>, AllocError> {
+    standing: Standing<()>,
+) -> Result<LogRow<Global, ()>, Fault> {
+    let (question, answer) = read;
     let mut reads = ReadSet::new(alloc);
-    if reads.note(read.0, read.1).is_err() {
-        return Err(AllocError);
-    }
+    reads.note(question, answer)?;
+    let (Object { table, key }, row) = write;
     let mut writes = WriteSet::new(alloc);
-    if writes.set(write.0, write.1).is_err() {
-        return Err(AllocError);
-    }
+    writes.set(table, key, row)?;
     Ok(LogRow {
         place,
         session: 1,
         number,
         start: 0,
         finish: 0,
-        reads: SharedReads::new(alloc, reads)?,
-        writes: SharedWrites::new(alloc, writes)?,
+        reads,
+        writes,
         standing,
     })
 }
@@ -48,8 +44,8 @@ fn entered(
     alloc: Global,
     place: usize,
     found: bool,
-    standing: Standing<Global>,
-) -> Result<LogRow<Global>, AllocError> {
+    standing: Standing<()>,
+) -> Result<LogRow<Global, ()>, Fault> {
     let row = if found {
         Some(Row::from_cells(Vec::new(alloc)))
     } else {
@@ -60,16 +56,24 @@ fn entered(
     transaction(alloc, (place, 1), read, write, standing)
 }
 
-// What the audit says of some rows beside one table without rows.
-fn says(alloc: Global, rows: &[LogRow<Global>]) -> Result<bool, Fault> {
-    let marks = BTreeMap::new(alloc);
-    let tables = Tables::new(alloc, 1)?;
+// What the audit says of some rows beside one table without rows, where session 1 may have a closing mark.
+fn says(
+    alloc: Global,
+    log: Vec<LogRow<Global, ()>, Global>,
+    mark: Option<u64>,
+) -> Result<bool, Fault> {
+    let mut marks = Marks::new(alloc, 2)?;
+    if let (Some(number), true) = (mark, marks.sessions() == 2) {
+        marks.set(1, number);
+    }
     let book = Book {
-        log: rows,
-        marks: &marks,
-        tables: &tables,
+        log,
+        table: Tables::new(alloc, 1)?,
+        marks,
+        low: 0,
+        tnc: 0,
     };
-    audit_rows(alloc, &book)
+    audit_rows(alloc, &book.view())
 }
 
 // What it says of one row.
@@ -77,16 +81,17 @@ fn says_of(
     alloc: Global,
     place: usize,
     found: bool,
-    standing: Standing<Global>,
+    standing: Standing<()>,
 ) -> Result<bool, Fault> {
     let mut log = Vec::new(alloc);
     log.push(entered(alloc, place, found, standing)?)?;
-    says(alloc, log.as_slice())
+    says(alloc, log, None)
 }
 
 #[test]
 fn an_empty_log_is_audited(rt: HostRuntime) -> Result<(), Fail> {
-    assert!(rt; says(rt.alloc(), &[])?);
+    let alloc = rt.alloc();
+    assert!(rt; says(alloc, Vec::new(alloc), None)?);
     Ok(())
 }
 
@@ -125,12 +130,23 @@ fn a_table_that_is_not_there_is_audited(rt: HostRuntime) -> Result<(), Fail> {
     let write = (absent(), Some(Row::from_cells(Vec::new(alloc))));
     log.push(transaction(alloc, (0, 1), read, write, Standing::Done(1))?)?;
     // its row stands in no table
-    assert!(rt; !says(alloc, log.as_slice())?);
+    assert!(rt; !says(alloc, log.clone()?, None)?);
     let mut rows = Vec::new(alloc);
     rows.push((Key::Num(1), Row::from_cells(Vec::new(alloc))))?;
     let read = absent_table(rows);
     log.push(transaction(alloc, (1, 2), read, (absent(), None), Standing::Done(2))?)?;
     // the second row read it, and deleted it
-    assert!(rt; says(alloc, log.as_slice())?);
+    assert!(rt; says(alloc, log, None)?);
+    Ok(())
+}
+
+#[test]
+fn a_closing_mark_is_audited(rt: HostRuntime) -> Result<(), Fail> {
+    let alloc = rt.alloc();
+    for (mark, is_due) in [(1, false), (2, true), (3, false)] {
+        let mut log = Vec::new(alloc);
+        log.push(entered(alloc, 0, false, Standing::Writing(0))?)?;
+        assert_eq!(rt; says(alloc, log, Some(mark))?, is_due);
+    }
     Ok(())
 }

@@ -1,19 +1,15 @@
 -- What several prints push together.
 use Rattle.std.proofs.Common.{◌≡◌, ℕ, zero, suc, ◌+◌, ◌<◌, add-one, List, [], ◌∷◌, ◌++◌, length, map, take, drop, get_or, Result, Ok, Err, refl, sym, ap, subst, ◌∙◌, append_assoc, take-append-drop}
-use Rattle.std.proofs.lemmas.List.{append-nil, map-append, take_more, drop_more, nil_from_length}
+use Rattle.std.proofs.lemmas.List.{append-nil, map-append, take_more, drop_more}
 use Rattle.std.proofs.lemmas.List.Concat.{flat_map-append, flat_map_single}
 use Rattle.std.proofs.KnownBytes.{Appends-nil, Appends-trans}
 use Rattle.std.specs.declared.option.Option.{Option}
-use Rattle.std.specs.Prelude.{slice_get, codes}
+use Rattle.std.specs.Prelude.{slice_get}
 use Rattle.std.specs.Option.{option_to_list}
 use Rattle.std.specs.Result.{IsErrAnd}
 use Rattle.std.specs.List.{flat_map, join_with_byte}
 use Rattle.occ_text.specs.declared.faults.WriteFault.{WriteFault}
 use Rattle.occ_text.specs.Sending.{Sends}
-use Rattle.std.specs.FinMap.{entries, empty, len-empty, len-entries}
-use Rattle.std.specs.Ordering.{nat_cmp}
-use Rattle.occ_print.specs.Books.{mark_lines, mark_line}
-use Rattle.occ_text.specs.Headers.{count_text}
 use Rattle.occ_text.specs.Line.{lines_text}
 use Rattle.occ_text.specs.Printing.{Pushed, PushedFront, PrintGives}
 
@@ -202,12 +198,6 @@ module _ {X : Type 0} (line : X → List ℕ) where
       let at : map line xs ≡ map line (take i xs) ++ map line (option_to_list (slice_get xs i)) ++ map line (drop (i + 1) xs) =
       ap (map line) (sym (take-append-drop (i + 1) xs)) ∙ map-append line (take (i + 1) xs) (drop (i + 1) xs) ∙ ap (λ l. l ++ map line (drop (i + 1) xs)) (lines_next xs i) in
       subst (λ l. PushedFront a c old new (lines_text l)) (sym at) (front_amid a b c old mid new (map line (take i xs)) _ (map line (drop (i + 1) xs)) h k)
-
--- a map without entries
-pub no_marks : mark_lines empty ≡ count_text (codes "marks") 0 ∷ []
-no_marks =
-    let none : entries empty ≡ [] = nil_from_length (entries (empty {X = ℕ} {R = nat_cmp})) (sym (len-entries empty) ∙ len-empty nat_cmp ℕ) in
-    λ j. count_text (codes "marks") (len-empty nat_cmp ℕ j) ∷ map mark_line (none j)
 
 -- lines of values, and those of more values behind them
 module _ {Y : Type 0} (line : Y → List ℕ) where

@@ -20,7 +20,7 @@ use Rattle.occ_model.specs.State.{State, Answer, Found, Rows, answer}
 use Rattle.occ_model.proofs.States.{same_state}
 use Rattle.occ_types.specs.Seen.{key_of}
 use Rattle.occ_types.specs.declared.keys.Key as code_key
-use Rattle.occ_core.specs.Kept.{placed, seen}
+use Rattle.occ_book.specs.Kept.{placed, seen}
 use Rattle.occ_print.specs.Books.{rows_at}
 
 abbrev Entries : Type 0

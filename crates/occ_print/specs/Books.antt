@@ -1,24 +1,25 @@
--- The book of a core: all that it keeps, line by line (our own choice).
+-- The book of a store: all that it keeps, line by line (our own choice).
 use Rattle.std.specs.Prelude.{ℕ, Bool, true, false, ◌-◌, ◌^◌, min, nat_eq, List, [], ◌∷◌, ◌++◌, map, filter, length, Option, None, Some, slice_get, codes}
 use Rattle.std.specs.Ordering.{nat_cmp}
 use Rattle.std.specs.List.{flat_map}
 use Rattle.std.specs.Fmt.{decimal}
-use Rattle.std.specs.FinMap.{FinMap, entries, len, empty}
+use Rattle.std.specs.FinMap.{FinMap, entries, len}
 use Rattle.occ_types.specs.Key.{Key}
 use Rattle.occ_types.specs.Object.{Object}
 use Rattle.occ_types.specs.Question.{Question, One, Span}
 use Rattle.occ_types.specs.Row.{Row}
 use Rattle.occ_types.specs.Schema.{Schema}
 use Rattle.occ_model.specs.State.{State, Write, Answer, Found, Rows, Observation}
-use Rattle.occ_model.specs.Log.{LogRow, Standing, Open, Writing, Done, Back}
+use Rattle.occ_model.specs.Log.{Case, LogRow, Standing, Open, Writing, Done, Back}
 use Rattle.occ_model.specs.declared.verdict.Cause.TheVariants.{Conflict, TooOld}
-use Rattle.occ_core.specs.Rows.{log_of}
-use Rattle.occ_print.specs.declared.books.Book as code_book
+use Rattle.occ_book.specs.Rows.{log_of}
+use Rattle.occ_book.specs.declared.books.BookView as code_view
 use Rattle.occ_text.specs.Spelling.{line_text, key_text, row_text}
+use Rattle.occ_text.specs.declared.headers.Limits.{Limits}
 use Rattle.occ_text.specs.Headers.{Header, limits_of, limits_lines, count_text, table_text}
 use Rattle.occ_text.specs.Line.{lines_text}
 
--- what a book tells: how its core was opened, and all that the core keeps
+-- what a book tells: how its store was opened, and all that the store keeps
 pub record Book : Type 0 where
   pub header : Header
   pub log : List LogRow
@@ -27,11 +28,15 @@ pub record Book : Type 0 where
   pub counter : ℕ
   pub low : ℕ
 
+-- how a store was opened
+abbrev pub header_of : Limits → Schema → Header
+header_of limits schema = record { sessions = limits.sessions; queue = limits.queue; keep = limits.keep; tables = schema }
+
 -- the header of a schedule, without its last line
 abbrev pub header_lines : Header → List (List ℕ)
 header_lines header = limits_lines (limits_of header) ++ map table_text header.tables
 
--- the name of the table at a place; no core names one that is not there
+-- the name of the table at a place; no store names one that is not there
 abbrev pub table_name : Schema → ℕ → List ℕ
 table_name schema place = elim (slice_get schema place) [ None ↦ [] | Some table ↦ table.name ]
 
@@ -137,14 +142,14 @@ abbrev pub audit_line : Bool → List ℕ
 audit_line true = codes "audit yes"
 audit_line false = codes "audit no"
 
-module _ {Z : Type 0} where
-  -- the plain book; no closing mark enters yet
-  abbrev pub book_of : code_book.Book Z → Book
-  book_of book = record {
-    header = record { sessions = book.limits.sessions; queue = book.limits.queue; keep = book.limits.keep; tables = book.schema.now };
-    log = log_of book.log.now;
-    marks = empty;
-    state = book.tables.now.state;
-    counter = book.counter;
+module _ {Z O : Type 0} where
+  -- the plain book of a store that was opened so, where it is known how what is held of an open row is seen
+  abbrev pub book_of : (O → ℕ × Case) → Limits → Schema → code_view.BookView Z O → Book
+  book_of opened limits schema book = record {
+    header = header_of limits schema;
+    log = log_of opened book.log.now;
+    marks = book.marks.now.marks;
+    state = book.table.now.state;
+    counter = book.tnc;
     low = book.low;
   }

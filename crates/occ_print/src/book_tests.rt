@@ -1,13 +1,12 @@
 //! Worked books, built row by row, and books on devices that fail.
 
-use crate::books::{Book, write_book};
-use occ_core::{LogRow, Standing, Tables};
-use occ_sets::{Answer, ReadSet, SharedReads, SharedWrites, WriteSet};
+use crate::books::write_book;
+use occ_book::{BookView, LogRow, Marks, Standing, Tables};
+use occ_sets::{Answer, ReadSet, WriteSet};
 use occ_text::faults::WriteFault;
 use occ_text::headers::Limits;
 use occ_text::output::Output;
-use occ_types::{KeyKind, Kind};
-use occ_types::{Cell, Key, Object, Question, Row, Schema, TableDef, Text};
+use occ_types::{Cell, Key, KeyKind, Kind, Object, Question, Row, Schema, TableDef, Text};
 use std::alloc::{AllocError, Global};
 use std::io;
 use std::io::{Error, ErrorKind, Write};
@@ -67,14 +66,14 @@ fn finished(
     places: (usize, usize, u64),
     reads: ReadSet<Global>,
     write: (u64, Option<i64>),
-) -> Result<LogRow<Global>, AllocError> {
+) -> Result<LogRow<Global, ()>, AllocError> {
     let (place, session, number) = places;
     let mut writes = WriteSet::new(alloc);
     let written = match write.1 {
         Some(cell) => Some(row(alloc, cell)?),
         None => None,
     };
-    if writes.set(object(write.0), written).is_err() {
+    if writes.set(0, Key::Num(write.0), written).is_err() {
         return Err(AllocError);
     }
     Ok(LogRow {
@@ -83,8 +82,8 @@ fn finished(
         number: 1,
         start: 0,
         finish: 0,
-        reads: SharedReads::new(alloc, reads)?,
-        writes: SharedWrites::new(alloc, writes)?,
+        reads,
+        writes,
         standing: Standing::Done(number),
     })
 }
@@ -101,44 +100,72 @@ fn reading(
     }
 }
 
+/// One table with these rows.
+fn tables(alloc: Global, rows: &[(u64, i64)]) -> Result<Tables<Global>, AllocError> {
+    let Ok(mut tables) = Tables::new(alloc, 1) else {
+        return Err(AllocError);
+    };
+    for (key, cell) in rows {
+        let row = row(alloc, *cell)?;
+        if tables.count() == 1 && tables.put(0, &Key::Num(*key), Some(&row)).is_err() {
+            return Err(AllocError);
+        }
+    }
+    Ok(tables)
+}
+
+/// Two sessions with these marks.
+fn marks(alloc: Global, closed: &[(usize, u64)]) -> Result<Marks<Global>, AllocError> {
+    let Ok(mut marks) = Marks::new(alloc, 2) else {
+        return Err(AllocError);
+    };
+    for (session, number) in closed {
+        if *session >= 1 && *session <= marks.sessions() {
+            marks.set(*session, *number);
+        }
+    }
+    Ok(marks)
+}
+
 /// Prints a book of two sessions, with queues of four and eight write sets kept.
 fn printed(
     alloc: Global,
-    log: &[LogRow<Global>],
+    log: &[LogRow<Global, ()>],
     rows: &[(u64, i64)],
+    closed: &[(usize, u64)],
     fails: usize,
 ) -> Result<(Vec<u8>, Result<(), WriteFault>), AllocError> {
-    let schema = schema(alloc)?;
-    let mut tables = Tables::new(alloc, 1)?;
-    for (key, cell) in rows {
-        if tables.count() == 1 {
-            tables.put(0, &Key::Num(*key), Some(&row(alloc, *cell)?))?;
-        }
-    }
-    let book = Book {
-        limits: Limits {
-            sessions: 2,
-            queue: 4,
-            keep: 8,
-        },
-        schema: &schema,
+    let tables = tables(alloc, rows)?;
+    let marks = marks(alloc, closed)?;
+    let book = BookView {
         log,
-        tables: &tables,
-        counter: 2,
+        table: &tables,
+        marks: &marks,
         low: 0,
+        tnc: 2,
     };
     let mut page = Page {
         bytes: Vec::new(alloc),
         calls: 0,
         fails,
     };
-    let ended = written(alloc, &mut page, &book);
+    let ended = written(alloc, &mut page, &schema(alloc)?, &book);
     Ok((page.bytes, ended))
 }
 
-fn written(alloc: Global, page: &mut Page, book: &Book<Global>) -> Result<(), WriteFault> {
+fn written(
+    alloc: Global,
+    page: &mut Page,
+    schema: &Schema<Global>,
+    book: &BookView<'_, Global, ()>,
+) -> Result<(), WriteFault> {
+    let limits = Limits {
+        sessions: 2,
+        queue: 4,
+        keep: 8,
+    };
     let mut output = Output::new(alloc);
-    write_book(alloc, &mut output, page, book)?;
+    write_book(alloc, &mut output, page, limits, schema, book)?;
     output.flush(page)?;
     Ok(())
 }
@@ -157,7 +184,7 @@ fn a_book_has_its_lines(rt: HostRuntime) -> Result<(), Fail> {
     let rows = [(2, 5), (1, 9)];
     let mut whole = false;
     for fails in 0..8 {
-        let (bytes, ended) = printed(alloc, log.as_slice(), &rows, fails)?;
+        let (bytes, ended) = printed(alloc, log.as_slice(), &rows, &[], fails)?;
         if ended.is_ok() {
             assert!(rt; bytes.as_slice() == BOOK.as_bytes());
             whole = true;
@@ -184,11 +211,27 @@ fn a_range_is_printed_with_its_rows(rt: HostRuntime) -> Result<(), Fail> {
     let reads = reading(alloc, question, Answer::Rows(pairs))?;
     let mut log = Vec::new(alloc);
     log.push(finished(alloc, (0, 1, 1), reads, (3, None))?)?;
-    let (bytes, ended) = printed(alloc, log.as_slice(), &[], usize::MAX)?;
+    let (bytes, ended) = printed(alloc, log.as_slice(), &[], &[], usize::MAX)?;
     assert!(rt; ended == Ok(()));
     let lines =
         b"\nlog 1\nrow 0 1 1 0 0 1 1 done 1\nspan t 1 9 2\npair 3 30\npair 5 -50\ndel t 3\nmarks 0\nstate 0\ncounter";
     let (_, rest) = bytes.as_slice().split_at(bytes.len().min(47));
     assert!(rt; rest.starts_with(lines.as_slice()));
+    Ok(())
+}
+
+#[test]
+fn marks_are_printed_by_session(rt: HostRuntime) -> Result<(), Fail> {
+    let alloc = rt.alloc();
+    let (bytes, ended) = printed(alloc, &[], &[], &[(2, 5)], usize::MAX)?;
+    assert!(rt; ended == Ok(()));
+    let one =
+        b"occ 1\nsessions 2\nqueue 4\nkeep 8\ntable t num int\nlog 0\nmarks 1\nmark 2 5\nstate 0\ncounter 2 low 0\n";
+    assert!(rt; bytes.as_slice() == one.as_slice());
+    let (bytes, ended) = printed(alloc, &[], &[], &[(2, 5), (1, 7)], usize::MAX)?;
+    assert!(rt; ended == Ok(()));
+    let both =
+        b"occ 1\nsessions 2\nqueue 4\nkeep 8\ntable t num int\nlog 0\nmarks 2\nmark 1 7\nmark 2 5\nstate 0\ncounter 2 low 0\n";
+    assert!(rt; bytes.as_slice() == both.as_slice());
     Ok(())
 }

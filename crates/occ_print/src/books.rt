@@ -1,23 +1,25 @@
-//! The book of a core, printed line by line: what is held is one line, and less than a block of what is on its way.
+//! The book of a store, printed line by line: what is held is one line, and less than a block of what is on its way.
 
-ghost use Rattle.std.specs.Prelude.{◌≡◌, ◌<◌, ◌++◌, ◌∷◌, [], map, slice_get, codes, string_bytes};
+ghost use Rattle.std.specs.Prelude.{◌≡◌, ℕ, ◌<◌, ◌++◌, ◌∷◌, [], map, slice_get, codes, string_bytes};
 ghost use Rattle.std.specs.List.{flat_map};
 ghost use Rattle.std.specs.FinMap as finite;
 ghost use Rattle.std.specs.Option.{option_copied, option_to_list};
 ghost use Rattle.occ_types.specs.Seen.{key_of, object_of, table_of, tables_of};
 ghost use Rattle.occ_sets.specs.Seen.{rows_of, answer_of, observation_of, observations_of};
-ghost use Rattle.occ_core.specs.Rows.{log_row_of, log_of};
+ghost use Rattle.occ_model.specs.Log.{Case};
+ghost use Rattle.occ_book.specs.Kept.{placed};
+ghost use Rattle.occ_book.specs.Marks.{mark_at};
+ghost use Rattle.occ_book.specs.Rows.{log_row_of, log_of};
 ghost use Rattle.occ_text.specs.Line.{lines_text};
 ghost use Rattle.occ_text.specs.Printing.{PrintGives};
 ghost use Rattle.occ_text.specs.Headers.{count_text, limits_lines, table_text};
-ghost use Rattle.occ_print.specs.Books.{book_of, header_lines, pair_line, pair_lines, read_lines, write_line, row_lines, log_lines, mark_lines, at_line, rows_at, state_lines, counter_line, book_text};
-ghost use Rattle.occ_core.specs.Kept.{placed};
+ghost use Rattle.occ_print.specs.Books.{book_of, header_of, header_lines, pair_line, pair_lines, read_lines, write_line, row_lines, log_lines, mark_line, mark_lines, at_line, rows_at, state_lines, counter_line, book_text};
 
 use crate::lines::{
-    at_line, count_line, counter_line, pair_line, read_line, row_line, table_line, version_line,
-    write_line,
+    at_line, count_line, counter_line, mark_line, pair_line, read_line, row_line, table_line,
+    version_line, write_line,
 };
-use occ_core::{LogRow, Tables};
+use occ_book::{BookView, LogRow, Marks, Tables};
 use occ_sets::{Answer, Observation, WriteSet};
 use occ_text::faults::WriteFault;
 use occ_text::headers::Limits;
@@ -26,23 +28,6 @@ use occ_types::{Key, Object, Row, Schema, TableDef};
 use std::alloc::Allocator;
 use std::collections::BTreeMap;
 use std::io::Write;
-
-/// What a book tells: how a core was opened, and what it keeps.
-#[derive(Drop)]
-pub struct Book<'a, A: Allocator> {
-    /// The sessions, the queues and the window.
-    pub limits: Limits,
-    /// The tables.
-    pub schema: &'a Schema<A>,
-    /// The rows that entered, in the order of entry.
-    pub log: &'a [LogRow<A>],
-    /// The rows of all tables.
-    pub tables: &'a Tables<A>,
-    /// The transaction counter.
-    pub counter: u64,
-    /// The lower end of the window.
-    pub low: u64,
-}
 
 /// Pushes a line and its line feed.
 pub fn push_line<W: Write, A: Allocator>(
@@ -124,12 +109,13 @@ fn print_header<W: Write, A: Allocator>(
     output: &mut Output<A>,
     writer: &mut W,
     line: &mut String<A>,
-    book: &Book<A>,
+    limits: Limits,
+    schema: &Schema<A>,
 ) -> Result<(), WriteFault>
-    ensures { PrintGives result (W.contents writer.old) (W.contents writer.new) output.old output.new (lines_text (header_lines (book_of book.now).header)) }
+    ensures { PrintGives result (W.contents writer.old) (W.contents writer.new) output.old output.new (lines_text (header_lines (header_of limits schema.now))) }
 {
-    print_limits(output, writer, line, book.limits)?;
-    print_tables(output, writer, line, book.schema.tables())
+    print_limits(output, writer, line, limits)?;
+    print_tables(output, writer, line, schema.tables())
 }
 
 fn print_pair<W: Write, A: Allocator>(
@@ -247,29 +233,29 @@ fn print_writes<W: Write, A: Allocator>(
     Ok(())
 }
 
-fn print_row<W: Write, A: Allocator>(
+fn print_row<W: Write, A: Allocator, O>(
     output: &mut Output<A>,
     writer: &mut W,
     line: &mut String<A>,
     schema: &Schema<A>,
-    row: &LogRow<A>,
+    row: &LogRow<A, O>,
 ) -> Result<(), WriteFault>
-    ensures { PrintGives result (W.contents writer.old) (W.contents writer.new) output.old output.new (lines_text (row_lines schema.now (log_row_of row.now))) }
+    ensures { (opened : O → ℕ × Case) → PrintGives result (W.contents writer.old) (W.contents writer.new) output.old output.new (lines_text (row_lines schema.now (log_row_of opened row.now))) }
 {
     row_line(line, row)?;
     push_line(output, writer, line)?;
-    print_reads(output, writer, line, schema, row.reads.get().observations())?;
-    print_writes(output, writer, line, schema, row.writes.get())
+    print_reads(output, writer, line, schema, row.reads.observations())?;
+    print_writes(output, writer, line, schema, &row.writes)
 }
 
-fn print_rows<W: Write, A: Allocator>(
+fn print_rows<W: Write, A: Allocator, O>(
     output: &mut Output<A>,
     writer: &mut W,
     line: &mut String<A>,
     schema: &Schema<A>,
-    log: &[LogRow<A>],
+    log: &[LogRow<A, O>],
 ) -> Result<(), WriteFault>
-    ensures { PrintGives result (W.contents writer.old) (W.contents writer.new) output.old output.new (lines_text (flat_map (row_lines schema.now) (log_of log.now))) }
+    ensures { (opened : O → ℕ × Case) → PrintGives result (W.contents writer.old) (W.contents writer.new) output.old output.new (lines_text (flat_map (row_lines schema.now) (log_of opened log.now))) }
 {
     for row in log {
         print_row(output, writer, line, schema, row)?;
@@ -277,28 +263,72 @@ fn print_rows<W: Write, A: Allocator>(
     Ok(())
 }
 
-fn print_log<W: Write, A: Allocator>(
+fn print_log<W: Write, A: Allocator, O>(
     output: &mut Output<A>,
     writer: &mut W,
     line: &mut String<A>,
     schema: &Schema<A>,
-    log: &[LogRow<A>],
+    log: &[LogRow<A, O>],
 ) -> Result<(), WriteFault>
-    ensures { PrintGives result (W.contents writer.old) (W.contents writer.new) output.old output.new (lines_text (log_lines schema.now (log_of log.now))) }
+    ensures { (opened : O → ℕ × Case) → PrintGives result (W.contents writer.old) (W.contents writer.new) output.old output.new (lines_text (log_lines schema.now (log_of opened log.now))) }
 {
     print_count(output, writer, line, "log", log.len() as u128)?;
     print_rows(output, writer, line, schema, log)
 }
 
-/// No closing mark enters yet.
+fn print_mark<W: Write, A: Allocator>(
+    output: &mut Output<A>,
+    writer: &mut W,
+    line: &mut String<A>,
+    session: usize,
+    number: u64,
+) -> Result<(), WriteFault>
+    ensures { PrintGives result (W.contents writer.old) (W.contents writer.new) output.old output.new (lines_text (mark_line (session, number) ∷ [])) }
+{
+    mark_line(line, session, number)?;
+    push_line(output, writer, line)
+}
+
+// Nothing for a session without a mark.
+fn print_mark_of<W: Write, A: Allocator>(
+    output: &mut Output<A>,
+    writer: &mut W,
+    line: &mut String<A>,
+    marks: &Marks<A>,
+    session: usize,
+) -> Result<(), WriteFault>
+    ensures { PrintGives result (W.contents writer.old) (W.contents writer.new) output.old output.new (lines_text (map mark_line (mark_at session (finite.get marks.now.marks session)))) }
+{
+    match marks.get(session) {
+        Some(number) => print_mark(output, writer, line, session, number),
+        None => Ok(()),
+    }
+}
+
+fn print_each_mark<W: Write, A: Allocator>(
+    output: &mut Output<A>,
+    writer: &mut W,
+    line: &mut String<A>,
+    marks: &Marks<A>,
+) -> Result<(), WriteFault>
+    ensures { PrintGives result (W.contents writer.old) (W.contents writer.new) output.old output.new (lines_text (map mark_line (finite.entries marks.now.marks))) }
+{
+    for done in 0..marks.sessions() {
+        print_mark_of(output, writer, line, marks, done + 1)?;
+    }
+    Ok(())
+}
+
 fn print_marks<W: Write, A: Allocator>(
     output: &mut Output<A>,
     writer: &mut W,
     line: &mut String<A>,
+    marks: &Marks<A>,
 ) -> Result<(), WriteFault>
-    ensures { PrintGives result (W.contents writer.old) (W.contents writer.new) output.old output.new (lines_text (mark_lines finite.empty)) }
+    ensures { PrintGives result (W.contents writer.old) (W.contents writer.new) output.old output.new (lines_text (mark_lines marks.now.marks)) }
 {
-    print_count(output, writer, line, "marks", 0)
+    print_count(output, writer, line, "marks", marks.len() as u128)?;
+    print_each_mark(output, writer, line, marks)
 }
 
 fn print_at<W: Write, A: Allocator>(
@@ -390,21 +420,23 @@ fn print_counter<W: Write, A: Allocator>(
     push_line(output, writer, line)
 }
 
-/// Prints the book of a core, which ends with its `counter` line.
+/// Prints the book of a store that was opened with these limits and this schema. It ends with its `counter` line.
 ///
-/// At `Write` and `Memory` a beginning of it was pushed, and no more is promised of what the writer has.
-pub fn write_book<W: Write, A: Allocator + Clone>(
+/// What is held of a row that is not decided is not told, and so the clause holds for each way to see it. At `Write` and `Memory` a beginning of the book was pushed, and no more is promised of what the writer has.
+pub fn write_book<W: Write, A: Allocator + Clone, O>(
     alloc: A,
     output: &mut Output<A>,
     writer: &mut W,
-    book: &Book<A>,
+    limits: Limits,
+    schema: &Schema<A>,
+    book: &BookView<'_, A, O>,
 ) -> Result<(), WriteFault>
-    ensures { PrintGives result (W.contents writer.old) (W.contents writer.new) output.old output.new (book_text (book_of book.now)) }
+    ensures { (opened : O → ℕ × Case) → PrintGives result (W.contents writer.old) (W.contents writer.new) output.old output.new (book_text (book_of opened limits schema.now book.now)) }
 {
     let mut line = String::new(alloc);
-    print_header(output, writer, &mut line, book)?;
-    print_log(output, writer, &mut line, book.schema, book.log)?;
-    print_marks(output, writer, &mut line)?;
-    print_state(output, writer, &mut line, book.schema, book.tables)?;
-    print_counter(output, writer, &mut line, book.counter, book.low)
+    print_header(output, writer, &mut line, limits, schema)?;
+    print_log(output, writer, &mut line, schema, book.log)?;
+    print_marks(output, writer, &mut line, book.marks)?;
+    print_state(output, writer, &mut line, schema, book.table)?;
+    print_counter(output, writer, &mut line, book.tnc, book.low)
 }

@@ -1,22 +1,22 @@
 //! Writers of the lines of a book. Each leaves one line, without its line feed, in place of what stood there; where memory is refused, a beginning of it may stand.
 
-ghost use Rattle.std.specs.Prelude.{◌≡◌, ◌++◌, ◌∷◌, [], OnOk, codes, string_bytes};
+ghost use Rattle.std.specs.Prelude.{◌≡◌, ℕ, ◌++◌, ◌∷◌, [], OnOk, codes, string_bytes};
 ghost use Rattle.occ_text.specs.Line.{lines_text};
 ghost use Rattle.occ_text.specs.Spelling.{line_text};
 ghost use Rattle.std.specs.List.{flat_map};
 ghost use Rattle.std.specs.Option.{option_copied};
 ghost use Rattle.occ_types.specs.Seen.{key_of, end_of, object_of, question_of, table_of};
 ghost use Rattle.occ_sets.specs.Seen.{answer_of, observation_of};
-ghost use Rattle.occ_core.specs.Rows.{log_row_of, standing_of};
+ghost use Rattle.occ_model.specs.Log.{Case};
+ghost use Rattle.occ_book.specs.Rows.{log_row_of, standing_of};
 ghost use Rattle.occ_text.specs.Headers.{count_text, table_text, kind_word, key_kind_word};
-ghost use Rattle.occ_print.specs.Books.{table_name, end_text, question_text, answer_text, read_line, pair_line, write_line, row_line, standing_text, at_line, counter_line, audit_line};
+ghost use Rattle.occ_print.specs.Books.{table_name, end_text, question_text, answer_text, read_line, pair_line, write_line, row_line, standing_text, mark_line, at_line, counter_line, audit_line};
 
-use occ_core::{LogRow, Standing};
-use occ_model::Cause;
+use occ_book::{LogRow, Standing};
+use occ_case::Cause;
 use occ_sets::{Answer, Observation};
 use occ_text::writers::{write_key, write_row};
-use occ_types::{KeyKind, Kind};
-use occ_types::{Key, Object, Question, Row, Schema, TableDef};
+use occ_types::{Key, KeyKind, Kind, Object, Question, Row, Schema, TableDef};
 use std::alloc::{AllocError, Allocator};
 
 /// `occ 1`.
@@ -198,8 +198,8 @@ pub fn write_line<A: Allocator>(
 }
 
 /// `row PLACE S N START FINISH R W STANDING`.
-pub fn row_line<A: Allocator>(line: &mut String<A>, row: &LogRow<A>) -> Result<(), AllocError>
-    ensures { OnOk result (string_bytes line.new ≡ row_line (log_row_of row.now)) }
+pub fn row_line<A: Allocator, O>(line: &mut String<A>, row: &LogRow<A, O>) -> Result<(), AllocError>
+    ensures { (opened : O → ℕ × Case) → OnOk result (string_bytes line.new ≡ row_line (log_row_of opened row.now)) }
 {
     line.clear();
     let place = row.place;
@@ -207,8 +207,8 @@ pub fn row_line<A: Allocator>(line: &mut String<A>, row: &LogRow<A>) -> Result<(
     let number = row.number;
     let start = row.start;
     let finish = row.finish;
-    let reads = row.reads.get().len();
-    let writes = row.writes.get().len();
+    let reads = row.reads.len();
+    let writes = row.writes.len();
     write!(
         line,
         "row {place} {session} {number} {start} {finish} {reads} {writes} "
@@ -216,11 +216,11 @@ pub fn row_line<A: Allocator>(line: &mut String<A>, row: &LogRow<A>) -> Result<(
     write_standing(line, &row.standing)
 }
 
-fn write_standing<A: Allocator>(
+fn write_standing<A: Allocator, O>(
     line: &mut String<A>,
-    standing: &Standing<A>,
+    standing: &Standing<O>,
 ) -> Result<(), AllocError>
-    ensures { OnOk result (string_bytes line.new ≡ string_bytes line.old ++ standing_text (standing_of standing.now)) }
+    ensures { (opened : O → ℕ × Case) → OnOk result (string_bytes line.new ≡ string_bytes line.old ++ standing_text (standing_of opened standing.now)) }
 {
     match standing {
         Standing::Open(_) => write!(line, "open"),
@@ -229,6 +229,18 @@ fn write_standing<A: Allocator>(
         Standing::Back(Cause::Conflict) => write!(line, "conflict"),
         Standing::Back(Cause::TooOld) => write!(line, "tooold"),
     }
+}
+
+/// `mark S N`, for the mark of a session.
+pub fn mark_line<A: Allocator>(
+    line: &mut String<A>,
+    session: usize,
+    number: u64,
+) -> Result<(), AllocError>
+    ensures { OnOk result (string_bytes line.new ≡ mark_line (session, number)) }
+{
+    line.clear();
+    write!(line, "mark {session} {number}")
 }
 
 /// `at NAME KEY ROW`, for a row of the table at a place.

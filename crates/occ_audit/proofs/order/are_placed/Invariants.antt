@@ -1,5 +1,5 @@
 use Rattle.std.proofs.Common.{drop}
-use Rattle.occ_core.specs.Rows.{log_of}
+use Rattle.occ_audit.specs.Rows.{log_of}
 use Rattle.occ_model.specs.Log.{Counts}
 use Rattle.occ_audit.specs.Order.{ArePlaced}
 use Rattle.occ_audit.proofs.Walks.{Iff}

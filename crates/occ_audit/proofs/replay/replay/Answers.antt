@@ -1,5 +1,5 @@
 use Rattle.std.proofs.Common.{◌+◌, drop, sym, ap, ◌∙◌}
-use Rattle.occ_core.specs.Rows.{log_of}
+use Rattle.occ_audit.specs.Rows.{log_of}
 use Rattle.occ_model.specs.Log.{Explained, serial}
 use Rattle.occ_model.proofs.Tests.{clash}
 use Rattle.occ_audit.proofs.Walks.{via, along, left-cons}

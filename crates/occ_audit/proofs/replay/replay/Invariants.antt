@@ -1,6 +1,6 @@
 use Rattle.std.proofs.Common.{◌≡◌, drop}
 use Rattle.std.specs.FinMap as finite
-use Rattle.occ_core.specs.Rows.{log_of}
+use Rattle.occ_audit.specs.Rows.{log_of}
 use Rattle.occ_model.specs.Log.{Explained, serial}
 use Rattle.occ_audit.proofs.Walks.{Iff}
 use Rattle.occ_audit.proofs.replay.replay.Given as goal

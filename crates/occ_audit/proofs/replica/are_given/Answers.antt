@@ -4,7 +4,7 @@ use Rattle.std.specs.Map.Iter.{deref_pair}
 use Rattle.std.proofs.lemmas.List.{map-id}
 use Rattle.std.proofs.lemmas.Iterator.{YieldsList-from_map_by, YieldsList-from_slice}
 use Rattle.std.proofs.lemmas.Iterator.Consumers.{YieldsList-at, YieldsList-from_rest}
-use Rattle.occ_core.specs.Kept.{seen}
+use Rattle.occ_book.specs.Kept.{seen}
 use Rattle.occ_sets.specs.Seen.{rows_of}
 use Rattle.occ_audit.specs.Replica.{lent}
 use Rattle.occ_audit.proofs.Equal.{eq-decides, entries-decide}

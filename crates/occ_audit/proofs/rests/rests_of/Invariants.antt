@@ -1,5 +1,5 @@
 use Rattle.std.proofs.Common.{◌≡◌, drop}
-use Rattle.occ_core.specs.Rows.{log_of}
+use Rattle.occ_audit.specs.Rows.{log_of}
 use Rattle.occ_model.specs.State.{State, apply}
 use Rattle.occ_model.specs.Log.{settled}
 use Rattle.occ_audit.specs.Rests.{writes_in}

@@ -6,9 +6,9 @@ use Rattle.occ_print.proofs.books.print_header.Goals as goal
 pub returns-in_err-print_limits : goal.returns-in_err-print_limits
 returns-in_err-print_limits g c =
     failed _ c.from_residual.result _ _ _ _ _ c.from_residual.ensures.1
-    (front_before _ _ _ _ (limits_lines c.args.book.now.limits) (map table_text c.args.book.now.schema.now) c.in_err-print_limits.ensures)
+    (front_before _ _ _ _ (limits_lines c.args.limits) (map table_text c.args.schema.now) c.in_err-print_limits.ensures)
 
 pub returns : goal.returns
 returns g c =
-    lines_then c.print_tables.result _ _ _ _ _ _ (limits_lines c.args.book.now.limits) (map table_text c.args.book.now.schema.now) c.in_ok-print_limits.ensures
-    (lines_same c.print_tables.result _ _ _ _ _ (map table_text c.args.book.now.schema.now) (ap (map table_text) c.tables.ensures.value) c.print_tables.ensures)
+    lines_then c.print_tables.result _ _ _ _ _ _ (limits_lines c.args.limits) (map table_text c.args.schema.now) c.in_ok-print_limits.ensures
+    (lines_same c.print_tables.result _ _ _ _ _ (map table_text c.args.schema.now) (ap (map table_text) c.tables.ensures.value) c.print_tables.ensures)

@@ -1,6 +1,19 @@
-use Rattle.std.proofs.Common.{sym}
-use Rattle.occ_print.proofs.Printing.{lines_same, no_marks}
+use Rattle.std.proofs.Common.{ap, map, codes}
+use Rattle.std.specs.FinMap.{entries}
+use Rattle.occ_print.specs.Books.{mark_line}
+use Rattle.occ_text.specs.Headers.{count_text}
+use Rattle.occ_print.proofs.Printing.{failed, front_line, line_then}
+use Rattle.std.specs.FinMap as finite
 use Rattle.occ_print.proofs.books.print_marks.Goals as goal
 
+pub returns-in_err-print_count : goal.returns-in_err-print_count
+returns-in_err-print_count g c =
+    let marks = c.args.marks.now.marks in
+    failed _ c.from_residual.result _ _ _ _ _ c.from_residual.ensures.1
+    (front_line _ _ _ _ (count_text (codes "marks") (finite.len marks)) _ (map mark_line (entries marks)) (ap (count_text (codes "marks")) c.len.ensures) c.in_err-print_count.ensures)
+
 pub returns : goal.returns
-returns g c = lines_same c.print_count.result _ _ _ _ _ _ (sym no_marks) c.print_count.ensures
+returns g c =
+    let marks = c.args.marks.now.marks in
+    line_then c.print_each_mark.result _ _ _ _ _ _ (count_text (codes "marks") (finite.len marks)) _ (map mark_line (entries marks))
+    (ap (count_text (codes "marks")) c.len.ensures) c.in_ok-print_count.ensures c.print_each_mark.ensures

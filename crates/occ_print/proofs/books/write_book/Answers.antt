@@ -4,8 +4,8 @@ use Rattle.occ_print.proofs.Printing.{failed, front_before, front_amid, lines_th
 use Rattle.occ_print.proofs.books.write_book.Goals as goal
 
 pub returns-in_err-print_header : goal.returns-in_err-print_header
-returns-in_err-print_header g c =
-    let book = book_of c.args.book.now in
+returns-in_err-print_header g c = λ opened.
+    let book = book_of opened c.args.limits c.args.schema.now c.args.book.now in
     let header = header_lines book.header in
     let log = log_lines book.header.tables book.log in
     let marks = mark_lines book.marks in
@@ -17,8 +17,8 @@ returns-in_err-print_header g c =
     (front_before _ _ _ _ (header ++ log) marks (front_before _ _ _ _ header log c.in_err-print_header.ensures))))
 
 pub returns-in_err-print_log : goal.returns-in_err-print_log
-returns-in_err-print_log g c =
-    let book = book_of c.args.book.now in
+returns-in_err-print_log g c = λ opened.
+    let book = book_of opened c.args.limits c.args.schema.now c.args.book.now in
     let header = header_lines book.header in
     let log = log_lines book.header.tables book.log in
     let marks = mark_lines book.marks in
@@ -27,11 +27,11 @@ returns-in_err-print_log g c =
     failed _ c.from_residual-in_err-print_log.result _ _ _ _ _ c.from_residual-in_err-print_log.ensures.1
     (front_before _ _ _ _ (header ++ log ++ marks ++ state) counter
     (front_before _ _ _ _ (header ++ log ++ marks) state
-    (front_amid _ _ _ _ _ _ header log marks c.in_ok-print_header.ensures c.in_err-print_log.ensures)))
+    (front_amid _ _ _ _ _ _ header log marks c.in_ok-print_header.ensures (c.in_err-print_log.ensures opened))))
 
 pub returns-in_err-print_marks : goal.returns-in_err-print_marks
-returns-in_err-print_marks g c =
-    let book = book_of c.args.book.now in
+returns-in_err-print_marks g c = λ opened.
+    let book = book_of opened c.args.limits c.args.schema.now c.args.book.now in
     let header = header_lines book.header in
     let log = log_lines book.header.tables book.log in
     let marks = mark_lines book.marks in
@@ -40,11 +40,11 @@ returns-in_err-print_marks g c =
     failed _ c.from_residual-in_err-print_marks.result _ _ _ _ _ c.from_residual-in_err-print_marks.ensures.1
     (front_before _ _ _ _ (header ++ log ++ marks ++ state) counter
     (front_amid _ _ _ _ _ _ (header ++ log) marks state
-    (lines_then (Ok tt) _ _ _ _ _ _ header log c.in_ok-print_header.ensures c.in_ok-print_log.ensures) c.in_err-print_marks.ensures))
+    (lines_then (Ok tt) _ _ _ _ _ _ header log c.in_ok-print_header.ensures (c.in_ok-print_log.ensures opened)) c.in_err-print_marks.ensures))
 
 pub returns-in_err-print_state : goal.returns-in_err-print_state
-returns-in_err-print_state g c =
-    let book = book_of c.args.book.now in
+returns-in_err-print_state g c = λ opened.
+    let book = book_of opened c.args.limits c.args.schema.now c.args.book.now in
     let header = header_lines book.header in
     let log = log_lines book.header.tables book.log in
     let marks = mark_lines book.marks in
@@ -53,12 +53,12 @@ returns-in_err-print_state g c =
     failed _ c.from_residual-in_err-print_state.result _ _ _ _ _ c.from_residual-in_err-print_state.ensures.1
     (front_amid _ _ _ _ _ _ (header ++ log ++ marks) state counter
     (lines_then (Ok tt) _ _ _ _ _ _ (header ++ log) marks
-    (lines_then (Ok tt) _ _ _ _ _ _ header log c.in_ok-print_header.ensures c.in_ok-print_log.ensures) c.in_ok-print_marks.ensures)
+    (lines_then (Ok tt) _ _ _ _ _ _ header log c.in_ok-print_header.ensures (c.in_ok-print_log.ensures opened)) c.in_ok-print_marks.ensures)
     c.in_err-print_state.ensures)
 
 pub returns : goal.returns
-returns g c =
-    let book = book_of c.args.book.now in
+returns g c = λ opened.
+    let book = book_of opened c.args.limits c.args.schema.now c.args.book.now in
     let header = header_lines book.header in
     let log = log_lines book.header.tables book.log in
     let marks = mark_lines book.marks in
@@ -67,6 +67,6 @@ returns g c =
     lines_then c.print_counter.result _ _ _ _ _ _ (header ++ log ++ marks ++ state) counter
     (lines_then (Ok tt) _ _ _ _ _ _ (header ++ log ++ marks) state
     (lines_then (Ok tt) _ _ _ _ _ _ (header ++ log) marks
-    (lines_then (Ok tt) _ _ _ _ _ _ header log c.in_ok-print_header.ensures c.in_ok-print_log.ensures) c.in_ok-print_marks.ensures)
+    (lines_then (Ok tt) _ _ _ _ _ _ header log c.in_ok-print_header.ensures (c.in_ok-print_log.ensures opened)) c.in_ok-print_marks.ensures)
     c.in_ok-print_state.ensures)
     c.print_counter.ensures

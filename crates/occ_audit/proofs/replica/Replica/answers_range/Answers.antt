@@ -3,7 +3,7 @@ use Rattle.std.specs.Option.{option_copied}
 use Rattle.occ_types.specs.Seen.{end_of}
 use Rattle.occ_sets.specs.Seen.{rows_of}
 use Rattle.occ_model.specs.State.{Rows}
-use Rattle.occ_core.specs.Kept.{is_backward, entries_within}
+use Rattle.occ_book.specs.Kept.{is_backward, entries_within}
 use Rattle.occ_audit.specs.Replica.{lent}
 use Rattle.occ_audit.proofs.Lent.{table_at, get-in}
 use Rattle.occ_audit.proofs.Ranges.{answer-between, answer-backward, answer-nowhere, lent-between, forward, none-decides, rows-decide}

@@ -1,0 +1,11 @@
+use Rattle.std.proofs.Common.{map}
+use Rattle.occ_book.specs.Marks.{marks_listed}
+use Rattle.occ_text.specs.Line.{lines_text}
+use Rattle.occ_text.specs.Printing.{Pushed}
+use Rattle.occ_print.specs.Books.{mark_line}
+use Rattle.occ_print.proofs.books.print_each_mark.Given as goal
+
+-- the marks of this many sessions are printed
+abbrev pub invariant-loop-done : goal.invariant-loop-done
+invariant-loop-done g l = Pushed (g.W.Write.contents l.fn.writer) (g.W.Write.contents l.writer) l.fn.output l.output
+    (lines_text (map mark_line (marks_listed l.marks.marks 1 l.done)))
