@@ -1,8 +1,7 @@
 -- What the reads of the core have to show, over plain parts.
 use Rattle.std.proofs.Common.{◌≡◌, ℕ, zero, suc, ◌-◌, ◌<◌, Bool, not, ◌&&◌, List, [], ◌∷◌, length, Option, None, Some, Result, Err, refl, sym, ap, subst, ◌∙◌, arith}
-use Rattle.std.specs.Prelude.{Vec, is_some, slice_get, nat_le, nat_lt, ◌++◌}
+use Rattle.std.specs.Prelude.{Vec, slice_get, nat_le, nat_lt, ◌++◌}
 use Rattle.std.proofs.lemmas.Bool.{leb-true, ltb-true}
-use Rattle.std.specs.Ordering.{nat_cmp}
 use Rattle.std.specs.FinMap as finite
 use Rattle.std.specs.FinMap.{FinMap}
 use Rattle.occ_types.specs.declared.fault.Fault.{Fault}
