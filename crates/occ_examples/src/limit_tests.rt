@@ -38,9 +38,9 @@ fn is_audited(alloc: Global, schedule: &str) -> bool {
 // A session commits its open transaction, which has so many writes.
 fn push_commit(text: &mut String<Global>, session: u64, writes: u64) -> Result<(), AllocError> {
     let alloc = text.allocator().clone()?;
-    text.push_str(
-        format!(in alloc; "submit {session}\nenter {session}\ndecide {session}\n")?.as_str(),
-    )?;
+    text.push_str(format!(in alloc;
+        "submit {session}\nenter {session}\ndecide {session}\n"
+    )?.as_str())?;
     for _ in 0..writes {
         text.push_str(format!(in alloc; "write {session}\n")?.as_str())?;
     }
@@ -66,7 +66,13 @@ fn a_window_of_4096(rt: HostRuntime) -> Result<(), Fail> {
     assert!(rt; answers(rt.alloc(), within.as_str(), "entered 4096\ncommit\nocc 1\n"));
     assert!(rt; is_audited(rt.alloc(), within.as_str()));
     let above = overtaken(rt.alloc(), 4097)?;
-    assert!(rt; answers(rt.alloc(), above.as_str(), "entered 4097\nbackup tooold\nocc 1\n"));
+    assert!(rt;
+        answers(
+            rt.alloc(),
+            above.as_str(),
+            "entered 4097\nbackup tooold\nocc 1\n"
+        )
+    );
     Ok(())
 }
 
@@ -91,8 +97,20 @@ fn tables_up_to_32(rt: HostRuntime) -> Result<(), Fail> {
     let mut schedule = tables(rt.alloc(), false)?;
     schedule.push_str("begin 1\nput 1 dz 3 4\nput 1 ew 5 6\nput 1 hz 7 8\n")?;
     push_commit(&mut schedule, 1, 3)?;
-    assert!(rt; answers(rt.alloc(), schedule.as_str(), "wrote dz 3\nwrote ew 5\nwrote hz 7\nfinished 1\n"));
-    assert!(rt; answers(rt.alloc(), schedule.as_str(), "at dz 3 4\nat ew 5 6\nat hz 7 8\n"));
+    assert!(rt;
+        answers(
+            rt.alloc(),
+            schedule.as_str(),
+            "wrote dz 3\nwrote ew 5\nwrote hz 7\nfinished 1\n"
+        )
+    );
+    assert!(rt;
+        answers(
+            rt.alloc(),
+            schedule.as_str(),
+            "at dz 3 4\nat ew 5 6\nat hz 7 8\n"
+        )
+    );
     assert!(rt; is_audited(rt.alloc(), schedule.as_str()));
     let above = tables(rt.alloc(), true)?;
     let mut reader = above.as_bytes();
@@ -125,9 +143,27 @@ fn writes_up_to_256(rt: HostRuntime) -> Result<(), Fail> {
     push_writes(&mut schedule, 1, 0, 257)?;
     push_commit(&mut schedule, 1, 256)?;
     schedule.push_str("show\n")?;
-    assert!(rt; answers(rt.alloc(), schedule.as_str(), "ok\nrefused F7\nqueued 1\nentered 0\ncommit\nwrote t 0\n"));
-    assert!(rt; answers(rt.alloc(), schedule.as_str(), "finished 1\ncounter 1 low 0 log 1 state 256 active 0\n"));
-    assert!(rt; answers(rt.alloc(), schedule.as_str(), "row 0 1 1 0 0 0 256 done 1\n"));
+    assert!(rt;
+        answers(
+            rt.alloc(),
+            schedule.as_str(),
+            "ok\nrefused F7\nqueued 1\nentered 0\ncommit\nwrote t 0\n"
+        )
+    );
+    assert!(rt;
+        answers(
+            rt.alloc(),
+            schedule.as_str(),
+            "finished 1\ncounter 1 low 0 log 1 state 256 active 0\n"
+        )
+    );
+    assert!(rt;
+        answers(
+            rt.alloc(),
+            schedule.as_str(),
+            "row 0 1 1 0 0 0 256 done 1\n"
+        )
+    );
     assert!(rt; is_audited(rt.alloc(), schedule.as_str()));
     Ok(())
 }
@@ -151,8 +187,20 @@ fn scanned(alloc: Global, more: u64) -> Result<String, AllocError> {
 fn a_range_of_1024_rows(rt: HostRuntime) -> Result<(), Fail> {
     let within = scanned(rt.alloc(), 0)?;
     assert!(rt; answers(rt.alloc(), within.as_str(), "\nrows 1024 0=5 1=5 2=5 "));
-    assert!(rt; answers(rt.alloc(), within.as_str(), " 1022=5 1023=5\nqueued 6\nentered 5\ncommit\nfinished 6\n"));
-    assert!(rt; answers(rt.alloc(), within.as_str(), "\nspan t 0 2000 1024\npair 0 5\npair 1 5\n"));
+    assert!(rt;
+        answers(
+            rt.alloc(),
+            within.as_str(),
+            " 1022=5 1023=5\nqueued 6\nentered 5\ncommit\nfinished 6\n"
+        )
+    );
+    assert!(rt;
+        answers(
+            rt.alloc(),
+            within.as_str(),
+            "\nspan t 0 2000 1024\npair 0 5\npair 1 5\n"
+        )
+    );
     assert!(rt; is_audited(rt.alloc(), within.as_str()));
     let above = scanned(rt.alloc(), 1)?;
     assert!(rt; answers(rt.alloc(), above.as_str(), "\nrefused F24\nqueued 6\n"));
@@ -162,8 +210,15 @@ fn a_range_of_1024_rows(rt: HostRuntime) -> Result<(), Fail> {
 
 #[test]
 fn sessions_up_to_64(rt: HostRuntime) -> Result<(), Fail> {
-    let schedule = "occ 1\nsessions 64\nqueue 4\nkeep 8\ntable t num int\nsteps\nbegin 64\nbegin 65\nbegin 0\n";
-    assert!(rt; answers(rt.alloc(), schedule, "begun 1 0\nrefused F12\nrefused F12\nocc 1\n"));
+    let schedule =
+        "occ 1\nsessions 64\nqueue 4\nkeep 8\ntable t num int\nsteps\nbegin 64\nbegin 65\nbegin 0\n";
+    assert!(rt;
+        answers(
+            rt.alloc(),
+            schedule,
+            "begun 1 0\nrefused F12\nrefused F12\nocc 1\n"
+        )
+    );
     Ok(())
 }
 
@@ -175,7 +230,13 @@ fn a_queue_of_1024(rt: HostRuntime) -> Result<(), Fail> {
         schedule.push_str("begin 1\nsubmit 1\n")?;
     }
     schedule.push_str("enter 1\nsubmit 1\n")?;
-    assert!(rt; answers(rt.alloc(), schedule.as_str(), "queued 1024\nbegun 1025 0\nrefused F9\nentered 0\nqueued 1025\nocc 1\n"));
+    assert!(rt;
+        answers(
+            rt.alloc(),
+            schedule.as_str(),
+            "queued 1024\nbegun 1025 0\nrefused F9\nentered 0\nqueued 1025\nocc 1\n"
+        )
+    );
     Ok(())
 }
 
@@ -192,7 +253,8 @@ fn more_lines_than_16_bits_count(rt: HostRuntime) -> Result<(), Fail> {
 
 #[test]
 fn nothing_is_open(rt: HostRuntime) -> Result<(), Fail> {
-    let schedule = "occ 1\nsessions 1\nqueue 4\nkeep 8\ntable t num int\nsteps\nget 1 t 1\nscan 1 t 1 2\nput 1 t 1 2\ndelete 1 t 1\nsubmit 1\nenter 1\n";
+    let schedule =
+        "occ 1\nsessions 1\nqueue 4\nkeep 8\ntable t num int\nsteps\nget 1 t 1\nscan 1 t 1 2\nput 1 t 1 2\ndelete 1 t 1\nsubmit 1\nenter 1\n";
     assert!(rt;
         answers(
             rt.alloc(),
