@@ -3,9 +3,7 @@
 
 use clap::error::ErrorKind;
 use clap::{Arg, ArgAction, Command};
-use occ_books::audit_text;
-use occ_cli::replay::replay_text;
-use occ_text::trouble::{Trouble, status_of};
+use occ_cli::{Trouble, audit_text, replay_text, status_of};
 use std::alloc::{AllocError, Global};
 use std::fs::File;
 use std::io::ErrorKind as IoErrorKind;

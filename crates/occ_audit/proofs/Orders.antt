@@ -8,7 +8,7 @@ use Rattle.std.specs.FinMap.{FinMap, find, get-entries}
 use Rattle.std.specs.BTreeMap.{BTreeMap, get}
 use Rattle.std.specs.Ordering.{nat_cmp, is_eq}
 use Rattle.std.specs.Cmp.{unsigned_tied, unsigned_Decides}
-use Rattle.std.proofs.lemmas.Bool.Decides.{Decides-eqb, nat_tests}
+use Rattle.std.proofs.lemmas.Bool.Decides.{Decides-eqb}
 use Rattle.occ_book.specs.Marks.{mark_at, marks_listed}
 use Rattle.occ_book.specs.declared.rows.LogRow as code_row
 use Rattle.occ_model.specs.Log.{LogRow, Counts, numbers}
@@ -140,13 +140,6 @@ AreClosedTo to marks last = (session mark : ℕ) → session ≤ to → finite.g
 pub closed-none : (marks : FinMap nat_cmp ℕ) (sessions : ℕ) (last : BTreeMap ℕ ℕ) → finite.entries marks ≡ marks_listed marks 1 sessions → AreClosedTo 0 marks last
 closed-none marks sessions last listed session mark h at =
     let within = mark-within marks sessions session mark listed at in absurd (omega (arith, within.0))
-
-pub closed-more : (marks : FinMap nat_cmp ℕ) (before session : ℕ) (last : BTreeMap ℕ ℕ) → session ≡ before + 1 → AreClosedTo before marks last → ((mark : ℕ) → finite.get marks session ≡ Some mark → mark ≡ suc (last_of last session)) → AreClosedTo (before + 1) marks last
-closed-more marks before session last next so_far due other mark h at = decided (nat_eq other session)
-    (λ e.
-    let here : other ≡ session = (unsigned_Decides other session).0 e in
-    due mark (ap (finite.get marks) (sym here) ∙ at) ∙ ap (λ s. suc (last_of last s)) (sym here))
-    (λ e. let h : other ≤ before = grind (arith, nat_tests) in so_far other mark h at)
 
 pub closed-all : (marks : FinMap nat_cmp ℕ) (sessions to : ℕ) (last : BTreeMap ℕ ℕ) → finite.entries marks ≡ marks_listed marks 1 sessions → sessions ≤ to → AreClosedTo to marks last → AreClosed marks last
 closed-all marks sessions to last listed all closed session mark at =

@@ -6,7 +6,7 @@ use Rattle.std.specs.Ordering.{nat_cmp}
 use Rattle.std.specs.FinMap as finite
 use Rattle.std.specs.FinMap.{FinMap}
 use Rattle.occ_model.specs.State.{State, Write, apply}
-use Rattle.occ_model.specs.Log.{Case, LogRow, Audited, AreAnswers, Explained, Counts, numbers, is_committed, remaining, rest, after, serial, settled, last_folded}
+use Rattle.occ_model.specs.Log.{Case, Audited, Explained, Counts, numbers, is_committed, remaining, rest, after, serial, settled, last_folded}
 use Rattle.occ_model.specs.World.{empty_base}
 use Rattle.occ_book.specs.Rows.{standing_of, log_row_of, log_of}
 use Rattle.occ_book.specs.declared.rows.Standing as code_standing

@@ -21,10 +21,12 @@ fn transaction(
     write: (Object<Global>, Option<Row<Global>>),
     standing: Standing<()>,
 ) -> Result<LogRow<Global, ()>, Fault> {
+    let (question, answer) = read;
     let mut reads = ReadSet::new(alloc);
-    reads.note(read.0, read.1)?;
+    reads.note(question, answer)?;
+    let (Object { table, key }, row) = write;
     let mut writes = WriteSet::new(alloc);
-    writes.set(write.0.table, write.0.key, write.1)?;
+    writes.set(table, key, row)?;
     Ok(LogRow {
         place,
         session: 1,

@@ -27,9 +27,8 @@ use Rattle.occ_text.proofs.Words.{both}
 use Rattle.occ_text.proofs.SchemaLines.{IsSchema-from_check}
 use Rattle.occ_print.specs.Books.{Book, header_lines, pair_line, read_lines, write_line, row_line, row_lines, log_lines, mark_line, mark_lines, at_line, row_count, state_lines, counter_line, book_lines}
 use Rattle.occ_books.specs.declared.heads.Head.{Head}
-use Rattle.occ_books.specs.declared.heads.Stand.{Stand}
-use Rattle.occ_books.specs.declared.heads.Stand.TheVariants as stands
-use Rattle.occ_books.specs.Heads.{head_text, StandFits, HeadFits}
+use Rattle.occ_book.specs.declared.rows.Standing.TheVariants as stands
+use Rattle.occ_books.specs.Heads.{Stand, head_text, StandFits, HeadFits}
 use Rattle.occ_books.specs.Entries.{AskedOne, AskedSpan, PairFits, WriteFits, AtFits}
 use Rattle.occ_books.specs.Taking.{is_behind, RisesFrom, ReadFits, StandingFits, LogRowFits, StandsSo}
 use Rattle.occ_books.specs.Places.{Frame, InRow, frame_of, in_row, Place, rows_to_come, writes_to_come, reads_to_come, pairs_to_come, marks_to_come, state_to_come, IsAbove, Leads, LeadOn, MayEnd}
@@ -136,7 +135,7 @@ writes_lead row before (write ∷ after) distinct fits =
 
 -- how a standing is told; a case is not told
 abbrev stand_told : Standing → Stand
-stand_told (Open index case) = stands.Open
+stand_told (Open index case) = stands.Open tt
 stand_told (Writing done) = stands.Writing done
 stand_told (Done number) = stands.Done number
 stand_told (Back cause) = stands.Back cause
@@ -163,7 +162,7 @@ head_told row = record {
   finish = row.finish;
   reads = length row.reads;
   writes = length row.writes;
-  stand = stand_told row.standing;
+  standing = stand_told row.standing;
 }
 
 head_fits : (schema : Schema) (sessions : ℕ) (row : LogRow) → LogRowFits schema sessions row → HeadFits sessions (head_told row)

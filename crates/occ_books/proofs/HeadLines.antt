@@ -10,13 +10,12 @@ use Rattle.occ_text.proofs.Numbers.{number_takes}
 use Rattle.occ_text.proofs.Escapes.{some_is, bind_value, map_value}
 use Rattle.occ_text.proofs.Words.{tokens_takes}
 use Rattle.occ_text.proofs.StepLines.{word_is}
-use Rattle.occ_books.specs.declared.heads.Stand.{Stand}
-use Rattle.occ_books.specs.declared.heads.Stand.TheVariants.{Open, Writing, Done, Back}
+use Rattle.occ_book.specs.declared.rows.Standing.TheVariants.{Open, Writing, Done, Back}
 use Rattle.occ_books.specs.declared.heads.Head.{Head}
 use Rattle.occ_books.specs.declared.heads.Mark.{Mark}
 use Rattle.occ_books.specs.declared.heads.Counts.{Counts}
 use Rattle.occ_books.specs.Cursors.{Tokens, next_word, next_number, at_end}
-use Rattle.occ_books.specs.Heads.{stand_tokens, head_tokens, head_text, mark_text, counts_text, IsSession, StandFits, HeadFits, MarkFits, CountsFit, bare_stand, counted_stand, stand_of, unless_zero, next_session, head_of, head_of_line, mark_of, mark_of_line, counts_of, counts_of_line}
+use Rattle.occ_books.specs.Heads.{Stand, stand_tokens, head_tokens, head_text, mark_text, counts_text, IsSession, StandFits, HeadFits, MarkFits, CountsFit, bare_stand, counted_stand, stand_of, unless_zero, next_session, head_of, head_of_line, mark_of, mark_of_line, counts_of, counts_of_line}
 use Rattle.occ_books.proofs.Lines.{number-takes, word-takes, end-takes}
 
 -- one of two: the first where its test passes
@@ -30,8 +29,8 @@ record StandRead (writes : ℕ) (tokens : Tokens) (stand : Stand) : Type 0 where
 
 bare-takes : (writes : ℕ) (word : List ℕ) (stand : Stand) → bare_stand word ≡ Some stand → StandRead writes (word ∷ []) stand
 unfolding bare_stand
-bare-takes writes word stand h = elim (either (bytes_eq word (codes "open")) (Some Open) _ stand h) [
-  | inl a ↦ subst (StandRead writes (word ∷ [])) (some_is Open stand a.1) (record { spelled = ap (λ (w : List ℕ). w ∷ []) (word_is word (codes "open") a.0); fits = tt })
+bare-takes writes word stand h = elim (either (bytes_eq word (codes "open")) (Some (Open tt)) _ stand h) [
+  | inl a ↦ subst (StandRead writes (word ∷ [])) (some_is (Open tt) stand a.1) (record { spelled = ap (λ (w : List ℕ). w ∷ []) (word_is word (codes "open") a.0); fits = tt })
   | inr r ↦ elim (either (bytes_eq word (codes "conflict")) (Some (Back Conflict)) _ stand r) [
     | inl a ↦ subst (StandRead writes (word ∷ [])) (some_is (Back Conflict) stand a.1) (record { spelled = ap (λ (w : List ℕ). w ∷ []) (word_is word (codes "conflict") a.0); fits = tt })
     | inr s ↦ elim (either (bytes_eq word (codes "tooold")) (Some (Back TooOld)) None stand s) [

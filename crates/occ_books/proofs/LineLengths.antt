@@ -32,12 +32,11 @@ use Rattle.occ_text.proofs.StepLines.{two_tokens}
 use Rattle.occ_text.proofs.SchemaLines.{each_fits, IsSchema-from_check}
 use Rattle.occ_print.specs.Books.{table_name, pair_line, write_line, at_line}
 use Rattle.occ_books.specs.Cursors.{Tokens}
-use Rattle.occ_books.specs.declared.heads.Stand.{Stand}
-use Rattle.occ_books.specs.declared.heads.Stand.TheVariants as stands
+use Rattle.occ_book.specs.declared.rows.Standing.TheVariants as stands
 use Rattle.occ_books.specs.declared.heads.Head.{Head}
 use Rattle.occ_books.specs.declared.heads.Mark.{Mark}
 use Rattle.occ_books.specs.declared.heads.Counts.{Counts}
-use Rattle.occ_books.specs.Heads.{stand_tokens, head_tokens, head_text, mark_text, counts_text, StandFits, HeadFits, MarkFits, CountsFit}
+use Rattle.occ_books.specs.Heads.{Stand, stand_tokens, head_tokens, head_text, mark_text, counts_text, StandFits, HeadFits, MarkFits, CountsFit}
 use Rattle.occ_books.specs.Entries.{Asked, AskedOne, AskedSpan, asked_text, ObjectFits, RowFitsIn, FoundFits, AskedFits, PairFits, WriteFits, AtFits}
 use Rattle.occ_books.proofs.EntryLines.{found_text, asked_tokens, asked_spelling, write_tokens}
 use Rattle.occ_books.proofs.LinesAgain.{small_number, head-AreTokens, mark_tokens, mark_words, counts_tokens, counts_words}
@@ -232,7 +231,7 @@ at_is_line schema entry good fits =
 -- ---- lines of numbers
 
 stand_width : (writes : ℕ) (stand : Stand) → writes ≤ 256 → StandFits writes stand → width (stand_tokens stand) ≤ 100
-stand_width writes stands.Open few fits = omega arith
+stand_width writes (stands.Open held) few fits = omega arith
 stand_width writes (stands.Writing done) few fits = let d = decimal_width done (omega arith) in omega arith
 stand_width writes (stands.Done number) few fits = let d = decimal_width number (count_small number fits) in omega arith
 stand_width writes (stands.Back Conflict) few fits = omega arith
@@ -247,7 +246,7 @@ head_is_line sessions head small fits =
     let e = decimal_width head.finish (count_small head.finish fits.finish) in
     let f = decimal_width head.reads (small_number head.reads 256 fits.reads (lit< tt)) in
     let g = decimal_width head.writes (small_number head.writes 256 fits.writes (lit< tt)) in
-    let s = stand_width head.writes head.stand fits.writes fits.stand in
+    let s = stand_width head.writes head.standing fits.writes fits.stand in
     line_of_words (head_tokens head) (head-AreTokens sessions head small fits) (omega arith)
 
 pub mark_is_line : (sessions : ℕ) (mark : Mark) → sessions < 2 ^ 64 → MarkFits sessions mark → IsLine (mark_text mark)

@@ -10,14 +10,13 @@ use Rattle.occ_text.proofs.Words.{IsToken-from_test, tokens_again}
 use Rattle.occ_text.proofs.Spelled.{IsToken-decimal}
 use Rattle.occ_text.proofs.StepLines.{one_token, more_tokens}
 use Rattle.occ_model.specs.declared.verdict.Cause.TheVariants.{Conflict, TooOld}
-use Rattle.occ_books.specs.declared.heads.Stand.{Stand}
-use Rattle.occ_books.specs.declared.heads.Stand.TheVariants.{Open, Writing, Done, Back}
+use Rattle.occ_book.specs.declared.rows.Standing.TheVariants.{Open, Writing, Done, Back}
 use Rattle.occ_books.specs.declared.heads.Head.{Head}
 use Rattle.occ_books.specs.declared.heads.Mark.{Mark}
 use Rattle.occ_books.specs.declared.heads.Counts.{Counts}
 use Rattle.occ_books.proofs.HeadLines.{head_line-takes, mark_line-takes, counts_line-takes}
 use Rattle.occ_books.specs.Cursors.{Tokens, before, next_word, next_number}
-use Rattle.occ_books.specs.Heads.{stand_tokens, head_tokens, head_text, mark_text, counts_text, IsSession, StandFits, HeadFits, MarkFits, CountsFit, bare_stand, counted_stand, stand_of, unless_zero, next_session, head_of, head_of_line, mark_of, mark_of_line, counts_of, counts_of_line}
+use Rattle.occ_books.specs.Heads.{Stand, stand_tokens, head_tokens, head_text, mark_text, counts_text, IsSession, StandFits, HeadFits, MarkFits, CountsFit, bare_stand, counted_stand, stand_of, unless_zero, next_session, head_of, head_of_line, mark_of, mark_of_line, counts_of, counts_of_line}
 
 pub number-again : (limit n : ℕ) (rest : Tokens) → limit < 2 ^ 64 → n ≤ limit → next_number limit (decimal n ∷ rest) ≡ Some (n, rest)
 unfolding next_number
@@ -40,7 +39,7 @@ session-again sessions session rest small fits = ap (option_and_then unless_zero
 
 stand-again : (writes : ℕ) (stand : Stand) → writes ≤ 256 → StandFits writes stand → stand_of writes (stand_tokens stand) ≡ Some stand
 unfolding stand_of bare_stand counted_stand
-stand-again writes Open few fits = refl
+stand-again writes (Open tt) few fits = refl
 stand-again writes (Writing done) few fits = ap (option_map Writing) (number_again writes done (omega arith) fits)
 stand-again writes (Done number) few fits = ap (option_map Done) (number_again (2 ^ 64 - 1) number wide fits)
 stand-again writes (Back Conflict) few fits = refl
@@ -57,7 +56,7 @@ head-again sessions head small fits =
       number-again (2 ^ 64 - 1) head.finish _ wide fits.finish,
       number-again 256 head.reads _ (lit< tt) fits.reads,
       number-again 256 head.writes _ (lit< tt) fits.writes,
-      stand-again head.writes head.stand fits.writes fits.stand,
+      stand-again head.writes head.standing fits.writes fits.stand,
     ) refl
 
 pub small_number : (n limit : ℕ) → n ≤ limit → limit < 2 ^ 64 → n < 2 ^ 64
@@ -68,7 +67,7 @@ token_of n le = IsToken-decimal n (small_number n (2 ^ 64 - 1) le wide)
 
 stand-AreTokens : (writes : ℕ) (stand : Stand) → writes ≤ 256 → StandFits writes stand → AreTokens (stand_tokens stand)
 unfolding is_token
-stand-AreTokens writes Open few fits = one_token (IsToken-from_test (codes "open") refl)
+stand-AreTokens writes (Open held) few fits = one_token (IsToken-from_test (codes "open") refl)
 stand-AreTokens writes (Writing done) few fits = more_tokens (codes "writing") _ (IsToken-from_test (codes "writing") refl) (one_token (IsToken-decimal done (omega arith)))
 stand-AreTokens writes (Done number) few fits = more_tokens (codes "done") _ (IsToken-from_test (codes "done") refl) (one_token (token_of number fits))
 stand-AreTokens writes (Back Conflict) few fits = one_token (IsToken-from_test (codes "conflict") refl)
@@ -85,7 +84,7 @@ head-AreTokens sessions head small fits =
     (more_tokens (decimal head.finish) _ (token_of head.finish fits.finish)
     (more_tokens (decimal head.reads) _ (IsToken-decimal head.reads (small_number head.reads 256 fits.reads (lit< tt)))
     (more_tokens (decimal head.writes) _ (IsToken-decimal head.writes (small_number head.writes 256 fits.writes (lit< tt)))
-    (stand-AreTokens head.writes head.stand fits.writes fits.stand))))))))
+    (stand-AreTokens head.writes head.standing fits.writes fits.stand))))))))
 
 pub head_line-again : (sessions : ℕ) (head : Head) → sessions < 2 ^ 64 → HeadFits sessions head → head_of_line sessions (head_text head) ≡ Some head
 unfolding head_of_line

@@ -10,7 +10,6 @@ use Rattle.std.specs.BTreeMap as tree
 use Rattle.std.specs.BTreeMap.{BTreeMap}
 use Rattle.std.specs.FinMap.{FinMap, get, insert, entries, entries_sorted, entries-insert, get-insert, get-from_entries, same_map, nat_cmp-IsAntisymmetric, find, put, is_sorted}
 use Rattle.std.specs.FinMap.Entries.{by_order, below_all}
-use Rattle.occ_core.specs.Core.{marks_of}
 
 first : (a b : Bool) → T (a && b) → T a
 first true b p = tt
@@ -56,19 +55,3 @@ module _ {K X : Type 0} where
 
     pub insert_last : (last : Option K) (m : FinMap R X) (k : K) (v : X) → LastIs last (entries m) → IfSome last (λ key. R key k ≡ Less) → entries (insert m k v) ≡ entries m ++ (k, v) ∷ []
     insert_last last m k v is lt = entries-insert total m k v ∙ put_last last (entries m) k v (entries_sorted m) is lt
-
--- ---- closing marks
-
-find-lookup : (q : ℕ) (es : List (ℕ × ℕ)) → find nat_cmp q es ≡ lookup (λ x. is_eq (nat_cmp q x)) es
-find-lookup q [] = refl
-find-lookup q (e ∷ es) = ap (cond (is_eq (nat_cmp q e.0)) (Some e.1)) (find-lookup q es)
-
-get-marks : (m : BTreeMap ℕ ℕ) (q : ℕ) → get (marks_of m) q ≡ tree.get nat_cmp m q
-get-marks m q = get-from_entries nat_cmp_total m.entries q ∙ find-lookup q m.entries
-
-pub marks-insert : (m n : BTreeMap ℕ ℕ) (k v : ℕ) → ((q : ℕ) → tree.get nat_cmp n q ≡ cond (is_eq (nat_cmp k q)) (Some v) (tree.get nat_cmp m q)) → marks_of n ≡ insert (marks_of m) k v
-marks-insert m n k v is = same_map nat_cmp_total nat_cmp-IsAntisymmetric (marks_of n) (insert (marks_of m) k v) (λ q.
-    get-marks n q ∙ is q
-    ∙ ap (λ b. cond b (Some v) (tree.get nat_cmp m q)) ((eq_by_cmp_equiv nat_cmp_total).symm k q)
-    ∙ ap (cond (is_eq (nat_cmp q k)) (Some v)) (sym (get-marks m q))
-    ∙ sym (get-insert nat_cmp_total (marks_of m) k v q))

@@ -18,10 +18,9 @@ use Rattle.occ_model.specs.Log.{LogRow, Standing}
 use Rattle.occ_model.specs.declared.verdict.Cause.TheVariants.{Conflict, TooOld}
 use Rattle.occ_text.specs.Spelling.{line_text}
 use Rattle.occ_print.specs.Books.{question_text, pair_line, read_lines, write_line, standing_text, row_line, row_lines}
-use Rattle.occ_books.specs.declared.heads.Stand.{Stand}
-use Rattle.occ_books.specs.declared.heads.Stand.TheVariants as stands
+use Rattle.occ_book.specs.declared.rows.Standing.TheVariants as stands
 use Rattle.occ_books.specs.declared.heads.Head.{Head}
-use Rattle.occ_books.specs.Heads.{stand_tokens, head_text, IsSession, StandFits, HeadFits}
+use Rattle.occ_books.specs.Heads.{Stand, stand_tokens, head_text, IsSession, StandFits, HeadFits}
 use Rattle.occ_books.specs.Entries.{AskedSpan, asked_text, AskedFits, PairFits, WriteFits}
 use Rattle.occ_books.specs.Taking.{TakesLines, Gathered, ReadFits, RisesFrom, StandingFits, LogRowFits, StandsSo, IsRowOf}
 use Rattle.occ_books.specs.Places.{IsAbove, last_key}
@@ -91,22 +90,22 @@ line_of place session number start finish reads writes stand =
     line_text (codes "row" ∷ decimal place ∷ decimal session ∷ decimal number ∷ decimal start ∷ decimal finish ∷ decimal reads ∷ decimal writes ∷ stand ∷ [])
 
 spelling : (place session number start finish reads writes : ℕ) (stand : Stand)
-    → head_text (record { place = place; session = session; number = number; start = start; finish = finish; reads = reads; writes = writes; stand = stand }) ≡ line_of place session number start finish reads writes (stand_text stand)
-spelling place session number start finish reads writes stands.Open = refl
+    → head_text (record { place = place; session = session; number = number; start = start; finish = finish; reads = reads; writes = writes; standing = stand }) ≡ line_of place session number start finish reads writes (stand_text stand)
+spelling place session number start finish reads writes (stands.Open held) = refl
 spelling place session number start finish reads writes (stands.Writing done) = refl
 spelling place session number start finish reads writes (stands.Done tn) = refl
 spelling place session number start finish reads writes (stands.Back Conflict) = refl
 spelling place session number start finish reads writes (stands.Back TooOld) = refl
 
 stand_spelling : (stand : Stand) (standing : Standing) → StandsSo stand standing → stand_text stand ≡ standing_text standing
-stand_spelling stands.Open standing h = ap standing_text (sym h.2)
+stand_spelling (stands.Open held) standing h = ap standing_text (sym h.2)
 stand_spelling (stands.Writing done) standing h = ap standing_text (sym h)
 stand_spelling (stands.Done tn) standing h = ap standing_text (sym h)
 stand_spelling (stands.Back Conflict) standing h = ap standing_text (sym h)
 stand_spelling (stands.Back TooOld) standing h = ap standing_text (sym h)
 
 standing_fits : (writes : ℕ) (stand : Stand) (standing : Standing) → StandsSo stand standing → StandFits writes stand → StandingFits writes standing
-standing_fits writes stands.Open standing h f = subst (StandingFits writes) (sym h.2) tt
+standing_fits writes (stands.Open held) standing h f = subst (StandingFits writes) (sym h.2) tt
 standing_fits writes (stands.Writing done) standing h f = subst (StandingFits writes) (sym h) f
 standing_fits writes (stands.Done tn) standing h f = subst (StandingFits writes) (sym h) f
 standing_fits writes (stands.Back cause) standing h f = subst (StandingFits writes) (sym h) tt
@@ -115,8 +114,8 @@ pub head_line : (head : Head) (reads : List Observation) (writes : List Write) (
 head_line head reads writes row r w is =
     let rs : head.reads ≡ length row.reads = sym (ap length is.read ∙ r) in
     let ws : head.writes ≡ length row.writes = sym (ap length is.written ∙ w) in
-    spelling head.place head.session head.number head.start head.finish head.reads head.writes head.stand
-    ∙ (λ i. line_of (sym is.place i) (sym is.session i) (sym is.number i) (sym is.start i) (sym is.finish i) (rs i) (ws i) (stand_spelling head.stand row.standing is.stands i))
+    spelling head.place head.session head.number head.start head.finish head.reads head.writes head.standing
+    ∙ (λ i. line_of (sym is.place i) (sym is.session i) (sym is.number i) (sym is.start i) (sym is.finish i) (rs i) (ws i) (stand_spelling head.standing row.standing is.stands i))
 
 pub row_taken : (schema : Schema) (sessions : ℕ) (head : Head) (reads : List Observation) (writes : List Write) (row : LogRow) (a b c d : Option (List ℕ))
     → TakesLines a b (head_text head ∷ []) × HeadFits sessions head
@@ -138,7 +137,7 @@ row_taken schema sessions head reads writes row a b c d first read written is =
         finish = subst (λ (k : ℕ). k ≤ 2 ^ 64 - 1) (sym is.finish) first.1.finish;
         few_reads = subst (λ (k : ℕ). k ≤ 256) (sym (ap length is.read ∙ read.1)) first.1.reads;
         few_writes = subst (λ (k : ℕ). k ≤ 256) (sym (ap length is.written ∙ written.1)) first.1.writes;
-        done = standing_fits (length row.writes) head.stand row.standing is.stands (subst (λ (k : ℕ). StandFits k head.stand) (sym (ap length is.written ∙ written.1)) first.1.stand);
+        done = standing_fits (length row.writes) head.standing row.standing is.stands (subst (λ (k : ℕ). StandFits k head.standing) (sym (ap length is.written ∙ written.1)) first.1.stand);
         reads = subst (AllByRecursion (ReadFits schema)) (sym is.read) read.0.fit;
         writes = subst (AllByRecursion (WriteFits schema)) (sym is.written) written.0.fit;
         distinct = subst IsDistinctWrites (sym is.written) written.2;

@@ -5,12 +5,9 @@ use Rattle.std.specs.List.{AllByRecursion, flat_map}
 use Rattle.std.specs.Str.{bytes_eq}
 use Rattle.std.specs.declared.cmp.Ordering.{Ordering}
 use Rattle.std.specs.declared.cmp.Ordering.TheVariants.{Less, Equal, Greater}
-use Rattle.std.specs.Ordering.{nat_cmp, is_lt, is_eq}
-use Rattle.std.specs.FinMap as finite
-use Rattle.std.specs.FinMap.{FinMap, entries, insert, len, empty, get-from_entries, get-empty, same_map, nat_cmp-IsAntisymmetric, len-entries, len-empty}
+use Rattle.std.specs.Ordering.{nat_cmp, is_lt}
+use Rattle.std.specs.FinMap.{FinMap, entries, insert, len, empty, len-entries, len-empty}
 use Rattle.std.specs.Cmp.{nat_cmp_total}
-use Rattle.std.specs.BTreeMap as tree
-use Rattle.std.specs.BTreeMap.{BTreeMap}
 use Rattle.std.specs.Io.KnownBytes.{Consumes, IsAtEnd}
 use Rattle.std.proofs.KnownBytes.{Consumes-nil, Consumes-trans}
 use Rattle.std.proofs.lemmas.Cmp.{ranked}
@@ -22,7 +19,7 @@ use Rattle.occ_types.specs.declared.fault.Fault.TheVariants.{NoTable}
 use Rattle.occ_types.specs.Schema.{Table, Schema, check_key, check_key_in, check_tables}
 use Rattle.occ_model.specs.Log.{LogRow}
 use Rattle.occ_model.specs.State.{State, put}
-use Rattle.occ_core.specs.Core.{marks_of}
+use Rattle.occ_book.specs.Marks.{Marked}
 use Rattle.occ_text.specs.declared.tokens.Unread.{Unread}
 use Rattle.occ_text.specs.Escapes.{Gives}
 use Rattle.occ_text.specs.declared.headers.Limits.{Limits}
@@ -39,7 +36,7 @@ use Rattle.occ_books.specs.Taking.{TakesLines, Gathered, LogRowFits, is_behind}
 use Rattle.occ_books.specs.Printed.{IsEnding, EndTaken, EntryFits, IsBookText}
 use Rattle.occ_books.specs.declared.heads.Counts.{Counts}
 use Rattle.occ_books.proofs.Gathering.{one_line, more_lines, gathered_next, count_more, nothing, single_lines}
-use Rattle.occ_books.proofs.Rising.{LastIs, insert_last, marks-insert}
+use Rattle.occ_books.proofs.Rising.{LastIs, insert_last}
 
 -- ---- tables
 
@@ -86,45 +83,47 @@ is_last : (session : ℕ) → 1 ≤ session → last_session session ≡ Some se
 is_last zero h = absurd (omega arith)
 is_last (suc n) h = refl
 
-pub record MarksSoFar (sessions last count : ℕ) (marks : FinMap nat_cmp ℕ) (a b : Option (List ℕ)) : Type 0 where
-  pub taken : Gathered (λ (mark : ℕ × ℕ). mark_line mark ∷ []) (EntryFits sessions) a b (entries marks)
-  pub number : length (entries marks) ≡ count
-  pub ends : LastIs (last_session last) (entries marks)
+pub record MarksSoFar (sessions last count : ℕ) (marks : Marked) (a b : Option (List ℕ)) : Type 0 where
+  pub taken : Gathered (λ (mark : ℕ × ℕ). mark_line mark ∷ []) (EntryFits sessions) a b (entries marks.marks)
+  pub number : length (entries marks.marks) ≡ count
+  pub ends : LastIs (last_session last) (entries marks.marks)
+  pub all : marks.sessions ≡ sessions
 
-no_entries : (m : BTreeMap ℕ ℕ) → m.entries ≡ [] → entries (marks_of m) ≡ []
-no_entries m none =
-    let same = same_map nat_cmp_total nat_cmp-IsAntisymmetric (marks_of m) empty (λ q. get-from_entries nat_cmp_total m.entries q ∙ ap (finite.find nat_cmp q) none ∙ sym (get-empty nat_cmp q)) in
-    ap entries same ∙ nil_from_length _ (sym (len-entries empty) ∙ len-empty nat_cmp ℕ)
-
-pub marks_start : (sessions : ℕ) (m : BTreeMap ℕ ℕ) (a : Option (List ℕ)) → m.entries ≡ [] → MarksSoFar sessions 0 0 (marks_of m) a a
-marks_start sessions m a none =
-    let e = no_entries m none in
+pub marks_start : (sessions : ℕ) (marks : Marked) (a : Option (List ℕ)) → marks ≡ record { sessions = sessions; marks = empty } → MarksSoFar sessions 0 0 marks a a
+marks_start sessions marks a none =
+    let e : entries marks.marks ≡ [] = ap (λ (m : Marked). entries m.marks) none ∙ nil_from_length _ (sym (len-entries empty) ∙ len-empty nat_cmp ℕ) in
     record {
       taken = subst (Gathered (λ (mark : ℕ × ℕ). mark_line mark ∷ []) (EntryFits sessions) a a) (sym e) (nothing _ _ a);
       number = ap length e;
       ends = e;
+      all = ap (λ (m : Marked). m.sessions) none;
     }
 
-pub marks_next : (sessions last count : ℕ) (m n : BTreeMap ℕ ℕ) (mark : Mark) (a b c : Option (List ℕ)) → MarksSoFar sessions last count (marks_of m) a b
+-- the session of a mark that fits has a slot
+pub mark_there : (sessions last count : ℕ) (marks : Marked) (mark : Mark) (a b : Option (List ℕ)) → MarksSoFar sessions last count marks a b → MarkFits sessions mark → mark.session ≤ marks.sessions
+mark_there sessions last count marks mark a b so_far fits = subst (λ (n : ℕ). mark.session ≤ n) (sym so_far.all) fits.session.last
+
+pub marks_next : (sessions last count : ℕ) (old new : Marked) (mark : Mark) (a b c : Option (List ℕ)) → MarksSoFar sessions last count old a b
     → TakesLines b c (mark_text mark ∷ []) × MarkFits sessions mark × (last < mark.session)
-    → ((q : ℕ) → tree.get nat_cmp n q ≡ cond (is_eq (nat_cmp mark.session q)) (Some mark.number) (tree.get nat_cmp m q))
-    → MarksSoFar sessions mark.session (count + 1) (marks_of n) a c
-marks_next sessions last count m n mark a b c so_far next is =
-    let more : entries (marks_of n) ≡ entries (marks_of m) ++ (mark.session, mark.number) ∷ [] =
-    ap entries (marks-insert m n mark.session mark.number is) ∙ insert_last nat_cmp nat_cmp_total (last_session last) (marks_of m) mark.session mark.number so_far.ends (session_above last mark.session next.2) in
+    → new ≡ record old { marks = insert old.marks mark.session mark.number }
+    → MarksSoFar sessions mark.session (count + 1) new a c
+marks_next sessions last count old new mark a b c so_far next is =
+    let more : entries new.marks ≡ entries old.marks ++ (mark.session, mark.number) ∷ [] =
+    ap (λ (m : Marked). entries m.marks) is ∙ insert_last nat_cmp nat_cmp_total (last_session last) old.marks mark.session mark.number so_far.ends (session_above last mark.session next.2) in
     record {
-      taken = gathered_next _ (EntryFits sessions) (entries (marks_of m)) (entries (marks_of n)) (mark.session, mark.number) a b c more so_far.taken (next.0, (next.1.session, next.1.number));
-      number = count_more (entries (marks_of m)) (entries (marks_of n)) (mark.session, mark.number) count more so_far.number;
-      ends = subst (λ (o : Option ℕ). LastIs o (entries (marks_of n))) (sym (is_last mark.session next.1.session.first)) (entries (marks_of m), mark.number, more);
+      taken = gathered_next _ (EntryFits sessions) (entries old.marks) (entries new.marks) (mark.session, mark.number) a b c more so_far.taken (next.0, (next.1.session, next.1.number));
+      number = count_more (entries old.marks) (entries new.marks) (mark.session, mark.number) count more so_far.number;
+      ends = subst (λ (o : Option ℕ). LastIs o (entries new.marks)) (sym (is_last mark.session next.1.session.first)) (entries old.marks, mark.number, more);
+      all = ap (λ (m : Marked). m.sessions) is ∙ so_far.all;
     }
 
-pub marks_end : (sessions last n i : ℕ) (marks : FinMap nat_cmp ℕ) (a b c : Option (List ℕ)) → TakesLines a b (count_text (codes "marks") n ∷ []) → MarksSoFar sessions last i marks b c → i ≡ n
-    → TakesLines a c (mark_lines marks) × AllByRecursion (EntryFits sessions) (entries marks)
+pub marks_end : (sessions last n i : ℕ) (marks : Marked) (a b c : Option (List ℕ)) → TakesLines a b (count_text (codes "marks") n ∷ []) → MarksSoFar sessions last i marks b c → i ≡ n
+    → TakesLines a c (mark_lines marks.marks) × AllByRecursion (EntryFits sessions) (entries marks.marks)
 marks_end sessions last n i marks a b c first so_far all =
-    let count : n ≡ len marks = sym all ∙ sym so_far.number ∙ sym (len-entries marks) in (
-      more_lines (count_text (codes "marks") (len marks) ∷ []) (map mark_line (entries marks)) a b c
+    let count : n ≡ len marks.marks = sym all ∙ sym so_far.number ∙ sym (len-entries marks.marks) in (
+      more_lines (count_text (codes "marks") (len marks.marks) ∷ []) (map mark_line (entries marks.marks)) a b c
           (subst (λ (k : ℕ). TakesLines a b (count_text (codes "marks") k ∷ [])) count first)
-          (subst (TakesLines b c) (single_lines mark_line (entries marks)) so_far.taken.taken),
+          (subst (TakesLines b c) (single_lines mark_line (entries marks.marks)) so_far.taken.taken),
       so_far.taken.fit,
     )
 

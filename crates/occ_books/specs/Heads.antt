@@ -7,17 +7,21 @@ use Rattle.occ_text.specs.Spelling.{line_text}
 use Rattle.occ_text.specs.Reading.{tokens_of, number_of}
 use Rattle.occ_text.specs.StepReading.{◌>>=◌}
 use Rattle.occ_print.specs.Books.{mark_line, counter_line}
-use Rattle.occ_books.specs.declared.heads.Stand.{Stand}
-use Rattle.occ_books.specs.declared.heads.Stand.TheVariants.{Open, Writing, Done, Back}
+use Rattle.occ_book.specs.declared.rows.Standing as code_standing
+use Rattle.occ_book.specs.declared.rows.Standing.TheVariants.{Open, Writing, Done, Back}
 use Rattle.occ_books.specs.declared.heads.Head.{Head}
 use Rattle.occ_books.specs.declared.heads.Mark.{Mark}
 use Rattle.occ_books.specs.declared.heads.Counts.{Counts}
 use Rattle.occ_books.specs.Cursors.{Tokens, next_word, next_number, at_end}
 
+-- how far a row has come, as its first line says it: of an open one it tells nothing
+abbrev pub Stand : Type 0
+Stand = code_standing.Standing (Unit {0})
+
 -- ---- spelling
 
 abbrev pub stand_tokens : Stand → Tokens
-stand_tokens Open = codes "open" ∷ []
+stand_tokens (Open held) = codes "open" ∷ []
 stand_tokens (Writing done) = codes "writing" ∷ decimal done ∷ []
 stand_tokens (Done number) = codes "done" ∷ decimal number ∷ []
 stand_tokens (Back Conflict) = codes "conflict" ∷ []
@@ -25,7 +29,7 @@ stand_tokens (Back TooOld) = codes "tooold" ∷ []
 
 abbrev pub head_tokens : Head → Tokens
 head_tokens head = codes "row" ∷ decimal head.place ∷ decimal head.session ∷ decimal head.number ∷ decimal head.start ∷ decimal head.finish
-    ∷ decimal head.reads ∷ decimal head.writes ∷ stand_tokens head.stand
+    ∷ decimal head.reads ∷ decimal head.writes ∷ stand_tokens head.standing
 
 abbrev pub head_text : Head → List ℕ
 head_text head = line_text (head_tokens head)
@@ -45,7 +49,7 @@ pub record IsSession (sessions session : ℕ) : Type 0 where
 
 -- no more writes are done than there are
 abbrev pub StandFits : ℕ → Stand → Type 0
-StandFits writes Open = Unit {0}
+StandFits writes (Open held) = Unit {0}
 StandFits writes (Writing done) = done ≤ writes
 StandFits writes (Done number) = number ≤ 2 ^ 64 - 1
 StandFits writes (Back cause) = Unit {0}
@@ -58,7 +62,7 @@ pub record HeadFits (sessions : ℕ) (head : Head) : Type 0 where
   pub finish : head.finish ≤ 2 ^ 64 - 1
   pub reads : head.reads ≤ 256
   pub writes : head.writes ≤ 256
-  pub stand : StandFits head.writes head.stand
+  pub stand : StandFits head.writes head.standing
 
 pub record MarkFits (sessions : ℕ) (mark : Mark) : Type 0 where
   pub session : IsSession sessions mark.session
@@ -71,7 +75,7 @@ pub record CountsFit (counts : Counts) : Type 0 where
 -- ---- reading
 
 unfoldable pub bare_stand : List ℕ → Option Stand
-bare_stand word = if bytes_eq word (codes "open") then Some Open
+bare_stand word = if bytes_eq word (codes "open") then Some (Open tt)
     else (if bytes_eq word (codes "conflict") then Some (Back Conflict) else (if bytes_eq word (codes "tooold") then Some (Back TooOld) else None))
 
 unfoldable pub counted_stand : ℕ → List ℕ → List ℕ → Option Stand
@@ -102,7 +106,7 @@ head_of sessions tokens = do
   reads ← next_number 256 finish.1
   writes ← next_number 256 reads.1
   stand ← stand_of writes.0 writes.1
-  Some (record { place = place.0; session = session.0; number = number.0; start = start.0; finish = finish.0; reads = reads.0; writes = writes.0; stand = stand })
+  Some (record { place = place.0; session = session.0; number = number.0; start = start.0; finish = finish.0; reads = reads.0; writes = writes.0; standing = stand })
 
 unfoldable pub head_of_line : ℕ → List ℕ → Option Head
 head_of_line sessions line = option_and_then (head_of sessions) (tokens_of line)

@@ -5,3 +5,4 @@ pub mod Entries
 pub mod Taking
 pub mod Places
 pub mod Printed
+pub mod Untold

@@ -6,8 +6,6 @@ use Rattle.std.specs.FinMap.{entries, len}
 use Rattle.std.specs.Io.KnownBytes.{IsAtEnd, Appends, Keeps}
 use Rattle.occ_model.specs.Log.{Audited}
 use Rattle.occ_model.specs.World.{empty_base}
-use Rattle.occ_core.specs.Rows.{log_of}
-use Rattle.occ_core.specs.Core.{marks_of}
 use Rattle.occ_text.specs.declared.faults.WriteFault.{WriteFault}
 use Rattle.occ_text.specs.declared.faults.WriteFault.TheVariants as faults
 use Rattle.occ_text.specs.declared.trouble.Trouble.{Trouble}
@@ -16,11 +14,12 @@ use Rattle.occ_text.specs.Line.{lines_text}
 use Rattle.occ_text.specs.Headers.{HeaderFits}
 use Rattle.occ_text.specs.HeaderTaking.{header_of}
 use Rattle.occ_print.specs.Books.{Book, book_text, audit_line}
-use Rattle.occ_books.specs.declared.printed.Printed as code_printed
+use Rattle.occ_books.specs.declared.printed.PrintedBook as code_printed
 use Rattle.occ_books.specs.Heads.{IsSession, CountsFit}
 use Rattle.occ_books.specs.Entries.{AtFits}
 use Rattle.occ_books.specs.Taking.{TakesLines, LogRowFits}
 use Rattle.occ_books.specs.Places.{Version, Stopped, Unread}
+use Rattle.occ_books.specs.Untold.{log_of}
 
 -- what stands behind a book: nothing, or one audit line, whatever it says
 abbrev pub IsEnding : List (List ℕ) → Type 0
@@ -91,12 +90,12 @@ AuditGives (Err Write) text old new = ToldFront old new
 
 module _ {Z : Type 0} where
   -- the plain book
-  abbrev pub printed_book : code_printed.Printed Z → Book
+  abbrev pub printed_book : code_printed.PrintedBook Z → Book
   printed_book printed = record {
     header = header_of printed.header;
-    log = log_of printed.log.items;
-    marks = marks_of printed.marks;
-    state = printed.tables.state;
-    counter = printed.counts.counter;
-    low = printed.counts.low;
+    log = log_of printed.book.log.items;
+    marks = printed.book.marks.marks;
+    state = printed.book.table.state;
+    counter = printed.book.tnc;
+    low = printed.book.low;
   }

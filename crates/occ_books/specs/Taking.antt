@@ -12,15 +12,14 @@ use Rattle.occ_types.specs.Seen.{table_of}
 use Rattle.occ_model.specs.State.{Observation, Write, Found, Rows}
 use Rattle.occ_model.specs.RangeLaws.{IsDistinctWrites}
 use Rattle.occ_model.specs.Log.{Case, LogRow, Standing, Open, Writing, Done, Back}
+use Rattle.occ_book.specs.declared.rows.Standing.TheVariants as stands
 use Rattle.occ_text.specs.Line.{lines_text}
 use Rattle.occ_text.specs.Headers.{table_text, count_text, Within}
 use Rattle.occ_text.specs.HeaderTaking.{TablesSoFar}
 use Rattle.occ_books.specs.declared.heads.Head.{Head}
-use Rattle.occ_books.specs.declared.heads.Stand.{Stand}
-use Rattle.occ_books.specs.declared.heads.Stand.TheVariants as stands
 use Rattle.occ_books.specs.declared.printed.Behind as code_behind
 use Rattle.occ_books.specs.declared.printed.Behind.TheVariants as behind
-use Rattle.occ_books.specs.Heads.{IsSession}
+use Rattle.occ_books.specs.Heads.{IsSession, Stand}
 use Rattle.occ_books.specs.Entries.{ObjectFits, FoundFits, SpanFits, PairFits, WriteFits}
 
 -- whole lines were taken, and nothing else
@@ -102,7 +101,7 @@ module _ {Z : Type 0} where
 
 -- a standing of the log is what a row's first line says; a case is not told
 abbrev pub StandsSo : Stand → Standing → Type 0
-StandsSo stands.Open standing = (index : ℕ) × (case : Case) × (standing ≡ Open index case)
+StandsSo (stands.Open held) standing = (index : ℕ) × (case : Case) × (standing ≡ Open index case)
 StandsSo (stands.Writing done) standing = standing ≡ Writing done
 StandsSo (stands.Done number) standing = standing ≡ Done number
 StandsSo (stands.Back cause) standing = standing ≡ Back cause
@@ -116,4 +115,4 @@ pub record IsRowOf (head : Head) (reads : List Observation) (writes : List Write
   pub finish : row.finish ≡ head.finish
   pub read : row.reads ≡ reads
   pub written : row.writes ≡ writes
-  pub stands : StandsSo head.stand row.standing
+  pub stands : StandsSo head.standing row.standing

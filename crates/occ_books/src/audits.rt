@@ -1,19 +1,20 @@
 //! The audit of a printed book.
 
-ghost use Rattle.std.specs.Prelude.{IfOk};
+ghost use Rattle.std.specs.Prelude.{◌≡◌, IfOk, IfErr};
 ghost use Rattle.std.specs.Bool.{Decides};
 ghost use Rattle.occ_model.specs.Log.{Audited};
 ghost use Rattle.occ_model.specs.World.{empty_base};
+ghost use Rattle.occ_text.specs.declared.trouble.Trouble.TheVariants.{Memory};
 ghost use Rattle.occ_books.specs.Printed.{AuditGives, TellGives, printed_book};
 
-use crate::printed::{Printed, take_book};
-use occ_audit::{Book, audit_rows};
+use crate::printed::{PrintedBook, take_book};
+use occ_audit::audit_rows;
 use occ_print::lines::audit_line;
 use occ_text::faults::WriteFault;
 use occ_text::input::Input;
 use occ_text::output::Output;
 use occ_text::trouble::Trouble;
-use std::alloc::{AllocError, Allocator};
+use std::alloc::Allocator;
 use std::io::{Read, Write};
 
 /// Reads one book, writes `audit yes` or `audit no` and a line feed, and answers which of them: whether its log is explained by
@@ -37,15 +38,15 @@ pub fn audit_text<R: Read, W: Write, A: Allocator + Copy>(
 }
 
 /// Whether the audit of a book holds.
-fn judge<A: Allocator + Copy>(alloc: A, printed: &Printed<A>) -> Result<bool, AllocError>
-    ensures { IfOk result (λ verdict. Decides verdict (Audited empty_base (printed_book printed.now).marks (printed_book printed.now).state (printed_book printed.now).log)) }
+fn judge<A: Allocator + Copy>(alloc: A, printed: &PrintedBook<A>) -> Result<bool, Trouble>
+    ensures ok { IfOk result (λ verdict. Decides verdict (Audited empty_base (printed_book printed.now).marks (printed_book printed.now).state (printed_book printed.now).log)) }
+    ensures err { IfErr result (λ trouble. trouble ≡ Memory) }
 {
-    let book = Book {
-        log: printed.log.as_slice(),
-        marks: &printed.marks,
-        tables: &printed.tables,
-    };
-    audit_rows(alloc, &book)
+    match audit_rows(alloc, &printed.book.view()) {
+        Ok(verdict) => Ok(verdict),
+        // an audit is refused for want of memory alone
+        Err(_memory) => Err(Trouble::Memory),
+    }
 }
 
 /// Writes the line of a verdict.

@@ -6,23 +6,11 @@ ghost use Rattle.occ_books.specs.Cursors.{before};
 ghost use Rattle.occ_books.specs.Heads.{mark_text, counts_text, head_text, HeadFits, MarkFits, CountsFit, bare_stand, counted_stand, stand_of, next_session, mark_of, mark_of_line, counts_of, counts_of_line, head_of, head_of_line};
 
 use crate::cursors::{at_end, next_number, next_word};
+use occ_book::Standing;
 use occ_model::Cause;
 use occ_text::parts::Parts;
 use occ_text::tokens::{is_word, number, tokens};
 use occ_types::limits::{MAX_QUESTIONS, MAX_WRITES};
-
-/// How far a row has come, as its first line says it.
-#[derive(Clone, Copy, Debug, PartialEq, Eq)]
-pub enum Stand {
-    /// `open`: it is not decided.
-    Open,
-    /// `writing D`: so many of its writes are done.
-    Writing(usize),
-    /// `done TN`: it has finished under this number.
-    Done(u64),
-    /// `conflict` or `tooold`: it is backed up.
-    Back(Cause),
-}
 
 /// The first line of a row of the log: `row PLACE S N START FINISH R W STANDING`.
 #[derive(Clone, Copy, Debug, PartialEq, Eq)]
@@ -41,8 +29,8 @@ pub struct Head {
     pub reads: usize,
     /// How many writes follow them, up to 256.
     pub writes: usize,
-    /// How far it has come.
-    pub stand: Stand,
+    /// How far it has come: `open`, `writing D` where so many of its writes are done, `done TN` under this number, or `conflict` or `tooold`, for which it is backed up. Nothing more is told of an open row.
+    pub standing: Standing<()>,
 }
 
 /// A closing mark: `mark S N`.
@@ -65,15 +53,15 @@ pub struct Counts {
 
 /// A standing without a number.
 #[tactic(auto, unfolding(crate::specs::Heads::bare_stand))]
-fn bare_stand(word: &[u8]) -> Option<Stand>
+fn bare_stand(word: &[u8]) -> Option<Standing<()>>
     ensures { result ≡ bare_stand word.now }
 {
     if is_word(word, "open") {
-        Some(Stand::Open)
+        Some(Standing::Open(()))
     } else if is_word(word, "conflict") {
-        Some(Stand::Back(Cause::Conflict))
+        Some(Standing::Back(Cause::Conflict))
     } else if is_word(word, "tooold") {
-        Some(Stand::Back(Cause::TooOld))
+        Some(Standing::Back(Cause::TooOld))
     } else {
         None
     }
@@ -81,22 +69,22 @@ fn bare_stand(word: &[u8]) -> Option<Stand>
 
 /// A standing with a number, of a row with so many writes.
 #[tactic(auto, unfolding(crate::specs::Heads::counted_stand))]
-fn counted_stand(writes: usize, word: &[u8], digits: &[u8]) -> Option<Stand>
+fn counted_stand(writes: usize, word: &[u8], digits: &[u8]) -> Option<Standing<()>>
     ensures { result ≡ counted_stand writes word.now digits.now }
 {
     if is_word(word, "writing") {
         let done = number(digits, writes as u64)?;
-        Some(Stand::Writing(done as usize))
+        Some(Standing::Writing(done as usize))
     } else if is_word(word, "done") {
         let number = number(digits, u64::MAX)?;
-        Some(Stand::Done(number))
+        Some(Standing::Done(number))
     } else {
         None
     }
 }
 
 /// The standing of the last tokens of a line.
-fn stand_of(writes: usize, parts: &mut Parts<'_>) -> Option<Stand>
+fn stand_of(writes: usize, parts: &mut Parts<'_>) -> Option<Standing<()>>
     ensures { result ≡ stand_of writes parts.old }
 {
     let word = parts.take_part()?;
@@ -134,7 +122,7 @@ fn head_of(sessions: usize, parts: &mut Parts<'_>) -> Option<Head>
     let finish = next_number(parts, u64::MAX)?;
     let reads = next_number(parts, MAX_QUESTIONS as u64)? as usize;
     let writes = next_number(parts, MAX_WRITES as u64)? as usize;
-    let stand = stand_of(writes, parts)?;
+    let standing = stand_of(writes, parts)?;
     Some(Head {
         place,
         session,
@@ -143,7 +131,7 @@ fn head_of(sessions: usize, parts: &mut Parts<'_>) -> Option<Head>
         finish,
         reads,
         writes,
-        stand,
+        standing,
     })
 }
 

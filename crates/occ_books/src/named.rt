@@ -11,8 +11,7 @@ use crate::cursors::next_token;
 use occ_text::parts::Parts;
 use occ_text::texts;
 use occ_text::tokens::{Unread, name};
-use occ_types::Fault;
-use occ_types::{Key, Object, Row, Schema};
+use occ_types::{Fault, Key, Object, Row, Schema};
 use std::alloc::Allocator;
 
 /// What has a fault is not read.

@@ -1,49 +1,42 @@
 //! Taking a whole book from an input.
 
-ghost use Rattle.std.specs.Prelude.{ℕ, List, ◌≡◌, ◌≤◌, ◌^◌, ◌-◌, ◌++◌, ◌∷◌, [], ◌||◌, IfOk, None, map, codes};
+ghost use Rattle.std.specs.Prelude.{ℕ, List, ◌≡◌, ◌≤◌, ◌^◌, ◌-◌, ◌++◌, ◌∷◌, [], ◌||◌, IfOk, IsOkUnless, Ok, None, map, codes};
 ghost use Rattle.std.specs.FinMap as finite;
 ghost use Rattle.std.specs.List.{AllByRecursion};
 ghost use Rattle.std.specs.Str.{bytes_eq};
 ghost use Rattle.std.specs.Io.KnownBytes.{prepend_known};
+ghost use Rattle.occ_types.specs.declared.fault.Fault.TheVariants.{Memory};
 ghost use Rattle.occ_types.specs.Schema.{Table, check_tables};
 ghost use Rattle.occ_types.specs.Seen.{tables_of};
-ghost use Rattle.occ_core.specs.Core.{marks_of};
 ghost use Rattle.occ_text.specs.Headers.{table_text, count_text};
 ghost use Rattle.occ_text.specs.Faults.{widened};
+ghost use Rattle.occ_text.specs.declared.faults.ReadFault.TheVariants as read_faults;
 ghost use Rattle.occ_text.specs.HeaderTaking.{TablesSoFar};
 ghost use Rattle.occ_text.specs.Line.{Taken};
 ghost use Rattle.occ_print.specs.Books.{mark_lines, state_lines};
 ghost use Rattle.occ_books.specs.Entries.{AtFits};
 ghost use Rattle.occ_books.specs.Taking.{TakesLines, BehindTaken, FurtherFits, further_of, further_text};
-ghost use Rattle.occ_books.specs.Places.{Version, Tables as TablesAt, Marks, State, Counter, Audit, rows_to_come, TakesFrom, EndsFrom};
+ghost use Rattle.occ_books.specs.Places.{Version, Tables as TablesAt, Marks as MarksAt, State, Counter, Audit, rows_to_come, TakesFrom, EndsFrom};
 ghost use Rattle.occ_books.specs.Printed.{EntryFits, EndTaken, IsBookText, printed_book};
 
-use crate::heads::Counts;
 use crate::takes::{take_at, take_counts, take_mark};
 use crate::transactions::take_rows;
-use occ_core::{LogRow, Tables};
+use occ_book::{Book, Marks, Tables};
 use occ_text::faults::{LineFault, ReadFault, read_at_line};
 use occ_text::headers::{Header, count, table_behind, take_count, take_limits};
 use occ_text::input::{Input, Next};
 use occ_text::tokens::is_word;
-use occ_types::{Schema, TableDef};
+use occ_types::{Fault, Schema, TableDef};
 use std::alloc::Allocator;
-use std::collections::BTreeMap;
 use std::io::Read;
 
-/// What a book tells.
+/// What a printed book tells.
 #[derive(Drop)]
-pub struct Printed<A: Allocator> {
-    /// How the core was opened.
+pub struct PrintedBook<A: Allocator> {
+    /// How its store was opened.
     pub header: Header<A>,
-    /// The rows that entered, in the order of entry.
-    pub log: Vec<LogRow<A>, A>,
-    /// The closing marks, by session.
-    pub marks: BTreeMap<usize, u64, A>,
-    /// The rows of all tables.
-    pub tables: Tables<A>,
-    /// The transaction counter and the lower end of the window.
-    pub counts: Counts,
+    /// What the store had. A text tells nothing of the case of an open row.
+    pub book: Book<A, ()>,
 }
 
 /// The tables of a header, and how many rows of the log follow.
@@ -102,22 +95,35 @@ fn take_opening<R: Read, A: Allocator + Copy>(
     }
 }
 
+/// What a call gave that is refused for want of memory alone.
+fn unless_refused<T: Drop>(given: Result<T, Fault>) -> Result<T, ReadFault>
+    requires { IsOkUnless given Memory }
+    ensures given { IfOk result (λ value. given ≡ Ok value) }
+    ensures memory { IsOkUnless result read_faults.Memory }
+{
+    match given {
+        Ok(value) => Ok(value),
+        Err(_memory) => Err(ReadFault::Memory),
+    }
+}
+
 /// Takes the closing marks, in the order of their sessions.
 fn take_marks<R: Read, A: Allocator + Copy>(
     alloc: A,
     input: &mut Input<A>,
     reader: &mut R,
     sessions: usize,
-) -> Result<BTreeMap<usize, u64, A>, ReadFault>
-    ensures taken { IfOk result (λ marks. TakesLines (prepend_known input.old.unread (R.remaining reader.old)) (prepend_known input.new.unread (R.remaining reader.new)) (mark_lines (marks_of marks)) × AllByRecursion (EntryFits sessions) (finite.entries (marks_of marks))) }
-    ensures led { (schema : List Table) → TakesFrom result (Marks (record { schema = schema; sessions = sessions })) (λ _. State (record { schema = schema; sessions = sessions })) (prepend_known input.old.unread (R.remaining reader.old)) (prepend_known input.new.unread (R.remaining reader.new)) input.old.number input.new.number }
+) -> Result<Marks<A>, ReadFault>
+    ensures taken { IfOk result (λ marks. TakesLines (prepend_known input.old.unread (R.remaining reader.old)) (prepend_known input.new.unread (R.remaining reader.new)) (mark_lines marks.marks) × AllByRecursion (EntryFits sessions) (finite.entries marks.marks)) }
+    ensures sessions { IfOk result (λ marks. marks.sessions ≡ sessions) }
+    ensures led { (schema : List Table) → TakesFrom result (MarksAt (record { schema = schema; sessions = sessions })) (λ _. State (record { schema = schema; sessions = sessions })) (prepend_known input.old.unread (R.remaining reader.old)) (prepend_known input.new.unread (R.remaining reader.new)) input.old.number input.new.number }
 {
     let count = take_count(input, reader, "marks", 0, u64::MAX)?;
-    let mut marks = BTreeMap::new(alloc);
+    let mut marks = unless_refused(Marks::new(alloc, sessions))?;
     let mut last = 0;
     for _ in 0..count {
         let mark = take_mark(input, reader, sessions, last)?;
-        marks.insert(mark.session, mark.number)?;
+        marks.set(mark.session, mark.number);
         last = mark.session;
     }
     Ok(marks)
@@ -134,11 +140,11 @@ fn take_state<R: Read, A: Allocator + Copy>(
     ensures led { (sessions : ℕ) → TakesFrom result (State (record { schema = schema.now; sessions = sessions })) (λ _. Counter) (prepend_known input.old.unread (R.remaining reader.old)) (prepend_known input.new.unread (R.remaining reader.new)) input.old.number input.new.number }
 {
     let count = take_count(input, reader, "state", 0, u64::MAX)?;
-    let mut tables = Tables::new(alloc, schema.tables().len())?;
+    let mut tables = unless_refused(Tables::new(alloc, schema.tables().len()))?;
     let mut last = None;
     for _ in 0..count {
         let (object, row) = take_at(alloc, input, reader, schema, &last)?;
-        tables.put(object.table, &object.key, Some(&row))?;
+        unless_refused(tables.put(object.table, &object.key, Some(&row)))?;
         last = Some(object);
     }
     Ok(tables)
@@ -177,9 +183,10 @@ pub fn take_book<R: Read, A: Allocator + Copy>(
     alloc: A,
     input: &mut Input<A>,
     reader: &mut R,
-) -> Result<Printed<A>, ReadFault>
+) -> Result<PrintedBook<A>, ReadFault>
     requires { input.old.number ≡ 0 }
     ensures taken { IfOk result (λ printed. IsBookText (prepend_known input.old.unread (R.remaining reader.old)) (printed_book printed)) }
+    ensures sessions { IfOk result (λ printed. printed.book.marks.sessions ≡ printed.header.limits.sessions) }
     ensures led { EndsFrom result Version (prepend_known input.old.unread (R.remaining reader.old)) (prepend_known input.new.unread (R.remaining reader.new)) input.old.number }
 {
     let limits = take_limits(input, reader)?;
@@ -187,14 +194,17 @@ pub fn take_book<R: Read, A: Allocator + Copy>(
     let schema = opening.schema;
     let log = take_rows(alloc, input, reader, &schema, limits.sessions, opening.rows)?;
     let marks = take_marks(alloc, input, reader, limits.sessions)?;
-    let tables = take_state(alloc, input, reader, &schema)?;
+    let table = take_state(alloc, input, reader, &schema)?;
     let counts = take_counts(input, reader)?;
     take_end(input, reader)?;
-    Ok(Printed {
+    Ok(PrintedBook {
         header: Header { limits, schema },
-        log,
-        marks,
-        tables,
-        counts,
+        book: Book {
+            log,
+            table,
+            marks,
+            low: counts.low,
+            tnc: counts.counter,
+        },
     })
 }

@@ -6,20 +6,18 @@ ghost use Rattle.occ_types.specs.Seen.{object_of};
 ghost use Rattle.occ_model.specs.Overlay.{own};
 ghost use Rattle.occ_model.specs.RangeLaws.{IsDistinctWrites};
 ghost use Rattle.occ_sets.specs.Seen.{rows_of, observation_of};
-ghost use Rattle.occ_core.specs.Rows.{standing_of, log_row_of, log_of};
 ghost use Rattle.occ_print.specs.Books.{pair_line, read_lines, write_line, row_lines};
 ghost use Rattle.occ_books.specs.Entries.{PairFits, WriteFits};
 ghost use Rattle.occ_books.specs.Places as places;
 ghost use Rattle.occ_books.specs.Places.{InRow, ReadOf, Marks, frame_of, rows_to_come, writes_to_come, reads_to_come, pairs_to_come, TakesFrom};
-ghost use Rattle.occ_books.specs.Taking.{TakesLines, Gathered, RisesFrom, ReadFits, LogRowFits, StandsSo, IsRowOf};
+ghost use Rattle.occ_books.specs.Taking.{TakesLines, Gathered, RisesFrom, ReadFits, LogRowFits, IsRowOf};
+ghost use Rattle.occ_books.specs.Untold.{log_row_of, log_of};
 
 use crate::entries::Asked;
-use crate::heads::{Head, Stand};
+use crate::heads::Head;
 use crate::takes::{take_asked, take_head, take_pair, take_write};
-use occ_case::cases::Case;
-use occ_core::rows::OpenCase;
-use occ_core::{LogRow, Standing};
-use occ_sets::{Answer, Observation, ReadSet, SharedReads, SharedWrites, WriteSet};
+use occ_book::LogRow;
+use occ_sets::{Answer, Observation, ReadSet, WriteSet};
 use occ_text::faults::{ReadFault, read_at_line};
 use occ_text::input::Input;
 use occ_text::tokens::Unread;
@@ -74,7 +72,7 @@ fn take_read<R: Read, A: Allocator + Copy>(
 }
 
 /// Notes a read behind others.
-fn note<A: Allocator>(reads: &mut ReadSet<A>, read: Observation<A>) -> Result<(), AllocError>
+fn note<A: Allocator + Copy>(reads: &mut ReadSet<A>, read: Observation<A>) -> Result<(), AllocError>
     ensures { OnOk result (reads.new ≡ reads.old ++ observation_of read ∷ []) }
 {
     let Observation { question, answer } = read;
@@ -104,7 +102,7 @@ fn take_reads<R: Read, A: Allocator + Copy>(
 }
 
 /// Adds a write of an object that wasn't written before. `Malformed` where it was.
-fn add_write<A: Allocator>(
+fn add_write<A: Allocator + Copy>(
     writes: &mut WriteSet<A>,
     object: Object<A>,
     row: Option<Row<A>>,
@@ -116,7 +114,8 @@ fn add_write<A: Allocator>(
     if writes.writes(&object) {
         return Err(Unread::Malformed);
     }
-    match writes.set(object, row) {
+    let Object { table, key } = object;
+    match writes.set(table, key, row) {
         Ok(()) => Ok(()),
         Err(_refused) => Err(Unread::Memory),
     }
@@ -143,42 +142,11 @@ fn take_writes<R: Read, A: Allocator + Copy>(
     Ok(writes)
 }
 
-/// A case of a row that is open: a book doesn't tell it, and no audit asks for it.
-fn untold<A: Allocator + Copy>(alloc: A) -> Result<OpenCase<A>, AllocError> {
-    let reads = SharedReads::new(alloc, ReadSet::new(alloc))?;
-    let writes = SharedWrites::new(alloc, WriteSet::new(alloc))?;
-    let case = Case::new(0, 0, reads, writes, Vec::new(alloc), Vec::new(alloc));
-    Ok(OpenCase::new(0, case))
-}
-
-/// The standing that a row's first line tells.
-fn standing<A: Allocator + Copy>(alloc: A, stand: Stand) -> Result<Standing<A>, AllocError>
-    ensures { IfOk result (λ standing. StandsSo stand (standing_of standing)) }
-{
-    match stand {
-        Stand::Open => {
-            let case = untold(alloc)?;
-            Ok(Standing::Open(case))
-        }
-        Stand::Writing(done) => Ok(Standing::Writing(done)),
-        Stand::Done(number) => Ok(Standing::Done(number)),
-        Stand::Back(cause) => Ok(Standing::Back(cause)),
-    }
-}
-
 /// The row of a first line, its reads and its writes.
-fn row_of<A: Allocator + Copy>(
-    alloc: A,
-    head: Head,
-    reads: ReadSet<A>,
-    writes: WriteSet<A>,
-) -> Result<LogRow<A>, AllocError>
-    ensures { IfOk result (λ row. IsRowOf head reads writes (log_row_of row)) }
+fn row_of<A: Allocator>(head: Head, reads: ReadSet<A>, writes: WriteSet<A>) -> LogRow<A, ()>
+    ensures { IsRowOf head reads writes (log_row_of result) }
 {
-    let reads = SharedReads::new(alloc, reads)?;
-    let writes = SharedWrites::new(alloc, writes)?;
-    let standing = standing(alloc, head.stand)?;
-    Ok(LogRow {
+    LogRow {
         place: head.place,
         session: head.session,
         number: head.number,
@@ -186,8 +154,8 @@ fn row_of<A: Allocator + Copy>(
         finish: head.finish,
         reads,
         writes,
-        standing,
-    })
+        standing: head.standing,
+    }
 }
 
 /// Takes a row of the log.
@@ -197,15 +165,14 @@ fn take_row<R: Read, A: Allocator + Copy>(
     reader: &mut R,
     schema: &Schema<A>,
     sessions: usize,
-) -> Result<LogRow<A>, ReadFault>
+) -> Result<LogRow<A, ()>, ReadFault>
     ensures taken { IfOk result (λ row. TakesLines (prepend_known input.old.unread (R.remaining reader.old)) (prepend_known input.new.unread (R.remaining reader.new)) (row_lines schema.now (log_row_of row)) × LogRowFits schema.now sessions (log_row_of row)) }
     ensures led { (rows : ℕ) → TakesFrom result (places.LogRow (frame_of schema.now sessions) rows) (λ _. rows_to_come (frame_of schema.now sessions) rows) (prepend_known input.old.unread (R.remaining reader.old)) (prepend_known input.new.unread (R.remaining reader.new)) input.old.number input.new.number }
 {
     let head = take_head(input, reader, sessions)?;
     let reads = take_reads(alloc, input, reader, schema, head.reads)?;
     let writes = take_writes(alloc, input, reader, schema, head.writes)?;
-    let row = row_of(alloc, head, reads, writes)?;
-    Ok(row)
+    Ok(row_of(head, reads, writes))
 }
 
 /// Takes so many rows of the log. Memory is asked for row by row, since the count may be any.
@@ -216,7 +183,7 @@ pub(crate) fn take_rows<R: Read, A: Allocator + Copy>(
     schema: &Schema<A>,
     sessions: usize,
     count: u64,
-) -> Result<Vec<LogRow<A>, A>, ReadFault>
+) -> Result<Vec<LogRow<A, ()>, A>, ReadFault>
     ensures taken { IfOk result (λ log. Gathered (row_lines schema.now) (LogRowFits schema.now sessions) (prepend_known input.old.unread (R.remaining reader.old)) (prepend_known input.new.unread (R.remaining reader.new)) (log_of log.items) × (length log.items ≡ count)) }
     ensures led { TakesFrom result (rows_to_come (frame_of schema.now sessions) count) (λ _. Marks (frame_of schema.now sessions)) (prepend_known input.old.unread (R.remaining reader.old)) (prepend_known input.new.unread (R.remaining reader.new)) input.old.number input.new.number }
 {

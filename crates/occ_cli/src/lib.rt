@@ -8,5 +8,6 @@ mod replay;
 mod replays;
 
 pub use occ_audit::audit_rows;
+pub use occ_books::audit_text;
 pub use occ_text::trouble::{Trouble, status_of};
 pub use replay::replay_text;

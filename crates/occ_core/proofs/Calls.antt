@@ -161,13 +161,10 @@ decide_exit_late parts world seen sound session place row found at closed =
     subst (λ w. Step w (Decide session) (Refused faults.AlreadyDecided) w) seen (decide_late parts session place row sound found at closed)
 
 -- the row under way stands in the log
-pub row_stands : (parts : Parts) (session place : ℕ) → AreSound parts → row_under_way parts.slots session ≡ Ok place → slice_get parts.log place ≡ None → ⊥
-row_stands parts session place sound found none =
+pub stands_there : (parts : Parts) (session : ℕ) → AreSound parts → (place : ℕ) → row_under_way parts.slots session ≡ Ok place → is_some (slice_get parts.log place) ≡ true
+stands_there parts session sound place found =
     let u = found_row parts session place sound found in
-    clash u.row (sym (held-get (suc u.slot_at) u.hold.place parts.log u.row u.row_there) ∙ ap (slice_get parts.log) (sym u.place_is) ∙ none)
-  where
-    clash : (row : LogRow) → Some row ≡ None → ⊥
-    clash row e = cc
+    ap (λ p. is_some (slice_get parts.log p)) u.place_is ∙ ap is_some (held-get (suc u.slot_at) u.hold.place parts.log u.row u.row_there)
 
 pub decide_whole : (parts : Parts) (world : World) → world_of parts ≡ world → AreSound parts → (session place : ℕ) (row : LogRow) (index : ℕ) (case : Case) → row_under_way parts.slots session ≡ Ok place → slice_get parts.log place ≡ Some row → row.standing ≡ Open index case
     → (v : Verdict) → v ≡ verdict case → (log : List LogRow) → log ≡ slice_set parts.log place (record row { standing = decided v })

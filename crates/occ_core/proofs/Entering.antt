@@ -22,7 +22,7 @@ use Rattle.occ_model.proofs.Phases.{not_refused}
 use Rattle.occ_model.proofs.Steps.{passed}
 use Rattle.std.specs.List.{list_any}
 use Rattle.occ_core.specs.Phases.{reads_of}
-use Rattle.occ_core.specs.Reads.{session_fault, start_fault}
+use Rattle.occ_core.specs.Reads.{session_fault, closed_fault, start_fault}
 use Rattle.occ_core.specs.Entries.{due_fault, busy_fault, spare_fault, turn_to_enter, write_fault, log_fault, counter_fault, room_to_enter}
 use Rattle.occ_core.specs.Slots.{Slot, Hold, last_of, active_from, ArePlaced, HoldsArePlaced}
 use Rattle.occ_core.specs.declared.core_entries.Entered as code_entry
@@ -34,7 +34,7 @@ use Rattle.occ_core.proofs.Counting.{active_counted}
 use Rattle.occ_core.proofs.Moves as moves
 use Rattle.occ_core.proofs.Opponents.{active_same}
 use Rattle.occ_core.proofs.Places.{length-set, slice_get-below}
-use Rattle.occ_core.proofs.Reading.{session_is, last_is, not_marked, there, reads_are}
+use Rattle.occ_core.proofs.Reading.{session_is, last_is, there, reads_are}
 
 -- The guards on the writes.
 
@@ -99,10 +99,11 @@ nest_last [] ys = alone (first_fault ys)
 nest_last (None ∷ xs) ys = nest_last xs ys
 nest_last (Some f ∷ xs) ys = refl
 
-without : (a b : Option Fault) (others : List (Option Fault)) → first_fault (a ∷ b ∷ None ∷ others) ≡ first_fault (a ∷ b ∷ others)
-without None None others = refl
-without (Some f) b others = refl
-without None (Some f) others = refl
+without : (a b c : Option Fault) (others : List (Option Fault)) → first_fault (a ∷ b ∷ c ∷ None ∷ others) ≡ first_fault (a ∷ b ∷ c ∷ others)
+without None None None others = refl
+without (Some f) b c others = refl
+without None (Some f) c others = refl
+without None None (Some f) others = refl
 
 busy_is : (parts : Parts) (session : ℕ) → AreSound parts → session_fault parts.slots session ≡ None → refusals.session_busy (world_of parts) session ≡ busy_fault (slice_get parts.slots (session - 1))
 busy_is parts session sound free =
@@ -129,7 +130,7 @@ counter_is parts sound =
 
 pub entry_refusal : (parts : Parts) (session number start : ℕ) (writes : List Write) → AreSound parts
     → refusal (world_of parts) (Enter session (Request number start writes))
-    ≡ first_fault (turn_to_enter parts.slots parts.phases parts.counter session number start ∷ room_to_enter parts.settings.schema parts.slots parts.log parts.counter writes ∷ [])
+    ≡ first_fault (turn_to_enter parts.slots parts.marks parts.phases parts.counter session number start ∷ room_to_enter parts.settings.schema parts.slots parts.log parts.counter writes ∷ [])
 entry_refusal parts session number start writes sound =
     ap (λ o. first_fault (o ∷ refusals.session_closed w session ∷ refusals.not_due w session number ∷ refusals.session_busy w session ∷ None ∷ rest)) (session_is parts session sound)
     ∙ at (session_fault parts.slots session) refl
@@ -140,9 +141,12 @@ entry_refusal parts session number start writes sound =
     room : List (Option Fault)
     room = check_writes parts.settings.schema writes ∷ log_fault (length parts.log) ∷ counter_fault parts.counter (length (active_from parts.log parts.slots)) ∷ []
 
+    closed : Option Fault
+    closed = closed_fault parts.marks session
+
     turn : Option Fault → List (Option Fault)
     turn o =
-        o ∷ due_fault (last_of parts.slots (session - 1)) number ∷ busy_fault (slice_get parts.slots (session - 1)) ∷ spare_fault number ∷ start_fault parts.phases parts.counter session number start ∷ []
+        o ∷ closed ∷ due_fault (last_of parts.slots (session - 1)) number ∷ busy_fault (slice_get parts.slots (session - 1)) ∷ spare_fault number ∷ start_fault parts.phases parts.counter session number start ∷ []
 
     rest : List (Option Fault)
     rest = refusals.numbers_exhausted number ∷ refusals.wrong_start w session number start ∷ check_writes parts.settings.schema writes ∷ refusals.log_full w ∷ refusals.counter_exhausted w ∷ []
@@ -155,11 +159,10 @@ entry_refusal parts session number start writes sound =
         ∙ sym (ap (λ o. first_fault (first_fault (turn o) ∷ first_fault room ∷ [])) e)
     at None e =
         ap (λ o. first_fault (o ∷ refusals.session_closed w session ∷ refusals.not_due w session number ∷ refusals.session_busy w session ∷ None ∷ rest)) e
-        ∙ ap (λ o. first_fault (o ∷ refusals.not_due w session number ∷ refusals.session_busy w session ∷ None ∷ rest)) (not_marked parts session sound)
-        ∙ ap (λ last. first_fault (due_fault last number ∷ refusals.session_busy w session ∷ None ∷ rest)) (sym (last_is parts session sound e))
-        ∙ ap (λ o. first_fault (due_fault (last_of parts.slots (session - 1)) number ∷ o ∷ None ∷ rest)) (busy_is parts session sound e)
-        ∙ without (due_fault (last_of parts.slots (session - 1)) number) (busy_fault (slice_get parts.slots (session - 1))) rest
-        ∙ ap (λ o. first_fault (due_fault (last_of parts.slots (session - 1)) number ∷ busy_fault (slice_get parts.slots (session - 1)) ∷ spare_fault number ∷ start_fault parts.phases parts.counter session number start
+        ∙ ap (λ last. first_fault (closed ∷ due_fault last number ∷ refusals.session_busy w session ∷ None ∷ rest)) (sym (last_is parts session sound e))
+        ∙ ap (λ o. first_fault (closed ∷ due_fault (last_of parts.slots (session - 1)) number ∷ o ∷ None ∷ rest)) (busy_is parts session sound e)
+        ∙ without closed (due_fault (last_of parts.slots (session - 1)) number) (busy_fault (slice_get parts.slots (session - 1))) rest
+        ∙ ap (λ o. first_fault (closed ∷ due_fault (last_of parts.slots (session - 1)) number ∷ busy_fault (slice_get parts.slots (session - 1)) ∷ spare_fault number ∷ start_fault parts.phases parts.counter session number start
         ∷ check_writes parts.settings.schema writes ∷ log_fault (length parts.log) ∷ o ∷ [])) (counter_is parts sound)
         ∙ sym (nest_last (turn None) room) ∙ sym (nest (turn None) (first_fault room ∷ []))
         ∙ sym (ap (λ o. first_fault (first_fault (turn o) ∷ first_fault room ∷ [])) e)
@@ -220,13 +223,13 @@ open_row parts world seen session number start reads reads_is writes theirs same
     ∙ ap (λ n. record { place = n; session = session; number = number; start = start; finish = parts.counter; reads = reads_under (world_of parts) session number; writes = writes; standing = Open (length parts.log) case }) (let e : length parts.log ≡ 0 + length parts.log = omega arith in e)
     ∙ ap (λ w. entering w session number start (reads_under w session number) writes (Open (length w.log) case)) seen
 
-pub entry_turned : (parts : Parts) (world : World) → world_of parts ≡ world → (session number start : ℕ) (writes : List Write) → AreSound parts → (fault : Fault) → turn_to_enter parts.slots parts.phases parts.counter session number start ≡ Some fault
+pub entry_turned : (parts : Parts) (world : World) → world_of parts ≡ world → (session number start : ℕ) (writes : List Write) → AreSound parts → (fault : Fault) → turn_to_enter parts.slots parts.marks parts.phases parts.counter session number start ≡ Some fault
     → refusal world (Enter session (Request number start writes)) ≡ Some fault
 entry_turned parts world seen session number start writes sound fault told =
     ap (λ w. refusal w (Enter session (Request number start writes))) (sym seen) ∙ entry_refusal parts session number start writes sound
     ∙ ap (λ o. first_fault (o ∷ room_to_enter parts.settings.schema parts.slots parts.log parts.counter writes ∷ [])) told
 
-pub entry_roomed : (parts : Parts) (world : World) → world_of parts ≡ world → (session number start : ℕ) (writes : List Write) → AreSound parts → turn_to_enter parts.slots parts.phases parts.counter session number start ≡ None
+pub entry_roomed : (parts : Parts) (world : World) → world_of parts ≡ world → (session number start : ℕ) (writes : List Write) → AreSound parts → turn_to_enter parts.slots parts.marks parts.phases parts.counter session number start ≡ None
     → refusal world (Enter session (Request number start writes)) ≡ room_to_enter parts.settings.schema parts.slots parts.log parts.counter writes
 entry_roomed parts world seen session number start writes sound free =
     ap (λ w. refusal w (Enter session (Request number start writes))) (sym seen) ∙ entry_refusal parts session number start writes sound

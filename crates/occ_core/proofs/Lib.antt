@@ -14,3 +14,5 @@ pub mod Counting
 pub mod Entering
 pub mod Nexts
 pub mod SingleWrites
+pub mod Replied
+pub mod Standing

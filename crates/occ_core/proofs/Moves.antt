@@ -49,7 +49,6 @@ read_moves old session number start question sound none = record {
   window_is = sound.window_is;
   log_room = sound.log_room;
   counter_room = sound.counter_room;
-  none_closed = sound.none_closed;
 }
 
 -- a slot of a session, replaced: what is said of each holds of the new one and of the others
@@ -140,7 +139,6 @@ module _ (old : Parts) (place number start : ℕ) (writes : List Write) (index :
     window_is = λ from above test. sound.window_is from above test ∙ sym (finished-push test old.log entered_row old.counter (low_of old) from refl);
     log_room = let r = room.0 in let e = length-append old.log (entered_row ∷ []) in omega arith;
     counter_room = let r = room.1 in let e = count-push old.log entered_row in omega arith;
-    none_closed = sound.none_closed;
   }
     where
       inside : (hold : Hold) → Some (record { place = length old.log; writes = writes }) ≡ Some hold → record { place = length old.log; writes = writes } ≡ hold
@@ -253,7 +251,6 @@ module _ (old : Parts) (place : ℕ) (slot : Slot) (hold : Hold) (row : LogRow) 
       log_room = let r = sound.log_room in let e = length-set old.log hold.place (standing_at row (decided (verdict case))) in omega arith;
       counter_room = room_kept old.counter (active_count (world_of decided_parts)) (active_count (world_of old)) (cond (is_active row.standing) 1 0) (cond (is_active (decided (verdict case))) 1 0)
           (count-set old.log hold.place row (standing_at row (decided (verdict case))) is_there) (ap (λ s. cond (is_active s) 1 0) stands) (no_more_active (verdict case)) sound.counter_room;
-      none_closed = sound.none_closed;
     }
 
   -- A single write.
@@ -283,7 +280,6 @@ module _ (old : Parts) (place : ℕ) (slot : Slot) (hold : Hold) (row : LogRow) 
       log_room = let r = sound.log_room in let e = length-set old.log hold.place (standing_at row (Writing (done + 1))) in omega arith;
       counter_room = room_kept old.counter (active_count (world_of written_parts)) (active_count (world_of old)) (cond (is_active row.standing) 1 0) 1
           (count-set old.log hold.place row (standing_at row (Writing (done + 1))) is_there) (ap (λ s. cond (is_active s) 1 0) stands) (omega arith) sound.counter_room;
-      none_closed = sound.none_closed;
     }
 
   -- no write is left, and nothing moves
@@ -341,7 +337,6 @@ module _ (old : Parts) (place : ℕ) (slot : Slot) (hold : Hold) (row : LogRow) 
           log_room = let r = sound.log_room in let e = length-set old.log hold.place (standing_at row (Done (old.counter + 1))) in omega arith;
           counter_room = room_used old.counter (active_count (world_of finished_parts)) (active_count (world_of old)) (cond (is_active row.standing) 1 0)
               (count-set old.log hold.place row (standing_at row (Done (old.counter + 1))) is_there) (ap (λ s. cond (is_active s) 1 0) stands) sound.counter_room;
-          none_closed = sound.none_closed;
         }
 
   -- A session is let go whose row was backed up.
@@ -369,5 +364,4 @@ module _ (old : Parts) (place : ℕ) (slot : Slot) (hold : Hold) (row : LogRow) 
       window_is = sound.window_is;
       log_room = sound.log_room;
       counter_room = sound.counter_room;
-      none_closed = sound.none_closed;
     }

@@ -63,7 +63,6 @@ opened_sound schema sessions keep = record {
   window_is = λ start above test. ap (Rattle.std.specs.List.list_any test) (drop-nothing (start - Rattle.occ_core.specs.Parts.low_of (opened_parts schema sessions keep)));
   log_room = omega arith;
   counter_room = omega arith;
-  none_closed = refl;
 }
 
 -- the fields of a core that was just opened are these parts

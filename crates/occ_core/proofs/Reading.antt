@@ -1,8 +1,7 @@
 -- What the reads of the core have to show, over plain parts.
 use Rattle.std.proofs.Common.{◌≡◌, ℕ, zero, suc, ◌-◌, ◌<◌, Bool, not, ◌&&◌, List, [], ◌∷◌, length, Option, None, Some, Result, Err, refl, sym, ap, subst, ◌∙◌, arith}
-use Rattle.std.specs.Prelude.{Vec, is_some, slice_get, nat_le, nat_lt, ◌++◌}
+use Rattle.std.specs.Prelude.{Vec, slice_get, nat_le, nat_lt, ◌++◌}
 use Rattle.std.proofs.lemmas.Bool.{leb-true, ltb-true}
-use Rattle.std.specs.Ordering.{nat_cmp}
 use Rattle.std.specs.FinMap as finite
 use Rattle.std.specs.FinMap.{FinMap}
 use Rattle.occ_types.specs.declared.fault.Fault.{Fault}
@@ -24,7 +23,7 @@ use Rattle.occ_model.proofs.Tests as tests
 use Rattle.occ_model.proofs.Phases.{not_refused}
 use Rattle.occ_model.proofs.Steps.{keeps}
 use Rattle.occ_core.specs.Phases.{reads_of}
-use Rattle.occ_core.specs.Reads.{session_fault, number_fault, start_fault, turn_fault, size_fault, room_fault, noted}
+use Rattle.occ_core.specs.Reads.{session_fault, closed_fault, number_fault, start_fault, turn_fault, size_fault, room_fault, noted}
 use Rattle.occ_core.specs.Replies.{reading, scanning, forgetting}
 use Rattle.occ_core.specs.Slots.{last_of}
 use Rattle.occ_core.specs.Parts.{Parts, world_of, AreSound}
@@ -45,7 +44,6 @@ forget_moves old session number sound none = record {
   window_is = sound.window_is;
   log_room = sound.log_room;
   counter_room = sound.counter_room;
-  none_closed = sound.none_closed;
 }
 
 pub forget_exit : (parts : Parts) (world : World) → world_of parts ≡ world → AreSound parts → (session number : ℕ) (reply : Result Bool Fault) (fault : Fault) → reply ≡ Err fault → session_fault parts.slots session ≡ Some fault
@@ -76,38 +74,31 @@ last_is parts session sound free =
     ap (λ o. elim o as (λ _. ℕ) [ None ↦ 0 | Some slot ↦ slot.last ]) found.1
     ∙ (sound.slots_true (session - 1) found.0 found.1).last_is ∙ ap (last_entered (world_of parts)) same
 
-pub not_marked : (parts : Parts) (session : ℕ) → AreSound parts → refusals.session_closed (world_of parts) session ≡ None
-not_marked parts session sound =
-    ap (λ o. fault_if (is_some o) faults.SessionClosed) (ap (λ marks. finite.get marks session) sound.none_closed ∙ finite.get-empty nat_cmp session)
-
-nested : (a b c : Option Fault) (others : List (Option Fault)) → first_fault (first_fault (a ∷ b ∷ c ∷ []) ∷ others) ≡ first_fault (a ∷ b ∷ c ∷ others)
-nested (Some f) b c others = refl
-nested None (Some f) c others = refl
-nested None None (Some f) others = refl
-nested None None None others = refl
+nested : (a b c d : Option Fault) (others : List (Option Fault)) → first_fault (first_fault (a ∷ b ∷ c ∷ d ∷ []) ∷ others) ≡ first_fault (a ∷ b ∷ c ∷ d ∷ others)
+nested (Some f) b c d others = refl
+nested None (Some f) c d others = refl
+nested None None (Some f) d others = refl
+nested None None None (Some f) others = refl
+nested None None None None others = refl
 
 turn_is : (parts : Parts) (session number start : ℕ) (others : List (Option Fault)) → AreSound parts
     → first_fault (refusals.no_session (world_of parts) session ∷ refusals.session_closed (world_of parts) session ∷ refusals.not_readable (world_of parts) session number ∷ refusals.wrong_start (world_of parts) session number start ∷ others)
-    ≡ first_fault (turn_fault parts.slots parts.phases parts.counter session number start ∷ others)
+    ≡ first_fault (turn_fault parts.slots parts.marks parts.phases parts.counter session number start ∷ others)
 turn_is parts session number start others sound =
     ap (λ o. first_fault (o ∷ refusals.session_closed w session ∷ refusals.not_readable w session number ∷ refusals.wrong_start w session number start ∷ others)) (session_is parts session sound)
     ∙ at (session_fault parts.slots session) refl
-    ∙ sym (nested (session_fault parts.slots session) (number_fault (last_of parts.slots (session - 1)) number) (start_fault parts.phases parts.counter session number start) others)
+    ∙ sym (nested (session_fault parts.slots session) (closed_fault parts.marks session) (number_fault (last_of parts.slots (session - 1)) number) (start_fault parts.phases parts.counter session number start) others)
   where
     w : World
     w = world_of parts
 
     at : (o : Option Fault) → session_fault parts.slots session ≡ o
         → first_fault (session_fault parts.slots session ∷ refusals.session_closed w session ∷ refusals.not_readable w session number ∷ refusals.wrong_start w session number start ∷ others)
-        ≡ first_fault (session_fault parts.slots session ∷ number_fault (last_of parts.slots (session - 1)) number ∷ start_fault parts.phases parts.counter session number start ∷ others)
+        ≡ first_fault (session_fault parts.slots session ∷ closed_fault parts.marks session ∷ number_fault (last_of parts.slots (session - 1)) number ∷ start_fault parts.phases parts.counter session number start ∷ others)
     at (Some f) e =
         ap (λ o. first_fault (o ∷ refusals.session_closed w session ∷ refusals.not_readable w session number ∷ refusals.wrong_start w session number start ∷ others)) e
-        ∙ sym (ap (λ o. first_fault (o ∷ number_fault (last_of parts.slots (session - 1)) number ∷ start_fault parts.phases parts.counter session number start ∷ others)) e)
-    at None e =
-        ap (λ o. first_fault (session_fault parts.slots session ∷ o ∷ refusals.not_readable w session number ∷ refusals.wrong_start w session number start ∷ others)) (not_marked parts session sound)
-        ∙ ap (λ o. first_fault (o ∷ None ∷ refusals.not_readable w session number ∷ refusals.wrong_start w session number start ∷ others)) e
-        ∙ ap (λ last. first_fault (number_fault last number ∷ refusals.wrong_start w session number start ∷ others)) (sym (last_is parts session sound e))
-        ∙ sym (ap (λ o. first_fault (o ∷ number_fault (last_of parts.slots (session - 1)) number ∷ start_fault parts.phases parts.counter session number start ∷ others)) e)
+        ∙ sym (ap (λ o. first_fault (o ∷ closed_fault parts.marks session ∷ number_fault (last_of parts.slots (session - 1)) number ∷ start_fault parts.phases parts.counter session number start ∷ others)) e)
+    at None e = ap (λ last. first_fault (session_fault parts.slots session ∷ closed_fault parts.marks session ∷ number_fault last number ∷ refusals.wrong_start w session number start ∷ others)) (sym (last_is parts session sound e))
 
 pub reads_are : (o : Option ReadPhase) → (elim o as (λ _. List Observation) [ None ↦ [] | Some phase ↦ phase.reads ]) ≡ reads_of o
 reads_are None = refl
@@ -115,10 +106,10 @@ reads_are (Some phase) = refl
 
 read_refusal : (parts : Parts) (session number start : ℕ) (question : Question) → AreSound parts
     → refusal (world_of parts) (Read session number start question)
-    ≡ first_fault (turn_fault parts.slots parts.phases parts.counter session number start ∷ check_question parts.settings.schema question ∷ size_fault parts.table question ∷ room_fault parts.phases session number ∷ [])
+    ≡ first_fault (turn_fault parts.slots parts.marks parts.phases parts.counter session number start ∷ check_question parts.settings.schema question ∷ size_fault parts.table question ∷ room_fault parts.phases session number ∷ [])
 read_refusal parts session number start question sound =
     turn_is parts session number start (check_question parts.settings.schema question ∷ refusals.range_too_large (world_of parts) question ∷ refusals.questions_full (world_of parts) session number ∷ []) sound
-    ∙ ap (λ reads. first_fault (turn_fault parts.slots parts.phases parts.counter session number start ∷ check_question parts.settings.schema question ∷ size_fault parts.table question ∷ fault_if (nat_le MAX_QUESTIONS (length reads)) faults.SetFull ∷ []))
+    ∙ ap (λ reads. first_fault (turn_fault parts.slots parts.marks parts.phases parts.counter session number start ∷ check_question parts.settings.schema question ∷ size_fault parts.table question ∷ fault_if (nat_le MAX_QUESTIONS (length reads)) faults.SetFull ∷ []))
     (reads_are (finite.get parts.phases (session, number)))
 
 -- what a refused read says, by the test that refuses it
@@ -150,7 +141,7 @@ one_fits table place key = tests.decided (nat_lt MAX_ANSWER_ROWS 1)
 -- the tests of a read, in their order
 abbrev pub read_fault : Parts → ℕ → ℕ → ℕ → Question → Option Fault
 read_fault parts session number start question = first_fault (
-    turn_fault parts.slots parts.phases parts.counter session number start
+    turn_fault parts.slots parts.marks parts.phases parts.counter session number start
     ∷ check_question parts.settings.schema question
     ∷ size_fault parts.table question
     ∷ room_fault parts.phases session number

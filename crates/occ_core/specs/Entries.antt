@@ -1,6 +1,7 @@
 -- When an entry is refused, over the parts of a core: the tests of the model, each over the part that it reads (our own choice).
 use Rattle.std.specs.Prelude.{ℕ, ◌+◌, ◌-◌, not, ◌==◌, nat_le, List, [], ◌∷◌, length, Option, None, Some, cond, is_some, slice_get}
 use Rattle.std.specs.FinMap.{FinMap}
+use Rattle.std.specs.Ordering.{nat_cmp}
 use Rattle.occ_types.specs.declared.fault.Fault.{Fault}
 use Rattle.occ_types.specs.declared.fault.Fault.TheVariants.{OutOfTurn, SessionBusy, NumbersExhausted, LogFull, CounterExhausted}
 use Rattle.occ_types.specs.declared.limits.TheConstants.{MAX_NUMBER, MAX_LOG_ROWS, MAX_COUNTER}
@@ -9,7 +10,7 @@ use Rattle.occ_model.specs.State.{Write}
 use Rattle.occ_model.specs.Log.{LogRow, is_active}
 use Rattle.occ_model.specs.World.{ReadPhase, phase_cmp}
 use Rattle.occ_model.specs.Refusal.{check_writes}
-use Rattle.occ_core.specs.Reads.{session_fault, start_fault}
+use Rattle.occ_core.specs.Reads.{session_fault, closed_fault, start_fault}
 use Rattle.occ_core.specs.Slots.{Slot, last_of, active_from}
 
 -- a number is not the one after that of the session's last transaction
@@ -26,9 +27,10 @@ abbrev pub spare_fault : ℕ → Option Fault
 spare_fault number = fault_if (nat_le MAX_NUMBER number) NumbersExhausted
 
 -- the session can't enter under the number from the start
-abbrev pub turn_to_enter : List Slot → FinMap phase_cmp ReadPhase → ℕ → ℕ → ℕ → ℕ → Option Fault
-turn_to_enter slots phases counter session number start = first_fault (
+abbrev pub turn_to_enter : List Slot → FinMap nat_cmp ℕ → FinMap phase_cmp ReadPhase → ℕ → ℕ → ℕ → ℕ → Option Fault
+turn_to_enter slots marks phases counter session number start = first_fault (
     session_fault slots session
+    ∷ closed_fault marks session
     ∷ due_fault (last_of slots (session - 1)) number
     ∷ busy_fault (slice_get slots (session - 1))
     ∷ spare_fault number

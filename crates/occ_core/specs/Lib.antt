@@ -7,3 +7,4 @@ pub mod Core
 pub mod Replies
 pub mod Reads
 pub mod Entries
+pub mod Runs

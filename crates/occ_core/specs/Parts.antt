@@ -1,6 +1,5 @@
 -- What the parts of a core say together: a world of the model, and what ties the parts to it.
 use Rattle.std.specs.Prelude.{◌≡◌, ℕ, suc, ◌+◌, ◌-◌, ◌≤◌, List, length, drop, Some, slice_get}
-use Rattle.std.specs.FinMap as finite
 use Rattle.std.specs.FinMap.{FinMap}
 use Rattle.std.specs.Ordering.{nat_cmp}
 use Rattle.occ_types.specs.declared.limits.TheConstants.{MAX_LOG_ROWS, MAX_COUNTER, MAX_NUMBER}
@@ -53,5 +52,3 @@ pub record AreSound (parts : Parts) : Type 0 where
   pub window_is : (start : ℕ) → low_of parts ≤ start → AreSame (drop (start - low_of parts) parts.window) (finished_opponents parts.log parts.counter (low_of parts) start)
   pub log_room : length parts.log ≤ MAX_LOG_ROWS
   pub counter_room : parts.counter + active_count (world_of parts) ≤ MAX_COUNTER
-  -- no call closes a session yet
-  pub none_closed : parts.marks ≡ finite.empty

@@ -2,8 +2,9 @@
 use Rattle.std.specs.Prelude.{ℕ, ◌+◌, ◌-◌, not, ◌==◌, ◌&&◌, ◌||◌, nat_le, nat_lt, List, [], ◌∷◌, ◌++◌, length, Option, None, Some}
 use Rattle.std.specs.FinMap as finite
 use Rattle.std.specs.FinMap.{FinMap}
+use Rattle.std.specs.Ordering.{nat_cmp}
 use Rattle.occ_types.specs.declared.fault.Fault.{Fault}
-use Rattle.occ_types.specs.declared.fault.Fault.TheVariants.{NoSession, OutOfTurn, FutureStart, StartDiffers, RangeTooLarge, SetFull}
+use Rattle.occ_types.specs.declared.fault.Fault.TheVariants.{NoSession, SessionClosed, OutOfTurn, FutureStart, StartDiffers, RangeTooLarge, SetFull}
 use Rattle.occ_types.specs.declared.limits.TheConstants.{MAX_ANSWER_ROWS, MAX_QUESTIONS, READ_AHEAD}
 use Rattle.occ_types.specs.Schema.{fault_if, first_fault}
 use Rattle.occ_types.specs.Question.{Question}
@@ -15,6 +16,10 @@ use Rattle.occ_core.specs.Slots.{Slot, last_of}
 -- there is no such session
 abbrev pub session_fault : List Slot → ℕ → Option Fault
 session_fault slots session = fault_if (not (nat_le 1 session && nat_le session (length slots))) NoSession
+
+-- the session has its closing mark
+abbrev pub closed_fault : FinMap nat_cmp ℕ → ℕ → Option Fault
+closed_fault marks session = fault_if (finite.contains_key marks session) SessionClosed
 
 -- the number is neither the one after the session's last, which is due, nor among the 1,025 after that
 abbrev pub number_fault : ℕ → ℕ → Option Fault
@@ -28,9 +33,10 @@ start_fault phases counter session number start = elim (finite.get phases (sessi
 ]
 
 -- the session can't read under the number from this start
-abbrev pub turn_fault : List Slot → FinMap phase_cmp ReadPhase → ℕ → ℕ → ℕ → ℕ → Option Fault
-turn_fault slots phases counter session number start = first_fault (
+abbrev pub turn_fault : List Slot → FinMap nat_cmp ℕ → FinMap phase_cmp ReadPhase → ℕ → ℕ → ℕ → ℕ → Option Fault
+turn_fault slots marks phases counter session number start = first_fault (
     session_fault slots session
+    ∷ closed_fault marks session
     ∷ number_fault (last_of slots (session - 1)) number
     ∷ start_fault phases counter session number start
     ∷ [])

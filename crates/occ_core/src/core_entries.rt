@@ -1,4 +1,4 @@
-//! The entry of a transaction: the first critical section (Kung and Robinson, section 5).
+//! The entry of a transaction.
 ghost use Rattle.std.specs.Prelude.{◌≡◌, ◌++◌, ◌∷◌, [], length, slice_get, IfOk, IfErr, option_map};
 ghost use Rattle.std.specs.Result.{result_err};
 ghost use Rattle.occ_model.specs.Log.{Case as PlainCase, Open, is_active};
@@ -12,12 +12,12 @@ ghost use Rattle.occ_core.specs.Entries.{due_fault, busy_fault, spare_fault, tur
 ghost use Rattle.occ_core.specs.Replies.{entering, entry};
 ghost use Rattle.occ_queue.specs.Items.{item_of};
 
-use crate::core_reads::{check_session, check_start};
+use crate::core_reads::{check_session, check_start, check_unclosed};
 use crate::core_state::Core;
 use crate::log::Log;
 use crate::phases::ReadPhases;
 use crate::sessions::{Held, SessionState, Sessions};
-use occ_book::{LogRow, Standing};
+use occ_book::{LogRow, Marks, Standing};
 use occ_case::{Case, OpenCase};
 use occ_queue::Item;
 use occ_sets::{ReadSet, WriteSet};
@@ -48,8 +48,8 @@ impl<A: Allocator + Copy> Core<A> {
     /// row, with what was read under the number, comes into the log and is open. Its case is fixed now, however late its decision
     /// comes: its opponents are the transactions that are active, and of those that finished since its start the ones in the window.
     ///
-    /// Refused, the first of these that holds: where there is no such session; where the number is not the one that is due; where the
-    /// session has a row under way; where only the number of the closing mark is left; where the read phase has another start, or
+    /// Refused, the first of these that holds: where there is no such session; where it is closed; where the number is not the one that is
+    /// due; where the session has a row under way; where only the number of the closing mark is left; where the read phase has another start, or
     /// there is none and the start lies above the counter; where a write does not fit the schema; where the log is full; where the
     /// counter has no room for one more; and where there is no memory. The item is handed back then, and nothing moves.
     pub fn enter(&mut self, session: usize, item: Item<A>) -> Result<Entered, Refused<Item<A>>>
@@ -117,6 +117,7 @@ impl<A: Allocator + Copy> Core<A> {
     {
         check_turn(
             &self.sessions,
+            &self.marks,
             &self.phases,
             self.counter,
             session,
@@ -174,15 +175,17 @@ impl<A: Allocator + Copy> Core<A> {
 // Whether a session may enter under a number from a start.
 fn check_turn<A: Allocator>(
     sessions: &Sessions<A>,
+    marks: &Marks<A>,
     phases: &ReadPhases<A>,
     counter: u64,
     session: usize,
     number: u64,
     start: u64,
 ) -> Result<(), Fault>
-    ensures { result_err result ≡ turn_to_enter sessions.now phases.now counter session number start }
+    ensures { result_err result ≡ turn_to_enter sessions.now marks.now.marks phases.now counter session number start }
 {
     check_session(sessions, session)?;
+    check_unclosed(marks, session)?;
     check_due(sessions.last(session - 1), number)?;
     check_idle(sessions.get(session - 1))?;
     check_spare(number)?;

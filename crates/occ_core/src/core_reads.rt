@@ -8,14 +8,14 @@ ghost use Rattle.occ_model.specs.Event.{Read, Forget};
 ghost use Rattle.occ_model.specs.State.{answer, Found, Rows};
 ghost use Rattle.occ_model.specs.Step.{Step};
 ghost use Rattle.occ_sets.specs.Seen.{observation_of, rows_of};
-ghost use Rattle.occ_core.specs.Reads.{session_fault, number_fault, start_fault, turn_fault, size_fault, room_fault, noted};
+ghost use Rattle.occ_core.specs.Reads.{session_fault, closed_fault, number_fault, start_fault, turn_fault, size_fault, room_fault, noted};
 ghost use Rattle.occ_types.specs.declared.fault.Fault.TheVariants.{Memory};
 ghost use Rattle.occ_core.specs.Replies.{reading, scanning, forgetting};
 
 use crate::core_state::Core;
 use crate::phases::ReadPhases;
 use crate::sessions::Sessions;
-use occ_book::Tables;
+use occ_book::{Marks, Tables};
 use occ_sets::{Answer, Observation};
 use occ_types::limits::{MAX_ANSWER_ROWS, MAX_QUESTIONS, READ_AHEAD};
 use occ_types::{Fault, Key, Object, Question, Row, Schema};
@@ -59,7 +59,7 @@ impl<A: Allocator + Copy> Core<A> {
     /// A copy of the row under a key of a table, or none where there is none, as the tables have it now. The question is noted with its answer
     /// in the read phase of the number, which begins with it from this start where it is not under way.
     ///
-    /// Refused, the first of these that holds: where there is no such session; where the number is not the one that is due or among
+    /// Refused, the first of these that holds: where there is no such session; where it is closed; where the number is not the one that is due or among
     /// the 1,025 after it; where the read phase has another start, or there is none and the start lies above the counter; where the
     /// key does not fit the schema; where 256 questions are noted; and where there is no memory for the copies. Nothing moves then.
     pub fn read(
@@ -74,6 +74,7 @@ impl<A: Allocator + Copy> Core<A> {
     {
         check_turn(
             &self.sessions,
+            &self.marks,
             &self.phases,
             self.counter,
             session,
@@ -105,6 +106,7 @@ impl<A: Allocator + Copy> Core<A> {
     {
         check_turn(
             &self.sessions,
+            &self.marks,
             &self.phases,
             self.counter,
             session,
@@ -199,6 +201,16 @@ pub(crate) fn check_session<A: Allocator>(
     Ok(())
 }
 
+// Whether a session has no closing mark.
+pub(crate) fn check_unclosed<A: Allocator>(marks: &Marks<A>, session: usize) -> Result<(), Fault>
+    ensures { result_err result ≡ closed_fault marks.now.marks session }
+{
+    if marks.get(session).is_some() {
+        return Err(Fault::SessionClosed);
+    }
+    Ok(())
+}
+
 // Whether a number is the next one after that of a session's last transaction, or among the 1,025 after it.
 fn check_number(last: u64, number: u64) -> Result<(), Fault>
     ensures { result_err result ≡ number_fault last number }
@@ -229,15 +241,17 @@ pub(crate) fn check_start<A: Allocator>(
 // Whether a session may read under a number from a start.
 fn check_turn<A: Allocator>(
     sessions: &Sessions<A>,
+    marks: &Marks<A>,
     phases: &ReadPhases<A>,
     counter: u64,
     session: usize,
     number: u64,
     start: u64,
 ) -> Result<(), Fault>
-    ensures { result_err result ≡ turn_fault sessions.now phases.now counter session number start }
+    ensures { result_err result ≡ turn_fault sessions.now marks.now.marks phases.now counter session number start }
 {
     check_session(sessions, session)?;
+    check_unclosed(marks, session)?;
     check_number(sessions.last(session - 1), number)?;
     check_start(phases, counter, session, number, start)
 }

@@ -1,14 +1,17 @@
 //! The core of the store: the world of the model, kept.
-ghost use Rattle.std.specs.Prelude.{◌≡◌, ℕ, [], IfOk, IfErr, IsOkUnless, IsSome, None, Ok, is_some, true, option_map};
+ghost use Rattle.std.specs.Prelude.{◌≡◌, ◌≤◌, ◌+◌, ℕ, [], length, IfOk, IfErr, OnOk, IsOkUnless, IsSome, Some, None, Ok, Err, is_some, true, option_map, slice_get};
 ghost use Rattle.std.specs.FinMap as finite;
 ghost use Rattle.occ_types.specs.declared.fault.Fault.TheVariants.{Memory};
 ghost use Rattle.occ_types.specs.Seen.{object_of};
-ghost use Rattle.occ_model.specs.World.{opened, low};
+ghost use Rattle.occ_types.specs.declared.limits.TheConstants.{MAX_COUNTER, MAX_LOG_ROWS, MAX_NUMBER};
+ghost use Rattle.occ_model.specs.Invariant.{Invariant};
+ghost use Rattle.occ_model.specs.Log.{Audited};
+ghost use Rattle.occ_model.specs.World.{opened, low, empty_base, active_count, has_session, last_entered};
 ghost use Rattle.occ_model.specs.Event.{Enter, Request, Decide, WriteOne, Finish, BackUp};
 ghost use Rattle.occ_model.specs.Refusal.{refusal};
 ghost use Rattle.occ_model.specs.Step.{Step, decided};
 ghost use Rattle.occ_core.specs.Slots.{idle_slots, row_under_way, written_in, back_fault, writes_done, finish_fault};
-ghost use Rattle.occ_core.specs.Rows.{log_of, standing_of};
+ghost use Rattle.occ_core.specs.Rows.{log_of, log_row_of, standing_of};
 ghost use Rattle.occ_core.specs.Replies.{decision, single, next_object, finishing, backing};
 ghost use Rattle.occ_core.specs.declared.core_state.SingleWrite.TheVariants.{Wrote};
 
@@ -106,10 +109,7 @@ impl<A: Allocator + Copy> Core<A> {
         ensures step { Step self.old.world (WriteOne session) (single self.new.world.log result) self.new.world }
         ensures named { (row write : ℕ) → result ≡ Ok (Wrote row write) → is_some (written_in self.new.world.log row write) ≡ true }
     {
-        let place = row_under_way(&self.sessions, session)?;
-        let Some(row) = self.log.row(place) else {
-            return Err(Fault::NothingEntered);
-        };
+        let (place, row) = under_way(&self.sessions, &self.log, session)?;
         let done = writes_done(&row.standing)?;
         let Some((object, write)) = row.writes.write_at(done) else {
             return Ok(SingleWrite::NoMore);
@@ -124,6 +124,21 @@ impl<A: Allocator + Copy> Core<A> {
 }
 
 impl<A: Allocator> Core<A> {
+    /// What holds of every core, between any two of its calls, for a caller to rest on: its world has the invariant that each step
+    /// keeps, so its log and tables pass the audit; each active transaction can still take a number; and the log, and the numbers of
+    /// each session, are within their limits. It computes nothing.
+    pub fn law(&self)
+        ensures invariant { Invariant self.now.world }
+        ensures base { self.now.world.base ≡ empty_base }
+        ensures audited { Audited empty_base self.now.world.marks self.now.world.table self.now.world.log }
+        ensures counter { self.now.world.counter + active_count self.now.world ≤ MAX_COUNTER }
+        ensures numbers { (session : ℕ) → has_session self.now.world session ≡ true → last_entered self.now.world session ≤ MAX_NUMBER }
+        ensures rows { length self.now.world.log ≤ MAX_LOG_ROWS }
+    {
+        // A core is opened by a look at its fields, and what its type says is known then.
+        let _opened = self.counter;
+    }
+
     /// The transaction counter.
     pub fn tnc(&self) -> u64
         ensures { result ≡ self.now.world.counter }
@@ -166,12 +181,9 @@ impl<A: Allocator> Core<A> {
         ensures object { option_map (λ o. object_of o.now) result ≡ next_object self.now.world session }
         ensures free { IsSome result → refusal self.now.world (WriteOne session) ≡ None }
     {
-        let place = match row_under_way(&self.sessions, session) {
-            Ok(place) => place,
+        let row = match under_way(&self.sessions, &self.log, session) {
+            Ok((_place, row)) => row,
             Err(_fault) => return None,
-        };
-        let Some(row) = self.log.row(place) else {
-            return None;
         };
         let done = match writes_done(&row.standing) {
             Ok(done) => done,
@@ -188,10 +200,7 @@ impl<A: Allocator> Core<A> {
     pub fn decide(&mut self, session: usize) -> Result<Verdict, Fault>
         ensures { Step self.old.world (Decide session) (decision result) self.new.world }
     {
-        let place = row_under_way(&self.sessions, session)?;
-        let Some(row) = self.log.row(place) else {
-            return Err(Fault::NothingEntered);
-        };
+        let (place, row) = under_way(&self.sessions, &self.log, session)?;
         let Standing::Open(open) = &row.standing else {
             return Err(Fault::AlreadyDecided);
         };
@@ -206,16 +215,11 @@ impl<A: Allocator> Core<A> {
     pub fn finish(&mut self, session: usize) -> Result<u64, Fault>
         ensures { Step self.old.world (Finish session) (finishing result) self.new.world }
     {
-        let place = row_under_way(&self.sessions, session)?;
-        let Some(row) = self.log.row(place) else {
-            return Err(Fault::NothingEntered);
-        };
+        let (place, row) = under_way(&self.sessions, &self.log, session)?;
         if let Some(fault) = finish_fault(&row.standing, row.writes.len()) {
             return Err(fault);
         }
-        let Some(held) = self.sessions.release(session - 1) else {
-            return Err(Fault::NothingEntered);
-        };
+        let held = self.sessions.release(session - 1).unwrap();
         self.counter += 1;
         self.log.stand(place, Standing::Done(self.counter));
         self.window.advance(held.writes);
@@ -228,10 +232,7 @@ impl<A: Allocator> Core<A> {
     pub fn back_up(&mut self, session: usize) -> Result<u64, Fault>
         ensures { Step self.old.world (BackUp session) (backing result) self.new.world }
     {
-        let place = row_under_way(&self.sessions, session)?;
-        let Some(row) = self.log.row(place) else {
-            return Err(Fault::NothingEntered);
-        };
+        let (place, row) = under_way(&self.sessions, &self.log, session)?;
         if let Some(fault) = back_fault(&row.standing) {
             return Err(fault);
         }
@@ -259,6 +260,24 @@ fn room<A: Allocator + Copy>(
     let window = Window::new(alloc, keep)?;
     let marks = Marks::new(alloc, sessions)?;
     Ok((tables, states, window, marks))
+}
+
+// The place in the log of the row that a session has under way, and the row. Refused where there is no such session, and where nothing of it is
+// under way.
+fn under_way<'a, A: Allocator>(
+    sessions: &Sessions<A>,
+    log: &'a Log<A>,
+    session: usize,
+) -> Result<(usize, &'a LogRow<A, OpenCase<A>>), Fault>
+    requires { (place : ℕ) → row_under_way sessions.now session ≡ Ok place → is_some (slice_get log.now place) ≡ true }
+    ensures session { OnOk result (1 ≤ session) }
+    ensures place { IfOk result (λ found. row_under_way sessions.now session ≡ Ok found.0) }
+    ensures row { IfOk result (λ found. slice_get log.now found.0 ≡ Some (log_row_of found.1.now)) }
+    ensures err { IfErr result (λ fault. row_under_way sessions.now session ≡ Err fault) }
+{
+    let place = row_under_way(sessions, session)?;
+    let row = log.row(place).unwrap();
+    Ok((place, row))
 }
 
 // The place in the log of the session's row that is under way.

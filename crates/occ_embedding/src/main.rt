@@ -1,15 +1,19 @@
 //! The store in a program of one's own: two sessions pay into one account at the same time, and one of them has to try again.
 #![tactic(auto)]
 
-use occ_core::core_state::{Core, SingleWrite};
-use occ_model::Verdict;
-use occ_sets::{PrivateCopy, SharedWrites};
-use occ_types::Fault;
-use occ_types::{KeyKind, Kind};
+use occ_case::Verdict;
+use occ_core::{Core, SingleWrite};
+use occ_queue::Item;
+use occ_sets::PrivateCopy;
 use occ_types::limits::MAX_WRITES;
-use occ_types::{Cell, Key, Object, Row, Schema, TableDef, Text};
-use std::alloc::{AllocError, Global};
+use occ_types::{Cell, Fault, Key, KeyKind, Kind, Row, Schema, TableDef, Text};
+use std::alloc::Global;
 use std::process::ExitCode;
+
+/// The place of the one table in the schema.
+const ACCOUNTS: usize = 0;
+/// The account that is paid into.
+const ACCOUNT: Key<Global> = Key::Num(7);
 
 fn main(rt: HostRuntime) -> ExitCode {
     let told = match pay(rt.alloc()) {
@@ -25,42 +29,34 @@ fn main(rt: HostRuntime) -> ExitCode {
 /// Two payments that overlap, the second one tried again, and the balance.
 fn pay(alloc: Global) -> Result<String, Fault> {
     let mut lines = String::new(alloc);
-    let mut store = open(alloc).or(Err(Fault::Memory))?;
+    let mut store = open(alloc)?;
     let first = begin(alloc, &mut store, 1, 1, 30)?;
     let second = begin(alloc, &mut store, 2, 1, 12)?;
-    tell(&mut lines, 1, commit(alloc, &mut store, 1, first)?)?;
-    tell(&mut lines, 2, commit(alloc, &mut store, 2, second)?)?;
+    tell(&mut lines, 1, commit(&mut store, 1, first)?)?;
+    tell(&mut lines, 2, commit(&mut store, 2, second)?)?;
     let again = begin(alloc, &mut store, 2, 2, 12)?;
-    tell(&mut lines, 2, commit(alloc, &mut store, 2, again)?)?;
+    tell(&mut lines, 2, commit(&mut store, 2, again)?)?;
     let balance = balance(&mut store, 1, 2)?;
     writeln!(lines, "the account has {balance}").or(Err(Fault::Memory))?;
     Ok(lines)
 }
 
 /// A store of two sessions that keeps the last 8 write sets for testing. Its one table has balances under the numbers of accounts.
-fn open(alloc: Global) -> Result<Core<Global>, AllocError> {
+fn open(alloc: Global) -> Result<Core<Global>, Fault> {
     let accounts = TableDef {
         name: Text::new(alloc, "accounts")?,
         key: KeyKind::Num,
         columns: vec![in alloc; Kind::Int]?,
     };
-    match Schema::new(vec![in alloc; accounts]?) {
-        Ok(schema) => Core::open(alloc, schema, 2, 8),
-        Err(_refused) => Err(AllocError),
-    }
-}
-
-fn account() -> Object<Global> {
-    Object {
-        table: 0,
-        key: Key::Num(7),
-    }
+    let schema = Schema::new(vec![in alloc; accounts]?)?;
+    let store = Core::open(alloc, schema, 2, 8)?;
+    Ok(store)
 }
 
 /// The balance of the account, read by a transaction of a session that begins now.
 fn balance(store: &mut Core<Global>, session: usize, number: u64) -> Result<i64, Fault> {
-    let start = store.counter();
-    match store.read(session, number, start, &account())? {
+    let start = store.tnc();
+    match store.read(session, number, start, ACCOUNTS, &ACCOUNT)? {
         Some(row) => match row.cells().first() {
             Some(Cell::Int(balance)) => Ok(*balance),
             _ => Ok(0),
@@ -77,29 +73,26 @@ fn begin(
     number: u64,
     amount: i64,
 ) -> Result<PrivateCopy<Global>, Fault> {
-    let mut copy = PrivateCopy::new(alloc, number, store.counter());
+    let mut copy = PrivateCopy::new(alloc, number, store.tnc());
     let paid = balance(store, session, number)?.saturating_add(amount);
-    let cells = vec![in alloc; Cell::Int(paid)].or(Err(Fault::Memory))?;
-    match copy.put(account(), Row::from_cells(cells)) {
-        Ok(()) => Ok(copy),
-        Err(refused) => Err(refused.fault),
-    }
+    let row = Row::from_cells(vec![in alloc; Cell::Int(paid)]?);
+    copy.put(ACCOUNTS, ACCOUNT, row)?;
+    Ok(copy)
 }
 
 /// Validation and write phase. The answer is the number of the commit, or none where it has to be tried again.
 fn commit(
-    alloc: Global,
     store: &mut Core<Global>,
     session: usize,
     copy: PrivateCopy<Global>,
 ) -> Result<Option<u64>, Fault> {
     let (number, start, writes) = copy.into_request();
-    let Ok(writes) = SharedWrites::new(alloc, writes) else {
-        return Err(Fault::Memory);
+    let request = Item::Request {
+        number,
+        start,
+        writes,
     };
-    if let Err(refused) = store.enter_request(session, number, start, writes) {
-        return Err(refused.fault);
-    }
+    store.enter(session, request)?;
     if store.decide(session)? != Verdict::Commit {
         store.back_up(session)?;
         return Ok(None);

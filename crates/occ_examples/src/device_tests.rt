@@ -1,8 +1,7 @@
 //! Whole replays over devices that move a few bytes a call, are interrupted at each third one, and fail at each in turn.
 
-use occ_cli::replay::replay_text;
+use occ_cli::{Trouble, replay_text};
 use occ_devices::Device;
-use occ_text::trouble::Trouble;
 use std::alloc::{AllocError, Global};
 use std::test::Fail;
 

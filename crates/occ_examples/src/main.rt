@@ -4,11 +4,11 @@
 #[cfg(test)]
 mod device_tests;
 #[cfg(test)]
+mod limit_tests;
+#[cfg(test)]
 mod text_tests;
 
-use occ_books::audit_text;
-use occ_cli::replay::replay_text;
-use occ_text::trouble::status_of;
+use occ_cli::{audit_text, replay_text, status_of};
 use std::process::ExitCode;
 use std::{fs, io};
 

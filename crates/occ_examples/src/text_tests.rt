@@ -1,7 +1,6 @@
 //! Whole replays, from text to text.
 
-use occ_cli::replay::replay_text;
-use occ_text::trouble::Trouble;
+use occ_cli::{Trouble, replay_text};
 use std::alloc::{AllocError, Global};
 use std::test::Fail;
 

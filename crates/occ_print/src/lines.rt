@@ -16,8 +16,7 @@ use occ_book::{LogRow, Standing};
 use occ_case::Cause;
 use occ_sets::{Answer, Observation};
 use occ_text::writers::{write_key, write_row};
-use occ_types::{KeyKind, Kind};
-use occ_types::{Key, Object, Question, Row, Schema, TableDef};
+use occ_types::{Key, KeyKind, Kind, Object, Question, Row, Schema, TableDef};
 use std::alloc::{AllocError, Allocator};
 
 /// `occ 1`.
@@ -199,10 +198,7 @@ pub fn write_line<A: Allocator>(
 }
 
 /// `row PLACE S N START FINISH R W STANDING`.
-pub fn row_line<A: Allocator, O>(
-    line: &mut String<A>,
-    row: &LogRow<A, O>,
-) -> Result<(), AllocError>
+pub fn row_line<A: Allocator, O>(line: &mut String<A>, row: &LogRow<A, O>) -> Result<(), AllocError>
     ensures { (opened : O → ℕ × Case) → OnOk result (string_bytes line.new ≡ row_line (log_row_of opened row.now)) }
 {
     line.clear();

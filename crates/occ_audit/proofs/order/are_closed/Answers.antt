@@ -1,6 +1,5 @@
-use Rattle.std.proofs.Common.{◌≡◌, ◌+◌, true, false, Some, refl, ap, sym, ◌∙◌, arith}
-use Rattle.occ_model.proofs.Tests.{clash}
-use Rattle.occ_audit.proofs.Orders.{closed-none, closed-more, closed-all}
+use Rattle.std.proofs.Common.{refl, arith}
+use Rattle.occ_audit.proofs.Orders.{closed-none, closed-all}
 use Rattle.occ_audit.proofs.order.are_closed.Goals as goal
 
 pub loop-before-init : goal.loop-before-init

@@ -1,4 +1,6 @@
-use Rattle.std.proofs.Common.{ap}
+use Rattle.std.proofs.Common.{◌≡◌, ap, subst}
+use Rattle.std.specs.Result.{IsErrAnd}
+use Rattle.occ_text.specs.declared.trouble.Trouble.{Trouble}
 use Rattle.occ_text.specs.Line.{Source}
 use Rattle.occ_books.specs.Printed.{printed_book}
 use Rattle.occ_books.proofs.Telling.{refused, stopped, told, from_start}
@@ -13,7 +15,8 @@ returns-in_err-printed g c =
     (ap (λ (s : Source). s.unread) c.in_ok-input.ensures) (ap (λ (s : Source). s.number) c.in_ok-input.ensures) c.in_err-printed.ensures.led
 
 pub returns-in_err-verdict : goal.returns-in_err-verdict
-returns-in_err-verdict g c = refused c.from_residual-in_err-verdict.result _ _ c.from_residual-in_err-verdict.ensures.1
+returns-in_err-verdict g c =
+    refused c.from_residual-in_err-verdict.result _ _ (subst (λ (t : Trouble). IsErrAnd c.from_residual-in_err-verdict.result (λ e. e ≡ t)) c.in_err-verdict.ensures.err c.from_residual-in_err-verdict.ensures.1)
 
 pub returns-in_err-tell : goal.returns-in_err-tell
 returns-in_err-tell g c = told c.in_err-tell.field-0.0 c.from_residual-in_err-tell.result c.in_ok-verdict.verdict _ _ _ c.from_residual-in_err-tell.ensures.1 c.in_err-tell.ensures
@@ -23,7 +26,7 @@ returns g c = (
   record {
     book = printed_book c.in_ok-printed.printed;
     read = from_start c.in_ok-input.input.unread _ (printed_book c.in_ok-printed.printed) (ap (λ (s : Source). s.unread) c.in_ok-input.ensures) c.in_ok-printed.ensures.taken;
-    right = c.in_ok-verdict.ensures;
+    right = c.in_ok-verdict.ensures.ok;
   },
   c.in_ok-tell.ensures,
 )

@@ -1,28 +1,27 @@
 use Rattle.std.proofs.Common.{◌+◌, ◌-◌, ◌^◌, arith, codes}
-use Rattle.occ_core.specs.Core.{marks_of}
 use Rattle.occ_books.specs.Places.{Marks, State, frame_of, marks_to_come}
 use Rattle.occ_books.proofs.Leading.{failed}
 use Rattle.occ_text.specs.Faults.{read_fault}
 use Rattle.occ_text.specs.Headers.{count_text}
 use Rattle.occ_books.proofs.Gathering.{one_line}
-use Rattle.occ_books.proofs.Sections.{marks_start, marks_next, marks_end}
+use Rattle.occ_books.proofs.Sections.{marks_start, mark_there, marks_next, marks_end}
 use Rattle.occ_books.proofs.PartsLeading.{count_first, count_fails, marks_lead, mark_led, mark_fails, marks_led}
 use Rattle.occ_books.proofs.printed.take_marks.Goals as goal
 
 pub loop-init : goal.loop-init
 loop-init g c = record {
-  so_far = marks_start c.args.sessions c.new-marks.result _ c.new-marks.ensures.empty;
+  so_far = marks_start c.args.sessions c.in_ok-marks.marks _ (rw c.in_ok-marks.ensures.given at c.new.ensures.empty);
   led = λ schema. count_first (codes "marks") 0 (2 ^ 64 - 1) (Marks (frame_of schema c.args.sessions)) (λ n. marks_to_come (frame_of schema c.args.sessions) n 0) c.in_ok-count.count (c.in_ok-count.count - 0) _ _ _ _ (marks_lead (frame_of schema c.args.sessions)) (omega arith) c.in_ok-count.ensures;
 }
 
 pub loop-preserved : goal.loop-preserved
 loop-preserved g c = record {
-  so_far = marks_next c.args.sessions c.loop.last c.loop.counter c.loop.marks c.insert.new.self c.in_ok-mark.mark _ _ _ c.loop.invariant.so_far c.in_ok-mark.ensures.taken c.in_ok-insert.ensures.updates.0;
+  so_far = marks_next c.args.sessions c.loop.last c.loop.counter c.loop.marks c.set.new.self c.in_ok-mark.mark _ _ _ c.loop.invariant.so_far c.in_ok-mark.ensures.taken c.set.ensures;
   led = λ schema. mark_led (frame_of schema c.args.sessions) (c.in_ok-count.count - c.loop.counter) (c.in_ok-count.count - (c.loop.counter + 1)) c.loop.last c.in_ok-mark.mark _ _ _ _ _ _ (omega arith) (c.loop.invariant.led schema) c.in_ok-mark.ensures.led;
 }
 
 pub returns-clause-taken : goal.returns-clause-taken
-returns-clause-taken g c = marks_end c.args.sessions c.loop.last c.in_ok-count.count c.loop.counter (marks_of c.loop.marks) _ _ _ (one_line (count_text (codes "marks") c.in_ok-count.count) _ _ c.in_ok-count.ensures.0) c.loop.invariant.so_far (omega arith)
+returns-clause-taken g c = marks_end c.args.sessions c.loop.last c.in_ok-count.count c.loop.counter c.loop.marks _ _ _ (one_line (count_text (codes "marks") c.in_ok-count.count) _ _ c.in_ok-count.ensures.0) c.loop.invariant.so_far (omega arith)
 
 pub returns-clause-led : goal.returns-clause-led
 returns-clause-led g c = λ schema. marks_led (frame_of schema c.args.sessions) (c.in_ok-count.count - c.loop.counter) c.loop.last _ _ _ _ (omega arith) (c.loop.invariant.led schema)

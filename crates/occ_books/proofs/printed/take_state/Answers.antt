@@ -2,7 +2,7 @@ use Rattle.std.proofs.Common.{◌∙◌, ◌+◌, ◌-◌, ◌^◌, None, option
 use Rattle.std.proofs.lemmas.List.{length-map}
 use Rattle.occ_types.specs.Seen.{key_of, object_of, table_of}
 use Rattle.occ_books.specs.Entries.{at_of}
-use Rattle.occ_core.specs.Kept.{Content}
+use Rattle.occ_book.specs.Kept.{Content}
 use Rattle.occ_books.specs.Places.{State, Counter, frame_of, state_to_come}
 use Rattle.occ_books.proofs.Leading.{failed}
 use Rattle.occ_text.specs.Faults.{read_fault}
@@ -13,22 +13,26 @@ use Rattle.occ_books.proofs.PartsLeading.{count_first, count_fails, state_leads,
 use Rattle.occ_books.proofs.printed.take_state.Goals as goal
 
 pub loop-init : goal.loop-init
-loop-init g c = record {
-  so_far = state_start c.args.schema.now c.in_ok-tables.tables.tables c.in_ok-tables.tables.state _ (ap (λ (t : Content). t.state) c.in_ok-tables.ensures) (ap (λ (t : Content). t.tables) c.in_ok-tables.ensures ∙ sym (length-map c.tables.result.now table_of) ∙ ap length c.tables.ensures.value);
-  led = λ sessions. count_first (codes "state") 0 (2 ^ 64 - 1) (State (frame_of c.args.schema.now sessions)) (λ n. state_to_come (frame_of c.args.schema.now sessions) n None) c.in_ok-count.count (c.in_ok-count.count - 0) _ _ _ _ (state_leads (frame_of c.args.schema.now sessions)) (omega arith)
-      c.in_ok-count.ensures;
-}
+loop-init g c =
+    let made = rw c.in_ok-tables.ensures.given at c.new.ensures.empty in
+    record {
+      so_far = state_start c.args.schema.now c.in_ok-tables.tables.tables c.in_ok-tables.tables.state _ (ap (λ (t : Content). t.state) made) (ap (λ (t : Content). t.tables) made ∙ sym (length-map c.tables.result.now table_of) ∙ ap length c.tables.ensures.value);
+      led = λ sessions. count_first (codes "state") 0 (2 ^ 64 - 1) (State (frame_of c.args.schema.now sessions)) (λ n. state_to_come (frame_of c.args.schema.now sessions) n None) c.in_ok-count.count (c.in_ok-count.count - 0) _ _ _ _ (state_leads (frame_of c.args.schema.now sessions)) (omega arith)
+          c.in_ok-count.ensures;
+    }
 
 pub put-requires : goal.put-requires
 put-requires g c = place_there c.args.schema.now c.loop.tables.tables c.in_ok-object.object.table (key_of c.in_ok-object.object.key) c.loop.invariant.so_far.all c.in_ok-object.ensures.taken.1.0.checked
 
 pub loop-preserved : goal.loop-preserved
-loop-preserved g c = record {
-  so_far = state_next c.args.schema.now (option_map object_of c.loop.last) c.loop.counter c.loop.tables.tables c.put.new.self.tables c.loop.tables.state c.put.new.self.state (at_of (c.in_ok-object.object, c.in_ok-object.row)) _ _ _ c.loop.invariant.so_far
-      c.in_ok-object.ensures.taken c.in_ok-object.ensures.behind (ap (λ (t : Content). t.state) c.in_ok-put.ensures.ok) (ap (λ (t : Content). t.tables) c.in_ok-put.ensures.ok);
-  led = λ sessions. at_led (frame_of c.args.schema.now sessions) (c.in_ok-count.count - c.loop.counter) (c.in_ok-count.count - (c.loop.counter + 1)) (option_map object_of c.loop.last) (at_of (c.in_ok-object.object, c.in_ok-object.row)) _ _ _ _ _ _ (omega arith)
-      (c.loop.invariant.led sessions) c.in_ok-object.ensures.led;
-}
+loop-preserved g c =
+    let done = rw c.in_ok-unless_refused.ensures.given at c.put.ensures.ok in
+    record {
+      so_far = state_next c.args.schema.now (option_map object_of c.loop.last) c.loop.counter c.loop.tables.tables c.put.new.self.tables c.loop.tables.state c.put.new.self.state (at_of (c.in_ok-object.object, c.in_ok-object.row)) _ _ _ c.loop.invariant.so_far
+          c.in_ok-object.ensures.taken c.in_ok-object.ensures.behind (ap (λ (t : Content). t.state) done) (ap (λ (t : Content). t.tables) done);
+      led = λ sessions. at_led (frame_of c.args.schema.now sessions) (c.in_ok-count.count - c.loop.counter) (c.in_ok-count.count - (c.loop.counter + 1)) (option_map object_of c.loop.last) (at_of (c.in_ok-object.object, c.in_ok-object.row)) _ _ _ _ _ _ (omega arith)
+          (c.loop.invariant.led sessions) c.in_ok-object.ensures.led;
+    }
 
 pub returns-clause-taken : goal.returns-clause-taken
 returns-clause-taken g c =

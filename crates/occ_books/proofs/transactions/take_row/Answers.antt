@@ -1,6 +1,5 @@
 use Rattle.std.proofs.Common.{[], refl}
-use Rattle.occ_core.specs.Rows.{log_row_of}
-use Rattle.occ_text.specs.declared.faults.ReadFault.TheVariants.{Memory}
+use Rattle.occ_books.specs.Untold.{log_row_of}
 use Rattle.occ_text.specs.Faults.{read_fault}
 use Rattle.occ_books.specs.Places.{LogRow, frame_of, in_row, rows_to_come, reads_to_come, writes_to_come}
 use Rattle.occ_books.proofs.RowTaking.{row_taken}
@@ -10,7 +9,7 @@ use Rattle.occ_books.proofs.transactions.take_row.Goals as goal
 
 pub returns-clause-taken : goal.returns-clause-taken
 returns-clause-taken g c =
-    row_taken c.args.schema.now c.args.sessions c.in_ok-head.head c.in_ok-reads.reads c.in_ok-writes.writes (log_row_of c.in_ok-row.row) _ _ _ _ c.in_ok-head.ensures.taken c.in_ok-reads.ensures.taken c.in_ok-writes.ensures.taken c.in_ok-row.ensures
+    row_taken c.args.schema.now c.args.sessions c.in_ok-head.head c.in_ok-reads.reads c.in_ok-writes.writes (log_row_of c.row_of.result) _ _ _ _ c.in_ok-head.ensures.taken c.in_ok-reads.ensures.taken c.in_ok-writes.ensures.taken c.row_of.ensures
 
 pub returns-in_err-head-clause-led : goal.returns-in_err-head-clause-led
 returns-in_err-head-clause-led g c = λ rows.
@@ -34,11 +33,6 @@ returns-in_err-writes-clause-led g c = λ rows.
     led_failed c.in_err-writes.field-0.0 c.from_residual-in_err-writes.result (LogRow frame rows) (writes_to_come row head.writes []) (λ _. rows_to_come frame rows) _ _ _ _ _ _ c.from_residual-in_err-writes.ensures.1
     (led_led (LogRow frame rows) (reads_to_come row head.reads) (writes_to_come row head.writes []) _ _ _ _ c.take_head.new.input.number _ (head_led head c.args.schema.now c.args.sessions rows _ _ _ _ c.in_ok-head.ensures.led)
     (c.in_ok-reads.ensures.led row refl)) (c.in_err-writes.ensures.led row refl)
-
-pub returns-in_err-row-clause-led : goal.returns-in_err-row-clause-led
-returns-in_err-row-clause-led g c = λ rows.
-    let frame = frame_of c.args.schema.now c.args.sessions in
-    failed Memory c.from_residual-in_err-row.result (LogRow frame rows) (λ _. rows_to_come frame rows) _ _ _ _ c.from_residual-in_err-row.ensures.1 tt
 
 pub returns-clause-led : goal.returns-clause-led
 returns-clause-led g c = λ rows.

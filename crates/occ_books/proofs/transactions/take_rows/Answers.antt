@@ -1,5 +1,5 @@
 use Rattle.std.proofs.Common.{◌+◌, ◌-◌, Ok, length, ap}
-use Rattle.occ_core.specs.Rows.{log_row_of}
+use Rattle.occ_books.specs.Untold.{log_row_of}
 use Rattle.occ_print.specs.Books.{row_lines}
 use Rattle.occ_books.specs.Taking.{LogRowFits}
 use Rattle.occ_books.specs.Places.{Marks, frame_of, rows_to_come}

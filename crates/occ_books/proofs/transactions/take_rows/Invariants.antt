@@ -1,6 +1,6 @@
 use Rattle.std.proofs.Common.{◌≡◌, ◌-◌, length}
 use Rattle.std.specs.Io.KnownBytes.{prepend_known}
-use Rattle.occ_core.specs.Rows.{log_of}
+use Rattle.occ_books.specs.Untold.{log_of}
 use Rattle.occ_print.specs.Books.{row_lines}
 use Rattle.occ_books.specs.Taking.{Gathered, LogRowFits}
 use Rattle.occ_books.specs.Places.{Led, frame_of, rows_to_come}

@@ -4,29 +4,29 @@ use Rattle.occ_core.proofs.Changes.{placed-free}
 use Rattle.std.proofs.lemmas.Result.{err_from_is_err_and}
 use Rattle.occ_core.specs.Core.{parts_of}
 use Rattle.occ_core.specs.Rows.{log_row_of}
-use Rattle.occ_core.proofs.Calls.{back_exit, back_kept, back_whole, row_stands, slot_below}
+use Rattle.occ_core.proofs.Calls.{back_exit, back_kept, back_whole, stands_there, slot_below}
 use Rattle.occ_core.proofs.Places.{length-set}
 use Rattle.occ_core.proofs.core_state.Core.back_up.Goals as goal
+
+pub under_way-requires : goal.under_way-requires
+under_way-requires g c = stands_there (parts_of c.self.inside) c.args.session c.self.invariant.sound
 
 pub returns-in_err-place : goal.returns-in_err-place
 returns-in_err-place g c =
     let p = err_from_is_err_and c.from_residual.result c.from_residual.ensures.1 in
-    back_exit (parts_of c.self.inside) c.args.self.now.world (ap (λ s. s.world) c.self.view_is) c.self.invariant.sound c.args.session c.from_residual.result p.0 p.1 (sym c.in_err-place.ensures ∙ ap Err (sym p.2))
+    back_exit (parts_of c.self.inside) c.args.self.now.world (ap (λ s. s.world) c.self.view_is) c.self.invariant.sound c.args.session c.from_residual.result p.0 p.1 (c.in_err-place.ensures.err ∙ ap Err (sym p.2))
 
-pub returns-in_default : goal.returns-in_default
-returns-in_default g c = absurd (row_stands (parts_of c.self.inside) c.args.session c.in_ok-place.place c.self.invariant.sound (sym c.in_ok-place.ensures) (sym c.in_default.ensures))
-
-pub returns-in-Some-back_fault : goal.returns-in-Some-back_fault
-returns-in-Some-back_fault g c =
-    back_kept (parts_of c.self.inside) c.args.self.now.world (ap (λ s. s.world) c.self.view_is) c.self.invariant.sound c.args.session c.in_ok-place.place (log_row_of c.in-Some.row.now) c.in-Some-back_fault.fault (sym c.in_ok-place.ensures) (sym c.in-Some.ensures) (sym c.in-Some-back_fault.ensures)
+pub returns-in-Some : goal.returns-in-Some
+returns-in-Some g c =
+    back_kept (parts_of c.self.inside) c.args.self.now.world (ap (λ s. s.world) c.self.view_is) c.self.invariant.sound c.args.session c.in_ok-place.place (log_row_of c.in_ok-place.row.now) c.in-Some.fault c.in_ok-place.ensures.place c.in_ok-place.ensures.row (sym c.in-Some.ensures)
 
 pub release-row-requires : goal.release-row-requires
-release-row-requires g c = slot_below (parts_of c.self.inside) c.args.session c.in_ok-place.place c.self.invariant.sound (sym c.in_ok-place.ensures)
+release-row-requires g c = slot_below (parts_of c.self.inside) c.args.session c.in_ok-place.place c.self.invariant.sound c.in_ok-place.ensures.place
 
 pub invariant_of-self : goal.invariant_of-self
 invariant_of-self g c = record {
-  sound = (back_whole (parts_of c.self.inside) c.args.self.now.world (ap (λ s. s.world) c.self.view_is) c.self.invariant.sound c.args.session c.in_ok-place.place (log_row_of c.in-Some.row.now)
-      (sym c.in_ok-place.ensures) (sym c.in-Some.ensures) (sym c.in_default-back_fault.ensures) c.last-last.result c.last-last.ensures c.release-row.new.self c.release-row.ensures.released).1;
+  sound = (back_whole (parts_of c.self.inside) c.args.self.now.world (ap (λ s. s.world) c.self.view_is) c.self.invariant.sound c.args.session c.in_ok-place.place (log_row_of c.in_ok-place.row.now)
+      c.in_ok-place.ensures.place c.in_ok-place.ensures.row (sym c.in_default.ensures) c.last-last.result c.last-last.ensures c.release-row.new.self c.release-row.ensures.released).1;
   tables_match = c.self.invariant.tables_match;
   marks_match = c.self.invariant.marks_match ∙ sym (ap length c.release-row.ensures.released ∙ length-set c.self.inside.sessions (c.args.session - 1) _);
   placed = subst (HoldsArePlaced c.self.inside.tables.tables) (sym c.release-row.ensures.released) (placed-free c.self.inside.tables.tables c.self.inside.sessions (c.args.session - 1) (last_of c.self.inside.sessions (c.args.session - 1)) c.self.invariant.placed);
@@ -34,5 +34,5 @@ invariant_of-self g c = record {
 
 pub returns : goal.returns
 returns g c =
-    (back_whole (parts_of c.self.inside) c.args.self.now.world (ap (λ s. s.world) c.self.view_is) c.self.invariant.sound c.args.session c.in_ok-place.place (log_row_of c.in-Some.row.now)
-    (sym c.in_ok-place.ensures) (sym c.in-Some.ensures) (sym c.in_default-back_fault.ensures) c.last-last.result c.last-last.ensures c.release-row.new.self c.release-row.ensures.released).0
+    (back_whole (parts_of c.self.inside) c.args.self.now.world (ap (λ s. s.world) c.self.view_is) c.self.invariant.sound c.args.session c.in_ok-place.place (log_row_of c.in_ok-place.row.now)
+    c.in_ok-place.ensures.place c.in_ok-place.ensures.row (sym c.in_default.ensures) c.last-last.result c.last-last.ensures c.release-row.new.self c.release-row.ensures.released).0

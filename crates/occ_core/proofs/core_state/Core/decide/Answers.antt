@@ -4,31 +4,31 @@ use Rattle.std.proofs.lemmas.Result.{err_from_is_err_and}
 use Rattle.occ_model.specs.Validity.{verdict}
 use Rattle.occ_core.specs.Core.{parts_of}
 use Rattle.occ_core.specs.Rows.{log_row_of, standing_of}
-use Rattle.occ_core.proofs.Calls.{decide_exit, decide_exit_late, row_stands, decide_whole}
+use Rattle.occ_core.proofs.Calls.{decide_exit, decide_exit_late, stands_there, decide_whole}
 use Rattle.occ_core.proofs.Places.{slice_get-below}
 use Rattle.occ_core.proofs.Changes.{not_open}
 use Rattle.occ_core.proofs.core_state.Core.decide.Goals as goal
 
+pub under_way-requires : goal.under_way-requires
+under_way-requires g c = stands_there (parts_of c.self.inside) c.args.session c.self.invariant.sound
+
 pub returns-in_err-place : goal.returns-in_err-place
 returns-in_err-place g c =
     let p = err_from_is_err_and c.from_residual.result c.from_residual.ensures.1 in
-    decide_exit (parts_of c.self.inside) c.args.self.now.world (ap (λ s. s.world) c.self.view_is) c.self.invariant.sound c.args.session c.from_residual.result p.0 p.1 (sym c.in_err-place.ensures ∙ ap Err (sym p.2))
+    decide_exit (parts_of c.self.inside) c.args.self.now.world (ap (λ s. s.world) c.self.view_is) c.self.invariant.sound c.args.session c.from_residual.result p.0 p.1 (c.in_err-place.ensures.err ∙ ap Err (sym p.2))
 
 pub returns-in_default : goal.returns-in_default
-returns-in_default g c = absurd (row_stands (parts_of c.self.inside) c.args.session c.in_ok-place.place c.self.invariant.sound (sym c.in_ok-place.ensures) (sym c.in_default.ensures))
-
-pub returns-in_default-standing : goal.returns-in_default-standing
-returns-in_default-standing g c =
-    decide_exit_late (parts_of c.self.inside) c.args.self.now.world (ap (λ s. s.world) c.self.view_is) c.self.invariant.sound c.args.session c.in_ok-place.place (log_row_of c.in-Some.row.now) (sym c.in_ok-place.ensures) (sym c.in-Some.ensures) (not_open c.in-Some.row.now.standing c.in_default-standing.not-Open)
+returns-in_default g c =
+    decide_exit_late (parts_of c.self.inside) c.args.self.now.world (ap (λ s. s.world) c.self.view_is) c.self.invariant.sound c.args.session c.in_ok-place.place (log_row_of c.in_ok-place.row.now) c.in_ok-place.ensures.place c.in_ok-place.ensures.row (not_open c.in_ok-place.row.now.standing c.in_default.not-Open)
 
 pub stand-requires : goal.stand-requires
-stand-requires g c = slice_get-below c.self.inside.log c.in_ok-place.place (log_row_of c.in-Some.row.now) (sym c.in-Some.ensures)
+stand-requires g c = slice_get-below c.self.inside.log c.in_ok-place.place (log_row_of c.in_ok-place.row.now) c.in_ok-place.ensures.row
 
 pub invariant_of-self : goal.invariant_of-self
 invariant_of-self g c = record {
-  sound = (decide_whole (parts_of c.self.inside) c.args.self.now.world (ap (λ s. s.world) c.self.view_is) c.self.invariant.sound c.args.session c.in_ok-place.place (log_row_of c.in-Some.row.now) c.in-Open.open.index c.in-Open.open.case
-      (sym c.in_ok-place.ensures) (sym c.in-Some.ensures) (ap standing_of c.in-Open.is) c.verdict-verdict.result (c.verdict-verdict.ensures ∙ ap verdict c.case.ensures) c.stand.new.self
-      (c.stand.ensures (log_row_of c.in-Some.row.now) (sym c.in-Some.ensures) ∙ ap (λ s. slice_set c.self.inside.log c.in_ok-place.place (record (log_row_of c.in-Some.row.now) { standing = s })) c.decided.ensures)).1;
+  sound = (decide_whole (parts_of c.self.inside) c.args.self.now.world (ap (λ s. s.world) c.self.view_is) c.self.invariant.sound c.args.session c.in_ok-place.place (log_row_of c.in_ok-place.row.now) c.in-Open.open.index c.in-Open.open.case
+      c.in_ok-place.ensures.place c.in_ok-place.ensures.row (ap standing_of c.in-Open.is) c.verdict-verdict.result (c.verdict-verdict.ensures ∙ ap verdict c.case.ensures) c.stand.new.self
+      (c.stand.ensures (log_row_of c.in_ok-place.row.now) c.in_ok-place.ensures.row ∙ ap (λ s. slice_set c.self.inside.log c.in_ok-place.place (record (log_row_of c.in_ok-place.row.now) { standing = s })) c.decided.ensures)).1;
   tables_match = c.self.invariant.tables_match;
   marks_match = c.self.invariant.marks_match;
   placed = c.self.invariant.placed;
@@ -36,6 +36,6 @@ invariant_of-self g c = record {
 
 pub returns : goal.returns
 returns g c =
-    (decide_whole (parts_of c.self.inside) c.args.self.now.world (ap (λ s. s.world) c.self.view_is) c.self.invariant.sound c.args.session c.in_ok-place.place (log_row_of c.in-Some.row.now) c.in-Open.open.index c.in-Open.open.case
-    (sym c.in_ok-place.ensures) (sym c.in-Some.ensures) (ap standing_of c.in-Open.is) c.verdict-verdict.result (c.verdict-verdict.ensures ∙ ap verdict c.case.ensures) c.stand.new.self
-    (c.stand.ensures (log_row_of c.in-Some.row.now) (sym c.in-Some.ensures) ∙ ap (λ s. slice_set c.self.inside.log c.in_ok-place.place (record (log_row_of c.in-Some.row.now) { standing = s })) c.decided.ensures)).0
+    (decide_whole (parts_of c.self.inside) c.args.self.now.world (ap (λ s. s.world) c.self.view_is) c.self.invariant.sound c.args.session c.in_ok-place.place (log_row_of c.in_ok-place.row.now) c.in-Open.open.index c.in-Open.open.case
+    c.in_ok-place.ensures.place c.in_ok-place.ensures.row (ap standing_of c.in-Open.is) c.verdict-verdict.result (c.verdict-verdict.ensures ∙ ap verdict c.case.ensures) c.stand.new.self
+    (c.stand.ensures (log_row_of c.in_ok-place.row.now) c.in_ok-place.ensures.row ∙ ap (λ s. slice_set c.self.inside.log c.in_ok-place.place (record (log_row_of c.in_ok-place.row.now) { standing = s })) c.decided.ensures)).0

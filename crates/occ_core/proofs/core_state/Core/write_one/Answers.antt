@@ -10,44 +10,44 @@ use Rattle.occ_core.specs.Slots.{written_in, HoldsArePlaced}
 use Rattle.occ_model.specs.Log.{Writing}
 use Rattle.occ_core.proofs.Changes.{puts_some}
 use Rattle.occ_core.specs.Rows.{log_row_of}
-use Rattle.occ_core.proofs.Calls.{row_stands}
+use Rattle.occ_core.proofs.Calls.{stands_there}
 use Rattle.occ_core.proofs.Places.{slice_get-below}
 use Rattle.occ_core.proofs.Finishes.{write_exit, write_kept, write_none, write_starved, write_placed, write_named, write_whole, write_err}
 use Rattle.occ_core.proofs.core_state.Core.write_one.Goals as goal
 
+pub under_way-requires : goal.under_way-requires
+under_way-requires g c = stands_there (parts_of c.self.inside) c.args.session c.self.invariant.sound
+
 pub returns-in_err-place-clause-step : goal.returns-in_err-place-clause-step
 returns-in_err-place-clause-step g c =
     let p = err_from_is_err_and c.from_residual.result c.from_residual.ensures.1 in
-    write_exit (parts_of c.self.inside) c.args.self.now.world (ap (λ s. s.world) c.self.view_is) c.self.invariant.sound c.args.session c.from_residual.result p.0 p.1 (sym c.in_err-place.ensures ∙ ap Err (sym p.2))
-
-pub returns-in_default-clause-step : goal.returns-in_default-clause-step
-returns-in_default-clause-step g c = absurd (row_stands (parts_of c.self.inside) c.args.session c.in_ok-place.place c.self.invariant.sound (sym c.in_ok-place.ensures) (sym c.in_default.ensures))
+    write_exit (parts_of c.self.inside) c.args.self.now.world (ap (λ s. s.world) c.self.view_is) c.self.invariant.sound c.args.session c.from_residual.result p.0 p.1 (c.in_err-place.ensures.err ∙ ap Err (sym p.2))
 
 pub returns-in_err-done-clause-step : goal.returns-in_err-done-clause-step
 returns-in_err-done-clause-step g c =
     let p = err_from_is_err_and c.from_residual-in_err-done.result c.from_residual-in_err-done.ensures.1 in
-    write_kept (parts_of c.self.inside) c.args.self.now.world (ap (λ s. s.world) c.self.view_is) c.self.invariant.sound c.args.session c.in_ok-place.place (log_row_of c.in-Some.row.now) c.from_residual-in_err-done.result p.0 p.1
-    (sym c.in_ok-place.ensures) (sym c.in-Some.ensures) (sym c.in_err-done.ensures ∙ ap Err (sym p.2))
+    write_kept (parts_of c.self.inside) c.args.self.now.world (ap (λ s. s.world) c.self.view_is) c.self.invariant.sound c.args.session c.in_ok-place.place (log_row_of c.in_ok-place.row.now) c.from_residual-in_err-done.result p.0 p.1
+    c.in_ok-place.ensures.place c.in_ok-place.ensures.row (sym c.in_err-done.ensures ∙ ap Err (sym p.2))
 
-pub returns-in_default-write_at-clause-step : goal.returns-in_default-write_at-clause-step
-returns-in_default-write_at-clause-step g c =
-    write_none (parts_of c.self.inside) c.args.self.now.world (ap (λ s. s.world) c.self.view_is) c.self.invariant.sound c.args.session c.in_ok-place.place (log_row_of c.in-Some.row.now) c.in_ok-done.done
-    (sym c.in_ok-place.ensures) (sym c.in-Some.ensures) (sym c.in_ok-done.ensures)
-    (sym c.in_default-write_at.ensures.value)
+pub returns-in_default-clause-step : goal.returns-in_default-clause-step
+returns-in_default-clause-step g c =
+    write_none (parts_of c.self.inside) c.args.self.now.world (ap (λ s. s.world) c.self.view_is) c.self.invariant.sound c.args.session c.in_ok-place.place (log_row_of c.in_ok-place.row.now) c.in_ok-done.done
+    c.in_ok-place.ensures.place c.in_ok-place.ensures.row (sym c.in_ok-done.ensures)
+    (sym c.in_default.ensures.value)
 
 pub put-requires : goal.put-requires
 put-requires g c =
-    write_placed (parts_of c.self.inside) c.self.invariant.sound c.args.session c.in_ok-place.place (log_row_of c.in-Some.row.now) c.self.inside.tables.tables c.self.invariant.placed
-    (sym c.in_ok-place.ensures) (sym c.in-Some.ensures) c.in_ok-done.done (object_of c.in-Some-write_at.object.now, option_copied c.in-Some-write_at.write)
-    (sym c.in-Some-write_at.ensures.value)
+    write_placed (parts_of c.self.inside) c.self.invariant.sound c.args.session c.in_ok-place.place (log_row_of c.in_ok-place.row.now) c.self.inside.tables.tables c.self.invariant.placed
+    c.in_ok-place.ensures.place c.in_ok-place.ensures.row c.in_ok-done.done (object_of c.in-Some.object.now, option_copied c.in-Some.write)
+    (sym c.in-Some.ensures.value)
 
 pub returns-in_err-put-clause-step : goal.returns-in_err-put-clause-step
 returns-in_err-put-clause-step g c =
     let p = err_from_is_err_and c.from_residual-in_err-put.result c.from_residual-in_err-put.ensures.1 in
-    let write : Write = (object_of c.in-Some-write_at.object.now, option_copied c.in-Some-write_at.write) in
+    let write : Write = (object_of c.in-Some.object.now, option_copied c.in-Some.write) in
     write_err c.args.self.now.world _ c.args.session c.self.inside.log c.from_residual-in_err-put.result (p.1 ∙ ap Err (p.2 ∙ c.in_err-put.ensures.memory))
-    (write_starved (parts_of c.self.inside) c.args.self.now.world (ap (λ s. s.world) c.self.view_is) c.self.invariant.sound c.args.session c.in_ok-place.place (log_row_of c.in-Some.row.now) c.in_ok-done.done write
-    (sym c.in_ok-place.ensures) (sym c.in-Some.ensures) (sym c.in_ok-done.ensures) (sym c.in-Some-write_at.ensures.value)
+    (write_starved (parts_of c.self.inside) c.args.self.now.world (ap (λ s. s.world) c.self.view_is) c.self.invariant.sound c.args.session c.in_ok-place.place (log_row_of c.in_ok-place.row.now) c.in_ok-done.done write
+    c.in_ok-place.ensures.place c.in_ok-place.ensures.row (sym c.in_ok-done.ensures) (sym c.in-Some.ensures.value)
     (puts_some write.1 c.in_err-put.ensures.deletes)
     c.put.new.self.state (ap (λ t. t.state) c.in_err-put.ensures.err))
 
@@ -60,17 +60,17 @@ invariant_of-self g c = record {
 }
 
 pub stand-requires : goal.stand-requires
-stand-requires g c = slice_get-below c.self.inside.log c.in_ok-place.place (log_row_of c.in-Some.row.now) (sym c.in-Some.ensures)
+stand-requires g c = slice_get-below c.self.inside.log c.in_ok-place.place (log_row_of c.in_ok-place.row.now) c.in_ok-place.ensures.row
 
 pub invariant_of-self-2 : goal.invariant_of-self-2
 invariant_of-self-2 g c =
     let done = c.in_ok-put.ensures.ok in
     record {
-      sound = (write_whole (parts_of c.self.inside) c.args.self.now.world (ap (λ s. s.world) c.self.view_is) c.self.invariant.sound c.args.session c.in_ok-place.place (log_row_of c.in-Some.row.now) c.in_ok-done.done
-          (object_of c.in-Some-write_at.object.now, option_copied c.in-Some-write_at.write)
-          (sym c.in_ok-place.ensures) (sym c.in-Some.ensures) (sym c.in_ok-done.ensures)
-          (sym c.in-Some-write_at.ensures.value)
-          c.stand.new.self (c.stand.ensures (log_row_of c.in-Some.row.now) (sym c.in-Some.ensures)) c.put.new.self.state (ap (λ t. t.state) done)).1;
+      sound = (write_whole (parts_of c.self.inside) c.args.self.now.world (ap (λ s. s.world) c.self.view_is) c.self.invariant.sound c.args.session c.in_ok-place.place (log_row_of c.in_ok-place.row.now) c.in_ok-done.done
+          (object_of c.in-Some.object.now, option_copied c.in-Some.write)
+          c.in_ok-place.ensures.place c.in_ok-place.ensures.row (sym c.in_ok-done.ensures)
+          (sym c.in-Some.ensures.value)
+          c.stand.new.self (c.stand.ensures (log_row_of c.in_ok-place.row.now) c.in_ok-place.ensures.row) c.put.new.self.state (ap (λ t. t.state) done)).1;
       tables_match = ap (λ t. t.tables) done ∙ c.self.invariant.tables_match;
       marks_match = c.self.invariant.marks_match;
       placed = subst (λ n. HoldsArePlaced n c.self.inside.sessions) (sym (ap (λ t. t.tables) done)) c.self.invariant.placed;
@@ -79,17 +79,17 @@ invariant_of-self-2 g c =
 pub returns-clause-step : goal.returns-clause-step
 returns-clause-step g c =
     let done = c.in_ok-put.ensures.ok in
-    (write_whole (parts_of c.self.inside) c.args.self.now.world (ap (λ s. s.world) c.self.view_is) c.self.invariant.sound c.args.session c.in_ok-place.place (log_row_of c.in-Some.row.now) c.in_ok-done.done
-    (object_of c.in-Some-write_at.object.now, option_copied c.in-Some-write_at.write)
-    (sym c.in_ok-place.ensures) (sym c.in-Some.ensures) (sym c.in_ok-done.ensures)
-    (sym c.in-Some-write_at.ensures.value)
-    c.stand.new.self (c.stand.ensures (log_row_of c.in-Some.row.now) (sym c.in-Some.ensures)) c.put.new.self.state (ap (λ t. t.state) done)).0
+    (write_whole (parts_of c.self.inside) c.args.self.now.world (ap (λ s. s.world) c.self.view_is) c.self.invariant.sound c.args.session c.in_ok-place.place (log_row_of c.in_ok-place.row.now) c.in_ok-done.done
+    (object_of c.in-Some.object.now, option_copied c.in-Some.write)
+    c.in_ok-place.ensures.place c.in_ok-place.ensures.row (sym c.in_ok-done.ensures)
+    (sym c.in-Some.ensures.value)
+    c.stand.new.self (c.stand.ensures (log_row_of c.in_ok-place.row.now) c.in_ok-place.ensures.row) c.put.new.self.state (ap (λ t. t.state) done)).0
 
 pub returns-clause-named : goal.returns-clause-named
 returns-clause-named g c = λ row write is.
     let row_is : c.in_ok-place.place ≡ row = cc in
     let write_is : c.in_ok-done.done ≡ write = cc in
     ap (λ p. is_some (written_in c.stand.new.self p write)) (sym row_is) ∙ ap (λ p. is_some (written_in c.stand.new.self c.in_ok-place.place p)) (sym write_is)
-    ∙ ap is_some (write_named c.stand.new.self c.self.inside.log c.in_ok-place.place (log_row_of c.in-Some.row.now) (Writing (c.in_ok-done.done + 1)) c.in_ok-done.done
-    (object_of c.in-Some-write_at.object.now, option_copied c.in-Some-write_at.write) (sym c.in-Some.ensures) (c.stand.ensures (log_row_of c.in-Some.row.now) (sym c.in-Some.ensures))
-    (sym c.in-Some-write_at.ensures.value))
+    ∙ ap is_some (write_named c.stand.new.self c.self.inside.log c.in_ok-place.place (log_row_of c.in_ok-place.row.now) (Writing (c.in_ok-done.done + 1)) c.in_ok-done.done
+    (object_of c.in-Some.object.now, option_copied c.in-Some.write) c.in_ok-place.ensures.row (c.stand.ensures (log_row_of c.in_ok-place.row.now) c.in_ok-place.ensures.row)
+    (sym c.in-Some.ensures.value))

@@ -1,0 +1,18 @@
+use Rattle.std.proofs.Common.{List, subst}
+use Rattle.std.specs.Bool.{Decides}
+use Rattle.occ_model.specs.Log.{Audited}
+use Rattle.occ_model.specs.World.{empty_base}
+use Rattle.occ_book.specs.Kept.{Content}
+use Rattle.occ_book.specs.Marks.{Marked}
+use Rattle.occ_book.specs.declared.rows.LogRow.{LogRow}
+use Rattle.occ_books.specs.Untold.{untold, log_of}
+use Rattle.occ_books.proofs.audits.judge.Goals as goal
+
+pub returns-in-Ok-clause-ok : goal.returns-in-Ok-clause-ok
+returns-in-Ok-clause-ok g c =
+    let book = c.args.printed.now.book in
+    let lent = c.view.result in
+    let verdict = c.in-Ok.verdict in
+    subst (λ (marks : Marked). Decides verdict (Audited empty_base marks.marks book.table.state (log_of book.log.items))) c.view.ensures.marks
+    (subst (λ (table : Content). Decides verdict (Audited empty_base lent.marks.now.marks table.state (log_of book.log.items))) c.view.ensures.table
+    (subst (λ (log : List (LogRow g.row.A.Denot (Unit {0}))). Decides verdict (Audited empty_base lent.marks.now.marks lent.table.now.state (log_of log))) c.view.ensures.log (c.in-Ok.ensures.ok untold)))

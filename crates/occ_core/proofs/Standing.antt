@@ -1,0 +1,41 @@
+-- What holds of every core, seen from outside.
+use Rattle.std.proofs.Common.{◌≡◌, ℕ, suc, ◌+◌, ◌-◌, ◌≤◌, true, length, refl, ap, subst, ◌∙◌, arith}
+use Rattle.std.specs.Prelude.{nat_le}
+use Rattle.std.proofs.lemmas.Bool.{leb-true}
+use Rattle.occ_types.specs.declared.limits.TheConstants.{MAX_COUNTER, MAX_LOG_ROWS, MAX_NUMBER}
+use Rattle.occ_model.proofs.Tests as tests
+use Rattle.occ_model.proofs.Steps.{audited}
+use Rattle.occ_model.specs.Invariant.{Invariant}
+use Rattle.occ_model.specs.Log.{Audited}
+use Rattle.occ_model.specs.World.{World, empty_base, active_count, has_session, last_entered}
+use Rattle.occ_core.specs.Parts.{Parts, world_of, AreSound}
+use Rattle.occ_core.proofs.Reading.{there}
+
+pub record Lawful (world : World) : Type 0 where
+  pub invariant : Invariant world
+  pub base : world.base ≡ empty_base
+  pub audited : Audited empty_base world.marks world.table world.log
+  pub counter : world.counter + active_count world ≤ MAX_COUNTER
+  pub numbers : (session : ℕ) → has_session world session ≡ true → last_entered world session ≤ MAX_NUMBER
+  pub rows : length world.log ≤ MAX_LOG_ROWS
+
+last_fits : (parts : Parts) → AreSound parts → (session : ℕ) → has_session (world_of parts) session ≡ true → last_entered (world_of parts) session ≤ MAX_NUMBER
+last_fits parts sound session has =
+    let both = tests.and_true (nat_le 1 session) (nat_le session parts.settings.sessions) has in
+    let from = leb-true 1 session both.0 in
+    let below = leb-true session parts.settings.sessions both.1 in
+    let count = sound.each_session in
+    let found = there parts.slots (session - 1) (omega arith) in
+    let same : suc (session - 1) ≡ session = omega arith in
+    let slot = sound.slots_true (session - 1) found.0 found.1 in
+    subst (λ n. n ≤ MAX_NUMBER) (slot.last_is ∙ ap (last_entered (world_of parts)) same) slot.last_fits
+
+pub lawful : (parts : Parts) (world : World) → world_of parts ≡ world → AreSound parts → Lawful world
+lawful parts world seen sound = subst Lawful seen (record {
+  invariant = sound.law;
+  base = refl;
+  audited = audited (world_of parts) sound.law;
+  counter = sound.counter_room;
+  numbers = last_fits parts sound;
+  rows = sound.log_room;
+})

@@ -1,0 +1,67 @@
+-- What a list of steps does to a core, and what it is replied: a run of the model.
+use Rattle.std.specs.Prelude.{◌≡◌, ◌⊎◌, List, [], ◌∷◌, Option, None, Some}
+use Rattle.occ_types.specs.declared.fault.Fault.TheVariants.{Memory}
+use Rattle.occ_types.specs.Question.{One, Span}
+use Rattle.occ_types.specs.Seen.{key_of, end_of, object_of}
+use Rattle.occ_model.specs.State.{Found, Rows}
+use Rattle.occ_model.specs.World.{World}
+use Rattle.occ_model.specs.Event.{Event, Item, Read, Forget, Enter, Decide, WriteOne, Finish, BackUp, Reply, Refused, Answered, Forgotten, Entered, Decided, Wrote, NoMore, Finished, BackedUp}
+use Rattle.occ_model.specs.Refusal.{refusal}
+use Rattle.occ_model.specs.Step.{Step}
+use Rattle.occ_sets.specs.Seen.{rows_of}
+use Rattle.occ_queue.specs.Items.{item_of}
+use Rattle.occ_core.specs.declared.steps.Step as code_step
+use Rattle.occ_core.specs.declared.steps.Step.TheVariants as steps
+use Rattle.occ_core.specs.declared.replies.Reply as code_reply
+use Rattle.occ_core.specs.declared.replies.Reply.TheVariants as replies
+
+module _ {Z : Type 0} where
+  -- the event that a step is
+  abbrev pub event_of : code_step.Step Z → Event
+  event_of (steps.Read session number start table key) = Read session number start (One table (key_of key))
+  event_of (steps.Scan session number start table lower upper) = Read session number start (Span table (end_of lower) (end_of upper))
+  event_of (steps.Forget session number) = Forget session number
+  event_of (steps.Enter session item) = Enter session (item_of item)
+  event_of (steps.Decide session) = Decide session
+  event_of (steps.WriteOne session) = WriteOne session
+  event_of (steps.Finish session) = Finish session
+  event_of (steps.BackUp session) = BackUp session
+
+  -- the plain reply
+  abbrev pub reply_of : code_reply.Reply Z → Reply
+  reply_of (replies.Found row) = Answered (Found row)
+  reply_of (replies.Rows rows) = Answered (Rows (rows_of rows.items))
+  reply_of (replies.Forgotten there) = Forgotten there
+  reply_of (replies.Entered entered) = Entered entered.place entered.index
+  reply_of (replies.Decided verdict) = Decided verdict
+  reply_of (replies.Wrote object) = Wrote (object_of object)
+  reply_of replies.NoMore = NoMore
+  reply_of (replies.Finished number) = Finished number
+  reply_of (replies.BackedUp number) = BackedUp number
+  reply_of (replies.Refused fault) = Refused fault
+  reply_of (replies.RefusedItem refused) = Refused refused.fault
+
+  -- the item that a reply hands back
+  abbrev pub handed_back : code_reply.Reply Z → Option Item
+  handed_back (replies.RefusedItem refused) = Some (item_of refused.value)
+  handed_back reply = None
+
+  -- the item that is to be handed back: that of an entry which is refused
+  abbrev pub owed : code_step.Step Z → Reply → Option Item
+  owed (steps.Enter session item) (Refused fault) = Some (item_of item)
+  owed step reply = None
+
+  -- A single write is put off where there is no memory to name its object in the reply. (Of a deletion the model says that it takes none; its name may.)
+  abbrev pub IsPutOff : World → code_step.Step Z → code_reply.Reply Z → World → Type 0
+  IsPutOff old (steps.WriteOne session) (replies.Refused fault) new = (refusal old (WriteOne session) ≡ None) × (fault ≡ Memory) × (new ≡ old)
+  IsPutOff old step reply new = ⊥
+
+  -- what a step is replied, and what it makes of the world
+  abbrev pub Answers : World → code_step.Step Z → code_reply.Reply Z → World → Type 0
+  Answers old step reply new = (Step old (event_of step) (reply_of reply) new ⊎ IsPutOff old step reply new) × (handed_back reply ≡ owed step (reply_of reply))
+
+  -- the steps, one after another, each with its reply
+  abbrev pub Runs : World → List (code_step.Step Z) → List (code_reply.Reply Z) → World → Type 0
+  Runs old [] [] new = new ≡ old
+  Runs old (step ∷ others) (reply ∷ further) new = (next : World) × Answers old step reply next × Runs next others further new
+  Runs old others further new = ⊥

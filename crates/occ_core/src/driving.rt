@@ -1,0 +1,90 @@
+//! Driving a core by steps.
+ghost use Rattle.std.specs.Prelude.{◌≡◌, List, IfOk, IfErr, OnOk, OnErr};
+ghost use Rattle.occ_types.specs.declared.fault.Fault.TheVariants.{Memory};
+ghost use Rattle.occ_model.specs.Event.{Event, Reply as Said};
+ghost use Rattle.occ_model.specs.Step.{Run};
+ghost use Rattle.occ_core.specs.declared.steps.Step.TheVariants as steps;
+ghost use Rattle.occ_core.specs.Runs.{Answers, Runs};
+
+use crate::core_state::Core;
+use crate::replies::{
+    Reply, to_back_up, to_decision, to_entry, to_finish, to_forget, to_no_write, to_read, to_scan,
+    to_write,
+};
+use crate::steps::Step;
+use occ_types::{Fault, Refused};
+use std::alloc::Allocator;
+
+/// Does steps one after another, and answers the reply to each. A step that is refused changes nothing, and the next one goes on.
+///
+/// Room for all replies is taken first. Where there is no memory for it the fault is `Memory`, no step was done, and the steps are
+/// handed back. Once the first step is done, want of memory is only ever the reply to the step that wanted it.
+pub fn drive<A: Allocator + Copy>(
+    alloc: A,
+    core: &mut Core<A>,
+    steps: Vec<Step<A>, A>,
+) -> Result<Vec<Reply<A>, A>, Refused<Vec<Step<A>, A>>>
+    ensures ok { IfOk result (λ replies. Runs core.old.world steps.items replies.items core.new.world) }
+    ensures run { OnOk result ((events : List (Event × Said)) × Run core.old.world events core.new.world) }
+    ensures err { OnErr result (core.new.world ≡ core.old.world) }
+    ensures handed_back { IfErr result (λ refused. refused.value ≡ steps) }
+    ensures memory { IfErr result (λ refused. refused.fault ≡ Memory) }
+{
+    let Ok(mut replies) = Vec::with_capacity(alloc, steps.len()) else {
+        return Err(Refused {
+            value: steps,
+            fault: Fault::Memory,
+        });
+    };
+    for step in steps {
+        replies.push_reserved(core.take(step));
+    }
+    Ok(replies)
+}
+
+impl<A: Allocator + Copy> Core<A> {
+    /// Does one step, and answers its reply. Where it is refused, the core is as it was.
+    ///
+    /// The object of a single write is copied for the reply before the write is done. Where there is no memory for the copy the step
+    /// is refused with `Memory`, also where the write is a deletion.
+    pub fn take(&mut self, step: Step<A>) -> Reply<A>
+        ensures { Answers self.old.world step result self.new.world }
+    {
+        match step {
+            Step::Read {
+                session,
+                number,
+                start,
+                table,
+                key,
+            } => to_read(self.read(session, number, start, table, &key)),
+            Step::Scan {
+                session,
+                number,
+                start,
+                table,
+                lower,
+                upper,
+            } => to_scan(self.scan(session, number, start, table, &lower, &upper)),
+            Step::Forget { session, number } => to_forget(self.forget(session, number)),
+            Step::Enter { session, item } => to_entry(self.enter(session, item)),
+            Step::Decide(session) => to_decision(self.decide(session)),
+            Step::WriteOne(session) => self.take_write(session),
+            Step::Finish(session) => to_finish(self.finish(session)),
+            Step::BackUp(session) => to_back_up(self.back_up(session)),
+        }
+    }
+
+    // Does the next single write of a session, whose object is copied before that.
+    fn take_write(&mut self, session: usize) -> Reply<A>
+        ensures { Answers self.old.world (steps.WriteOne session) result self.new.world }
+    {
+        let Some(next) = self.next_write(session) else {
+            return to_no_write(self.write_one(session));
+        };
+        let Ok(object) = next.clone() else {
+            return Reply::Refused(Fault::Memory);
+        };
+        to_write(object, self.write_one(session))
+    }
+}

@@ -1,0 +1,143 @@
+//! Replies: what a core says to its steps.
+ghost use Rattle.std.specs.Prelude.{◌≡◌, None, Some, option_map};
+ghost use Rattle.std.specs.Result.{result_err};
+ghost use Rattle.occ_types.specs.Seen.{object_of};
+ghost use Rattle.occ_core.specs.Replies.{reading, scanning, forgetting, entering, decision, finishing, backing, writing};
+ghost use Rattle.occ_core.specs.Runs.{reply_of, handed_back};
+ghost use Rattle.occ_queue.specs.Items.{item_of};
+
+use crate::core_entries::Entered;
+use crate::core_state::SingleWrite;
+use occ_case::Verdict;
+use occ_queue::Item;
+use occ_types::{Fault, Key, Object, Refused, Row};
+use std::alloc::Allocator;
+
+/// What a core replies to a step.
+#[derive(Drop)]
+pub enum Reply<A: Allocator> {
+    /// To a read: the row, or none where there is none.
+    Found(Option<Row<A>>),
+    /// To a scan: the keys of the range and their rows, in the order of the keys.
+    Rows(Vec<(Key<A>, Row<A>), A>),
+    /// To a forget: whether there was such a read phase.
+    Forgotten(bool),
+    /// To an entry: the place of its row in the log, and the index that names its case.
+    Entered(Entered),
+    /// To a decision: the verdict.
+    Decided(Verdict),
+    /// To a single write: the object whose row it put or deleted.
+    Wrote(Object<A>),
+    /// To a single write: none was left.
+    NoMore,
+    /// To a finish: the transaction number.
+    Finished(u64),
+    /// To a back-up: the number of the transaction in its session.
+    BackedUp(u64),
+    /// To a step that was refused, but for an entry: why. The core is as it was.
+    Refused(Fault),
+    /// To an entry that was refused: why, and the item that was handed in. The core is as it was.
+    RefusedItem(Refused<Item<A>>),
+}
+
+// The reply to a read.
+pub(crate) fn to_read<A: Allocator>(called: Result<Option<Row<A>>, Fault>) -> Reply<A>
+    ensures reply { reply_of result ≡ reading called }
+    ensures none { handed_back result ≡ None }
+{
+    match called {
+        Ok(row) => Reply::Found(row),
+        Err(fault) => Reply::Refused(fault),
+    }
+}
+
+// The reply to a scan.
+pub(crate) fn to_scan<A: Allocator>(called: Result<Vec<(Key<A>, Row<A>), A>, Fault>) -> Reply<A>
+    ensures reply { reply_of result ≡ scanning called }
+    ensures none { handed_back result ≡ None }
+{
+    match called {
+        Ok(rows) => Reply::Rows(rows),
+        Err(fault) => Reply::Refused(fault),
+    }
+}
+
+// The reply to a forget.
+pub(crate) fn to_forget<A: Allocator>(called: Result<bool, Fault>) -> Reply<A>
+    ensures reply { reply_of result ≡ forgetting called }
+    ensures none { handed_back result ≡ None }
+{
+    match called {
+        Ok(there) => Reply::Forgotten(there),
+        Err(fault) => Reply::Refused(fault),
+    }
+}
+
+// The reply to an entry.
+pub(crate) fn to_entry<A: Allocator>(called: Result<Entered, Refused<Item<A>>>) -> Reply<A>
+    ensures reply { reply_of result ≡ entering called }
+    ensures back { handed_back result ≡ option_map (λ refused. item_of refused.value) (result_err called) }
+{
+    match called {
+        Ok(entered) => Reply::Entered(entered),
+        Err(refused) => Reply::RefusedItem(refused),
+    }
+}
+
+// The reply to a decision.
+pub(crate) fn to_decision<A: Allocator>(called: Result<Verdict, Fault>) -> Reply<A>
+    ensures reply { reply_of result ≡ decision called }
+    ensures none { handed_back result ≡ None }
+{
+    match called {
+        Ok(verdict) => Reply::Decided(verdict),
+        Err(fault) => Reply::Refused(fault),
+    }
+}
+
+// The reply to a finish.
+pub(crate) fn to_finish<A: Allocator>(called: Result<u64, Fault>) -> Reply<A>
+    ensures reply { reply_of result ≡ finishing called }
+    ensures none { handed_back result ≡ None }
+{
+    match called {
+        Ok(number) => Reply::Finished(number),
+        Err(fault) => Reply::Refused(fault),
+    }
+}
+
+// The reply to a back-up.
+pub(crate) fn to_back_up<A: Allocator>(called: Result<u64, Fault>) -> Reply<A>
+    ensures reply { reply_of result ≡ backing called }
+    ensures none { handed_back result ≡ None }
+{
+    match called {
+        Ok(number) => Reply::BackedUp(number),
+        Err(fault) => Reply::Refused(fault),
+    }
+}
+
+// The reply to a single write where none is left.
+pub(crate) fn to_no_write<A: Allocator>(called: Result<SingleWrite, Fault>) -> Reply<A>
+    ensures reply { reply_of result ≡ writing None called }
+    ensures none { handed_back result ≡ None }
+{
+    match called {
+        Ok(_none) => Reply::NoMore,
+        Err(fault) => Reply::Refused(fault),
+    }
+}
+
+// The reply to a single write of an object.
+pub(crate) fn to_write<A: Allocator>(
+    object: Object<A>,
+    called: Result<SingleWrite, Fault>,
+) -> Reply<A>
+    ensures reply { reply_of result ≡ writing (Some (object_of object)) called }
+    ensures none { handed_back result ≡ None }
+{
+    match called {
+        Ok(_done) => Reply::Wrote(object),
+        Err(fault) => Reply::Refused(fault),
+    }
+}
