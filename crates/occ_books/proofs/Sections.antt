@@ -1,5 +1,5 @@
 -- The parts of a book: its tables, its closing marks, its state and its end.
-use Rattle.std.proofs.Common.{◌≡◌, ℕ, zero, suc, ◌+◌, ◌-◌, ◌^◌, ◌<◌, ◌≤◌, Bool, true, false, cond, ◌||◌, List, [], ◌∷◌, ◌++◌, map, length, Option, Some, None, Result, Ok, inl, inr, refl, sym, ap, subst, ◌∙◌, arith, append_assoc}
+use Rattle.std.proofs.Common.{◌≡◌, ℕ, zero, suc, ◌+◌, ◌-◌, ◌^◌, ◌<◌, ◌≤◌, Bool, true, false, ◌||◌, List, [], ◌∷◌, ◌++◌, map, length, Option, Some, None, Result, Ok, inl, inr, refl, sym, ap, subst, ◌∙◌, arith, append_assoc}
 use Rattle.std.specs.Prelude.{IfSome, codes, slice_get}
 use Rattle.std.specs.List.{AllByRecursion, flat_map}
 use Rattle.std.specs.Str.{bytes_eq}
@@ -98,10 +98,6 @@ marks_start sessions marks a none =
       ends = e;
       all = ap (λ (m : Marked). m.sessions) none;
     }
-
--- the session of a mark that fits has a slot
-pub mark_there : (sessions last count : ℕ) (marks : Marked) (mark : Mark) (a b : Option (List ℕ)) → MarksSoFar sessions last count marks a b → MarkFits sessions mark → mark.session ≤ marks.sessions
-mark_there sessions last count marks mark a b so_far fits = subst (λ (n : ℕ). mark.session ≤ n) (sym so_far.all) fits.session.last
 
 pub marks_next : (sessions last count : ℕ) (old new : Marked) (mark : Mark) (a b c : Option (List ℕ)) → MarksSoFar sessions last count old a b
     → TakesLines b c (mark_text mark ∷ []) × MarkFits sessions mark × (last < mark.session)

@@ -4,7 +4,7 @@ use Rattle.occ_books.proofs.Leading.{failed}
 use Rattle.occ_text.specs.Faults.{read_fault}
 use Rattle.occ_text.specs.Headers.{count_text}
 use Rattle.occ_books.proofs.Gathering.{one_line}
-use Rattle.occ_books.proofs.Sections.{marks_start, mark_there, marks_next, marks_end}
+use Rattle.occ_books.proofs.Sections.{marks_start, marks_next, marks_end}
 use Rattle.occ_books.proofs.PartsLeading.{count_first, count_fails, marks_lead, mark_led, mark_fails, marks_led}
 use Rattle.occ_books.proofs.printed.take_marks.Goals as goal
 
