@@ -13,44 +13,35 @@ use Rattle.occ_model.specs.Event.{Event, Item, Reply}
 use Rattle.occ_model.specs.Event as events
 use Rattle.occ_model.specs.Step.{Step}
 use Rattle.occ_model.proofs.Headlines.{refusals_leave}
-use Rattle.occ_core.specs.Replies.{single, next_object, writing}
-use Rattle.occ_core.specs.declared.core_state.SingleWrite.{SingleWrite}
-use Rattle.occ_core.proofs.SingleWrites.{single_is}
-use Rattle.occ_types.specs.Object.{Object}
+use Rattle.occ_core.specs.declared.steps.Step as code_step
+use Rattle.occ_core.specs.declared.steps.Step.TheVariants as calls
+use Rattle.occ_core.specs.declared.replies.Reply as code_reply
+use Rattle.occ_core.specs.declared.replies.Reply.TheVariants as replies
+use Rattle.occ_core.specs.Runs.{Answers, IsPutOff, event_of, reply_of, handed_back, owed}
+use Rattle.occ_queue.specs.declared.items.Item as code_item
+use Rattle.occ_queue.specs.Items.{item_of}
+use Rattle.occ_types.specs.declared.fault.Refused as code_refused
 use Rattle.occ_types.specs.Question.{Question, One}
 use Rattle.occ_types.specs.Row.{Row}
-use Rattle.occ_types.specs.Schema.{Schema}
 use Rattle.occ_model.specs.Overlay.{own}
 use Rattle.occ_text.specs.Steps as steps
 use Rattle.occ_text.specs.declared.steps.Act.TheVariants as acts
 use Rattle.occ_sets.specs.Sets.{Copied}
 use Rattle.occ_sets.specs.declared.reads.Answer as code_seen
-use Rattle.occ_text.specs.declared.answers.Answer as code_answer
-use Rattle.occ_text.specs.Answers.{Answer, answer_of}
-use Rattle.occ_text.specs.Answers as says
-use Rattle.occ_cli.specs.Replaying.{AtMostOneStep, PlayedIn, PlayedBy, Starved, takes_own_memory, Plays, Begins, Submits, Writes, Gets, GetsIn, Scans, next_item, still_waiting, kept_after, copy_of, object_named, Client, Replayed, Given, client_of, span_named, Tells, ScansIn, ByStore, ByClient, ByAsking, Enters, told, overlaid, replied, played}
+use Rattle.occ_cli.specs.declared.answers.Answer as code_answer
+use Rattle.occ_cli.specs.declared.answers.Answer.TheVariants as answers
+use Rattle.occ_cli.specs.Answers.{Answer, answer_of}
+use Rattle.occ_cli.specs.Answers as says
+use Rattle.occ_cli.specs.Replaying.{AtMostOneStep, PlayedIn, PlayedBy, Starved, takes_own_memory, Plays, Begins, Submits, Writes, Gets, GetsIn, Scans, next_item, still_waiting, kept_after, copy_of, object_named, Client, Replayed, Given, client_of, span_named, Tells, ScansIn, ByStore, ByClient, ByAsking, Enters, overlaid, replied, played, may_be_put_off}
 
 -- What is played of the store.
 
 -- where a refusal is answered, the store replied it
 abbrev pub IsSaid : Answer → Reply → Type 0
-IsSaid answer reply = (fault : Fault) → answer ≡ says.Refused fault → reply ≡ events.Refused fault
+IsSaid answer reply = (fault : Fault) → answer ≡ says.refused fault → reply ≡ events.Refused fault
 
-told_said : (schema : Schema) (reply : Reply) (answer : Answer) → told schema reply ≡ Some answer → IsSaid answer reply
-told_said schema (events.Refused known) answer tells fault is = cc
-told_said schema (events.Answered (states.Found row)) answer tells fault is = cc
-told_said schema (events.Answered (states.Rows rows)) answer tells fault is = cc
-told_said schema (events.Forgotten known) answer tells fault is = cc
-told_said schema (events.Entered place index) answer tells fault is = cc
-told_said schema events.Closed answer tells fault is = cc
-told_said schema (events.Decided verdict) answer tells fault is = cc
-told_said schema (events.Wrote object) answer tells fault is = cc
-told_said schema events.NoMore answer tells fault is = cc
-told_said schema (events.Finished number) answer tells fault is = cc
-told_said schema (events.BackedUp number) answer tells fault is = cc
-told_said schema (events.EndedBack cause) answer tells fault is = cc
-told_said schema (events.RanAlone number answers) answer tells fault is = cc
-told_said schema (events.Folded rows) answer tells fault is = cc
+told_said : (reply : Reply) (answer : Answer) → answer ≡ says.Replied reply → IsSaid answer reply
+told_said reply answer tells fault is = cc
 
 -- the own writes leave a refusal as it is
 overlaid_refused : (question : Question) (writes : List Write) (reply : Reply) (fault : Fault) → overlaid question writes reply ≡ events.Refused fault → reply ≡ events.Refused fault
@@ -75,9 +66,9 @@ module _ {C : Type 0} (old new : Replayed) (answer : Answer) (stays : new.world 
   given_by (Err fault) before after P same by h = stays (same h.1)
 
   tells_by : (event : Event) → Tells old.world event answer new.world → C
-  tells_by event h = does event h.0 h.1 (told_said old.world.settings.schema h.0 answer h.2)
+  tells_by event h = does event h.0 h.1 (told_said h.0 answer h.2)
 
-  own_by : (event : Event) (row : Option (Option Row)) → MatchOption row (Tells old.world event answer new.world) (λ r. (answer ≡ says.Found r) × (new.world ≡ old.world)) → C
+  own_by : (event : Event) (row : Option (Option Row)) → MatchOption row (Tells old.world event answer new.world) (λ r. (answer ≡ says.Replied (events.Answered (states.Found r))) × (new.world ≡ old.world)) → C
   own_by event None h = tells_by event h
   own_by event (Some row) h = stays h.1
 
@@ -85,7 +76,7 @@ module _ {C : Type 0} (old new : Replayed) (answer : Answer) (stays : new.world 
   gets_by session name key client h =
       given_by (copy_of client) old.world new.world (λ copy. GetsIn old.world session name key copy answer new.world) (λ same. same)
       (λ copy g. given_by (object_named old.world.settings.schema name key) old.world new.world
-      (λ object. MatchOption (own copy.writes object) (Tells old.world (events.Read session copy.number copy.start (One object.0 object.1)) answer new.world) (λ row. (answer ≡ says.Found row) × (new.world ≡ old.world))) (λ same. same)
+      (λ object. MatchOption (own copy.writes object) (Tells old.world (events.Read session copy.number copy.start (One object.0 object.1)) answer new.world) (λ row. (answer ≡ says.Replied (events.Answered (states.Found row))) × (new.world ≡ old.world))) (λ same. same)
       (λ object m. own_by (events.Read session copy.number copy.start (One object.0 object.1)) (own copy.writes object) m) g)
       h
 
@@ -93,17 +84,17 @@ module _ {C : Type 0} (old new : Replayed) (answer : Answer) (stays : new.world 
   scans_by session name lower upper client h =
       given_by (copy_of client) old.world new.world (λ copy. ScansIn old.world session name lower upper copy answer new.world) (λ same. same)
       (λ copy g. given_by (span_named old.world.settings.schema name lower upper) old.world new.world
-      (λ question. (reply : Reply) × Step old.world (events.Read session copy.number copy.start question) reply new.world × (told old.world.settings.schema (overlaid question copy.writes reply) ≡ Some answer)) (λ same. same)
+      (λ question. (reply : Reply) × Step old.world (events.Read session copy.number copy.start question) reply new.world × (answer ≡ says.Replied (overlaid question copy.writes reply))) (λ same. same)
       (λ question m. does (events.Read session copy.number copy.start question) m.0 m.1
-      (λ fault is. overlaid_refused question copy.writes m.0 fault (told_said old.world.settings.schema (overlaid question copy.writes m.0) answer m.2 fault is))) g)
+      (λ fault is. overlaid_refused question copy.writes m.0 fault (told_said (overlaid question copy.writes m.0) answer m.2 fault is))) g)
       h
 
   item_by : (session : ℕ) (client next : Client) (item : Option Item)
       → MatchOption item ((answer ≡ says.Empty) × (next ≡ client) × (new.world ≡ old.world))
-      (λ i. (reply : Reply) × Step old.world (events.Enter session i) reply new.world × (told old.world.settings.schema reply ≡ Some answer) × (next ≡ record client { queue = still_waiting client; kept = kept_after i reply }))
+      (λ i. (reply : Reply) × Step old.world (events.Enter session i) reply new.world × (answer ≡ says.Replied reply) × (next ≡ record client { queue = still_waiting client; kept = kept_after i reply }))
       → C
   item_by session client next None h = stays h.2
-  item_by session client next (Some i) h = does (events.Enter session i) h.0 h.1 (told_said old.world.settings.schema h.0 answer h.2)
+  item_by session client next (Some i) h = does (events.Enter session i) h.0 h.1 (told_said h.0 answer h.2)
 
   client_by : (session : ℕ) (Moves : Client → Client → Type 0) → ByClient old session answer new Moves → C
   client_by session Moves h =
@@ -139,9 +130,9 @@ plays_steps old step answer new h =
     plays_by {C = AtMostOneStep old.world new.world} old new answer (λ same. inl same) (λ event reply stepped said. inr (event, reply, stepped)) step h
 
 -- where a refusal is played, the store stands as it was
-pub refused_stays : (old : Replayed) (step : steps.Step) (fault : Fault) (new : Replayed) → Plays old step (says.Refused fault) new → new.world ≡ old.world
+pub refused_stays : (old : Replayed) (step : steps.Step) (fault : Fault) (new : Replayed) → Plays old step (says.refused fault) new → new.world ≡ old.world
 refused_stays old step fault new h =
-    plays_by {C = new.world ≡ old.world} old new (says.Refused fault) (λ same. same)
+    plays_by {C = new.world ≡ old.world} old new (says.refused fault) (λ same. same)
     (λ event reply stepped said. refusals_leave old.world new.world event fault (subst (λ (r : Reply). Step old.world event r new.world) (said fault refl) stepped)) step h
 
 module _ {Z : Type 0} where
@@ -172,56 +163,47 @@ module _ {Z : Type 0} where
   scan_refused old session name lower upper copy question new r e f asked is same step =
       subst (λ (x : Result (code_answer.Answer Z) Fault). PlayedIn old new x (λ answer. ScansIn old session name lower upper copy answer new)) (sym (is ∙ ap Err same))
       (inr (subst
-      (λ (g : Result Question Fault). Given g old (says.Refused f) new (λ q. (reply : Reply) × Step old (events.Read session copy.number copy.start q) reply new × (told old.settings.schema (overlaid q copy.writes reply) ≡ Some (says.Refused f))))
+      (λ (g : Result Question Fault). Given g old (says.refused f) new (λ q. (reply : Reply) × Step old (events.Read session copy.number copy.start q) reply new × (says.refused f ≡ says.Replied (overlaid q copy.writes reply))))
       asked (events.Refused f, step, refl)))
 
-  -- the store refused a step for want of memory
-  store_starves : (old : Replayed) (step : steps.Step) (new : Replayed) (r : Result (code_answer.Answer Z) Fault) → r ≡ Err faults.Memory → Plays old step (played r) new → Starved old step new
-  store_starves old step new r is so =
-      let plays = subst (λ (x : Result (code_answer.Answer Z) Fault). Plays old step (played x) new) is so in
-      (refused_stays old step faults.Memory new plays, inr plays)
+-- the store refused a step for want of memory
+store_starves : (old : Replayed) (step : steps.Step) (new : Replayed) (answer : Answer) → answer ≡ says.refused faults.Memory → Plays old step answer new → Starved old step new
+store_starves old step new answer is so =
+    let plays = subst (λ (a : Answer). Plays old step a new) is so in
+    (refused_stays old step faults.Memory new plays, inr plays)
 
+module _ {Z : Type 0} where
   -- a step was refused for want of memory
-  pub starves : (b : Bool) (old : Replayed) (step : steps.Step) (new : Replayed) (r : Result (code_answer.Answer Z) Fault) → b ≡ takes_own_memory step → r ≡ Err faults.Memory
+  starves : (b : Bool) (old : Replayed) (step : steps.Step) (new : Replayed) (r : Result (code_answer.Answer Z) Fault) → b ≡ takes_own_memory step → played r ≡ says.refused faults.Memory
       → PlayedBy b old new r (λ answer. Plays old step answer new) → Starved old step new
   starves true old step new r takes is (inl memory) = (ap (λ (s : Replayed). s.world) memory.1, inl (sym takes, memory.1))
-  starves true old step new r takes is (inr so) = store_starves old step new r is so
-  starves false old step new r takes is so = store_starves old step new r is so
+  starves true old step new r takes is (inr so) = store_starves old step new (played r) is so
+  starves false old step new r takes is so = store_starves old step new (played r) is so
 
-module _ {Z : Type 0} where
-  -- a call that failed
-  abbrev fails : Fault → Result (code_answer.Answer Z) Fault
-  fails fault = Err fault
+  -- memory wasn't refused
+  plays_so : (b : Bool) (old : Replayed) (step : steps.Step) (new : Replayed) (r : Result (code_answer.Answer Z) Fault) → played r ≢ says.refused faults.Memory
+      → PlayedBy b old new r (λ answer. Plays old step answer new) → Plays old step (played r) new
+  plays_so true old step new r other (inl memory) = absurd (other memory.0)
+  plays_so true old step new r other (inr so) = so
+  plays_so false old step new r other so = so
 
-  -- a step was refused otherwise
-  pub refuses : (b : Bool) (old : Replayed) (step : steps.Step) (new : Replayed) (r : Result (code_answer.Answer Z) Fault) (fault : Fault) → r ≡ Err fault → (fault ≡ faults.Memory → ⊥)
-      → PlayedBy b old new r (λ answer. Plays old step answer new) → Plays old step (says.Refused fault) new
-  refuses true old step new r fault is other (inl (memory, kept)) =
-      let same : fault ≡ faults.Memory = cc in
-      absurd (other same)
-  refuses true old step new r fault is other (inr so) = subst (λ (x : Result (code_answer.Answer Z) Fault). Plays old step (played x) new) is so
-  refuses false old step new r fault is other so = subst (λ (x : Result (code_answer.Answer Z) Fault). Plays old step (played x) new) is so
+  -- what a step ends with: its answer, unless that is a want of memory
+  abbrev pub EndsWith : {E : Type 0} → Result (code_answer.Answer Z) E → Answer → Type 0
+  EndsWith result given = MatchResult result (λ answer. (given ≢ says.refused faults.Memory) × (answer_of answer ≡ given)) (λ e. given ≡ says.refused faults.Memory)
 
--- a single write that isn't refused is told by the object that was next
-pub wrote_as : (old new : World) (session : ℕ) (done : SingleWrite) (next : Option Object) (answer : Answer) → next ≡ next_object old session → Step old (events.WriteOne session) (single new.log (Ok done)) new
-    → told old.settings.schema (writing next (Ok done)) ≡ Some answer → Tells old (events.WriteOne session) answer new
-wrote_as old new session done next answer is step tells =
-    let same : single new.log (Ok done) ≡ writing next (Ok done) = single_is old session (Ok done) new step ∙ ap (λ n. writing n (Ok done)) (sym is) in
-    (single new.log (Ok done), step, ap (told old.settings.schema) same ∙ tells)
+  pub ends_ok : {E : Type 0} (b : Bool) (old : Replayed) (step : steps.Step) (new : Replayed) (r : Result (code_answer.Answer Z) Fault) (result : Result (code_answer.Answer Z) E)
+      → EndsWith result (played r) → PlayedBy b old new r (λ answer. Plays old step answer new) → IfOk result (λ answer. Plays old step (answer_of answer) new)
+  ends_ok b old step new r (Ok answer) is so = subst (λ (a : Answer). Plays old step a new) (sym is.1) (plays_so b old step new r is.0 so)
+  ends_ok b old step new r (Err e) is so = tt
 
-module _ {Z : Type 0} where
-  -- what a fault ends a step with
-  pub ends_ok : {E : Type 0} (b : Bool) (old : Replayed) (step : steps.Step) (new : Replayed) (fault : Fault) (result : Result (code_answer.Answer Z) E)
-      → MatchResult result (λ answer. (fault ≢ faults.Memory) × (answer_of answer ≡ says.Refused fault)) (λ e. fault ≡ faults.Memory)
-      → PlayedBy {Z = Z} b old new (fails fault) (λ answer. Plays old step answer new) → IfOk result (λ answer. Plays old step (answer_of answer) new)
-  ends_ok b old step new fault (Ok answer) is so = subst (λ (a : Answer). Plays old step a new) (sym is.1) (refuses b old step new (fails fault) fault refl is.0 so)
-  ends_ok b old step new fault (Err e) is so = tt
+  pub ends_fed : {E : Type 0} (given : Answer) (result : Result (code_answer.Answer Z) E) → EndsWith result given → IfOk result (λ answer. answer_of answer ≢ says.refused faults.Memory)
+  ends_fed given (Ok answer) is = subst (λ (a : Answer). a ≢ says.refused faults.Memory) (sym is.1) is.0
+  ends_fed given (Err e) is = tt
 
-  pub ends_err : {E : Type 0} (old : Replayed) (step : steps.Step) (new : Replayed) (fault : Fault) (result : Result (code_answer.Answer Z) E)
-      → MatchResult result (λ answer. (fault ≢ faults.Memory) × (answer_of answer ≡ says.Refused fault)) (λ e. fault ≡ faults.Memory)
-      → PlayedBy {Z = Z} (takes_own_memory step) old new (fails fault) (λ answer. Plays old step answer new) → OnErr result (Starved old step new)
-  ends_err old step new fault (Ok answer) is so = tt
-  ends_err old step new fault (Err e) is so = starves (takes_own_memory step) old step new (fails fault) refl (ap fails is) so
+  pub ends_err : {E : Type 0} (old : Replayed) (step : steps.Step) (new : Replayed) (r : Result (code_answer.Answer Z) Fault) (result : Result (code_answer.Answer Z) E)
+      → EndsWith result (played r) → PlayedBy (takes_own_memory step) old new r (λ answer. Plays old step answer new) → OnErr result (Starved old step new)
+  ends_err old step new r (Ok answer) is so = tt
+  ends_err old step new r (Err e) is so = starves (takes_own_memory step) old step new r refl is so
 
 -- an element stands at its place
 pub found_at : {X : Type 0} (xs : List X) (place : ℕ) (x : X) → place < length xs → x ≡ get_or xs place x → slice_get xs place ≡ Some x
@@ -229,15 +211,54 @@ found_at [] place x lt is = absurd (omega arith)
 found_at (y ∷ ys) zero x lt is = ap Some (sym is)
 found_at (y ∷ ys) (suc place) x lt is = found_at ys place x (omega arith) is
 
--- an item that the store refused is kept
-pub kept_again : (old : World) (session : ℕ) (client : Client) (item handed : Item) (known fault : Fault) (next : Client) (new : World) → Some item ≡ next_item client → Step old (events.Enter session item) (events.Refused fault) new → handed ≡ item → known ≡ fault
-    → next ≡ record client { queue = still_waiting client; kept = Some handed } → Enters old session client (says.Refused known) next new
-kept_again old session client item handed known fault next new is step same told_as left =
-    subst (λ (f : Fault). Enters old session client (says.Refused f) next new) (sym told_as)
-    (subst
-    (λ (o : Option Item). MatchOption o ((says.Refused fault ≡ says.Empty) × (next ≡ client) × (new ≡ old))
-    (λ i. (reply : Reply) × Step old (events.Enter session i) reply new × (told old.settings.schema reply ≡ Some (says.Refused fault)) × (next ≡ record client { queue = still_waiting client; kept = kept_after i reply })))
-    is (events.Refused fault, step, refl, left ∙ ap (λ (i : Item). record client { queue = still_waiting client; kept = Some i }) same))
+module _ {Z : Type 0} where
+  -- an item that is handed back is kept
+  owed_kept : (session : ℕ) (item : code_item.Item Z) (reply : Reply) → owed (calls.Enter session item) reply ≡ kept_after (item_of item) reply
+  owed_kept session item (events.Refused fault) = refl
+  owed_kept session item (events.Answered given) = refl
+  owed_kept session item (events.Forgotten known) = refl
+  owed_kept session item (events.Entered place index) = refl
+  owed_kept session item events.Closed = refl
+  owed_kept session item (events.Decided verdict) = refl
+  owed_kept session item (events.Wrote object) = refl
+  owed_kept session item events.NoMore = refl
+  owed_kept session item (events.Finished number) = refl
+  owed_kept session item (events.BackedUp number) = refl
+  owed_kept session item (events.EndedBack cause) = refl
+  owed_kept session item (events.RanAlone number answers) = refl
+  owed_kept session item (events.Folded rows) = refl
+
+  -- the store replied to an item that was to enter
+  pub entered_so : (old : World) (session : ℕ) (client : Client) (item : code_item.Item Z) (reply : code_reply.Reply Z) (next : Client) (new : World) → Some (item_of item) ≡ next_item client → Answers old (calls.Enter session item) reply new
+      → next ≡ record client { queue = still_waiting client; kept = handed_back reply } → Enters old session client (says.Replied (reply_of reply)) next new
+  entered_so old session client item reply next new is (inl step, back) left =
+      subst
+      (λ (o : Option Item). MatchOption o ((says.Replied (reply_of reply) ≡ says.Empty) × (next ≡ client) × (new ≡ old))
+      (λ i. (r : Reply) × Step old (events.Enter session i) r new × (says.Replied (reply_of reply) ≡ says.Replied r) × (next ≡ record client { queue = still_waiting client; kept = kept_after i r })))
+      is (reply_of reply, step, refl, left ∙ ap (λ (k : Option Item). record client { queue = still_waiting client; kept = k }) (back ∙ owed_kept session item (reply_of reply)))
+  entered_so old session client item reply next new is (inr off, back) left = absurd off
+
+  -- the store refused an item, which is kept
+  pub refused_so : (old : World) (session : ℕ) (client : Client) (item : code_item.Item Z) (refused : code_refused.Refused (code_item.Item Z)) (known : Fault) (next : Client) (new : World) → Some (item_of item) ≡ next_item client
+      → Answers old (calls.Enter session item) (replies.RefusedItem refused) new → known ≡ refused.fault
+      → next ≡ record client { queue = still_waiting client; kept = Some (item_of refused.value) } → Enters old session client (says.Replied (events.Refused known)) next new
+  refused_so old session client item refused known next new is answered told_as left =
+      subst (λ (f : Fault). Enters old session client (says.Replied (events.Refused f)) next new) (sym told_as)
+      (entered_so old session client item (replies.RefusedItem refused) next new is answered left)
+
+  -- nothing is handed back
+  pub none_back : (reply : code_reply.Reply Z) → ((given : code_refused.Refused (code_item.Item Z)) → reply ≡ replies.RefusedItem given → ⊥) → handed_back reply ≡ None
+  none_back (replies.Found row) other = refl
+  none_back (replies.Rows rows) other = refl
+  none_back (replies.Forgotten there) other = refl
+  none_back (replies.Entered entered) other = refl
+  none_back (replies.Decided verdict) other = refl
+  none_back (replies.Wrote object) other = refl
+  none_back replies.NoMore other = refl
+  none_back (replies.Finished number) other = refl
+  none_back (replies.BackedUp number) other = refl
+  none_back (replies.Refused fault) other = refl
+  none_back (replies.RefusedItem given) other = absurd (other given refl)
 
 -- no element stands behind the end
 pub none_at : {X : Type 0} (xs : List X) (place : ℕ) → length xs ≤ place → slice_get xs place ≡ None
@@ -264,28 +285,55 @@ client_at clients (suc p) place client is lt at =
 set_same : (clients : List Client) (place : ℕ) (client next : Client) → client ≡ get_or clients place client → next ≡ client → slice_set clients place next ≡ clients
 set_same clients place client next at same = ap (λ (c : Client). slice_set clients place c) (same ∙ at) ∙ set-get_or clients place client
 
+module _ {Z : Type 0} where
+  -- a call that is answered by what the store replied
+  abbrev replying : code_reply.Reply Z → Result (code_answer.Answer Z) Fault
+  replying reply = Ok (answers.Replied reply)
+
+  -- a step of the store alone, that may be put off or not
+  abbrev CalledBy : Bool → Replayed → Event → code_reply.Reply Z → Replayed → Type 0
+  CalledBy b old event reply new = PlayedBy b old new (replying reply) (λ answer. ByStore old event answer new)
+
+  stepped : (old : Replayed) (event : Event) (reply : code_reply.Reply Z) (next : World) → Step old.world event (reply_of reply) next ⊎ ⊥ → CalledBy false old event reply (record old { world = next })
+  stepped old event reply next (inl step) = ((reply_of reply, step, refl), refl)
+  stepped old event reply next (inr off) = absurd off
+
+  write_stepped : (old : Replayed) (session : ℕ) (reply : code_reply.Reply Z) (next : World) → Step old.world (events.WriteOne session) (reply_of reply) next ⊎ IsPutOff old.world (calls.WriteOne session) reply next
+      → CalledBy true old (events.WriteOne session) reply (record old { world = next })
+  write_stepped old session reply next (inl step) = inr ((reply_of reply, step, refl), refl)
+  write_stepped old session (replies.Refused fault) next (inr off) = inl (ap says.refused off.1, ap (λ (w : World). record old { world = w }) off.2)
+  write_stepped old session (replies.Found row) next (inr off) = absurd off
+  write_stepped old session (replies.Rows rows) next (inr off) = absurd off
+  write_stepped old session (replies.Forgotten there) next (inr off) = absurd off
+  write_stepped old session (replies.Entered entered) next (inr off) = absurd off
+  write_stepped old session (replies.Decided verdict) next (inr off) = absurd off
+  write_stepped old session (replies.Wrote object) next (inr off) = absurd off
+  write_stepped old session replies.NoMore next (inr off) = absurd off
+  write_stepped old session (replies.Finished number) next (inr off) = absurd off
+  write_stepped old session (replies.BackedUp number) next (inr off) = absurd off
+  write_stepped old session (replies.RefusedItem given) next (inr off) = absurd off
+
+  by_call : (old : Replayed) (call : code_step.Step Z) (reply : code_reply.Reply Z) (next : World) → Answers old.world call reply next → CalledBy (may_be_put_off call) old (event_of call) reply (record old { world = next })
+  by_call old (calls.Read session number start table key) reply next h = stepped old (event_of (calls.Read session number start table key)) reply next h.0
+  by_call old (calls.Scan session number start table lower upper) reply next h = stepped old (event_of (calls.Scan session number start table lower upper)) reply next h.0
+  by_call old (calls.Forget session number) reply next h = stepped old (events.Forget session number) reply next h.0
+  by_call old (calls.Enter session item) reply next h = stepped old (events.Enter session (item_of item)) reply next h.0
+  by_call old (calls.Decide session) reply next h = stepped old (events.Decide session) reply next h.0
+  by_call old (calls.WriteOne session) reply next h = write_stepped old session reply next h.0
+  by_call old (calls.Finish session) reply next h = stepped old (events.Finish session) reply next h.0
+  by_call old (calls.BackUp session) reply next h = stepped old (events.BackUp session) reply next h.0
+
+  -- the same of a replay that is seen so
+  pub by_calling : (world : World) (clients : List Client) (self : Replayed) → record { world = world; clients = clients } ≡ self → (call : code_step.Step Z) (reply : code_reply.Reply Z) (next : World) → Answers world call reply next
+      → CalledBy (may_be_put_off call) self (event_of call) reply (record { world = next; clients = clients })
+  by_calling world clients self view call reply next h =
+      subst (λ (s : Replayed). CalledBy (may_be_put_off call) s (event_of call) reply (record { world = next; clients = clients })) view
+      (by_call (record { world = world; clients = clients }) call reply next h)
+
 module _ {Z : Type 0} (world : World) (clients : List Client) (self : Replayed) (view : record { world = world; clients = clients } ≡ self) (r : Result (code_answer.Answer Z) Fault) where
   -- what the lemmas start from
   abbrev before : Replayed
   before = record { world = world; clients = clients }
-
-  -- a step of the store alone
-  pub by_store : (event : Event) (next : World) (reply : Reply) → Step world event reply next → told world.settings.schema reply ≡ Some (played r)
-      → ByStore self event (played r) (record { world = next; clients = clients })
-  by_store event next reply step tells =
-      subst (λ (s : Replayed). ByStore s event (played r) (record { world = next; clients = clients })) view ((reply, step, tells), refl)
-
-  -- a step of the store alone that is refused
-  pub store_refused : (event : Event) (next : World) (e f : Fault) → r ≡ Err e → e ≡ f → Step world event (events.Refused f) next
-      → ByStore self event (played r) (record { world = next; clients = clients })
-  store_refused event next e f is same step =
-      by_store event next (events.Refused f) step (ap (λ (x : Result (code_answer.Answer Z) Fault). Some (played x)) (sym (is ∙ ap Err same)))
-
-  -- a step of the store alone that may take memory
-  pub by_starved_store : (event : Event) (next : World) → PlayedIn world next r (λ answer. Tells world event answer next)
-      → PlayedIn self (record { world = next; clients = clients }) r (λ answer. ByStore self event answer (record { world = next; clients = clients }))
-  by_starved_store event next (inl memory) = inl (memory.0, ap (λ (w : World). record { world = w; clients = clients }) memory.1 ∙ view)
-  by_starved_store event next (inr so) = inr (subst (λ (s : Replayed). ByStore s event (played r) (record { world = next; clients = clients })) view (so, refl))
 
   -- there is no such session
   no_seat : (shown : List Client) (session : ℕ) (e f : Fault) (P : Answer → Client → Type 0) → shown ≡ clients → r ≡ Err e → e ≡ f → client_of shown session ≡ Err f
@@ -293,8 +341,8 @@ module _ {Z : Type 0} (world : World) (clients : List Client) (self : Replayed) 
   no_seat shown session e f P showing is same none =
       let seen : shown ≡ self.clients = showing ∙ ap (λ (s : Replayed). s.clients) view in
       let at : client_of self.clients session ≡ Err f = sym (ap (λ (l : List Client). client_of l session) seen) ∙ none in
-      let refused : Given (client_of self.clients session) self (says.Refused f) self (P (says.Refused f)) =
-      subst (λ (g : Result Client Fault). Given g self (says.Refused f) self (P (says.Refused f))) (sym at) (refl, refl) in
+      let refused : Given (client_of self.clients session) self (says.refused f) self (P (says.refused f)) =
+      subst (λ (g : Result Client Fault). Given g self (says.refused f) self (P (says.refused f))) (sym at) (refl, refl) in
       subst (λ (x : Result (code_answer.Answer Z) Fault). Given (client_of self.clients session) self (played x) self (P (played x))) (sym (is ∙ ap Err same)) refused
 
   -- a client that asks the store isn't there

@@ -8,7 +8,9 @@ use Rattle.occ_model.specs.Event.{Request, Alone, Close, Event, Read, Forget, En
 use Rattle.occ_model.specs.Step.{Step, Taken, EndsSerially, refused, starved, taken, validity_of}
 use Rattle.occ_model.specs.declared.verdict.Verdict.{Verdict}
 use Rattle.occ_model.specs.declared.verdict.Verdict.TheVariants as verdicts
-use Rattle.occ_cli.specs.Replaying.{Replayed, AtMostOneStep}
+use Rattle.occ_text.specs.Steps as steps
+use Rattle.occ_cli.specs.Answers.{Answer}
+use Rattle.occ_cli.specs.Replaying.{Replayed, AtMostOneStep, Plays}
 use Rattle.occ_cli.specs.Schedules.{Turn, PlaysAll}
 use Rattle.occ_cli.proofs.Replaying.{plays_steps}
 
@@ -53,7 +55,11 @@ at_most_keeps : (old new : World) → AtMostOneStep old new → AreKept old new
 at_most_keeps old new (inl same) = same_world old old new refl same
 at_most_keeps old new (inr h) = step_keeps old h.0 h.1 new h.2
 
+-- nor does one of a replay
+pub plays_keep : (old : Replayed) (step : steps.Step) (answer : Answer) (new : Replayed) → Plays old step answer new → new.world.settings ≡ old.world.settings
+plays_keep old step answer new h = at_most_keeps old.world new.world (plays_steps old step answer new h)
+
 pub plays_all_keep : (old : Replayed) (turns : List Turn) (new : Replayed) → PlaysAll old turns new → new.world.settings ≡ old.world.settings
 plays_all_keep old [] new h = ap (λ (r : Replayed). r.world.settings) h
 plays_all_keep old (step ∷ turns) new h =
-    plays_all_keep h.0 turns new h.3 ∙ at_most_keeps old.world h.0.world (plays_steps old step.0 step.1 h.0 h.1)
+    plays_all_keep h.0 turns new h.3 ∙ plays_keep old step.0 step.1 h.0 h.1

@@ -5,6 +5,7 @@ use Rattle.std.specs.Result.{IsErrAnd}
 use Rattle.std.specs.Io.KnownBytes.{Consumes, Appends, Keeps, IsAtEnd, prepend_known}
 use Rattle.std.proofs.KnownBytes.{Consumes-trans, Appends-trans, prepend_known-nil}
 use Rattle.std.proofs.lemmas.List.{length-map}
+use Rattle.occ_types.specs.Schema.{Schema}
 use Rattle.occ_model.specs.World.{Settings}
 use Rattle.occ_text.specs.declared.faults.ReadFault.{ReadFault}
 use Rattle.occ_text.specs.declared.faults.ReadFault.TheVariants as faults
@@ -60,7 +61,7 @@ stops trouble = Err trouble
 -- the steps ended with trouble
 stopped_with : {T : Type 0} (result : Result T Trouble) (trouble : Trouble) (quiet : Bool) (header : Header) (a b c after : Option (List ℕ)) (w v : Option (List ℕ)) (held keeps : List ℕ) (first : ℕ) (new : Replayed) → result ≡ Err trouble
     → Consumes a b (lines_text (header_text header)) → HeaderFits header → first ≡ length (header_text header)
-    → TurnsGive quiet (Pushed w v held keeps) (PushedFront w v held keeps) (stops trouble) b c first (opened_by header) new
+    → TurnsGive quiet header.tables (Pushed w v held keeps) (PushedFront w v held keeps) (stops trouble) b c first (opened_by header) new
     → ReplayGives quiet a (Pushed w v held keeps) (PushedFront w v held keeps) result after
 stopped_with result (troubles.Malformed n) quiet header a b c after w v held keeps first new is taken fits number t =
     subst (λ (r : Result _ Trouble). ReplayGives quiet a (Pushed w v held keeps) (PushedFront w v held keeps) r after) (sym is)
@@ -81,20 +82,20 @@ stopped_with result troubles.Memory quiet header a b c after w v held keeps firs
 
 pub turns_stopped : {T : Type 0} (result : Result T Trouble) (trouble : Trouble) (quiet : Bool) (header : Header) (start : Replayed) (a b c after : Option (List ℕ)) (w v : Option (List ℕ)) (held keeps : List ℕ) (first : ℕ) (new : Replayed) → start ≡ opened_by header
     → result ≡ Err trouble → Consumes a b (lines_text (header_text header)) → HeaderFits header → first ≡ length (header_text header)
-    → TurnsGive quiet (Pushed w v held keeps) (PushedFront w v held keeps) (stops trouble) b c first start new
+    → TurnsGive quiet start.world.settings.schema (Pushed w v held keeps) (PushedFront w v held keeps) (stops trouble) b c first start new
     → ReplayGives quiet a (Pushed w v held keeps) (PushedFront w v held keeps) result after
 turns_stopped result trouble quiet header start a b c after w v held keeps first new began is taken fits number t =
     stopped_with result trouble quiet header a b c after w v held keeps first new is taken fits number
-    (subst (λ (r : Replayed). TurnsGive quiet (Pushed w v held keeps) (PushedFront w v held keeps) (stops trouble) b c first r new) began t)
+    (subst (λ (r : Replayed). TurnsGive quiet r.world.settings.schema (Pushed w v held keeps) (PushedFront w v held keeps) (stops trouble) b c first r new) began t)
 
 -- what was pushed behind the answers
-behind_answers : (quiet : Bool) (w v u : Option (List ℕ)) (held mid keeps : List ℕ) (turns : List Turn) (lines : List (List ℕ)) → Pushed w v held mid (lines_text (answer_lines quiet turns)) → Pushed v u mid keeps (lines_text lines)
-    → Pushed w u held keeps (lines_text (answer_lines quiet turns ++ lines))
-behind_answers quiet w v u held mid keeps turns lines h k = lines_then (Ok tt) w v u held mid keeps (answer_lines quiet turns) lines h k
+behind_answers : (quiet : Bool) (schema : Schema) (w v u : Option (List ℕ)) (held mid keeps : List ℕ) (turns : List Turn) (lines : List (List ℕ)) → Pushed w v held mid (lines_text (answer_lines quiet schema turns)) → Pushed v u mid keeps (lines_text lines)
+    → Pushed w u held keeps (lines_text (answer_lines quiet schema turns ++ lines))
+behind_answers quiet schema w v u held mid keeps turns lines h k = lines_then (Ok tt) w v u held mid keeps (answer_lines quiet schema turns) lines h k
 
-front_of_answers : (quiet : Bool) (w v u : Option (List ℕ)) (held mid keeps : List ℕ) (turns : List Turn) (lines : List (List ℕ)) → Pushed w v held mid (lines_text (answer_lines quiet turns)) → PushedFront v u mid keeps (lines_text lines)
-    → PushedFront w u held keeps (lines_text (answer_lines quiet turns ++ lines))
-front_of_answers quiet w v u held mid keeps turns lines h k = front_behind w v u held mid keeps (answer_lines quiet turns) lines h k
+front_of_answers : (quiet : Bool) (schema : Schema) (w v u : Option (List ℕ)) (held mid keeps : List ℕ) (turns : List Turn) (lines : List (List ℕ)) → Pushed w v held mid (lines_text (answer_lines quiet schema turns)) → PushedFront v u mid keeps (lines_text lines)
+    → PushedFront w u held keeps (lines_text (answer_lines quiet schema turns ++ lines))
+front_of_answers quiet schema w v u held mid keeps turns lines h k = front_behind w v u held mid keeps (answer_lines quiet schema turns) lines h k
 
 -- the outcome of what stands behind the answers, as that of the whole
 abbrev pub troubled : {T : Type 0} → Result T WriteFault → Result T Trouble
@@ -102,19 +103,19 @@ troubled (Ok done) = Ok done
 troubled (Err fault) = Err (write_trouble fault)
 
 -- the book behind the steps
-cut_in_closing : (quiet : Bool) (s : Schedule) (a rest : Option (List ℕ)) (w v u : Option (List ℕ)) (held mid keeps : List ℕ) → IsReplayed s → Consumes a rest (lines_text (schedule_lines s)) → IsAtEnd rest → Pushed w v held mid (lines_text (answer_lines quiet s.turns))
+cut_in_closing : (quiet : Bool) (s : Schedule) (a rest : Option (List ℕ)) (w v u : Option (List ℕ)) (held mid keeps : List ℕ) → IsReplayed s → Consumes a rest (lines_text (schedule_lines s)) → IsAtEnd rest → Pushed w v held mid (lines_text (answer_lines quiet s.header.tables s.turns))
     → PushedFront v u mid keeps (lines_text (book_lines (book_after s))) ⊎ ((holds : Bool) × Decides holds (IsAudited (book_after s)) × PushedFront v u mid keeps (lines_text (closing_lines (book_after s) holds)))
     → IsCutShort quiet a (Pushed w u held keeps) (PushedFront w u held keeps)
 cut_in_closing quiet s a rest w v u held mid keeps is taken end said (inl k) =
-    CutInBook s rest is taken end (front_of_answers quiet w v u held mid keeps s.turns (book_lines (book_after s)) said k)
+    CutInBook s rest is taken end (front_of_answers quiet s.header.tables w v u held mid keeps s.turns (book_lines (book_after s)) said k)
 cut_in_closing quiet s a rest w v u held mid keeps is taken end said (inr k) =
-    CutInAudit s rest is taken end k.0 k.1 (front_of_answers quiet w v u held mid keeps s.turns (closing_lines (book_after s) k.0) said k.2)
+    CutInAudit s rest is taken end k.0 k.1 (front_of_answers quiet s.header.tables w v u held mid keeps s.turns (closing_lines (book_after s) k.0) said k.2)
 
 closed_with : {T : Type 0} (closing : Result T WriteFault) (quiet : Bool) (s : Schedule) (a rest after : Option (List ℕ)) (w v u : Option (List ℕ)) (held mid keeps : List ℕ) → IsReplayed s → Consumes a rest (lines_text (schedule_lines s)) → IsAtEnd rest → Keeps rest after
-    → Pushed w v held mid (lines_text (answer_lines quiet s.turns)) → ClosingGives (Pushed v u mid keeps) (PushedFront v u mid keeps) closing (book_after s)
+    → Pushed w v held mid (lines_text (answer_lines quiet s.header.tables s.turns)) → ClosingGives (Pushed v u mid keeps) (PushedFront v u mid keeps) closing (book_after s)
     → ReplayGives quiet a (Pushed w u held keeps) (PushedFront w u held keeps) (troubled closing) after
 closed_with (Ok done) quiet s a rest after w v u held mid keeps is taken end kept said k =
-    (s, rest, is, taken, end, kept, k.0, k.1, behind_answers quiet w v u held mid keeps s.turns (closing_lines (book_after s) k.0) said k.2)
+    (s, rest, is, taken, end, kept, k.0, k.1, behind_answers quiet s.header.tables w v u held mid keeps s.turns (closing_lines (book_after s) k.0) said k.2)
 closed_with (Err write_faults.Write) quiet s a rest after w v u held mid keeps is taken end kept said k = cut_in_closing quiet s a rest w v u held mid keeps is taken end said k
 closed_with (Err write_faults.Memory) quiet s a rest after w v u held mid keeps is taken end kept said k = cut_in_closing quiet s a rest w v u held mid keeps is taken end said k
 
@@ -123,7 +124,7 @@ with_schema header settings = record { sessions = header.sessions; queue = heade
 
 ended_with : {T : Type 0} (closing : Result T WriteFault) (quiet : Bool) (header : Header) (last : Replayed) (a b c : Option (List ℕ)) (w v u : Option (List ℕ)) (held mid keeps : List ℕ)
     → Consumes a b (lines_text (header_text header)) → HeaderFits header
-    → (turns : List Turn) × (rest : Option (List ℕ)) × AreTurns b rest (opened_by header) turns last × IsAtEnd rest × Keeps rest c × Pushed w v held mid (lines_text (answer_lines quiet turns))
+    → (turns : List Turn) × (rest : Option (List ℕ)) × AreTurns b rest (opened_by header) turns last × IsAtEnd rest × Keeps rest c × Pushed w v held mid (lines_text (answer_lines quiet header.tables turns))
     → ClosingGives (Pushed v u mid keeps) (PushedFront v u mid keeps) closing (book_at (with_schema header last.world.settings) last.world)
     → ReplayGives quiet a (Pushed w u held keeps) (PushedFront w u held keeps) (troubled closing) c
 ended_with closing quiet header last a b c w v u held mid keeps taken fits t k =
@@ -133,17 +134,19 @@ ended_with closing quiet header last a b c w v u held mid keeps taken fits t k =
 
 pub all_closed : {T : Type 0} (closing : Result T WriteFault) (quiet : Bool) (header : Header) (start last : Replayed) (a b c : Option (List ℕ)) (w v u : Option (List ℕ)) (held mid keeps : List ℕ)
     → start ≡ opened_by header → Consumes a b (lines_text (header_text header)) → HeaderFits header
-    → (turns : List Turn) × (rest : Option (List ℕ)) × AreTurns b rest start turns last × IsAtEnd rest × Keeps rest c × Pushed w v held mid (lines_text (answer_lines quiet turns))
+    → (turns : List Turn) × (rest : Option (List ℕ)) × AreTurns b rest start turns last × IsAtEnd rest × Keeps rest c × Pushed w v held mid (lines_text (answer_lines quiet start.world.settings.schema turns))
     → ClosingGives (Pushed v u mid keeps) (PushedFront v u mid keeps) closing (book_at (with_schema header last.world.settings) last.world)
     → ReplayGives quiet a (Pushed w u held keeps) (PushedFront w u held keeps) (troubled closing) c
 all_closed closing quiet header start last a b c w v u held mid keeps began taken fits t k =
     ended_with closing quiet header last a b c w v u held mid keeps taken fits
-    (t.0, t.1, subst (λ (r : Replayed). AreTurns b t.1 r t.0 last) began t.2, t.3, t.4, t.5) k
+    (subst
+    (λ (r : Replayed). (turns : List Turn) × (rest : Option (List ℕ)) × AreTurns b rest r turns last × IsAtEnd rest × Keeps rest c × Pushed w v held mid (lines_text (answer_lines quiet r.world.settings.schema turns)))
+    began t) k
 
 -- the same, by the exit of a `?`
 pub all_cut : (fault : WriteFault) (result : Result (Unit {0}) Trouble) (quiet : Bool) (header : Header) (start last : Replayed) (a b c : Option (List ℕ)) (w v u : Option (List ℕ)) (held mid keeps : List ℕ) → IsErrAnd result (λ e. e ≡ write_trouble fault)
     → start ≡ opened_by header → Consumes a b (lines_text (header_text header)) → HeaderFits header
-    → (turns : List Turn) × (rest : Option (List ℕ)) × AreTurns b rest start turns last × IsAtEnd rest × Keeps rest c × Pushed w v held mid (lines_text (answer_lines quiet turns))
+    → (turns : List Turn) × (rest : Option (List ℕ)) × AreTurns b rest start turns last × IsAtEnd rest × Keeps rest c × Pushed w v held mid (lines_text (answer_lines quiet start.world.settings.schema turns))
     → ClosingGives (Pushed v u mid keeps) (PushedFront v u mid keeps) {T = Unit {0}} (Err fault) (book_at (with_schema header last.world.settings) last.world)
     → ReplayGives quiet a (Pushed w u held keeps) (PushedFront w u held keeps) result c
 all_cut fault (Ok done) quiet header start last a b c w v u held mid keeps is began taken fits t k = absurd is
@@ -200,18 +203,18 @@ end_of_reader (Some x) (Some y) unread e k = last_nil unread y (k ∙ e) ∙ sym
 -- a beginning of a text, said otherwise
 cut_so : (quiet : Bool) (before : Option (List ℕ)) (Wrote WroteFront Writes WritesFront : List ℕ → Type 0) → ((text : List ℕ) → WroteFront text → WritesFront text) → IsCutShort quiet before Wrote WroteFront → IsCutShort quiet before Writes WritesFront
 cut_so quiet before Wrote WroteFront Writes WritesFront front (CutBefore said) = CutBefore (front [] said)
-cut_so quiet before Wrote WroteFront Writes WritesFront front (CutAmid s rest is taken said) = CutAmid s rest is taken (front (lines_text (answer_lines quiet s.turns)) said)
-cut_so quiet before Wrote WroteFront Writes WritesFront front (CutInBook s rest is taken end said) = CutInBook s rest is taken end (front (lines_text (answer_lines quiet s.turns ++ book_lines (book_after s))) said)
+cut_so quiet before Wrote WroteFront Writes WritesFront front (CutAmid s rest is taken said) = CutAmid s rest is taken (front (lines_text (answer_lines quiet s.header.tables s.turns)) said)
+cut_so quiet before Wrote WroteFront Writes WritesFront front (CutInBook s rest is taken end said) = CutInBook s rest is taken end (front (lines_text (answer_lines quiet s.header.tables s.turns ++ book_lines (book_after s))) said)
 cut_so quiet before Wrote WroteFront Writes WritesFront front (CutInAudit s rest is taken end holds decides said) = CutInAudit s rest is taken end holds decides (front (lines_text (replay_lines quiet s holds)) said)
 
 module _ (quiet : Bool) (before : Option (List ℕ)) (Wrote WroteFront Writes WritesFront : List ℕ → Type 0) (whole : (text : List ℕ) → Wrote text → Writes text) (front : (text : List ℕ) → WroteFront text → WritesFront text) where
   malformed_so : (n : ℕ) → IsMalformedAt quiet before Wrote WroteFront n → IsMalformedAt quiet before Writes WritesFront n
   malformed_so n (MalformedHeader lines rest taken begins cannot number said) = MalformedHeader lines rest taken begins cannot number (whole [] said)
-  malformed_so n (MalformedStep s rest is taken cannot number said) = MalformedStep s rest is taken cannot number (whole (lines_text (answer_lines quiet s.turns)) said)
+  malformed_so n (MalformedStep s rest is taken cannot number said) = MalformedStep s rest is taken cannot number (whole (lines_text (answer_lines quiet s.header.tables s.turns)) said)
 
   unreadable_so : IsUnreadable quiet before Wrote WroteFront → IsUnreadable quiet before Writes WritesFront
   unreadable_so (UnreadHeader lines part rest taken begins line said) = UnreadHeader lines part rest taken begins line (whole [] said)
-  unreadable_so (UnreadStep s part rest is taken line said) = UnreadStep s part rest is taken line (whole (lines_text (answer_lines quiet s.turns)) said)
+  unreadable_so (UnreadStep s part rest is taken line said) = UnreadStep s part rest is taken line (whole (lines_text (answer_lines quiet s.header.tables s.turns)) said)
 
   gives_so : {T : Type 0} (result : Result T Trouble) (known : Option (List ℕ)) (unread : List ℕ) → ReplayGives quiet before Wrote WroteFront result (prepend_known unread known) → ReplayGives quiet before Writes WritesFront result known
   gives_so (Ok done) known unread h =
@@ -244,11 +247,11 @@ flush_failed (Ok done) quiet before after a b c held holds sent h =
     CutInAudit h.0 h.1 h.2 h.3 h.4 h.6 h.7 (part_of_all a b c held holds (lines_text (replay_lines quiet h.0 h.6)) h.8 sent)
 flush_failed (Err (troubles.Malformed n)) quiet before after a b c held holds sent (MalformedHeader lines rest taken begins cannot number said) = CutBefore (part_of_all a b c held holds [] said sent)
 flush_failed (Err (troubles.Malformed n)) quiet before after a b c held holds sent (MalformedStep s rest is taken cannot number said) =
-    CutAmid s rest is taken (part_of_all a b c held holds (lines_text (answer_lines quiet s.turns)) said sent)
+    CutAmid s rest is taken (part_of_all a b c held holds (lines_text (answer_lines quiet s.header.tables s.turns)) said sent)
 flush_failed (Err troubles.Read) quiet before after a b c held holds sent (UnreadHeader lines part rest taken begins line said) = CutBefore (part_of_all a b c held holds [] said sent)
 flush_failed (Err troubles.Read) quiet before after a b c held holds sent (UnreadStep s part rest is taken line said) =
     let front = before_part before rest (lines_text (schedule_lines s)) part taken in
-    CutAmid s front.0 is front.1 (part_of_all a b c held holds (lines_text (answer_lines quiet s.turns)) said sent)
+    CutAmid s front.0 is front.1 (part_of_all a b c held holds (lines_text (answer_lines quiet s.header.tables s.turns)) said sent)
 flush_failed (Err troubles.Write) quiet before after a b c held holds sent h =
     cut_so quiet before (Pushed a b [] held) (PushedFront a b [] held) (Appends a c) (AppendsFront a c) (λ text said. part_written a b c held holds text said sent) h
 flush_failed (Err troubles.Memory) quiet before after a b c held holds sent h =

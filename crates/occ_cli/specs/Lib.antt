@@ -1,3 +1,4 @@
+pub mod Answers
 pub mod Replaying
 pub mod Schedules
 pub mod Turns

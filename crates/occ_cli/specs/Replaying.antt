@@ -24,11 +24,13 @@ use Rattle.occ_sets.specs.Sets.{Copied, is_full_for}
 use Rattle.occ_sets.specs.Seen as sets
 use Rattle.occ_sets.specs.declared.reads.Answer as code_seen
 use Rattle.occ_text.specs.declared.steps.Act.TheVariants as acts
-use Rattle.occ_text.specs.declared.answers.Answer as code_answer
+use Rattle.occ_core.specs.declared.steps.Step as code_step
+use Rattle.occ_core.specs.declared.steps.Step.TheVariants as calls
+use Rattle.occ_cli.specs.declared.answers.Answer as code_answer
 use Rattle.occ_text.specs.Steps.{Step, Does, Get, Scan, Put, Delete, Show}
-use Rattle.occ_text.specs.Answers.{Answer, answer_of}
-use Rattle.occ_text.specs.Answers as says
-use Rattle.occ_text.specs.declared.answers.Counts.{Counts}
+use Rattle.occ_cli.specs.Answers.{Answer, answer_of}
+use Rattle.occ_cli.specs.Answers as says
+use Rattle.occ_cli.specs.declared.answers.Counts.{Counts}
 
 -- One client: its open transaction, the number of the last item that it pushed, the items that wait to be entered (the first one first, and at most `limit` of them), and an item that was taken to be entered and refused.
 pub record Client : Type 0 where
@@ -54,7 +56,7 @@ started settings limit = record { world = opened settings; clients = replicate s
 -- what goes on with a value; or a fault stands in its place, is answered, and nothing changes
 abbrev pub Given : {X Y : Type 0} → Result X Fault → Y → Answer → Y → (X → Type 0) → Type 0
 Given (Ok x) old answer new P = P x
-Given (Err fault) old answer new P = (answer ≡ says.Refused fault) × (new ≡ old)
+Given (Err fault) old answer new P = (answer ≡ says.refused fault) × (new ≡ old)
 
 -- a value, unless there is a fault
 abbrev pub unless : {X : Type 0} → Option Fault → X → Result X Fault
@@ -134,41 +136,16 @@ Submits old answer new = Given (submitted old) old answer new (λ copy.
     (answer ≡ says.Queued copy.number)
     × (new ≡ record old { copy = None; pushed = copy.number; queue = old.queue ++ request copy ∷ [] }))
 
--- the name of the table at a place
-abbrev pub name_at : Schema → ℕ → List ℕ
-name_at schema place = elim (slice_get schema place) [ None ↦ [] | Some table ↦ table.name ]
-
--- what was read, as an answer
-abbrev pub shown : states.Answer → Answer
-shown (states.Found row) = says.Found row
-shown (states.Rows rows) = says.Rows rows
-
--- a reply of the store as an answer, where a step can have it
-abbrev pub told : Schema → Reply → Option Answer
-told schema (events.Refused fault) = Some (says.Refused fault)
-told schema (events.Answered given) = Some (shown given)
-told schema (events.Forgotten known) = None
-told schema (events.Entered place index) = Some (says.Entered place)
-told schema events.Closed = None
-told schema (events.Decided verdict) = Some (says.Decided verdict)
-told schema (events.Wrote object) = Some (says.Wrote (name_at schema object.0) object.1)
-told schema events.NoMore = Some says.NoMore
-told schema (events.Finished number) = Some (says.Finished number)
-told schema (events.BackedUp number) = Some (says.BackedUp number)
-told schema (events.EndedBack cause) = None
-told schema (events.RanAlone number answers) = None
-told schema (events.Folded rows) = None
-
 -- the answer is what the store replies to an event
 abbrev pub Tells : World → Event → Answer → World → Type 0
-Tells old event answer new = (reply : Reply) × model.Step old event reply new × (told old.settings.schema reply ≡ Some answer)
+Tells old event answer new = (reply : Reply) × model.Step old event reply new × (answer ≡ says.Replied reply)
 
 -- `get` in an open transaction: the own write, or else what the store answers
 abbrev pub GetsIn : World → ℕ → List ℕ → Key → Copied → Answer → World → Type 0
 GetsIn old session name key copy answer new = Given (object_named old.settings.schema name key) old answer new (λ object.
     MatchOption (own copy.writes object)
     (Tells old (events.Read session copy.number copy.start (One object.0 object.1)) answer new)
-    (λ row. (answer ≡ says.Found row) × (new ≡ old)))
+    (λ row. (answer ≡ says.Replied (events.Answered (states.Found row))) × (new ≡ old)))
 
 abbrev pub Gets : World → ℕ → List ℕ → Key → Client → Answer → World → Type 0
 Gets old session name key client answer new =
@@ -193,7 +170,7 @@ pub record MayAnswer (question : Question) (given : states.Answer) : Type 0 wher
 abbrev pub ScansIn : World → ℕ → List ℕ → Key → Key → Copied → Answer → World → Type 0
 ScansIn old session name lower upper copy answer new = Given (span_named old.settings.schema name lower upper) old answer new (λ question.
     (reply : Reply) × model.Step old (events.Read session copy.number copy.start question) reply new
-    × (told old.settings.schema (overlaid question copy.writes reply) ≡ Some answer))
+    × (answer ≡ says.Replied (overlaid question copy.writes reply)))
 
 abbrev pub Scans : World → ℕ → List ℕ → Key → Key → Client → Answer → World → Type 0
 Scans old session name lower upper client answer new =
@@ -217,7 +194,7 @@ abbrev pub Enters : World → ℕ → Client → Answer → Client → World →
 Enters old session client answer next new = MatchOption (next_item client)
     ((answer ≡ says.Empty) × (next ≡ client) × (new ≡ old))
     (λ item. (reply : Reply) × model.Step old (events.Enter session item) reply new
-    × (told old.settings.schema reply ≡ Some answer)
+    × (answer ≡ says.Replied reply)
     × (next ≡ record client { queue = still_waiting client; kept = kept_after item reply }))
 
 -- a step of one client alone
@@ -286,13 +263,13 @@ Plays old Show answer new = (answer ≡ says.Counted (counts_of old.world)) × (
 
 -- What want of memory leaves of a step: the store stands as it was. Where the step may take memory of its own, nothing at all changed; or the store refused it for want of memory, and it was played as any refusal: an item that was to enter is kept, and nothing else changed.
 abbrev pub Starved : Replayed → Step → Replayed → Type 0
-Starved old step new = (new.world ≡ old.world) × (((takes_own_memory step ≡ true) × (new ≡ old)) ⊎ Plays old step (says.Refused faults.Memory) new)
+Starved old step new = (new.world ≡ old.world) × (((takes_own_memory step ≡ true) × (new ≡ old)) ⊎ Plays old step (says.refused faults.Memory) new)
 
 module _ {Z : Type 0} where
   -- the answer of a call; a fault is answered as a refusal
   abbrev pub played : Result (code_answer.Answer Z) Fault → Answer
   played (Ok answer) = answer_of answer
-  played (Err fault) = says.Refused fault
+  played (Err fault) = says.refused fault
 
   -- what the store replied to a question
   abbrev pub replied : Result (code_seen.Answer Z) Fault → Reply
@@ -301,13 +278,18 @@ module _ {Z : Type 0} where
 
   -- a call is played so, or memory was refused; of a call that changes nothing
   abbrev pub Played : Result (code_answer.Answer Z) Fault → (Answer → Type 0) → Type 0
-  Played result Is = (result ≡ Err faults.Memory) ⊎ Is (played result)
+  Played result Is = (played result ≡ says.refused faults.Memory) ⊎ Is (played result)
 
   -- the same of a call that may change something; where memory was refused, nothing changed
   abbrev pub PlayedIn : {S : Type 0} → S → S → Result (code_answer.Answer Z) Fault → (Answer → Type 0) → Type 0
-  PlayedIn old new result Is = ((result ≡ Err faults.Memory) × (new ≡ old)) ⊎ Is (played result)
+  PlayedIn old new result Is = ((played result ≡ says.refused faults.Memory) × (new ≡ old)) ⊎ Is (played result)
 
   -- the same of a call that may take memory of its own, or may not
   abbrev pub PlayedBy : {S : Type 0} → Bool → S → S → Result (code_answer.Answer Z) Fault → (Answer → Type 0) → Type 0
   PlayedBy true old new result Is = PlayedIn old new result Is
   PlayedBy false old new result Is = Is (played result)
+
+  -- whether a step of the store may be put off for want of memory, before it is done
+  abbrev pub may_be_put_off : code_step.Step Z → Bool
+  may_be_put_off (calls.WriteOne session) = true
+  may_be_put_off step = false

@@ -2,13 +2,14 @@
 use Rattle.std.specs.Prelude.{◌≡◌, ◌≢◌, ◌+◌, ℕ, Bool, true, false, List, [], ◌∷◌, ◌++◌, map, length, Option, Result, Ok, Err, IfSome, All}
 use Rattle.std.specs.Bool.{Decides}
 use Rattle.std.specs.Io.KnownBytes.{Consumes, Keeps, Appends, IsAtEnd}
+use Rattle.occ_types.specs.Schema.{Schema}
 use Rattle.occ_types.specs.declared.fault.Fault.TheVariants as faults
 use Rattle.occ_model.specs.Log.{Audited}
 use Rattle.occ_model.specs.World.{World, empty_base, low}
 use Rattle.occ_text.specs.declared.trouble.Trouble.{Trouble}
 use Rattle.occ_text.specs.declared.trouble.Trouble.TheVariants.{Read, Write, Memory, Malformed}
-use Rattle.occ_text.specs.Answers.{Answer, answer_text}
-use Rattle.occ_text.specs.Answers as says
+use Rattle.occ_cli.specs.Answers.{Answer, answer_text}
+use Rattle.occ_cli.specs.Answers as says
 use Rattle.occ_print.specs.Books.{Book, book_lines, audit_line}
 use Rattle.occ_text.specs.Headers.{Header, HeaderFits, header_text}
 use Rattle.occ_text.specs.HeaderTaking.{BeginsHeader}
@@ -23,7 +24,7 @@ Turn = Step × Answer
 -- Steps are done and answered one after another. No answer tells of a want of memory: a replay ends at one.
 abbrev pub PlaysAll : Replayed → List Turn → Replayed → Type 0
 PlaysAll old [] new = new ≡ old
-PlaysAll old (turn ∷ turns) new = (next : Replayed) × Plays old turn.0 turn.1 next × (turn.1 ≢ says.Refused faults.Memory) × PlaysAll next turns new
+PlaysAll old (turn ∷ turns) new = (next : Replayed) × Plays old turn.0 turn.1 next × (turn.1 ≢ says.refused faults.Memory) × PlaysAll next turns new
 
 -- a schedule so far: its header, its steps with their answers, and the store and the clients after them
 pub record Schedule : Type 0 where
@@ -46,10 +47,10 @@ step_lines turns = map (λ turn. step_text turn.0) turns
 abbrev pub schedule_lines : Schedule → List (List ℕ)
 schedule_lines schedule = header_text schedule.header ++ step_lines schedule.turns
 
--- the lines of the answers, or none of them
-abbrev pub answer_lines : Bool → List Turn → List (List ℕ)
-answer_lines true turns = []
-answer_lines false turns = map (λ turn. answer_text turn.1) turns
+-- the lines of the answers, or none of them, where the store has these tables
+abbrev pub answer_lines : Bool → Schema → List Turn → List (List ℕ)
+answer_lines true schema turns = []
+answer_lines false schema turns = map (λ turn. answer_text schema turn.1) turns
 
 -- the book of a world
 abbrev pub book_at : Header → World → Book
@@ -76,7 +77,7 @@ closing_lines book holds = book_lines book ++ audit_line holds ∷ []
 
 -- what a whole replay writes
 abbrev pub replay_lines : Bool → Schedule → Bool → List (List ℕ)
-replay_lines quiet schedule holds = answer_lines quiet schedule.turns ++ closing_lines (book_after schedule) holds
+replay_lines quiet schedule holds = answer_lines quiet schedule.header.tables schedule.turns ++ closing_lines (book_after schedule) holds
 
 -- what stands next is no line of a step: no line stands there, or another one
 pub data IsNoStep (rest : Option (List ℕ)) : Type 0 where
@@ -89,20 +90,20 @@ module _ (quiet : Bool) (before : Option (List ℕ)) (Wrote WroteFront : List �
   pub data IsMalformedAt (number : ℕ) : Type 0 where
     MalformedHeader : (lines : List (List ℕ)) (rest : Option (List ℕ)) → Consumes before rest (lines_text lines) → BeginsHeader lines → CannotStand (λ line. BeginsHeader (lines ++ line ∷ [])) rest → number ≡ length lines + 1 → Wrote [] → IsMalformedAt number
     MalformedStep : (schedule : Schedule) (rest : Option (List ℕ)) → IsReplayed schedule → Consumes before rest (lines_text (schedule_lines schedule)) → IsNoStep rest → number ≡ length (schedule_lines schedule) + 1
-        → Wrote (lines_text (answer_lines quiet schedule.turns)) → IsMalformedAt number
+        → Wrote (lines_text (answer_lines quiet schedule.header.tables schedule.turns)) → IsMalformedAt number
 
   -- a read failed amid a line or before it, and all lines before were taken and answered
   pub data IsUnreadable : Type 0 where
     UnreadHeader : (lines : List (List ℕ)) (part : List ℕ) (rest : Option (List ℕ)) → Consumes before rest (lines_text lines ++ part) → BeginsHeader lines → IsLine part → Wrote [] → IsUnreadable
     UnreadStep : (schedule : Schedule) (part : List ℕ) (rest : Option (List ℕ)) → IsReplayed schedule → Consumes before rest (lines_text (schedule_lines schedule) ++ part) → IsLine part
-        → Wrote (lines_text (answer_lines quiet schedule.turns)) → IsUnreadable
+        → Wrote (lines_text (answer_lines quiet schedule.header.tables schedule.turns)) → IsUnreadable
 
   -- a beginning of the text was written: of nothing yet, of the answers to the lines that were taken, or at their end of the whole
   pub data IsCutShort : Type 0 where
     CutBefore : WroteFront [] → IsCutShort
-    CutAmid : (schedule : Schedule) (rest : Option (List ℕ)) → IsReplayed schedule → Consumes before rest (lines_text (schedule_lines schedule)) → WroteFront (lines_text (answer_lines quiet schedule.turns)) → IsCutShort
+    CutAmid : (schedule : Schedule) (rest : Option (List ℕ)) → IsReplayed schedule → Consumes before rest (lines_text (schedule_lines schedule)) → WroteFront (lines_text (answer_lines quiet schedule.header.tables schedule.turns)) → IsCutShort
     CutInBook : (schedule : Schedule) (rest : Option (List ℕ)) → IsReplayed schedule → Consumes before rest (lines_text (schedule_lines schedule)) → IsAtEnd rest
-        → WroteFront (lines_text (answer_lines quiet schedule.turns ++ book_lines (book_after schedule))) → IsCutShort
+        → WroteFront (lines_text (answer_lines quiet schedule.header.tables schedule.turns ++ book_lines (book_after schedule))) → IsCutShort
     CutInAudit : (schedule : Schedule) (rest : Option (List ℕ)) → IsReplayed schedule → Consumes before rest (lines_text (schedule_lines schedule)) → IsAtEnd rest → (holds : Bool) → Decides holds (IsAudited (book_after schedule))
         → WroteFront (lines_text (replay_lines quiet schedule holds)) → IsCutShort
 

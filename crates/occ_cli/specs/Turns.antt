@@ -2,13 +2,14 @@
 use Rattle.std.specs.Prelude.{◌≡◌, ◌≢◌, ◌+◌, ◌⊎◌, ℕ, Bool, true, false, List, [], ◌∷◌, ◌++◌, length, Option, Result, Ok, Err, All}
 use Rattle.std.specs.Bool.{Decides}
 use Rattle.std.specs.Io.KnownBytes.{Consumes, Keeps, IsAtEnd}
+use Rattle.occ_types.specs.Schema.{Schema}
 use Rattle.occ_types.specs.declared.fault.Fault.TheVariants as faults
 use Rattle.occ_text.specs.declared.faults.WriteFault.{WriteFault}
 use Rattle.occ_text.specs.declared.faults.WriteFault.TheVariants as write_faults
 use Rattle.occ_text.specs.declared.trouble.Trouble.{Trouble}
 use Rattle.occ_text.specs.declared.trouble.Trouble.TheVariants.{Read, Write, Memory, Malformed}
-use Rattle.occ_text.specs.Answers.{Answer}
-use Rattle.occ_text.specs.Answers as says
+use Rattle.occ_cli.specs.Answers.{Answer}
+use Rattle.occ_cli.specs.Answers as says
 use Rattle.occ_print.specs.Books.{Book, book_lines, audit_line}
 use Rattle.occ_text.specs.Line.{IsLine, lines_text}
 use Rattle.occ_cli.specs.Replaying.{Replayed, Plays}
@@ -26,18 +27,18 @@ is_cut_short (Err Memory) = true
 -- a step is done and answered
 pub record IsTurn (old : Replayed) (step : Step) (answer : Answer) (new : Replayed) : Type 0 where
   pub plays : Plays old step answer new
-  pub fed : answer ≢ says.Refused faults.Memory
+  pub fed : answer ≢ says.refused faults.Memory
 
-module _ (quiet : Bool) (Wrote WroteFront : List ℕ → Type 0) where
+module _ (quiet : Bool) (schema : Schema) (Wrote WroteFront : List ℕ → Type 0) where
   -- a step was done, and a beginning of its answer was written
   pub record IsHalfSaid (step : Step) (old new : Replayed) : Type 0 where
     pub answer : Answer
     pub turn : IsTurn old step answer new
-    pub wrote : WroteFront (lines_text (answer_lines quiet ((step, answer) ∷ [])))
+    pub wrote : WroteFront (lines_text (answer_lines quiet schema ((step, answer) ∷ [])))
 
   -- what doing and answering a step leaves
   abbrev pub AnswerGives : {T : Type 0} → Result T WriteFault → Step → Replayed → Replayed → Type 0
-  AnswerGives (Ok done) step old new = (answer : Answer) × IsTurn old step answer new × Wrote (lines_text (answer_lines quiet ((step, answer) ∷ [])))
+  AnswerGives (Ok done) step old new = (answer : Answer) × IsTurn old step answer new × Wrote (lines_text (answer_lines quiet schema ((step, answer) ∷ [])))
   AnswerGives (Err write_faults.Write) step old new = IsHalfSaid step old new
   AnswerGives (Err write_faults.Memory) step old new = WroteFront [] ⊎ IsHalfSaid step old new
 
@@ -51,7 +52,7 @@ module _ (quiet : Bool) (Wrote WroteFront : List ℕ → Type 0) where
   -- what one turn leaves, where first and last are how many lines were taken before and after
   abbrev pub TurnGives : Result Bool Trouble → Option (List ℕ) → Option (List ℕ) → ℕ → ℕ → Replayed → Replayed → Type 0
   TurnGives (Ok true) before after first last old new =
-      (turn : Turn) × StepFits turn.0 × Consumes before after (step_text turn.0 ++ 10 ∷ []) × IsTurn old turn.0 turn.1 new × Wrote (lines_text (answer_lines quiet (turn ∷ []))) × (last ≡ first + 1)
+      (turn : Turn) × StepFits turn.0 × Consumes before after (step_text turn.0 ++ 10 ∷ []) × IsTurn old turn.0 turn.1 new × Wrote (lines_text (answer_lines quiet schema (turn ∷ []))) × (last ≡ first + 1)
   TurnGives (Ok false) before after first last old new = IsAtEnd before × Keeps before after × (new ≡ old) × Wrote []
   TurnGives (Err (Malformed number)) before after first last old new = IsNoStep before × (number ≡ first + 1) × Wrote []
   TurnGives (Err Read) before after first last old new = (part : List ℕ) × IsLine part × Consumes before after part × Wrote []
@@ -64,22 +65,22 @@ pub record AreTurns (before rest : Option (List ℕ)) (old : Replayed) (turns : 
   pub played : PlaysAll old turns new
   pub taken : Consumes before rest (lines_text (step_lines turns))
 
-module _ (quiet : Bool) (Wrote WroteFront : List ℕ → Type 0) where
+module _ (quiet : Bool) (schema : Schema) (Wrote WroteFront : List ℕ → Type 0) where
   -- a beginning of the answers was written
   pub record AreHalfSaid (before : Option (List ℕ)) (old : Replayed) : Type 0 where
     pub turns : List Turn
     pub rest : Option (List ℕ)
     pub new : Replayed
     pub are : AreTurns before rest old turns new
-    pub wrote : WroteFront (lines_text (answer_lines quiet turns))
+    pub wrote : WroteFront (lines_text (answer_lines quiet schema turns))
 
   -- what all turns leave
   abbrev pub TurnsGive : {T : Type 0} → Result T Trouble → Option (List ℕ) → Option (List ℕ) → ℕ → Replayed → Replayed → Type 0
-  TurnsGive (Ok done) before after first old new = (turns : List Turn) × (rest : Option (List ℕ)) × AreTurns before rest old turns new × IsAtEnd rest × Keeps rest after × Wrote (lines_text (answer_lines quiet turns))
+  TurnsGive (Ok done) before after first old new = (turns : List Turn) × (rest : Option (List ℕ)) × AreTurns before rest old turns new × IsAtEnd rest × Keeps rest after × Wrote (lines_text (answer_lines quiet schema turns))
   TurnsGive (Err (Malformed number)) before after first old new =
-      (turns : List Turn) × (rest : Option (List ℕ)) × (last : Replayed) × AreTurns before rest old turns last × IsNoStep rest × (number ≡ first + length turns + 1) × Wrote (lines_text (answer_lines quiet turns))
+      (turns : List Turn) × (rest : Option (List ℕ)) × (last : Replayed) × AreTurns before rest old turns last × IsNoStep rest × (number ≡ first + length turns + 1) × Wrote (lines_text (answer_lines quiet schema turns))
   TurnsGive (Err Read) before after first old new =
-      (turns : List Turn) × (part : List ℕ) × (rest : Option (List ℕ)) × (last : Replayed) × AreTurns before rest old turns last × IsLine part × Consumes rest after part × Wrote (lines_text (answer_lines quiet turns))
+      (turns : List Turn) × (part : List ℕ) × (rest : Option (List ℕ)) × (last : Replayed) × AreTurns before rest old turns last × IsLine part × Consumes rest after part × Wrote (lines_text (answer_lines quiet schema turns))
   TurnsGive (Err Write) before after first old new = AreHalfSaid before old
   TurnsGive (Err Memory) before after first old new = AreHalfSaid before old
 

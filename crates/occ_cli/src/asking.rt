@@ -8,13 +8,15 @@ ghost use Rattle.occ_model.specs.Event as events;
 ghost use Rattle.occ_model.specs.Overlay.{overlay};
 ghost use Rattle.occ_model.specs.Step.{Step};
 ghost use Rattle.occ_sets.specs.Seen as sets;
-ghost use Rattle.occ_text.specs.Answers.{answer_of, Found};
-ghost use Rattle.occ_cli.specs.Replaying.{GetsIn, MayAnswer, ScansIn, Tells, shown, replied, Played, PlayedIn};
+ghost use Rattle.occ_model.specs.State.{Found};
+ghost use Rattle.occ_cli.specs.Answers.{answer_of};
+ghost use Rattle.occ_cli.specs.Answers as says;
+ghost use Rattle.occ_cli.specs.Replaying.{GetsIn, MayAnswer, ScansIn, Tells, replied, Played, PlayedIn};
 
+use crate::answers::Answer;
 use crate::named::{object_named, span_named};
-use occ_core::Core;
+use occ_core::{Core, Reply};
 use occ_sets::{Answer as Seen, Prepared, PrivateCopy};
-use occ_text::answers::Answer;
 use occ_types::{Fault, Key, Object, Question, Row};
 use std::alloc::Allocator;
 
@@ -37,12 +39,12 @@ pub(crate) fn get<A: Allocator + Copy>(
 
 // The answer of an own write.
 fn own_row<A: Allocator + Clone>(row: Option<&Row<A>>) -> Result<Answer<A>, Fault>
-    ensures { Played result (λ answer. answer ≡ Found (option_copied row.entry)) }
+    ensures { Played result (λ answer. answer ≡ says.Replied (events.Answered (Found (option_copied row.entry)))) }
 {
     match row {
-        None => Ok(Answer::Found(None)),
+        None => Ok(Answer::Replied(Reply::Found(None))),
         Some(row) => match row.clone() {
-            Ok(row) => Ok(Answer::Found(Some(row))),
+            Ok(row) => Ok(Answer::Replied(Reply::Found(Some(row)))),
             Err(_refused) => Err(Fault::Memory),
         },
     }
@@ -64,7 +66,7 @@ fn read<A: Allocator + Copy>(
         object.table,
         &object.key,
     )?;
-    Ok(Answer::Found(row))
+    Ok(Answer::Replied(Reply::Found(row)))
 }
 
 /// `scan` in an open transaction: what the store answers, with the own writes over it. All memory that these need is taken before the store is asked. Refused with `NoTable`, `WrongKind`, `TooLong` or `EmptyRange`, with `Memory`, and then as the store refuses a read.
@@ -87,11 +89,11 @@ pub(crate) fn scan<A: Allocator + Copy>(
 // What the store answers to a range, with the own writes over it.
 fn over<A: Allocator>(prepared: Prepared<'_, A>, given: Seen<A>) -> Answer<A>
     requires { MayAnswer prepared.question (sets.answer_of given) }
-    ensures { answer_of result ≡ shown (overlay prepared.entry.question prepared.entry.writes (sets.answer_of given)) }
+    ensures { answer_of result ≡ says.Replied (events.Answered (overlay prepared.entry.question prepared.entry.writes (sets.answer_of given))) }
 {
     match given {
-        Seen::Found(row) => Answer::Found(row),
-        Seen::Rows(rows) => Answer::Rows(prepared.over(rows)),
+        Seen::Found(row) => Answer::Replied(Reply::Found(row)),
+        Seen::Rows(rows) => Answer::Replied(Reply::Rows(prepared.over(rows))),
     }
 }
 

@@ -8,15 +8,15 @@ ghost use Rattle.occ_types.specs.declared.fault.Fault.TheVariants as faults;
 ghost use Rattle.occ_model.specs.Overlay.{set};
 ghost use Rattle.occ_queue.specs.Items.{item_of};
 ghost use Rattle.occ_sets.specs.Sets.{is_full_for};
-ghost use Rattle.occ_text.specs.Answers.{Done};
+ghost use Rattle.occ_cli.specs.Answers.{Done};
 ghost use Rattle.occ_cli.specs.Replaying.{fresh, Begins, Writes, WritesCopy, Submits, Gets, Scans, Enters, next_item, still_waiting, Given, unless, check_written, played, PlayedIn};
 
+use crate::answers::Answer;
 use crate::asking;
 use crate::named::object_named;
-use occ_core::Core;
+use occ_core::{Core, Reply, Step};
 use occ_queue::{Item, Queue};
 use occ_sets::PrivateCopy;
-use occ_text::answers::Answer;
 use occ_types::limits::MAX_NUMBER;
 use occ_types::{Fault, Key, Object, Refused, Row, Schema};
 use std::alloc::Allocator;
@@ -175,9 +175,9 @@ impl<A: Allocator + Copy> Client<A> {
         let Some(item) = self.take_next() else {
             return Ok(Answer::Empty);
         };
-        match core.enter(session, item) {
-            Ok(entered) => Ok(Answer::Entered(entered.place)),
-            Err(refused) => Err(self.keep(refused)),
+        match core.take(Step::Enter { session, item }) {
+            Reply::RefusedItem(refused) => Err(self.keep(refused)),
+            reply => Ok(Answer::Replied(reply)),
         }
     }
 }

@@ -1,9 +1,11 @@
 //! The engines of the store: a schedule goes in; answers, the book and an audit come out.
 #![tactic(auto)]
 
+mod answers;
 mod asking;
 mod clients;
 mod named;
+mod refusals;
 mod replay;
 mod replays;
 

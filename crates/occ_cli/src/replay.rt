@@ -5,26 +5,27 @@ ghost use Rattle.std.specs.Io.KnownBytes.{Appends, prepend_known};
 ghost use Rattle.occ_model.specs.Log.{Audited};
 ghost use Rattle.occ_model.specs.World.{empty_base};
 ghost use Rattle.occ_core.specs.Rows.{log_of};
-ghost use Rattle.occ_text.specs.Answers.{answer_of, answer_text};
+ghost use Rattle.occ_cli.specs.Answers.{answer_of, answer_text};
 ghost use Rattle.occ_text.specs.Line.{lines_text};
 ghost use Rattle.occ_text.specs.Printing.{Pushed, PushedFront, PrintGives};
 ghost use Rattle.occ_text.specs.Steps.{step_of};
 ghost use Rattle.occ_cli.specs.Schedules.{ReplayGives, AppendsFront, book_at};
 ghost use Rattle.occ_cli.specs.Turns.{AnswerGives, TurnGives, TurnsGive, ClosingGives, AuditGives, is_cut_short};
 
+use crate::answers::{Answer, write_answer};
 use crate::replays::Replay;
 use occ_audit::audit_rows;
 use occ_book::BookView;
 use occ_case::OpenCase;
 use occ_print::books::{push_line, write_book};
 use occ_print::lines::audit_line;
-use occ_text::answers::{Answer, write_answer};
 use occ_text::faults::{WriteFault, read_at_line};
 use occ_text::headers::{Limits, read_header};
 use occ_text::input::{Input, Next};
 use occ_text::output::Output;
 use occ_text::steps::{Step, read_step};
 use occ_text::trouble::Trouble;
+use occ_types::Schema;
 use std::alloc::Allocator;
 use std::io::{Read, Write};
 
@@ -95,7 +96,7 @@ fn take_turns<R: Read, W: Write, A: Allocator + Copy>(
     replay: &mut Replay<A>,
     quiet: bool,
 ) -> Result<(), Trouble>
-    ensures { TurnsGive quiet (Pushed (W.contents writer.old) (W.contents writer.new) output.old output.new)
+    ensures { TurnsGive quiet replay.old.world.settings.schema (Pushed (W.contents writer.old) (W.contents writer.new) output.old output.new)
         (PushedFront (W.contents writer.old) (W.contents writer.new) output.old output.new) result
         (prepend_known input.old.unread (R.remaining reader.old)) (prepend_known input.new.unread (R.remaining reader.new))
         input.old.number replay.old replay.new }
@@ -114,7 +115,7 @@ fn take_turn<R: Read, W: Write, A: Allocator + Copy>(
     replay: &mut Replay<A>,
     quiet: bool,
 ) -> Result<bool, Trouble>
-    ensures gives { TurnGives quiet (Pushed (W.contents writer.old) (W.contents writer.new) output.old output.new)
+    ensures gives { TurnGives quiet replay.old.world.settings.schema (Pushed (W.contents writer.old) (W.contents writer.new) output.old output.new)
         (PushedFront (W.contents writer.old) (W.contents writer.new) output.old output.new) result
         (prepend_known input.old.unread (R.remaining reader.old)) (prepend_known input.new.unread (R.remaining reader.new))
         input.old.number input.new.number replay.old replay.new }
@@ -138,7 +139,7 @@ fn answer_step<W: Write, A: Allocator + Copy>(
     step: Step<'_, A>,
     quiet: bool,
 ) -> Result<(), WriteFault>
-    ensures { AnswerGives quiet (Pushed (W.contents writer.old) (W.contents writer.new) output.old output.new)
+    ensures { AnswerGives quiet replay.old.world.settings.schema (Pushed (W.contents writer.old) (W.contents writer.new) output.old output.new)
         (PushedFront (W.contents writer.old) (W.contents writer.new) output.old output.new) result
         (step_of step.entry) replay.old replay.new }
 {
@@ -146,7 +147,7 @@ fn answer_step<W: Write, A: Allocator + Copy>(
     if quiet {
         return Ok(());
     }
-    say(alloc, output, writer, &answer)
+    say(alloc, output, writer, replay.core().schema(), &answer)
 }
 
 // Writes the line of an answer.
@@ -154,12 +155,13 @@ fn say<W: Write, A: Allocator + Copy>(
     alloc: A,
     output: &mut Output<A>,
     writer: &mut W,
+    schema: &Schema<A>,
     answer: &Answer<A>,
 ) -> Result<(), WriteFault>
-    ensures { PrintGives result (W.contents writer.old) (W.contents writer.new) output.old output.new (lines_text (answer_text (answer_of answer.now) ∷ [])) }
+    ensures { PrintGives result (W.contents writer.old) (W.contents writer.new) output.old output.new (lines_text (answer_text schema.now (answer_of answer.now) ∷ [])) }
 {
     let mut line = String::new(alloc);
-    write_answer(&mut line, answer)?;
+    write_answer(&mut line, schema, answer)?;
     push_line(output, writer, &mut line)
 }
 

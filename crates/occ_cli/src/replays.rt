@@ -1,22 +1,22 @@
 //! A replay of a schedule, step by step.
 
 ghost use Rattle.std.specs.Prelude.{◌≡◌, ◌≢◌, ◌<◌, suc, Some, None, Ok, Err, length, replicate, IfOk, IfErr, OnErr, IsOkUnless, MatchResult};
-ghost use Rattle.occ_types.specs.Seen.{key_of, object_of};
-ghost use Rattle.occ_model.specs.Event as events;
+ghost use Rattle.occ_types.specs.Seen.{key_of};
 ghost use Rattle.occ_text.specs.declared.steps.Act.TheVariants as acts;
 ghost use Rattle.occ_types.specs.declared.fault.Fault.TheVariants as faults;
-ghost use Rattle.occ_text.specs.Answers.{answer_of};
-ghost use Rattle.occ_text.specs.Answers as says;
+ghost use Rattle.occ_core.specs.Runs.{event_of, reply_of};
+ghost use Rattle.occ_cli.specs.Answers.{answer_of};
+ghost use Rattle.occ_cli.specs.Answers as says;
 ghost use Rattle.occ_text.specs.Steps.{step_of, Does, Get, Scan, Show};
-ghost use Rattle.occ_cli.specs.Replaying.{started, fresh, client_of, counts_of, name_at, told, ByClient, Tells, Writes, Plays, PlayedIn, PlayedBy, Starved, takes_own_memory, played};
+ghost use Rattle.occ_cli.specs.Replaying.{started, fresh, client_of, counts_of, ByClient, ByStore, Writes, Plays, PlayedIn, PlayedBy, Starved, takes_own_memory, may_be_put_off, played};
 
+use crate::answers::{Answer, Counts};
 use crate::clients::Client;
-use occ_core::Core;
-use occ_text::answers::{Answer, Counts};
+use crate::refusals::Refusal;
+use occ_core::{Core, Reply, Step as Call};
 use occ_text::headers::Limits;
-use occ_text::refusals::Refusal;
 use occ_text::steps::{Act, Step};
-use occ_types::{Fault, Key, Object, Refused, Row, Schema, Text};
+use occ_types::{Fault, Key, Refused, Row, Schema};
 use std::alloc::{AllocError, Allocator};
 use std::marker::Model;
 
@@ -70,16 +70,16 @@ impl<A: Allocator + Copy> Replay<A> {
     /// Does a step, and answers it. It is an error where memory is refused, as it can be for `enter`, `write`, `get`, `scan`, `put` and `delete` alone: nothing has changed then, but that what the store refused to enter is kept for the next time, as after any refusal.
     pub(crate) fn answer(&mut self, step: Step<'_, A>) -> Result<Answer<A>, AllocError>
         ensures ok { IfOk result (λ answer. Plays self.old (step_of step.entry) (answer_of answer) self.new) }
-        ensures fed { IfOk result (λ answer. answer_of answer ≢ says.Refused faults.Memory) }
+        ensures fed { IfOk result (λ answer. answer_of answer ≢ says.refused faults.Memory) }
         ensures err { OnErr result (Starved self.old (step_of step.entry) self.new) }
     {
         match self.play(step) {
-            Ok(answer) => Ok(answer),
+            Ok(answer) => answered(answer),
             Err(fault) => refused(fault),
         }
     }
 
-    // Does a step; every refusal is an error.
+    // Does a step. What a client refuses is an error; what the store refuses may be one, or a reply.
     fn play(&mut self, step: Step<'_, A>) -> Result<Answer<A>, Fault>
         ensures { PlayedBy (takes_own_memory (step_of step.entry)) self.old self.new result (λ answer. Plays self.old (step_of step.entry) answer self.new) }
     {
@@ -119,10 +119,10 @@ impl<A: Allocator + Copy> Replay<A> {
             Act::Begin => self.begin(session),
             Act::Submit => self.submit(session),
             Act::Enter => self.enter(session),
-            Act::Decide => self.decide(session),
-            Act::Write => self.write_one(session),
-            Act::Finish => self.finish(session),
-            Act::BackUp => self.back_up(session),
+            Act::Decide => self.call(Call::Decide(session)),
+            Act::Write => self.call(Call::WriteOne(session)),
+            Act::Finish => self.call(Call::Finish(session)),
+            Act::BackUp => self.call(Call::BackUp(session)),
         }
     }
 
@@ -188,10 +188,11 @@ impl<A: Allocator + Copy> Replay<A> {
         client.write(self.core.schema(), table, key, row)
     }
 
-    fn write_one(&mut self, session: usize) -> Result<Answer<A>, Fault>
-        ensures { PlayedIn self.old self.new result (λ answer. Plays self.old (Does acts.Write session) answer self.new) }
+    // A step of the store alone.
+    fn call(&mut self, call: Call<A>) -> Result<Answer<A>, Fault>
+        ensures { PlayedBy (may_be_put_off call) self.old self.new result (λ answer. ByStore self.old (event_of call) answer self.new) }
     {
-        write_one(self.alloc, &mut self.core, session)
+        Ok(Answer::Replied(self.core.take(call)))
     }
 }
 
@@ -201,27 +202,6 @@ impl<A: Allocator> Replay<A> {
         ensures { result.now.world ≡ self.now.world }
     {
         &self.core
-    }
-
-    fn decide(&mut self, session: usize) -> Result<Answer<A>, Fault>
-        ensures { Plays self.old (Does acts.Decide session) (played result) self.new }
-    {
-        let verdict = self.core.decide(session)?;
-        Ok(Answer::Decided(verdict))
-    }
-
-    fn finish(&mut self, session: usize) -> Result<Answer<A>, Fault>
-        ensures { Plays self.old (Does acts.Finish session) (played result) self.new }
-    {
-        let number = self.core.finish(session)?;
-        Ok(Answer::Finished(number))
-    }
-
-    fn back_up(&mut self, session: usize) -> Result<Answer<A>, Fault>
-        ensures { Plays self.old (Does acts.BackUp session) (played result) self.new }
-    {
-        let number = self.core.back_up(session)?;
-        Ok(Answer::BackedUp(number))
     }
 
     // What there is.
@@ -238,11 +218,36 @@ impl<A: Allocator> Replay<A> {
     }
 }
 
+// An answer, unless it is a want of memory.
+fn answered<A: Allocator>(answer: Answer<A>) -> Result<Answer<A>, AllocError>
+    ensures { MatchResult result
+        (λ same. (answer_of answer ≢ says.refused faults.Memory) × (answer_of same ≡ answer_of answer))
+        (λ _. answer_of answer ≡ says.refused faults.Memory) }
+{
+    match answer {
+        Answer::Replied(reply) => replied(reply),
+        answer => Ok(answer),
+    }
+}
+
+// What a reply is answered by: itself, and a refusal as one of the step.
+fn replied<A: Allocator>(reply: Reply<A>) -> Result<Answer<A>, AllocError>
+    ensures { MatchResult result
+        (λ same. (says.Replied (reply_of reply) ≢ says.refused faults.Memory) × (answer_of same ≡ says.Replied (reply_of reply)))
+        (λ _. says.Replied (reply_of reply) ≡ says.refused faults.Memory) }
+{
+    match reply {
+        Reply::Refused(fault) => refused(fault),
+        Reply::RefusedItem(refusal) => refused(refusal.fault),
+        reply => Ok(Answer::Replied(reply)),
+    }
+}
+
 // What a fault is answered by: a refusal, but for a want of memory.
 fn refused<A: Allocator>(fault: Fault) -> Result<Answer<A>, AllocError>
     ensures { MatchResult result
-        (λ answer. (fault ≢ faults.Memory) × (answer_of answer ≡ says.Refused fault))
-        (λ _. fault ≡ faults.Memory) }
+        (λ answer. (says.refused fault ≢ says.refused faults.Memory) × (answer_of answer ≡ says.refused fault))
+        (λ _. says.refused fault ≡ says.refused faults.Memory) }
 {
     match fault {
         Fault::Memory => Err(AllocError),
@@ -276,50 +281,4 @@ fn place_of<A: Allocator>(clients: &[Client<A>], session: usize) -> Result<usize
         return Err(Fault::NoSession);
     }
     Ok(session - 1)
-}
-
-// A single write of the store, told by its table's name and its key, which are copied before it is done.
-fn write_one<A: Allocator + Copy>(
-    alloc: A,
-    core: &mut Core<A>,
-    session: usize,
-) -> Result<Answer<A>, Fault>
-    ensures { PlayedIn core.old.world core.new.world result (λ answer. Tells core.old.world (events.WriteOne session) answer core.new.world) }
-{
-    let Some(next) = core.next_write(session) else {
-        core.write_one(session)?;
-        return Ok(Answer::NoMore);
-    };
-    let Ok(answer) = written(alloc, core.schema(), next) else {
-        return Err(Fault::Memory);
-    };
-    core.write_one(session)?;
-    Ok(answer)
-}
-
-// The answer to the write of an object.
-fn written<A: Allocator + Copy>(
-    alloc: A,
-    schema: &Schema<A>,
-    object: &Object<A>,
-) -> Result<Answer<A>, AllocError>
-    ensures { IfOk result (λ answer. told schema.now (events.Wrote (object_of object.now)) ≡ Some (answer_of answer)) }
-{
-    let table = table_name(alloc, schema, object.table)?;
-    let key = object.key.clone()?;
-    Ok(Answer::Wrote { table, key })
-}
-
-// A copy of the name of the table at a place, which is empty where there is none.
-fn table_name<A: Allocator + Copy>(
-    alloc: A,
-    schema: &Schema<A>,
-    place: usize,
-) -> Result<Text<A>, AllocError>
-    ensures { IfOk result (λ name. name ≡ name_at schema.now place) }
-{
-    match schema.tables().get(place) {
-        None => Text::new(alloc, ""),
-        Some(table) => table.name.clone(),
-    }
 }

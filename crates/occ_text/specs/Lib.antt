@@ -1,4 +1,3 @@
-pub mod Answers
 pub mod Escapes
 pub mod Faults
 pub mod HeaderReading

@@ -1,7 +1,6 @@
-//! The texts of the store: lines, tokens, values, headers, steps and answers, and what can go wrong with them.
+//! The texts of the store: lines, tokens, values, headers and steps, and what can go wrong with them.
 #![tactic(auto)]
 
-pub mod answers;
 pub mod faults;
 #[cfg(test)]
 mod grammar_tests;
@@ -9,7 +8,6 @@ pub mod headers;
 pub mod input;
 pub mod output;
 pub mod parts;
-pub mod refusals;
 pub mod steps;
 #[cfg(test)]
 mod tests;

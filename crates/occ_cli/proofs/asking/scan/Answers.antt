@@ -1,7 +1,9 @@
 use Rattle.std.proofs.Common.{subst, sym, ap, ◌∙◌}
 use Rattle.std.proofs.lemmas.Result.{err_from_is_err_and}
 use Rattle.occ_types.specs.Seen.{key_of, question_of}
-use Rattle.occ_cli.specs.Replaying.{MayAnswer, shown, span_named}
+use Rattle.occ_model.specs.Event.{Answered}
+use Rattle.occ_cli.specs.Answers as says
+use Rattle.occ_cli.specs.Replaying.{MayAnswer, span_named}
 use Rattle.occ_model.specs.Overlay.{overlay}
 use Rattle.occ_sets.specs.Seen as sets
 use Rattle.occ_cli.proofs.Replaying.{scan_refused}
@@ -36,4 +38,4 @@ returns g c =
     let asked = c.in_ok-question.ensures ∙ ap (λ s. span_named s c.args.table.now lower upper) c.schema.ensures in
     let given = sets.answer_of c.in_ok-given.given in
     scan_answered c.args.core.now.world c.args.session c.args.table.now lower upper c.args.copy.now (question_of c.in_ok-question.question) given c.ask.new.core.world c.over.result
-    asked c.in_ok-given.ensures (c.over.ensures ∙ ap (λ p. shown (overlay p.question p.writes given)) c.in_ok-prepared.ensures.prepared)
+    asked c.in_ok-given.ensures (c.over.ensures ∙ ap (λ p. says.Replied (Answered (overlay p.question p.writes given))) c.in_ok-prepared.ensures.prepared)

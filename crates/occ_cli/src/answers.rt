@@ -1,15 +1,19 @@
 //! What a replay answers to a step, and the writer of its line.
 
-ghost use Rattle.std.specs.Prelude.{◌≡◌, ◌++◌, OnOk, string_bytes};
+ghost use Rattle.std.specs.Fmt.{decimal};
+ghost use Rattle.std.specs.Prelude.{◌≡◌, ◌++◌, OnOk, codes, string_bytes};
 ghost use Rattle.std.specs.List.{flat_map};
 ghost use Rattle.occ_sets.specs.Seen.{rows_of};
 ghost use Rattle.occ_types.specs.Seen.{key_of};
-ghost use Rattle.occ_text.specs.Answers.{Wrote, Refused, answer_of, answer_text, fault_number, verdict_text, found_text, pair_text, rows_text, counts_text};
+ghost use Rattle.occ_types.specs.Seen.{object_of};
+ghost use Rattle.occ_core.specs.Runs.{reply_of};
+ghost use Rattle.occ_cli.specs.Answers.{answer_of, answer_text, reply_text, object_text, name_at, fault_number, verdict_text, found_text, pair_text, rows_text, counts_text};
 
 use crate::refusals::Refusal;
-use crate::writers::{write_key, write_row};
-use occ_model::{Cause, Verdict};
-use occ_types::{Fault, Key, Row, Text};
+use occ_case::{Cause, Verdict};
+use occ_core::Reply;
+use occ_text::writers::{write_key, write_row};
+use occ_types::{Fault, Key, Object, Row, Schema};
 use std::alloc::{AllocError, Allocator};
 
 /// What `show` counts.
@@ -37,61 +41,72 @@ pub enum Answer<A: Allocator> {
         /// The transaction counter as it began.
         start: u64,
     },
-    /// `row ROW` or `none`: the row of a key, if there is one.
-    Found(Option<Row<A>>),
-    /// `rows K` and K times `KEY=ROW`: the rows of a range, in the order of the keys.
-    Rows(Vec<(Key<A>, Row<A>), A>),
     /// `ok`: it is done.
     Done,
     /// `queued N`: the transaction of this number waits to be entered.
     Queued(u64),
-    /// `entered PLACE`: a transaction entered the log at this place.
-    Entered(usize),
     /// `empty`: nothing waits to be entered.
     Empty,
-    /// `commit` or `backup CAUSE`: the verdict on a transaction.
-    Decided(Verdict),
-    /// `wrote NAME KEY`: a single write is done.
-    Wrote {
-        /// The name of its table.
-        table: Text<A>,
-        /// Its key.
-        key: Key<A>,
-    },
-    /// `nomore`: no single write is left.
-    NoMore,
-    /// `finished TN`: a transaction finished under this transaction number.
-    Finished(u64),
-    /// `backed N`: the transaction of this number is backed up.
-    BackedUp(u64),
     /// `counter T low L log K state R active A`: what there is.
     Counted(Counts),
     /// `refused Fn`: the step is refused.
     Refused(Refusal),
+    /// What the store replied. To `get` and `scan` it is told here with the own writes over it.
+    Replied(Reply<A>),
 }
 
 /// Appends the line of an answer, without a line feed. Where memory is refused, a beginning of it may stand.
 pub fn write_answer<A: Allocator>(
     line: &mut String<A>,
+    schema: &Schema<A>,
     answer: &Answer<A>,
 ) -> Result<(), AllocError>
-    ensures { OnOk result (string_bytes line.new ≡ string_bytes line.old ++ answer_text (answer_of answer.now)) }
+    ensures { OnOk result (string_bytes line.new ≡ string_bytes line.old ++ answer_text schema.now (answer_of answer.now)) }
 {
     match answer {
         Answer::Begun { number, start } => write!(line, "begun {number} {start}"),
-        Answer::Found(row) => write_found(line, row),
-        Answer::Rows(rows) => write_rows(line, rows.as_slice()),
         Answer::Done => line.push_str("ok"),
         Answer::Queued(number) => write!(line, "queued {number}"),
-        Answer::Entered(place) => write!(line, "entered {place}"),
         Answer::Empty => line.push_str("empty"),
-        Answer::Decided(verdict) => line.push_str(verdict_text(*verdict)),
-        Answer::Wrote { table, key } => write_written(line, table, key),
-        Answer::NoMore => line.push_str("nomore"),
-        Answer::Finished(number) => write!(line, "finished {number}"),
-        Answer::BackedUp(number) => write!(line, "backed {number}"),
         Answer::Counted(counts) => write_counts(line, counts),
         Answer::Refused(refusal) => write_refused(line, refusal.fault),
+        Answer::Replied(reply) => write_reply(line, schema, reply),
+    }
+}
+
+/// Appends the line of what the store replied:
+///
+/// - `row ROW` or `none`: the row of a key, if there is one;
+/// - `rows K` and K times `KEY=ROW`: the rows of a range, in the order of the keys;
+/// - `ok`: the read phase is forgotten;
+/// - `entered PLACE`: a transaction entered the log at this place;
+/// - `commit` or `backup CAUSE`: the verdict on a transaction;
+/// - `wrote NAME KEY`: a single write is done, or `nomore`: none is left;
+/// - `finished TN`: a transaction finished under this transaction number;
+/// - `backed N`: the transaction of this number is backed up;
+/// - `refused Fn`: the step is refused.
+fn write_reply<A: Allocator>(
+    line: &mut String<A>,
+    schema: &Schema<A>,
+    reply: &Reply<A>,
+) -> Result<(), AllocError>
+    ensures { OnOk result (string_bytes line.new ≡ string_bytes line.old ++ reply_text schema.now (reply_of reply.now)) }
+{
+    match reply {
+        Reply::Found(row) => write_found(line, row),
+        Reply::Rows(rows) => write_rows(line, rows.as_slice()),
+        Reply::Forgotten(_known) => line.push_str("ok"),
+        Reply::Entered(entered) => {
+            let place = entered.place;
+            write!(line, "entered {place}")
+        }
+        Reply::Decided(verdict) => line.push_str(verdict_text(*verdict)),
+        Reply::Wrote(object) => write_written(line, schema, object),
+        Reply::NoMore => line.push_str("nomore"),
+        Reply::Finished(number) => write!(line, "finished {number}"),
+        Reply::BackedUp(number) => write!(line, "backed {number}"),
+        Reply::Refused(fault) => write_refused(line, *fault),
+        Reply::RefusedItem(refused) => write_refused(line, refused.fault),
     }
 }
 
@@ -160,15 +175,25 @@ fn verdict_text(verdict: Verdict) -> &'static str
 /// Appends what a single write wrote.
 fn write_written<A: Allocator>(
     line: &mut String<A>,
-    table: &Text<A>,
-    key: &Key<A>,
+    schema: &Schema<A>,
+    object: &Object<A>,
 ) -> Result<(), AllocError>
-    ensures { OnOk result (string_bytes line.new ≡ string_bytes line.old ++ answer_text (Wrote table.now (key_of key.now))) }
+    ensures { OnOk result (string_bytes line.new ≡ string_bytes line.old ++ (codes "wrote " ++ object_text schema.now (object_of object.now))) }
 {
     line.push_str("wrote ")?;
-    line.push_str(table.as_str())?;
+    line.push_str(table_name(schema, object.table))?;
     line.push(' ')?;
-    write_key(line, key)
+    write_key(line, &object.key)
+}
+
+/// The name of the table at a place, which is empty where there is none.
+fn table_name<A: Allocator>(schema: &Schema<A>, place: usize) -> &str
+    ensures { result.now ≡ name_at schema.now place }
+{
+    match schema.tables().get(place) {
+        None => "",
+        Some(table) => table.name.as_str(),
+    }
 }
 
 /// Appends what there is.
@@ -190,7 +215,7 @@ fn write_counts<A: Allocator>(line: &mut String<A>, counts: &Counts) -> Result<(
 
 /// Appends a refusal.
 fn write_refused<A: Allocator>(line: &mut String<A>, fault: Fault) -> Result<(), AllocError>
-    ensures { OnOk result (string_bytes line.new ≡ string_bytes line.old ++ answer_text (Refused fault)) }
+    ensures { OnOk result (string_bytes line.new ≡ string_bytes line.old ++ (codes "refused F" ++ decimal (fault_number fault))) }
 {
     let number = fault_number(fault);
     write!(line, "refused F{number}")

@@ -1,63 +1,51 @@
 -- What a replay answers to a step, as plain data, and the one text of each answer (our own choice).
-use Rattle.std.specs.Prelude.{ℕ, List, ◌++◌, length, Option, None, Some, codes}
+use Rattle.std.specs.Prelude.{ℕ, List, [], ◌++◌, length, Option, None, Some, codes, slice_get}
 use Rattle.std.specs.List.{flat_map}
 use Rattle.std.specs.Fmt.{decimal}
 use Rattle.occ_types.specs.Key.{Key}
+use Rattle.occ_types.specs.Object.{Object}
 use Rattle.occ_types.specs.Row.{Row}
-use Rattle.occ_types.specs.Seen.{key_of}
+use Rattle.occ_types.specs.Schema.{Schema}
 use Rattle.occ_types.specs.declared.fault.Fault.{Fault}
 use Rattle.occ_types.specs.declared.fault.Fault.TheVariants as faults
+use Rattle.occ_model.specs.State as states
+use Rattle.occ_model.specs.Event.{Reply}
+use Rattle.occ_model.specs.Event as events
 use Rattle.occ_model.specs.declared.verdict.Verdict.{Verdict}
 use Rattle.occ_model.specs.declared.verdict.Verdict.TheVariants as verdicts
 use Rattle.occ_model.specs.declared.verdict.Cause.{Cause}
 use Rattle.occ_model.specs.declared.verdict.Cause.TheVariants as causes
-use Rattle.occ_sets.specs.Seen.{rows_of}
+use Rattle.occ_core.specs.Runs.{reply_of}
 use Rattle.occ_text.specs.Spelling.{key_text, row_text}
-use Rattle.occ_text.specs.declared.answers.Counts.{Counts}
-use Rattle.occ_text.specs.declared.answers.Answer as code_answer
-use Rattle.occ_text.specs.declared.answers.Answer.TheVariants as answers
+use Rattle.occ_cli.specs.declared.answers.Counts.{Counts}
+use Rattle.occ_cli.specs.declared.answers.Answer as code_answer
+use Rattle.occ_cli.specs.declared.answers.Answer.TheVariants as answers
 
 pub data Answer : Type 0 where
   -- the number and the start of the transaction
   Begun : ℕ → ℕ → Answer
-  -- the row of a key, or none
-  Found : Option Row → Answer
-  -- the keys and rows of a range
-  Rows : List (Key × Row) → Answer
   Done : Answer
   -- the number of the transaction
   Queued : ℕ → Answer
-  -- the place in the log
-  Entered : ℕ → Answer
   Empty : Answer
-  Decided : Verdict → Answer
-  -- the name of the table, and the key
-  Wrote : List ℕ → Key → Answer
-  NoMore : Answer
-  -- the transaction number
-  Finished : ℕ → Answer
-  -- the number of the transaction
-  BackedUp : ℕ → Answer
   Counted : Counts → Answer
-  Refused : Fault → Answer
+  -- what the store replied, or a client in its place
+  Replied : Reply → Answer
+
+-- a step is refused, by the store or by a client
+abbrev pub refused : Fault → Answer
+refused fault = Replied (events.Refused fault)
 
 module _ {Z : Type 0} where
   -- the plain answer
   abbrev pub answer_of : code_answer.Answer Z → Answer
   answer_of (answers.Begun number start) = Begun number start
-  answer_of (answers.Found row) = Found row
-  answer_of (answers.Rows rows) = Rows (rows_of rows.items)
   answer_of answers.Done = Done
   answer_of (answers.Queued number) = Queued number
-  answer_of (answers.Entered place) = Entered place
   answer_of answers.Empty = Empty
-  answer_of (answers.Decided verdict) = Decided verdict
-  answer_of (answers.Wrote table key) = Wrote table (key_of key)
-  answer_of answers.NoMore = NoMore
-  answer_of (answers.Finished number) = Finished number
-  answer_of (answers.BackedUp number) = BackedUp number
   answer_of (answers.Counted counts) = Counted counts
-  answer_of (answers.Refused refusal) = Refused refusal.fault
+  answer_of (answers.Refused refusal) = refused refusal.fault
+  answer_of (answers.Replied reply) = Replied (reply_of reply)
 
 -- the number of a fault
 abbrev pub fault_number : Fault → ℕ
@@ -115,19 +103,46 @@ counts_text counts =
     codes "counter " ++ (decimal counts.counter ++ (codes " low " ++ (decimal counts.low ++ (codes " log " ++ (decimal counts.log
     ++ (codes " state " ++ (decimal counts.state ++ (codes " active " ++ decimal counts.active))))))))
 
+-- the name of the table at a place
+abbrev pub name_at : Schema → ℕ → List ℕ
+name_at schema place = elim (slice_get schema place) [ None ↦ [] | Some table ↦ table.name ]
+
+-- what a single write wrote
+abbrev pub object_text : Schema → Object → List ℕ
+object_text schema object = name_at schema object.0 ++ (codes " " ++ key_text object.1)
+
+-- a key and its row in a token
+abbrev pub pair_token : Key × Row → List ℕ
+pair_token pair = codes ":" ++ (key_text pair.0 ++ (codes "=" ++ row_text pair.1))
+
+-- what was read by an operation that ran alone, as a token with the space before it
+abbrev pub answer_token : states.Answer → List ℕ
+answer_token (states.Found None) = codes " none"
+answer_token (states.Found (Some row)) = codes " row:" ++ row_text row
+answer_token (states.Rows rows) = (codes " rows:" ++ decimal (length rows)) ++ flat_map pair_token rows
+
+-- the line of what the store replies, under its schema
+abbrev pub reply_text : Schema → Reply → List ℕ
+reply_text schema (events.Refused fault) = codes "refused F" ++ decimal (fault_number fault)
+reply_text schema (events.Answered (states.Found row)) = found_text row
+reply_text schema (events.Answered (states.Rows rows)) = rows_text rows
+reply_text schema (events.Forgotten known) = codes "ok"
+reply_text schema (events.Entered place index) = codes "entered " ++ decimal place
+reply_text schema events.Closed = codes "closed"
+reply_text schema (events.Decided verdict) = verdict_text verdict
+reply_text schema (events.Wrote object) = codes "wrote " ++ object_text schema object
+reply_text schema events.NoMore = codes "nomore"
+reply_text schema (events.Finished number) = codes "finished " ++ decimal number
+reply_text schema (events.BackedUp number) = codes "backed " ++ decimal number
+reply_text schema (events.EndedBack cause) = codes "backup " ++ cause_text cause
+reply_text schema (events.RanAlone number given) = (codes "finished " ++ decimal number) ++ flat_map answer_token given
+reply_text schema (events.Folded rows) = codes "folded " ++ decimal rows
+
 -- the line of an answer, without its line feed
-abbrev pub answer_text : Answer → List ℕ
-answer_text (Begun number start) = codes "begun " ++ (decimal number ++ (codes " " ++ decimal start))
-answer_text (Found row) = found_text row
-answer_text (Rows rows) = rows_text rows
-answer_text Done = codes "ok"
-answer_text (Queued number) = codes "queued " ++ decimal number
-answer_text (Entered place) = codes "entered " ++ decimal place
-answer_text Empty = codes "empty"
-answer_text (Decided verdict) = verdict_text verdict
-answer_text (Wrote table key) = codes "wrote " ++ (table ++ (codes " " ++ key_text key))
-answer_text NoMore = codes "nomore"
-answer_text (Finished number) = codes "finished " ++ decimal number
-answer_text (BackedUp number) = codes "backed " ++ decimal number
-answer_text (Counted counts) = counts_text counts
-answer_text (Refused fault) = codes "refused F" ++ decimal (fault_number fault)
+abbrev pub answer_text : Schema → Answer → List ℕ
+answer_text schema (Begun number start) = codes "begun " ++ (decimal number ++ (codes " " ++ decimal start))
+answer_text schema Done = codes "ok"
+answer_text schema (Queued number) = codes "queued " ++ decimal number
+answer_text schema Empty = codes "empty"
+answer_text schema (Counted counts) = counts_text counts
+answer_text schema (Replied reply) = reply_text schema reply
