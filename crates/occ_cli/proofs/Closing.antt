@@ -7,9 +7,8 @@ use Rattle.std.specs.FinMap.{FinMap}
 use Rattle.std.specs.Ordering.{nat_cmp}
 use Rattle.std.proofs.KnownBytes.{Appends-nil, Appends-kept}
 use Rattle.occ_types.specs.Schema.{Schema}
-use Rattle.occ_model.specs.Log.{LogRow, Audited}
+use Rattle.occ_model.specs.Log.{LogRow}
 use Rattle.occ_model.specs.State.{State}
-use Rattle.occ_model.specs.World.{empty_base}
 use Rattle.occ_text.specs.declared.faults.WriteFault.{WriteFault}
 use Rattle.occ_text.specs.declared.faults.WriteFault.TheVariants as faults
 use Rattle.occ_print.specs.Books.{Book, book_lines, book_text, audit_line}
