@@ -20,7 +20,6 @@ use Rattle.occ_core.specs.declared.replies.Reply.TheVariants as replies
 use Rattle.occ_core.specs.Runs.{Answers, IsPutOff, event_of, reply_of, handed_back, owed}
 use Rattle.occ_queue.specs.declared.items.Item as code_item
 use Rattle.occ_queue.specs.Items.{item_of}
-use Rattle.occ_types.specs.declared.fault.Refused as code_refused
 use Rattle.occ_types.specs.Question.{Question, One}
 use Rattle.occ_types.specs.Row.{Row}
 use Rattle.occ_model.specs.Overlay.{own}
@@ -245,20 +244,6 @@ module _ {Z : Type 0} where
   refused_so old session client item refused known next new is answered told_as left =
       subst (λ (f : Fault). Enters old session client (says.Replied (events.Refused f)) next new) (sym told_as)
       (entered_so old session client item (replies.RefusedItem refused) next new is answered left)
-
-  -- nothing is handed back
-  pub none_back : (reply : code_reply.Reply Z) → ((given : code_refused.Refused (code_item.Item Z)) → reply ≡ replies.RefusedItem given → ⊥) → handed_back reply ≡ None
-  none_back (replies.Found row) other = refl
-  none_back (replies.Rows rows) other = refl
-  none_back (replies.Forgotten there) other = refl
-  none_back (replies.Entered entered) other = refl
-  none_back (replies.Decided verdict) other = refl
-  none_back (replies.Wrote object) other = refl
-  none_back replies.NoMore other = refl
-  none_back (replies.Finished number) other = refl
-  none_back (replies.BackedUp number) other = refl
-  none_back (replies.Refused fault) other = refl
-  none_back (replies.RefusedItem given) other = absurd (other given refl)
 
 -- no element stands behind the end
 pub none_at : {X : Type 0} (xs : List X) (place : ℕ) → length xs ≤ place → slice_get xs place ≡ None
