@@ -3,6 +3,7 @@ use Rattle.std.proofs.Common.{◌≡◌, ℕ, zero, suc, ◌-◌, ◌<◌, ◌�
 use Rattle.std.specs.Prelude.{Bool, true, false, ◌≢◌, slice_get, slice_set, MatchOption, MatchResult, IfOk, OnErr}
 use Rattle.std.specs.Option.{ok_or}
 use Rattle.std.proofs.lemmas.List.{set-get_or}
+use Rattle.occ_types.specs.declared.fault.Refused as code_refused
 use Rattle.occ_types.specs.Key.{Key}
 use Rattle.occ_types.specs.declared.fault.Fault.{Fault}
 use Rattle.occ_types.specs.declared.fault.Fault.TheVariants as faults
