@@ -12,9 +12,8 @@ use Rattle.occ_types.specs.Key.{Key, Num, Text as KeyText, key_cmp}
 use Rattle.occ_types.specs.Object.{Object}
 use Rattle.occ_types.specs.Row.{Cell, Int, Text as CellText, Row}
 use Rattle.occ_types.specs.Question.{is_from, is_below}
-use Rattle.occ_types.specs.Seen.{key_of, object_of}
+use Rattle.occ_types.specs.Seen.{key_of}
 use Rattle.occ_types.specs.declared.keys.Key as code_key
-use Rattle.occ_types.specs.declared.objects.Object as code_object
 use Rattle.occ_model.specs.State.{State}
 
 -- how many tables there are, and the rows of all
@@ -87,10 +86,6 @@ module _ {Z : Type 0} where
   -- the key and the row of an entry
   abbrev pub seen : code_key.Key Z × Row → Key × Row
   seen e = (key_of e.0, e.1)
-
-  -- the object and the row of an entry
-  abbrev pub named : code_object.Object Z × Row → Object × Row
-  named e = (object_of e.0, e.1)
 
   -- the entries whose keys lie between two ends
   abbrev pub entries_within : Option Key → Option Key → List (code_key.Key Z × Row) → List (code_key.Key Z × Row)

@@ -1,5 +1,5 @@
 //! The tables of a store, with one map for each.
-ghost use Rattle.std.specs.Prelude.{◌≡◌, ◌<◌, ◌≤◌, ◌-◌, ◌^◌, ◌++◌, min, map, length, IfOk, OnOk, OnErr, IsOk, MatchOption, IsOkUnless, Some, None};
+ghost use Rattle.std.specs.Prelude.{◌≡◌, ◌<◌, ◌≤◌, ◌-◌, ◌^◌, min, map, length, IfOk, OnOk, OnErr, IsOk, MatchOption, IsOkUnless, Some, None};
 ghost use Rattle.std.specs.Option.{option_copied};
 ghost use Rattle.std.specs.Ordering.{on};
 ghost use Rattle.std.specs.Range.Bound.{bound_map};
@@ -11,9 +11,9 @@ ghost use Rattle.occ_types.specs.Object as objects;
 ghost use Rattle.occ_types.specs.Question.{Span};
 ghost use Rattle.occ_types.specs.Seen.{key_of, end_of};
 ghost use Rattle.occ_model.specs.State.{put, answer, Rows, answer_size};
-ghost use Rattle.occ_book.specs.Kept.{seen, entries_within, is_backward, lower_bound, upper_bound, placed, named, IsPut};
+ghost use Rattle.occ_book.specs.Kept.{seen, entries_within, is_backward, lower_bound, upper_bound, IsPut};
 
-use occ_types::{Fault, Key, Object, Row};
+use occ_types::{Fault, Key, Row};
 use std::alloc::{AllocError, Allocator};
 use std::collections::BTreeMap;
 use std::marker::Model;
@@ -245,39 +245,4 @@ fn upper_bound<A: Allocator>(upper: &Option<Key<A>>) -> Bound<&Key<A>>
         Some(end) => Bound::Excluded(end),
         None => Bound::Unbounded,
     }
-}
-
-impl<A: Allocator + Clone> Tables<A> {
-    /// Copies of the rows of all tables, each under its name, table by table and in the order of the keys.
-    ///
-    /// Refused with `Memory` where there is none for the copies.
-    pub fn named_rows(&self) -> Result<Vec<(Object<A>, Row<A>), A>, Fault>
-        ensures memory { IsOkUnless result Memory }
-        ensures named { IfOk result (λ rows. finite.from_entries (map named rows.items) ≡ self.now.state) }
-    {
-        let mut rows = Vec::new(self.maps.allocator().clone()?);
-        for (table, kept) in self.maps.iter().enumerate() {
-            name_rows(&mut rows, table, kept)?;
-        }
-        Ok(rows)
-    }
-}
-
-// Appends copies of the rows of one table, under their names.
-fn name_rows<A: Allocator + Clone>(
-    rows: &mut Vec<(Object<A>, Row<A>), A>,
-    table: usize,
-    kept: &BTreeMap<Key<A>, Row<A>, A>,
-) -> Result<(), Fault>
-    ensures memory { IsOkUnless result Memory }
-    ensures named { OnOk result (map named rows.new.items ≡ map named rows.old.items ++ placed table kept.now.entries) }
-{
-    for (key, row) in kept {
-        let object = Object {
-            table,
-            key: key.clone()?,
-        };
-        rows.push((object, row.clone()?))?;
-    }
-    Ok(())
 }

@@ -36,7 +36,6 @@ fn tables(rt: HostRuntime) -> Result<(), Fail> {
         copy.rows(0, &None, &upper)
             .is_ok_and(|rows| rows.len() == 1)
     );
-    assert!(rt; copy.named_rows().is_ok_and(|rows| rows.len() == 2));
     assert!(rt; copy.table(0).is_some_and(|rows| rows.len() == 2));
     Ok(())
 }

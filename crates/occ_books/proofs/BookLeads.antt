@@ -172,8 +172,8 @@ head_fits schema sessions row fits = record {
   number = fits.number;
   start = fits.start;
   finish = fits.finish;
-  reads = fits.few_reads;
-  writes = fits.few_writes;
+  reads = fits.count_reads;
+  writes = fits.count_writes;
   stand = stand_fits (length row.writes) row.standing fits.done;
 }
 

@@ -1,5 +1,5 @@
 -- From lines that were taken to where they lead.
-use Rattle.std.proofs.Common.{◌≡◌, ℕ, suc, ◌+◌, ◌-◌, ◌<◌, ◌≤◌, List, [], ◌∷◌, ◌++◌, Option, Some, None, Result, Ok, Err, refl, sym, ap, subst, ◌∙◌, arith, length-append}
+use Rattle.std.proofs.Common.{◌≡◌, ℕ, suc, ◌+◌, ◌-◌, ◌^◌, ◌<◌, ◌≤◌, List, [], ◌∷◌, ◌++◌, Option, Some, None, Result, Ok, Err, refl, sym, ap, subst, ◌∙◌, arith, length-append}
 use Rattle.std.specs.Result.{IsErrAnd}
 use Rattle.std.specs.Io.KnownBytes.{Consumes}
 use Rattle.std.proofs.KnownBytes.{Consumes-nil, Consumes-trans}
@@ -9,7 +9,7 @@ use Rattle.occ_text.specs.declared.faults.ReadFault.{ReadFault}
 use Rattle.occ_text.specs.declared.faults.ReadFault.TheVariants as faults
 use Rattle.occ_text.specs.Line.{IsLine, CannotStand, OtherLine, NoneTaken, IsSpelled, Taken, lines_text}
 use Rattle.occ_text.proofs.Taking.{NoneTaken-narrower}
-use Rattle.occ_books.specs.Places.{Place, Leads, LeadOn, MayEnd, Unended, Led, Stopped, Unread as Torn, FailsFrom, TakesFrom}
+use Rattle.occ_books.specs.Places.{Place, Leads, LeadOn, MayEnd, Unended, Led, Stopped, Unread as Torn, Uncounted, FailsFrom, TakesFrom}
 use Rattle.occ_books.proofs.Gathering.{one_line, more_lines}
 
 -- ---- lines lead on behind lines
@@ -63,10 +63,24 @@ led_unread p q a b c first mid l k = record {
   torn = k.torn;
 }
 
+led_uncounted : (p q : Place) (a b : Option (List ℕ)) (first mid : ℕ) → Led p q a b first mid → Uncounted q b mid → Uncounted p a first
+led_uncounted p q a b first mid l k =
+    let x = l.here in
+    let y = k.here in
+    record {
+      lines = l.lines ++ k.lines;
+      place = k.place;
+      rest = k.rest;
+      taken = more_lines l.lines k.lines a b k.rest l.taken k.taken;
+      led = lead_on l.lines k.lines p q k.place l.led k.led;
+      here = omega (arith, length-append l.lines k.lines);
+    }
+
 -- lines were taken, and then none
 pub led_fails : (fault : ReadFault) (p q : Place) (a b c : Option (List ℕ)) (first mid : ℕ) → Led p q a b first mid → FailsFrom fault q b c mid → FailsFrom fault p a c first
 led_fails (faults.Malformed number) p q a b c first mid l t = led_stopped p q a b first mid number l t
 led_fails faults.Read p q a b c first mid l t = led_unread p q a b c first mid l t
+led_fails faults.TooManyLines p q a b c first mid l t = led_uncounted p q a b first mid l t
 led_fails faults.Memory p q a b c first mid l t = tt
 
 -- lines were taken, and then what a call took
@@ -125,6 +139,9 @@ stopped_here from a first number more stuck here = record { lines = []; place = 
 pub unread_here : (from : Place) (part : List ℕ) (a b : Option (List ℕ)) → IsLine part → Consumes a b part → Torn from a b
 unread_here from part a b torn taken = record { lines = []; part = part; place = from; taken = taken; led = refl; torn = torn }
 
+pub uncounted_here : (from : Place) (a : Option (List ℕ)) (first : ℕ) → first ≡ 2 ^ 64 - 1 → Uncounted from a first
+uncounted_here from a first all = record { lines = []; place = from; rest = a; taken = Consumes-nil a; led = refl; here = omega (arith, all) }
+
 -- a line was taken that isn't one that leads on
 pub line_refused : (from : Place) (line : List ℕ) (a b : Option (List ℕ)) (first last number : ℕ) → (MayEnd from → ⊥) → Consumes a b (line ++ 10 ∷ []) × (last ≡ first + 1) × IsLine line → (LeadsOn from line → ⊥) → number ≡ last → Stopped from a first number
 line_refused from line a b first last number more taken other here = stopped_here from a first number more (OtherLine line b taken.0 taken.2 other) (here ∙ taken.1)
@@ -135,6 +152,7 @@ none_fails IsKind (faults.Malformed number) from a b first more only t =
     let none = NoneTaken-narrower IsKind (LeadsOn from) (faults.Malformed number) a b first only t in
     stopped_here from a first number more none.0 none.1
 none_fails IsKind faults.Read from a b first more only t = unread_here from t.0 a b t.1 t.2
+none_fails IsKind faults.TooManyLines from a b first more only t = uncounted_here from a first t
 none_fails IsKind faults.Memory from a b first more only t = tt
 
 -- a line of a grammar, whose values lead on

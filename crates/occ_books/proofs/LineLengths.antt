@@ -230,9 +230,9 @@ at_is_line schema entry good fits =
 
 -- ---- lines of numbers
 
-stand_width : (writes : ℕ) (stand : Stand) → writes ≤ 256 → StandFits writes stand → width (stand_tokens stand) ≤ 100
+stand_width : (writes : ℕ) (stand : Stand) → writes ≤ 2 ^ 64 - 1 → StandFits writes stand → width (stand_tokens stand) ≤ 100
 stand_width writes (stands.Open held) few fits = omega arith
-stand_width writes (stands.Writing done) few fits = let d = decimal_width done (omega arith) in omega arith
+stand_width writes (stands.Writing done) few fits = let d = decimal_width done (small_number done writes fits (count_small writes few)) in omega arith
 stand_width writes (stands.Done number) few fits = let d = decimal_width number (count_small number fits) in omega arith
 stand_width writes (stands.Back Conflict) few fits = omega arith
 stand_width writes (stands.Back TooOld) few fits = omega arith
@@ -244,8 +244,8 @@ head_is_line sessions head small fits =
     let c = decimal_width head.number (count_small head.number fits.number) in
     let d = decimal_width head.start (count_small head.start fits.start) in
     let e = decimal_width head.finish (count_small head.finish fits.finish) in
-    let f = decimal_width head.reads (small_number head.reads 256 fits.reads (lit< tt)) in
-    let g = decimal_width head.writes (small_number head.writes 256 fits.writes (lit< tt)) in
+    let f = decimal_width head.reads (count_small head.reads fits.reads) in
+    let g = decimal_width head.writes (count_small head.writes fits.writes) in
     let s = stand_width head.writes head.standing fits.writes fits.stand in
     line_of_words (head_tokens head) (head-AreTokens sessions head small fits) (omega arith)
 

@@ -25,6 +25,9 @@ number-again limit n rest small fits = ap (before rest) (number_again limit n sm
 pub wide : 2 ^ 64 - 1 < 2 ^ 64
 wide = lit< tt
 
+pub small_number : (n limit : ℕ) → n ≤ limit → limit < 2 ^ 64 → n < 2 ^ 64
+small_number n limit le lt = omega arith
+
 unless_zero-again : (n : ℕ) (rest : Tokens) → 1 ≤ n → unless_zero (n, rest) ≡ Some (n, rest)
 unless_zero-again zero rest h = absurd (omega arith)
 unless_zero-again (suc n) rest h = by (suc n == 0) refl
@@ -37,10 +40,10 @@ session-again : (sessions session : ℕ) (rest : Tokens) → sessions < 2 ^ 64 �
 unfolding next_session
 session-again sessions session rest small fits = ap (option_and_then unless_zero) (number-again sessions session rest small fits.last) ∙ unless_zero-again session rest fits.first
 
-stand-again : (writes : ℕ) (stand : Stand) → writes ≤ 256 → StandFits writes stand → stand_of writes (stand_tokens stand) ≡ Some stand
+stand-again : (writes : ℕ) (stand : Stand) → writes ≤ 2 ^ 64 - 1 → StandFits writes stand → stand_of writes (stand_tokens stand) ≡ Some stand
 unfolding stand_of bare_stand counted_stand
 stand-again writes (Open tt) few fits = refl
-stand-again writes (Writing done) few fits = ap (option_map Writing) (number_again writes done (omega arith) fits)
+stand-again writes (Writing done) few fits = ap (option_map Writing) (number_again writes done (small_number writes (2 ^ 64 - 1) few wide) fits)
 stand-again writes (Done number) few fits = ap (option_map Done) (number_again (2 ^ 64 - 1) number wide fits)
 stand-again writes (Back Conflict) few fits = refl
 stand-again writes (Back TooOld) few fits = refl
@@ -54,21 +57,18 @@ head-again sessions head small fits =
       number-again (2 ^ 64 - 1) head.number _ wide fits.number,
       number-again (2 ^ 64 - 1) head.start _ wide fits.start,
       number-again (2 ^ 64 - 1) head.finish _ wide fits.finish,
-      number-again 256 head.reads _ (lit< tt) fits.reads,
-      number-again 256 head.writes _ (lit< tt) fits.writes,
+      number-again (2 ^ 64 - 1) head.reads _ wide fits.reads,
+      number-again (2 ^ 64 - 1) head.writes _ wide fits.writes,
       stand-again head.writes head.standing fits.writes fits.stand,
     ) refl
-
-pub small_number : (n limit : ℕ) → n ≤ limit → limit < 2 ^ 64 → n < 2 ^ 64
-small_number n limit le lt = omega arith
 
 pub token_of : (n : ℕ) → n ≤ 2 ^ 64 - 1 → IsToken (decimal n)
 token_of n le = IsToken-decimal n (small_number n (2 ^ 64 - 1) le wide)
 
-stand-AreTokens : (writes : ℕ) (stand : Stand) → writes ≤ 256 → StandFits writes stand → AreTokens (stand_tokens stand)
+stand-AreTokens : (writes : ℕ) (stand : Stand) → writes ≤ 2 ^ 64 - 1 → StandFits writes stand → AreTokens (stand_tokens stand)
 unfolding is_token
 stand-AreTokens writes (Open held) few fits = one_token (IsToken-from_test (codes "open") refl)
-stand-AreTokens writes (Writing done) few fits = more_tokens (codes "writing") _ (IsToken-from_test (codes "writing") refl) (one_token (IsToken-decimal done (omega arith)))
+stand-AreTokens writes (Writing done) few fits = more_tokens (codes "writing") _ (IsToken-from_test (codes "writing") refl) (one_token (IsToken-decimal done (small_number done writes fits (small_number writes (2 ^ 64 - 1) few wide))))
 stand-AreTokens writes (Done number) few fits = more_tokens (codes "done") _ (IsToken-from_test (codes "done") refl) (one_token (token_of number fits))
 stand-AreTokens writes (Back Conflict) few fits = one_token (IsToken-from_test (codes "conflict") refl)
 stand-AreTokens writes (Back TooOld) few fits = one_token (IsToken-from_test (codes "tooold") refl)
@@ -82,8 +82,8 @@ head-AreTokens sessions head small fits =
     (more_tokens (decimal head.number) _ (token_of head.number fits.number)
     (more_tokens (decimal head.start) _ (token_of head.start fits.start)
     (more_tokens (decimal head.finish) _ (token_of head.finish fits.finish)
-    (more_tokens (decimal head.reads) _ (IsToken-decimal head.reads (small_number head.reads 256 fits.reads (lit< tt)))
-    (more_tokens (decimal head.writes) _ (IsToken-decimal head.writes (small_number head.writes 256 fits.writes (lit< tt)))
+    (more_tokens (decimal head.reads) _ (token_of head.reads fits.reads)
+    (more_tokens (decimal head.writes) _ (token_of head.writes fits.writes)
     (stand-AreTokens head.writes head.standing fits.writes fits.stand))))))))
 
 pub head_line-again : (sessions : ℕ) (head : Head) → sessions < 2 ^ 64 → HeadFits sessions head → head_of_line sessions (head_text head) ≡ Some head

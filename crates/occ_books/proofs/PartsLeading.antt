@@ -39,7 +39,7 @@ use Rattle.occ_books.specs.Places.{Place, Frame, Version, Sessions, Queue, Keep,
 use Rattle.occ_books.proofs.Gathering.{more_lines}
 use Rattle.occ_books.proofs.LinesAgain.{wide}
 use Rattle.occ_books.proofs.LineLengths.{count_is_line}
-use Rattle.occ_books.proofs.Leading.{LeadsOn, lead_on, led_nothing, led_line, led_led, led_stopped, led_fails, none_fails, unread_here, line_refused}
+use Rattle.occ_books.proofs.Leading.{LeadsOn, lead_on, led_nothing, led_line, led_led, led_stopped, led_fails, none_fails, unread_here, uncounted_here, line_refused}
 
 -- ---- the first lines
 
@@ -300,6 +300,7 @@ next_fails : (fault : LineFault) (place : Place) (a b : Option (List ℕ)) (old 
 next_fails (line_faults.Malformed number) place a b old new t =
     record { lines = []; place = place; rest = a; taken = Consumes-nil a; led = refl; stuck = NoLine t.0; unended = torn_or_long place a t.0; here = omega (arith, t.1) }
 next_fails line_faults.Read place a b old new t = unread_here place t.0 a b t.1 t.2
+next_fails line_faults.TooManyLines place a b old new t = uncounted_here place a old.number t.1
 
 -- the same behind lines that lead there, by the exit of a `?`
 pub next_failed : {X : Type 0} (fault : LineFault) (result : Result X LineFault) (from place : Place) (a b c : Option (List ℕ)) (old new : Source) (first : ℕ) → IsErrAnd result (λ e. e ≡ fault) → Led from place a b first old.number → LineGives (Err fault) b c old new

@@ -10,13 +10,17 @@ use Rattle.occ_text.specs.declared.faults.WriteFault.TheVariants as faults
 use Rattle.occ_text.specs.Faults.{read_trouble, write_trouble}
 use Rattle.occ_text.specs.declared.trouble.Trouble.{Trouble}
 use Rattle.occ_text.specs.declared.trouble.Trouble.TheVariants as troubles
+use Rattle.std.specs.Bool.{Decides}
+use Rattle.occ_model.specs.Log.{Audited}
+use Rattle.occ_model.specs.World.{empty_base}
 use Rattle.occ_print.specs.Books.{Book}
+use Rattle.occ_text.specs.Line.{Source, HasFailed}
 use Rattle.occ_text.specs.Sending.{Sends, PushGives}
-use Rattle.occ_books.specs.Places.{Version, FailsFrom}
-use Rattle.occ_books.specs.Printed.{verdict_text, ToldFront, TellGives, AuditGives, IsBookText}
+use Rattle.occ_books.specs.Places.{Version, Unread, FailsFrom}
+use Rattle.occ_books.specs.Printed.{verdict_text, ToldFront, TellGives, AuditGives, Judged, IsBookText}
 
-front_of : (verdict : Bool) (a b : Option (List ℕ)) (bytes held : List ℕ) → bytes ≡ verdict_text verdict → Sends a b bytes held → ToldFront a b
-front_of verdict a b bytes held is s = record { verdict = verdict; front = s.sent; rest = held; whole = sym is ∙ s.whole; told = s.written }
+front_of : (verdict : Bool) (a b : Option (List ℕ)) (bytes held : List ℕ) → bytes ≡ verdict_text verdict → Sends a b bytes held → ToldFront verdict a b
+front_of verdict a b bytes held is s = record { front = s.sent; rest = held; whole = sym is ∙ s.whole; told = s.written }
 
 pub push_failed : {X : Type 0} (fault : WriteFault) (result : Result X WriteFault) (verdict : Bool) (a b : Option (List ℕ)) (bytes old held : List ℕ) → IsErrAnd result (λ e. e ≡ fault) → bytes ≡ verdict_text verdict → old ≡ []
     → PushGives {T = Unit {0}} (Err fault) a b old held bytes → TellGives result verdict a b
@@ -32,7 +36,6 @@ pub flush_failed : {X : Type 0} (result : Result X WriteFault) (verdict : Bool) 
 flush_failed (Ok x) verdict a b c bytes old held new was is none p f = absurd was
 flush_failed {X} (Err e) verdict a b c bytes old held new was is none p f =
     subst (λ (d : WriteFault). TellGives {X = X} (Err d) verdict a c) (sym was) (record {
-      verdict = verdict;
       front = p.sent ++ f.sent;
       rest = new;
       whole = sym (ap (λ (l : List ℕ). l ++ bytes) none ∙ is) ∙ p.whole ∙ ap (λ (l : List ℕ). p.sent ++ l) f.whole ∙ sym (append_assoc p.sent f.sent new);
@@ -49,27 +52,35 @@ known_nil None = refl
 known_nil (Some bytes) = refl
 
 -- memory was refused before anything was written
-pub refused : (result : Result Bool Trouble) (text a : Option (List ℕ)) → IsErrAnd result (λ e. e ≡ troubles.Memory) → AuditGives result text a a
-refused (Ok verdict) text a is = absurd is
-refused (Err e) text a is = subst (λ (t : Trouble). AuditGives (Err t) text a a) (sym is) (Keeps-refl a)
+pub refused : (result : Result Bool Trouble) (text after a : Option (List ℕ)) → IsErrAnd result (λ e. e ≡ troubles.Memory) → AuditGives result text after a a
+refused (Ok verdict) text after a is = absurd is
+refused (Err e) text after a is = subst (λ (t : Trouble). AuditGives (Err t) text after a a) (sym is) (Keeps-refl a)
 
 -- the text is none of a book, or wasn't read, or memory was refused for it: nothing was written yet
-untouched : (fault : ReadFault) (text after a : Option (List ℕ)) → FailsFrom fault Version text after 0 → AuditGives (Err (read_trouble fault)) text a a
-untouched (reads.Malformed n) text after a t = (Keeps-refl a, t)
-untouched reads.Read text after a t = (Keeps-refl a, (after, t))
-untouched reads.Memory text after a t = Keeps-refl a
+untouched : (fault : ReadFault) (text after a : Option (List ℕ)) (left : List ℕ) → (fault ≡ reads.Read → left ≡ []) → FailsFrom fault Version text (prepend_known left after) 0 → AuditGives (Err (read_trouble fault)) text after a a
+untouched (reads.Malformed n) text after a left emptied t = (Keeps-refl a, t)
+untouched reads.Read text after a left emptied t =
+    (Keeps-refl a, subst (Unread Version text) (ap (λ (l : List ℕ). prepend_known l after) (emptied refl) ∙ known_nil after) t)
+untouched reads.TooManyLines text after a left emptied t = (Keeps-refl a, t)
+untouched reads.Memory text after a left emptied t = Keeps-refl a
 
-pub stopped : (fault : ReadFault) (result : Result Bool Trouble) (unread : List ℕ) (n : ℕ) (text after a : Option (List ℕ)) → IsErrAnd result (λ e. e ≡ read_trouble fault) → unread ≡ [] → n ≡ 0 → FailsFrom fault Version (prepend_known unread text) after n
-    → AuditGives result text a a
-stopped fault (Ok verdict) unread n text after a is none start t = absurd is
-stopped fault (Err e) unread n text after a is none start t =
-    subst (λ (d : Trouble). AuditGives (Err d) text a a) (sym is) (untouched fault text after a
-    (subst (λ (known : Option (List ℕ)). FailsFrom fault Version known after 0) (ap (λ (l : List ℕ). prepend_known l text) none ∙ known_nil text) (subst (FailsFrom fault Version (prepend_known unread text) after) start t)))
+pub stopped : (fault : ReadFault) (result : Result Bool Trouble) (unread : List ℕ) (n : ℕ) (text after a : Option (List ℕ)) (input : Source) → IsErrAnd result (λ e. e ≡ read_trouble fault) → unread ≡ [] → n ≡ 0
+    → (fault ≡ reads.Read → HasFailed input) → FailsFrom fault Version (prepend_known unread text) (prepend_known input.unread after) n → AuditGives result text after a a
+stopped fault (Ok verdict) unread n text after a input is none start cause t = absurd is
+stopped fault (Err e) unread n text after a input is none start cause t =
+    let left = prepend_known input.unread after in
+    let emptied : fault ≡ reads.Read → input.unread ≡ [] = λ read. let failed = cause read in failed.emptied in
+    subst (λ (d : Trouble). AuditGives (Err d) text after a a) (sym is) (untouched fault text after a input.unread emptied
+    (subst (λ (known : Option (List ℕ)). FailsFrom fault Version known left 0) (ap (λ (l : List ℕ). prepend_known l text) none ∙ known_nil text) (subst (FailsFrom fault Version (prepend_known unread text) left) start t)))
 
-pub told : (fault : WriteFault) (result : Result Bool Trouble) (verdict : Bool) (text a b : Option (List ℕ)) → IsErrAnd result (λ e. e ≡ write_trouble fault) → TellGives {X = Unit {0}} (Err fault) verdict a b → AuditGives result text a b
-told fault (Ok answer) verdict text a b is g = absurd is
-told faults.Write (Err e) verdict text a b is g = subst (λ (t : Trouble). AuditGives (Err t) text a b) (sym is) g
-told faults.Memory (Err e) verdict text a b is g = subst (λ (t : Trouble). AuditGives (Err t) text a b) (sym is) g
+pub told : (fault : WriteFault) (result : Result Bool Trouble) (verdict : Bool) (text after a b : Option (List ℕ)) → Judged verdict text → IsErrAnd result (λ e. e ≡ write_trouble fault) → TellGives {X = Unit {0}} (Err fault) verdict a b → AuditGives result text after a b
+told fault (Ok answer) verdict text after a b judged is g = absurd is
+told faults.Write (Err e) verdict text after a b judged is g = subst (λ (t : Trouble). AuditGives (Err t) text after a b) (sym is) (verdict, judged, g)
+told faults.Memory (Err e) verdict text after a b judged is g = subst (λ (t : Trouble). AuditGives (Err t) text after a b) (sym is) g
 
-pub from_start : (unread : List ℕ) (known : Option (List ℕ)) (book : Book) → unread ≡ [] → IsBookText (prepend_known unread known) book → IsBookText known book
+from_start : (unread : List ℕ) (known : Option (List ℕ)) (book : Book) → unread ≡ [] → IsBookText (prepend_known unread known) book → IsBookText known book
 from_start unread known book none is = subst (λ (text : Option (List ℕ)). IsBookText text book) (ap (λ (l : List ℕ). prepend_known l known) none ∙ known_nil known) is
+
+-- the verdict on the book that was taken is right of the text
+pub judged : (verdict : Bool) (unread : List ℕ) (known : Option (List ℕ)) (book : Book) → unread ≡ [] → IsBookText (prepend_known unread known) book → Decides verdict (Audited empty_base book.marks book.state book.log) → Judged verdict known
+judged verdict unread known book none is right = record { book = book; read = from_start unread known book none is; right = right }

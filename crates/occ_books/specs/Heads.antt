@@ -60,8 +60,8 @@ pub record HeadFits (sessions : ℕ) (head : Head) : Type 0 where
   pub number : head.number ≤ 2 ^ 64 - 1
   pub start : head.start ≤ 2 ^ 64 - 1
   pub finish : head.finish ≤ 2 ^ 64 - 1
-  pub reads : head.reads ≤ 256
-  pub writes : head.writes ≤ 256
+  pub reads : head.reads ≤ 2 ^ 64 - 1
+  pub writes : head.writes ≤ 2 ^ 64 - 1
   pub stand : StandFits head.writes head.standing
 
 pub record MarkFits (sessions : ℕ) (mark : Mark) : Type 0 where
@@ -103,8 +103,8 @@ head_of sessions tokens = do
   number ← next_number (2 ^ 64 - 1) session.1
   start ← next_number (2 ^ 64 - 1) number.1
   finish ← next_number (2 ^ 64 - 1) start.1
-  reads ← next_number 256 finish.1
-  writes ← next_number 256 reads.1
+  reads ← next_number (2 ^ 64 - 1) finish.1
+  writes ← next_number (2 ^ 64 - 1) reads.1
   stand ← stand_of writes.0 writes.1
   Some (record { place = place.0; session = session.0; number = number.0; start = start.0; finish = finish.0; reads = reads.0; writes = writes.0; standing = stand })
 

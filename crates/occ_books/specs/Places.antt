@@ -175,6 +175,15 @@ pub record Unread (from : Place) (before after : Option (List ℕ)) : Type 0 whe
   pub led : LeadOn from lines place
   pub torn : IsLine part
 
+-- all lines that have a number of 64 bits lead from a place to another one; lines are numbered on from those before
+pub record Uncounted (from : Place) (before : Option (List ℕ)) (first : ℕ) : Type 0 where
+  pub lines : List (List ℕ)
+  pub place : Place
+  pub rest : Option (List ℕ)
+  pub taken : Consumes before rest (lines_text lines)
+  pub led : LeadOn from lines place
+  pub here : first + length lines ≡ 2 ^ 64 - 1
+
 -- lines were taken that lead to a place
 pub record Led (from to : Place) (before after : Option (List ℕ)) (first last : ℕ) : Type 0 where
   pub lines : List (List ℕ)
@@ -186,6 +195,7 @@ pub record Led (from to : Place) (before after : Option (List ℕ)) (first last 
 abbrev pub FailsFrom : ReadFault → Place → Option (List ℕ) → Option (List ℕ) → ℕ → Type 0
 FailsFrom (faults.Malformed number) from before after taken = Stopped from before taken number
 FailsFrom faults.Read from before after taken = Unread from before after
+FailsFrom faults.TooManyLines from before after taken = Uncounted from before taken
 FailsFrom faults.Memory from before after taken = Unit {0}
 
 -- what taking lines from a place leaves, by its outcome, where first and last are how many lines were taken before and after

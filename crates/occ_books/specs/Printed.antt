@@ -9,7 +9,7 @@ use Rattle.occ_model.specs.World.{empty_base}
 use Rattle.occ_text.specs.declared.faults.WriteFault.{WriteFault}
 use Rattle.occ_text.specs.declared.faults.WriteFault.TheVariants as faults
 use Rattle.occ_text.specs.declared.trouble.Trouble.{Trouble}
-use Rattle.occ_text.specs.declared.trouble.Trouble.TheVariants.{Read, Write, Memory, Malformed}
+use Rattle.occ_text.specs.declared.trouble.Trouble.TheVariants.{Read, TooManyLines, Write, Memory, Malformed}
 use Rattle.occ_text.specs.Line.{lines_text}
 use Rattle.occ_text.specs.Headers.{HeaderFits}
 use Rattle.occ_text.specs.HeaderTaking.{header_of}
@@ -18,7 +18,7 @@ use Rattle.occ_books.specs.declared.printed.PrintedBook as code_printed
 use Rattle.occ_books.specs.Heads.{IsSession, CountsFit}
 use Rattle.occ_books.specs.Entries.{AtFits}
 use Rattle.occ_books.specs.Taking.{TakesLines, LogRowFits}
-use Rattle.occ_books.specs.Places.{Version, Stopped, Unread}
+use Rattle.occ_books.specs.Places.{Version, Stopped, Unread, Uncounted}
 use Rattle.occ_books.specs.Untold.{log_of}
 
 -- what stands behind a book: nothing, or one audit line, whatever it says
@@ -58,9 +58,8 @@ pub record IsBookText (text : Option (List ℕ)) (book : Book) : Type 0 where
 abbrev pub verdict_text : Bool → List ℕ
 verdict_text verdict = lines_text (audit_line verdict ∷ [])
 
--- what telling a verdict leaves at the writer, where it fails: a beginning of the line, or nothing
-pub record ToldFront (old new : Option (List ℕ)) : Type 0 where
-  pub verdict : Bool
+-- what telling a verdict leaves at the writer, where it fails: a beginning of its line, or nothing
+pub record ToldFront (verdict : Bool) (old new : Option (List ℕ)) : Type 0 where
   pub front : List ℕ
   pub rest : List ℕ
   pub whole : verdict_text verdict ≡ front ++ rest
@@ -69,7 +68,7 @@ pub record ToldFront (old new : Option (List ℕ)) : Type 0 where
 -- what telling a verdict leaves at the writer, by its outcome
 abbrev pub TellGives : {X : Type 0} → Result X WriteFault → Bool → Option (List ℕ) → Option (List ℕ) → Type 0
 TellGives (Ok done) verdict old new = Appends old new (verdict_text verdict)
-TellGives (Err faults.Write) verdict old new = ToldFront old new
+TellGives (Err faults.Write) verdict old new = ToldFront verdict old new
 TellGives (Err faults.Memory) verdict old new = Keeps old new
 
 -- a verdict is right, of the book whose text it is
@@ -78,15 +77,18 @@ pub record Judged (verdict : Bool) (text : Option (List ℕ)) : Type 0 where
   pub read : IsBookText text book
   pub right : Decides verdict (Audited empty_base book.marks book.state book.log)
 
--- what the audit of a text leaves, by its outcome, where the writer's bytes were old and are new
-abbrev pub AuditGives : Result Bool Trouble → Option (List ℕ) → Option (List ℕ) → Option (List ℕ) → Type 0
-AuditGives (Ok verdict) text old new = Judged verdict text × Appends old new (verdict_text verdict)
+-- what the audit of a text leaves, by its outcome, where `after` is what the reader has left, and the writer's bytes were old and are new
+abbrev pub AuditGives : Result Bool Trouble → Option (List ℕ) → Option (List ℕ) → Option (List ℕ) → Option (List ℕ) → Type 0
+AuditGives (Ok verdict) text after old new = Judged verdict text × Appends old new (verdict_text verdict)
 -- nothing was written, and the line is the first one that can't stand where it stands
-AuditGives (Err (Malformed line)) text old new = Keeps old new × Stopped Version text 0 line
--- nothing was written, and a read failed behind lines that lead on
-AuditGives (Err Read) text old new = Keeps old new × ((after : Option (List ℕ)) × Unread Version text after)
-AuditGives (Err Memory) text old new = Keeps old new
-AuditGives (Err Write) text old new = ToldFront old new
+AuditGives (Err (Malformed line)) text after old new = Keeps old new × Stopped Version text 0 line
+-- nothing was written, and a read failed: all that the reader gave is lines that lead on and a part of another
+AuditGives (Err Read) text after old new = Keeps old new × Unread Version text after
+-- nothing was written, and the lines that lead on are more than can be counted
+AuditGives (Err TooManyLines) text after old new = Keeps old new × Uncounted Version text 0
+AuditGives (Err Memory) text after old new = Keeps old new
+-- what was written is a beginning of the line of the right verdict, and of no other
+AuditGives (Err Write) text after old new = (verdict : Bool) × Judged verdict text × ToldFront verdict old new
 
 module _ {Z : Type 0} where
   -- the plain book

@@ -53,15 +53,15 @@ StandingFits writes (Writing done) = done ≤ writes
 StandingFits writes (Done number) = number ≤ 2 ^ 64 - 1
 StandingFits writes (Back cause) = Unit {0}
 
--- a row of the log that a book of this header may have: numbers of 64 bits, up to 256 reads, and up to 256 writes that write no object twice
+-- a row of the log that a book of this header may have: numbers of 64 bits, as many reads and writes as such a number counts, and no object written twice
 pub record LogRowFits (schema : Schema) (sessions : ℕ) (row : LogRow) : Type 0 where
   pub place : row.place ≤ 2 ^ 64 - 1
   pub session : IsSession sessions row.session
   pub number : row.number ≤ 2 ^ 64 - 1
   pub start : row.start ≤ 2 ^ 64 - 1
   pub finish : row.finish ≤ 2 ^ 64 - 1
-  pub few_reads : length row.reads ≤ 256
-  pub few_writes : length row.writes ≤ 256
+  pub count_reads : length row.reads ≤ 2 ^ 64 - 1
+  pub count_writes : length row.writes ≤ 2 ^ 64 - 1
   pub done : StandingFits (length row.writes) row.standing
   pub reads : AllByRecursion (ReadFits schema) row.reads
   pub writes : AllByRecursion (WriteFits schema) row.writes

@@ -21,14 +21,14 @@ use std::io::{Read, Write};
 /// serial replay in the order of entry, and its state is what that leaves.
 ///
 /// An audit line behind the book may say anything. `Malformed` at the first line that can't stand where it stands, or that isn't
-/// there, and `Read` where the reader fails: nothing was written then. `Write` where the writer fails, and `Memory` where memory
+/// there, `Read` where the reader fails, and `TooManyLines` after 2^64 - 1 lines: nothing was written then. `Write` where the writer fails, and `Memory` where memory
 /// was refused. The time is about linear in the book; the memory is linear in what the book tells, and no count is trusted.
 pub fn audit_text<R: Read, W: Write, A: Allocator + Copy>(
     alloc: A,
     reader: &mut R,
     writer: &mut W,
 ) -> Result<bool, Trouble>
-    ensures { AuditGives result (R.remaining reader.old) (W.contents writer.old) (W.contents writer.new) }
+    ensures { AuditGives result (R.remaining reader.old) (R.remaining reader.new) (W.contents writer.old) (W.contents writer.new) }
 {
     let mut input = Input::new(alloc)?;
     let printed = take_book(alloc, &mut input, reader)?;

@@ -10,7 +10,6 @@ use occ_book::Standing;
 use occ_model::Cause;
 use occ_text::parts::Parts;
 use occ_text::tokens::{is_word, number, tokens};
-use occ_types::limits::{MAX_QUESTIONS, MAX_WRITES};
 
 /// The first line of a row of the log: `row PLACE S N START FINISH R W STANDING`.
 #[derive(Clone, Copy, Debug, PartialEq, Eq)]
@@ -25,9 +24,9 @@ pub struct Head {
     pub start: u64,
     /// The counter as it entered.
     pub finish: u64,
-    /// How many reads follow, up to 256.
+    /// How many reads follow.
     pub reads: usize,
-    /// How many writes follow them, up to 256.
+    /// How many writes follow them.
     pub writes: usize,
     /// How far it has come: `open`, `writing D` where so many of its writes are done, `done TN` under this number, or `conflict` or `tooold`, for which it is backed up. Nothing more is told of an open row.
     pub standing: Standing<()>,
@@ -120,8 +119,8 @@ fn head_of(sessions: usize, parts: &mut Parts<'_>) -> Option<Head>
     let number = next_number(parts, u64::MAX)?;
     let start = next_number(parts, u64::MAX)?;
     let finish = next_number(parts, u64::MAX)?;
-    let reads = next_number(parts, MAX_QUESTIONS as u64)? as usize;
-    let writes = next_number(parts, MAX_WRITES as u64)? as usize;
+    let reads = next_number(parts, u64::MAX)? as usize;
+    let writes = next_number(parts, u64::MAX)? as usize;
     let standing = stand_of(writes, parts)?;
     Some(Head {
         place,

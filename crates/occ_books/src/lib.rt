@@ -2,6 +2,8 @@
 #![tactic(auto)]
 
 pub mod audits;
+#[cfg(test)]
+mod count_tests;
 mod cursors;
 pub mod entries;
 pub mod heads;

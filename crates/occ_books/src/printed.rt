@@ -1,6 +1,6 @@
 //! Taking a whole book from an input.
 
-ghost use Rattle.std.specs.Prelude.{ℕ, List, ◌≡◌, ◌≤◌, ◌^◌, ◌-◌, ◌++◌, ◌∷◌, [], ◌||◌, IfOk, IsOkUnless, Ok, None, map, codes};
+ghost use Rattle.std.specs.Prelude.{ℕ, List, ◌≡◌, ◌≤◌, ◌^◌, ◌-◌, ◌++◌, ◌∷◌, [], ◌||◌, IfOk, IfErr, IsOkUnless, Ok, None, map, codes};
 ghost use Rattle.std.specs.FinMap as finite;
 ghost use Rattle.std.specs.List.{AllByRecursion};
 ghost use Rattle.std.specs.Str.{bytes_eq};
@@ -10,9 +10,10 @@ ghost use Rattle.occ_types.specs.Schema.{Table, check_tables};
 ghost use Rattle.occ_types.specs.Seen.{tables_of};
 ghost use Rattle.occ_text.specs.Headers.{table_text, count_text};
 ghost use Rattle.occ_text.specs.Faults.{widened};
+ghost use Rattle.occ_text.specs.declared.faults.LineFault.TheVariants as line_faults;
 ghost use Rattle.occ_text.specs.declared.faults.ReadFault.TheVariants as read_faults;
 ghost use Rattle.occ_text.specs.HeaderTaking.{TablesSoFar};
-ghost use Rattle.occ_text.specs.Line.{Taken};
+ghost use Rattle.occ_text.specs.Line.{HasFailed, Taken};
 ghost use Rattle.occ_print.specs.Books.{mark_lines, state_lines};
 ghost use Rattle.occ_books.specs.Entries.{AtFits};
 ghost use Rattle.occ_books.specs.Taking.{TakesLines, BehindTaken, FurtherFits, further_of, further_text};
@@ -65,6 +66,7 @@ fn take_behind<R: Read, A: Allocator + Copy>(
     requires { TablesSoFar (tables_of tables.now) }
     ensures taken { IfOk result (λ behind. BehindTaken behind (tables_of tables.now) (prepend_known input.old.unread (R.remaining reader.old)) (prepend_known input.new.unread (R.remaining reader.new))) }
     ensures led { Taken further_of further_text (FurtherFits (tables_of tables.now)) result (prepend_known input.old.unread (R.remaining reader.old)) (prepend_known input.new.unread (R.remaining reader.new)) input.old.number input.new.number }
+    ensures cause { IfErr result (λ fault. fault ≡ read_faults.Read → HasFailed input.new) }
 {
     input.take_line(reader)?;
     if let Some(rows) = count(input.line(), "log", 0, u64::MAX) {
@@ -82,6 +84,7 @@ fn take_opening<R: Read, A: Allocator + Copy>(
 ) -> Result<Opening<A>, ReadFault>
     ensures taken { IfOk result (λ opening. TakesLines (prepend_known input.old.unread (R.remaining reader.old)) (prepend_known input.new.unread (R.remaining reader.new)) (map table_text opening.schema ++ count_text (codes "log") opening.rows ∷ []) × (check_tables opening.schema ≡ None)) }
     ensures led { (sessions : ℕ) → TakesFrom result (TablesAt sessions []) (λ opening. rows_to_come (record { schema = opening.schema; sessions = sessions }) opening.rows) (prepend_known input.old.unread (R.remaining reader.old)) (prepend_known input.new.unread (R.remaining reader.new)) input.old.number input.new.number }
+    ensures cause { IfErr result (λ fault. fault ≡ read_faults.Read → HasFailed input.new) }
 {
     let mut tables = Vec::new(alloc);
     loop {
@@ -117,6 +120,7 @@ fn take_marks<R: Read, A: Allocator + Copy>(
     ensures taken { IfOk result (λ marks. TakesLines (prepend_known input.old.unread (R.remaining reader.old)) (prepend_known input.new.unread (R.remaining reader.new)) (mark_lines marks.marks) × AllByRecursion (EntryFits sessions) (finite.entries marks.marks)) }
     ensures sessions { IfOk result (λ marks. marks.sessions ≡ sessions) }
     ensures led { (schema : List Table) → TakesFrom result (MarksAt (record { schema = schema; sessions = sessions })) (λ _. State (record { schema = schema; sessions = sessions })) (prepend_known input.old.unread (R.remaining reader.old)) (prepend_known input.new.unread (R.remaining reader.new)) input.old.number input.new.number }
+    ensures cause { IfErr result (λ fault. fault ≡ read_faults.Read → HasFailed input.new) }
 {
     let count = take_count(input, reader, "marks", 0, u64::MAX)?;
     let mut marks = unless_refused(Marks::new(alloc, sessions))?;
@@ -138,6 +142,7 @@ fn take_state<R: Read, A: Allocator + Copy>(
 ) -> Result<Tables<A>, ReadFault>
     ensures taken { IfOk result (λ tables. TakesLines (prepend_known input.old.unread (R.remaining reader.old)) (prepend_known input.new.unread (R.remaining reader.new)) (state_lines schema.now tables.state) × AllByRecursion (AtFits schema.now) (finite.entries tables.state) × (finite.len tables.state ≤ 2 ^ 64 - 1)) }
     ensures led { (sessions : ℕ) → TakesFrom result (State (record { schema = schema.now; sessions = sessions })) (λ _. Counter) (prepend_known input.old.unread (R.remaining reader.old)) (prepend_known input.new.unread (R.remaining reader.new)) input.old.number input.new.number }
+    ensures cause { IfErr result (λ fault. fault ≡ read_faults.Read → HasFailed input.new) }
 {
     let count = take_count(input, reader, "state", 0, u64::MAX)?;
     let mut tables = unless_refused(Tables::new(alloc, schema.tables().len()))?;
@@ -154,6 +159,7 @@ fn take_state<R: Read, A: Allocator + Copy>(
 fn take_end<R: Read, A: Allocator>(input: &mut Input<A>, reader: &mut R) -> Result<(), LineFault>
     ensures taken { IfOk result (λ _. EndTaken (prepend_known input.old.unread (R.remaining reader.old))) }
     ensures led { EndsFrom (widened result) Audit (prepend_known input.old.unread (R.remaining reader.old)) (prepend_known input.new.unread (R.remaining reader.new)) input.old.number }
+    ensures cause { IfErr result (λ fault. fault ≡ line_faults.Read → HasFailed input.new) }
 {
     match input.next_line(reader)? {
         Next::End => return Ok(()),
@@ -188,6 +194,7 @@ pub fn take_book<R: Read, A: Allocator + Copy>(
     ensures taken { IfOk result (λ printed. IsBookText (prepend_known input.old.unread (R.remaining reader.old)) (printed_book printed)) }
     ensures sessions { IfOk result (λ printed. printed.book.marks.sessions ≡ printed.header.limits.sessions) }
     ensures led { EndsFrom result Version (prepend_known input.old.unread (R.remaining reader.old)) (prepend_known input.new.unread (R.remaining reader.new)) input.old.number }
+    ensures cause { IfErr result (λ fault. fault ≡ read_faults.Read → HasFailed input.new) }
 {
     let limits = take_limits(input, reader)?;
     let opening = take_opening(alloc, input, reader)?;

@@ -1,16 +1,18 @@
 //! Taking single lines of a book from an input.
 
-ghost use Rattle.std.specs.Prelude.{◌≡◌, ◌<◌, ◌∷◌, ◌↔◌, [], true, IfOk, IsTrue, option_map};
+ghost use Rattle.std.specs.Prelude.{◌≡◌, ◌<◌, ◌∷◌, ◌↔◌, [], true, IfOk, IfErr, IsTrue, option_map};
 ghost use Rattle.std.specs.Io.KnownBytes.{prepend_known};
 ghost use Rattle.occ_types.specs.Seen.{key_of, object_of};
 ghost use Rattle.occ_sets.specs.Seen.{rows_of};
 ghost use Rattle.occ_text.specs.Faults.{widened};
-ghost use Rattle.occ_text.specs.Line.{IsLine, Taken};
+ghost use Rattle.occ_text.specs.Line.{HasFailed, IsLine, Taken};
 ghost use Rattle.occ_print.specs.Books.{pair_line, write_line, at_line};
 ghost use Rattle.occ_books.specs.Heads.{head_text, mark_text, counts_text, HeadFits, MarkFits, CountsFit};
 ghost use Rattle.occ_books.specs.Entries.{asked_of, pair_of, write_of, at_of, asked_text, AskedFits, PairFits, WriteFits, AtFits};
 ghost use Rattle.occ_books.specs.Places.{IsAbove, last_key};
 ghost use Rattle.occ_books.specs.Taking.{TakesLines, is_behind};
+ghost use Rattle.occ_text.specs.declared.faults.LineFault.TheVariants as line_faults;
+ghost use Rattle.occ_text.specs.declared.faults.ReadFault.TheVariants as read_faults;
 
 use crate::entries::{Asked, read_asked, read_at, read_pair, read_write};
 use crate::heads::{Counts, Head, Mark, read_counts, read_head, read_mark};
@@ -28,6 +30,7 @@ pub(crate) fn take_head<R: Read, A: Allocator>(
 ) -> Result<Head, LineFault>
     ensures taken { IfOk result (λ head. TakesLines (prepend_known input.old.unread (R.remaining reader.old)) (prepend_known input.new.unread (R.remaining reader.new)) (head_text head ∷ []) × HeadFits sessions head) }
     ensures led { Taken (λ head. head) head_text (HeadFits sessions) (widened result) (prepend_known input.old.unread (R.remaining reader.old)) (prepend_known input.new.unread (R.remaining reader.new)) input.old.number input.new.number }
+    ensures cause { IfErr result (λ fault. fault ≡ line_faults.Read → HasFailed input.new) }
 {
     input.take_line(reader)?;
     read_head(input.line(), sessions).ok_or(LineFault::Malformed(input.number()))
@@ -42,6 +45,7 @@ pub(crate) fn take_asked<R: Read, A: Allocator + Copy>(
 ) -> Result<Asked<A>, ReadFault>
     ensures taken { IfOk result (λ asked. TakesLines (prepend_known input.old.unread (R.remaining reader.old)) (prepend_known input.new.unread (R.remaining reader.new)) (asked_text schema.now (asked_of asked) ∷ []) × AskedFits schema.now (asked_of asked)) }
     ensures led { Taken asked_of (asked_text schema.now) (AskedFits schema.now) result (prepend_known input.old.unread (R.remaining reader.old)) (prepend_known input.new.unread (R.remaining reader.new)) input.old.number input.new.number }
+    ensures cause { IfErr result (λ fault. fault ≡ read_faults.Read → HasFailed input.new) }
 {
     input.take_line(reader)?;
     read_at_line(read_asked(alloc, schema, input.line()), input.number())
@@ -68,6 +72,7 @@ pub(crate) fn take_pair<R: Read, A: Allocator + Copy>(
 ) -> Result<(Key<A>, Row<A>), ReadFault>
     ensures taken { IfOk result (λ pair. TakesLines (prepend_known input.old.unread (R.remaining reader.old)) (prepend_known input.new.unread (R.remaining reader.new)) (pair_line (pair_of pair) ∷ []) × PairFits schema.now table (pair_of pair)) }
     ensures led { Taken pair_of pair_line (λ pair. PairFits schema.now table pair × IsAbove (last_key (rows_of rows.now)) pair.0) result (prepend_known input.old.unread (R.remaining reader.old)) (prepend_known input.new.unread (R.remaining reader.new)) input.old.number input.new.number }
+    ensures cause { IfErr result (λ fault. fault ≡ read_faults.Read → HasFailed input.new) }
 {
     input.take_line(reader)?;
     let (key, row) = read_at_line(
@@ -90,6 +95,7 @@ pub(crate) fn take_write<R: Read, A: Allocator + Copy>(
     ensures taken { IfOk result (λ write. TakesLines (prepend_known input.old.unread (R.remaining reader.old)) (prepend_known input.new.unread (R.remaining reader.new)) (write_line schema.now (write_of write) ∷ []) × WriteFits schema.now (write_of write)) }
     ensures line { IfOk result (λ write. IsLine (write_line schema.now (write_of write))) }
     ensures led { Taken write_of (write_line schema.now) (WriteFits schema.now) result (prepend_known input.old.unread (R.remaining reader.old)) (prepend_known input.new.unread (R.remaining reader.new)) input.old.number input.new.number }
+    ensures cause { IfErr result (λ fault. fault ≡ read_faults.Read → HasFailed input.new) }
 {
     input.take_line(reader)?;
     read_at_line(read_write(alloc, schema, input.line()), input.number())
@@ -104,6 +110,7 @@ pub(crate) fn take_mark<R: Read, A: Allocator>(
 ) -> Result<Mark, LineFault>
     ensures taken { IfOk result (λ mark. TakesLines (prepend_known input.old.unread (R.remaining reader.old)) (prepend_known input.new.unread (R.remaining reader.new)) (mark_text mark ∷ []) × MarkFits sessions mark × (last < mark.session)) }
     ensures led { Taken (λ mark. mark) mark_text (λ mark. MarkFits sessions mark × (last < mark.session)) (widened result) (prepend_known input.old.unread (R.remaining reader.old)) (prepend_known input.new.unread (R.remaining reader.new)) input.old.number input.new.number }
+    ensures cause { IfErr result (λ fault. fault ≡ line_faults.Read → HasFailed input.new) }
 {
     input.take_line(reader)?;
     let mark = read_mark(input.line(), sessions).ok_or(LineFault::Malformed(input.number()))?;
@@ -134,6 +141,7 @@ pub(crate) fn take_at<R: Read, A: Allocator + Copy>(
     ensures taken { IfOk result (λ entry. TakesLines (prepend_known input.old.unread (R.remaining reader.old)) (prepend_known input.new.unread (R.remaining reader.new)) (at_line schema.now (at_of entry) ∷ []) × AtFits schema.now (at_of entry)) }
     ensures behind { IfOk result (λ entry. is_behind (option_map object_of last.now) (object_of entry.0) ≡ true) }
     ensures led { Taken at_of (at_line schema.now) (λ entry. AtFits schema.now entry × (is_behind (option_map object_of last.now) entry.0 ≡ true)) result (prepend_known input.old.unread (R.remaining reader.old)) (prepend_known input.new.unread (R.remaining reader.new)) input.old.number input.new.number }
+    ensures cause { IfErr result (λ fault. fault ≡ read_faults.Read → HasFailed input.new) }
 {
     input.take_line(reader)?;
     let (object, row) = read_at_line(read_at(alloc, schema, input.line()), input.number())?;
@@ -150,6 +158,7 @@ pub(crate) fn take_counts<R: Read, A: Allocator>(
 ) -> Result<Counts, LineFault>
     ensures taken { IfOk result (λ counts. TakesLines (prepend_known input.old.unread (R.remaining reader.old)) (prepend_known input.new.unread (R.remaining reader.new)) (counts_text counts ∷ []) × CountsFit counts) }
     ensures led { Taken (λ counts. counts) counts_text CountsFit (widened result) (prepend_known input.old.unread (R.remaining reader.old)) (prepend_known input.new.unread (R.remaining reader.new)) input.old.number input.new.number }
+    ensures cause { IfErr result (λ fault. fault ≡ line_faults.Read → HasFailed input.new) }
 {
     input.take_line(reader)?;
     read_counts(input.line()).ok_or(LineFault::Malformed(input.number()))

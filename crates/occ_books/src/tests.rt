@@ -104,7 +104,7 @@ fn judges_books(rt: HostRuntime) -> Result<(), Fail> {
 #[test]
 fn finds_the_malformed_line(rt: HostRuntime) -> Result<(), Fail> {
     let alloc = rt.alloc();
-    let cases: [(&str, &str, &str, u64); 57] = [
+    let cases: [(&str, &str, &str, u64); 61] = [
         (LOST_UPDATE, "occ 1", "occ 2", 1),
         (LOST_UPDATE, "sessions 2", "sessions 0", 2),
         (LOST_UPDATE, "sessions 2", "sessions 65", 2),
@@ -121,8 +121,32 @@ fn finds_the_malformed_line(rt: HostRuntime) -> Result<(), Fail> {
         (LOST_UPDATE, "row 0 1 1", "row 0 3 1", 7),
         (LOST_UPDATE, "row 0 1 1", "row 0 0 1", 7),
         (LOST_UPDATE, "row 0 1 1", "row 18446744073709551616 1 1", 7),
-        (LOST_UPDATE, "0 0 1 1 done 1", "0 0 257 1 done 1", 7),
-        (LOST_UPDATE, "0 0 1 1 done 1", "0 0 1 257 done 1", 7),
+        (LOST_UPDATE, "0 0 1 1 done 1", "0 0 257 1 done 1", 9),
+        (LOST_UPDATE, "0 0 1 1 done 1", "0 0 1 257 done 1", 10),
+        (
+            LOST_UPDATE,
+            "0 0 1 1 done 1",
+            "0 0 18446744073709551615 1 done 1",
+            9,
+        ),
+        (
+            LOST_UPDATE,
+            "0 0 1 1 done 1",
+            "0 0 1 18446744073709551615 done 1",
+            10,
+        ),
+        (
+            LOST_UPDATE,
+            "0 0 1 1 done 1",
+            "0 0 18446744073709551616 1 done 1",
+            7,
+        ),
+        (
+            LOST_UPDATE,
+            "0 0 1 1 done 1",
+            "0 0 1 18446744073709551616 done 1",
+            7,
+        ),
         (LOST_UPDATE, "0 0 1 1 done 1", "0 0 1 1 done", 7),
         (LOST_UPDATE, "0 0 1 1 done 1", "0 0 1 1 done 1 1", 7),
         (LOST_UPDATE, "0 0 1 1 done 1", "0 0 1 1 writing 2", 7),

@@ -12,6 +12,8 @@ ghost use Rattle.occ_books.specs.Places as places;
 ghost use Rattle.occ_books.specs.Places.{InRow, ReadOf, Marks, frame_of, rows_to_come, writes_to_come, reads_to_come, pairs_to_come, TakesFrom};
 ghost use Rattle.occ_books.specs.Taking.{TakesLines, Gathered, RisesFrom, ReadFits, LogRowFits, IsRowOf};
 ghost use Rattle.occ_books.specs.Untold.{log_row_of, log_of};
+ghost use Rattle.occ_text.specs.declared.faults.ReadFault.TheVariants as read_faults;
+ghost use Rattle.occ_text.specs.Line.{HasFailed};
 
 use crate::entries::Asked;
 use crate::heads::Head;
@@ -36,6 +38,7 @@ fn take_pairs<R: Read, A: Allocator + Copy>(
 ) -> Result<Vec<(Key<A>, Row<A>), A>, ReadFault>
     ensures taken { IfOk result (λ rows. Gathered (λ pair. pair_line pair ∷ []) (PairFits schema.now table) (prepend_known input.old.unread (R.remaining reader.old)) (prepend_known input.new.unread (R.remaining reader.new)) (rows_of rows.items) × (length rows.items ≡ count) × RisesFrom None (rows_of rows.items)) }
     ensures led { (row : InRow) → row.frame.schema ≡ schema.now → (reads : ℕ) → TakesFrom result (pairs_to_come row reads table count None) (λ _. reads_to_come row reads) (prepend_known input.old.unread (R.remaining reader.old)) (prepend_known input.new.unread (R.remaining reader.new)) input.old.number input.new.number }
+    ensures cause { IfErr result (λ fault. fault ≡ read_faults.Read → HasFailed input.new) }
 {
     let mut rows = Vec::new(alloc);
     for _ in 0..count {
@@ -54,6 +57,7 @@ fn take_read<R: Read, A: Allocator + Copy>(
 ) -> Result<Observation<A>, ReadFault>
     ensures taken { IfOk result (λ read. TakesLines (prepend_known input.old.unread (R.remaining reader.old)) (prepend_known input.new.unread (R.remaining reader.new)) (read_lines schema.now (observation_of read)) × ReadFits schema.now (observation_of read)) }
     ensures led { (row : InRow) → row.frame.schema ≡ schema.now → (reads : ℕ) → TakesFrom result (ReadOf row reads) (λ _. reads_to_come row reads) (prepend_known input.old.unread (R.remaining reader.old)) (prepend_known input.new.unread (R.remaining reader.new)) input.old.number input.new.number }
+    ensures cause { IfErr result (λ fault. fault ≡ read_faults.Read → HasFailed input.new) }
 {
     match take_asked(alloc, input, reader, schema)? {
         Asked::One { object, row } => Ok(Observation {
@@ -76,13 +80,13 @@ fn note<A: Allocator + Copy>(reads: &mut ReadSet<A>, read: Observation<A>) -> Re
     ensures { OnOk result (reads.new ≡ reads.old ++ observation_of read ∷ []) }
 {
     let Observation { question, answer } = read;
-    match reads.note(question, answer) {
+    match reads.push(question, answer) {
         Ok(()) => Ok(()),
         Err(_refused) => Err(AllocError),
     }
 }
 
-/// Takes the reads of a row, up to 256.
+/// Takes the reads of a row. Memory is asked for read by read, since the count may be any.
 fn take_reads<R: Read, A: Allocator + Copy>(
     alloc: A,
     input: &mut Input<A>,
@@ -92,6 +96,7 @@ fn take_reads<R: Read, A: Allocator + Copy>(
 ) -> Result<ReadSet<A>, ReadFault>
     ensures taken { IfOk result (λ reads. Gathered (read_lines schema.now) (ReadFits schema.now) (prepend_known input.old.unread (R.remaining reader.old)) (prepend_known input.new.unread (R.remaining reader.new)) reads × (length reads ≡ count)) }
     ensures led { (row : InRow) → row.frame.schema ≡ schema.now → TakesFrom result (reads_to_come row count) (λ _. writes_to_come row row.head.writes []) (prepend_known input.old.unread (R.remaining reader.old)) (prepend_known input.new.unread (R.remaining reader.new)) input.old.number input.new.number }
+    ensures cause { IfErr result (λ fault. fault ≡ read_faults.Read → HasFailed input.new) }
 {
     let mut reads = ReadSet::new(alloc);
     for _ in 0..count {
@@ -115,13 +120,13 @@ fn add_write<A: Allocator + Copy>(
         return Err(Unread::Malformed);
     }
     let Object { table, key } = object;
-    match writes.set(table, key, row) {
+    match writes.insert(table, key, row) {
         Ok(()) => Ok(()),
         Err(_refused) => Err(Unread::Memory),
     }
 }
 
-/// Takes the writes of a row, up to 256, no object twice.
+/// Takes the writes of a row, no object twice. Memory is asked for write by write, since the count may be any.
 fn take_writes<R: Read, A: Allocator + Copy>(
     alloc: A,
     input: &mut Input<A>,
@@ -131,6 +136,7 @@ fn take_writes<R: Read, A: Allocator + Copy>(
 ) -> Result<WriteSet<A>, ReadFault>
     ensures taken { IfOk result (λ writes. Gathered (λ write. write_line schema.now write ∷ []) (WriteFits schema.now) (prepend_known input.old.unread (R.remaining reader.old)) (prepend_known input.new.unread (R.remaining reader.new)) writes × (length writes ≡ count) × IsDistinctWrites writes) }
     ensures led { (row : InRow) → row.frame.schema ≡ schema.now → TakesFrom result (writes_to_come row count []) (λ _. rows_to_come row.frame row.rows) (prepend_known input.old.unread (R.remaining reader.old)) (prepend_known input.new.unread (R.remaining reader.new)) input.old.number input.new.number }
+    ensures cause { IfErr result (λ fault. fault ≡ read_faults.Read → HasFailed input.new) }
 {
     // its tables make a schema, so no other write has the line of one
     let _tables = schema.tables();
@@ -168,6 +174,7 @@ fn take_row<R: Read, A: Allocator + Copy>(
 ) -> Result<LogRow<A, ()>, ReadFault>
     ensures taken { IfOk result (λ row. TakesLines (prepend_known input.old.unread (R.remaining reader.old)) (prepend_known input.new.unread (R.remaining reader.new)) (row_lines schema.now (log_row_of row)) × LogRowFits schema.now sessions (log_row_of row)) }
     ensures led { (rows : ℕ) → TakesFrom result (places.LogRow (frame_of schema.now sessions) rows) (λ _. rows_to_come (frame_of schema.now sessions) rows) (prepend_known input.old.unread (R.remaining reader.old)) (prepend_known input.new.unread (R.remaining reader.new)) input.old.number input.new.number }
+    ensures cause { IfErr result (λ fault. fault ≡ read_faults.Read → HasFailed input.new) }
 {
     let head = take_head(input, reader, sessions)?;
     let reads = take_reads(alloc, input, reader, schema, head.reads)?;
@@ -186,6 +193,7 @@ pub(crate) fn take_rows<R: Read, A: Allocator + Copy>(
 ) -> Result<Vec<LogRow<A, ()>, A>, ReadFault>
     ensures taken { IfOk result (λ log. Gathered (row_lines schema.now) (LogRowFits schema.now sessions) (prepend_known input.old.unread (R.remaining reader.old)) (prepend_known input.new.unread (R.remaining reader.new)) (log_of log.items) × (length log.items ≡ count)) }
     ensures led { TakesFrom result (rows_to_come (frame_of schema.now sessions) count) (λ _. Marks (frame_of schema.now sessions)) (prepend_known input.old.unread (R.remaining reader.old)) (prepend_known input.new.unread (R.remaining reader.new)) input.old.number input.new.number }
+    ensures cause { IfErr result (λ fault. fault ≡ read_faults.Read → HasFailed input.new) }
 {
     let mut log = Vec::new(alloc);
     for _ in 0..count {

@@ -1,5 +1,5 @@
 -- What stands behind the answers of a replay: its book and the audit of it.
-use Rattle.std.proofs.Common.{◌≡◌, ℕ, Bool, List, [], ◌∷◌, Option, Result, Ok, Err, refl, sym, subst, ◌∙◌, inl, inr, append-nil}
+use Rattle.std.proofs.Common.{◌≡◌, ℕ, Bool, true, List, [], ◌∷◌, Option, Result, Ok, Err, refl, sym, subst, ◌∙◌, inl, inr, append-nil}
 use Rattle.std.specs.Bool.{Decides}
 use Rattle.std.specs.Result.{IsErrAnd}
 use Rattle.std.specs.Io.KnownBytes.{Keeps}
@@ -17,7 +17,7 @@ use Rattle.occ_text.specs.Printing.{Pushed, PushedFront}
 use Rattle.occ_cli.specs.Schedules.{IsAudited}
 use Rattle.occ_text.specs.Sending.{PushGives}
 use Rattle.occ_cli.specs.Turns.{AuditGives, ClosingGives}
-use Rattle.occ_print.proofs.Printing.{lines_then, front_behind}
+use Rattle.occ_print.proofs.Printing.{lines_then, front_before, front_behind}
 use Rattle.occ_cli.proofs.Schedules.{front_no_more}
 
 nothing_pushed : (a b : Option (List ℕ)) (old new : List ℕ) → Keeps a b → new ≡ old → PushedFront a b old new []
@@ -41,23 +41,27 @@ pub audit_said : {T : Type 0} (result : Result T WriteFault) (a b : Option (List
 audit_said result a b old new bytes Claim holds is decides h = said_so result a b old new Claim holds decides (subst (PushGives result a b old new) is h)
 
 -- the audit behind the book
-behind_book : {T : Type 0} (result : Result T WriteFault) (a b c : Option (List ℕ)) (old mid new : List ℕ) (book : Book) → Pushed a b old mid (book_text book)
+behind_book : {T : Type 0} (result : Result T WriteFault) (a b c : Option (List ℕ)) (old mid new : List ℕ) (book : Book) → IsAudited book → Pushed a b old mid (book_text book)
     → AuditGives (Pushed b c mid new) (PushedFront b c mid new) result (IsAudited book) → ClosingGives (Pushed a c old new) (PushedFront a c old new) result book
-behind_book (Ok done) a b c old mid new book h k = (k.0, k.1, lines_then (Ok tt) a b c old mid new (book_lines book) (audit_line k.0 ∷ []) h k.2)
-behind_book (Err faults.Write) a b c old mid new book h k = inr (k.0, k.1, front_behind a b c old mid new (book_lines book) (audit_line k.0 ∷ []) h k.2)
-behind_book (Err faults.Memory) a b c old mid new book h (inl k) = inl (front_no_more a b c old mid new (book_text book) h k)
-behind_book (Err faults.Memory) a b c old mid new book h (inr k) = inr (k.0, k.1, front_behind a b c old mid new (book_lines book) (audit_line k.0 ∷ []) h k.2)
+behind_book (Ok done) a b c old mid new book audited h k =
+    (audited, lines_then (Ok tt) a b c old mid new (book_lines book) (audit_line true ∷ []) h (subst (λ (holds : Bool). Pushed b c mid new (lines_text (audit_line holds ∷ []))) (k.1.1 audited) k.2))
+behind_book (Err faults.Write) a b c old mid new book audited h k =
+    (audited, front_behind a b c old mid new (book_lines book) (audit_line true ∷ []) h (subst (λ (holds : Bool). PushedFront b c mid new (lines_text (audit_line holds ∷ []))) (k.1.1 audited) k.2))
+behind_book (Err faults.Memory) a b c old mid new book audited h (inl k) = (audited, front_before a c old new (book_lines book) (audit_line true ∷ []) (front_no_more a b c old mid new (book_text book) h k))
+behind_book (Err faults.Memory) a b c old mid new book audited h (inr k) =
+    (audited, front_behind a b c old mid new (book_lines book) (audit_line true ∷ []) h (subst (λ (holds : Bool). PushedFront b c mid new (lines_text (audit_line holds ∷ []))) (k.1.1 audited) k.2))
 
 -- a beginning of the book was pushed alone
-pub cut_in_book : {T : Type 0} (Q : WriteFault → Type 0) (result : Result T WriteFault) (a b : Option (List ℕ)) (old new : List ℕ) (said book : Book) → IsErrAnd result Q → said ≡ book → PushedFront a b old new (book_text said)
+pub cut_in_book : {T : Type 0} (Q : WriteFault → Type 0) (result : Result T WriteFault) (a b : Option (List ℕ)) (old new : List ℕ) (said book : Book) → IsErrAnd result Q → said ≡ book → IsAudited book → PushedFront a b old new (book_text said)
     → ClosingGives (Pushed a b old new) (PushedFront a b old new) result book
-cut_in_book Q (Ok done) a b old new said book is same h = absurd is
-cut_in_book Q (Err fault) a b old new said book is same h = inl (subst (λ (x : Book). PushedFront a b old new (book_text x)) same h)
+cut_in_book Q (Ok done) a b old new said book is same audited h = absurd is
+cut_in_book Q (Err fault) a b old new said book is same audited h =
+    (audited, front_before a b old new (book_lines book) (audit_line true ∷ []) (subst (λ (x : Book). PushedFront a b old new (book_text x)) same h))
 
-pub closing : {T : Type 0} (result : Result T WriteFault) (a b c : Option (List ℕ)) (old mid new : List ℕ) (said book : Book) → said ≡ book → Pushed a b old mid (book_text said)
+pub closing : {T : Type 0} (result : Result T WriteFault) (a b c : Option (List ℕ)) (old mid new : List ℕ) (said book : Book) → said ≡ book → IsAudited book → Pushed a b old mid (book_text said)
     → AuditGives (Pushed b c mid new) (PushedFront b c mid new) result (IsAudited said) → ClosingGives (Pushed a c old new) (PushedFront a c old new) result book
-closing result a b c old mid new said book same h k =
-    subst (λ (x : Book). ClosingGives (Pushed a c old new) (PushedFront a c old new) result x) same (behind_book result a b c old mid new said h k)
+closing result a b c old mid new said book same audited h k =
+    subst (λ (x : Book). ClosingGives (Pushed a c old new) (PushedFront a c old new) result x) same (behind_book result a b c old mid new said (subst IsAudited (sym same) audited) h k)
 
 abbrev the_book : ℕ → ℕ → ℕ → Schema → List LogRow → FinMap nat_cmp ℕ → State → ℕ → ℕ → Book
 the_book sessions queue keep tables log marks state counter low = record {

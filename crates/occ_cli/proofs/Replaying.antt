@@ -1,6 +1,6 @@
 -- Exits and calls of a replay, over plain data.
 use Rattle.std.proofs.Common.{◌≡◌, ℕ, zero, suc, ◌-◌, ◌<◌, ◌⊎◌, ◌≤◌, List, [], ◌∷◌, length, get_or, Option, Some, None, Result, Ok, Err, refl, sym, ap, subst, ◌∙◌, inl, inr, arith}
-use Rattle.std.specs.Prelude.{Bool, true, false, ◌≢◌, slice_get, slice_set, MatchOption, MatchResult, IfOk, OnErr}
+use Rattle.std.specs.Prelude.{◌≢◌, slice_get, slice_set, MatchOption, MatchResult, IsOkAnd, IfOk, OnErr}
 use Rattle.std.specs.Option.{ok_or}
 use Rattle.std.proofs.lemmas.List.{set-get_or}
 use Rattle.occ_types.specs.declared.fault.Refused as code_refused
@@ -18,6 +18,7 @@ use Rattle.occ_core.specs.declared.steps.Step as code_step
 use Rattle.occ_core.specs.declared.steps.Step.TheVariants as calls
 use Rattle.occ_core.specs.declared.replies.Reply as code_reply
 use Rattle.occ_core.specs.declared.replies.Reply.TheVariants as replies
+use Rattle.occ_core.specs.Core.{Seen}
 use Rattle.occ_core.specs.Runs.{Answers, IsPutOff, event_of, reply_of, handed_back, owed}
 use Rattle.occ_queue.specs.declared.items.Item as code_item
 use Rattle.occ_queue.specs.Items.{item_of}
@@ -32,7 +33,8 @@ use Rattle.occ_cli.specs.declared.answers.Answer as code_answer
 use Rattle.occ_cli.specs.declared.answers.Answer.TheVariants as answers
 use Rattle.occ_cli.specs.Answers.{Answer, answer_of}
 use Rattle.occ_cli.specs.Answers as says
-use Rattle.occ_cli.specs.Replaying.{AtMostOneStep, PlayedIn, PlayedBy, Starved, takes_own_memory, Plays, Begins, Submits, Writes, Gets, GetsIn, Scans, next_item, still_waiting, kept_after, copy_of, object_named, Client, Replayed, Given, client_of, span_named, Tells, ScansIn, ByStore, ByClient, ByAsking, Enters, overlaid, replied, played, may_be_put_off}
+use Rattle.occ_cli.proofs.Starving.{plays_starved}
+use Rattle.occ_cli.specs.Replaying.{AtMostOneStep, Played, PlayedIn, PutOff, Starved, CopyWantsScan, Plays, Begins, Submits, Writes, Gets, GetsIn, Scans, next_item, still_waiting, kept_after, copy_of, object_named, Client, Replayed, Given, client_of, span_named, Tells, ScansIn, ByStore, ByClient, ByAsking, Enters, overlaid, replied, played}
 
 -- What is played of the store.
 
@@ -145,13 +147,13 @@ module _ {Z : Type 0} where
       (subst (λ (x : Event). Step old x (events.Refused f) new) event step)
 
   -- the store refused an event
-  pub tells_refused : (old : World) (event : Event) (new : World) (r : Result (code_answer.Answer Z) Fault) (e f : Fault) → r ≡ Err e → e ≡ f → Step old event (events.Refused f) new → PlayedIn old new r (λ answer. Tells old event answer new)
+  pub tells_refused : (old : World) (event : Event) (new : World) (r : Result (code_answer.Answer Z) Fault) (e f : Fault) → r ≡ Err e → e ≡ f → Step old event (events.Refused f) new → Tells old event (played r) new
   tells_refused old event new r e f is same step =
-      subst (λ (x : Result (code_answer.Answer Z) Fault). PlayedIn old new x (λ answer. Tells old event answer new)) (sym (is ∙ ap Err same)) (inr (events.Refused f, step, refl))
+      subst (λ (x : Result (code_answer.Answer Z) Fault). Tells old event (played x) new) (sym (is ∙ ap Err same)) (events.Refused f, step, refl)
 
   -- the store refused a key
   pub read_refused : (old : World) (session n m number start : ℕ) (question : Question) (new : World) (r : Result (code_answer.Answer Z) Fault) (e f : Fault)
-      → n ≡ number → m ≡ start → r ≡ Err e → e ≡ f → Step old (events.Read session n m question) (events.Refused f) new → PlayedIn old new r (λ answer. Tells old (events.Read session number start question) answer new)
+      → n ≡ number → m ≡ start → r ≡ Err e → e ≡ f → Step old (events.Read session n m question) (events.Refused f) new → Tells old (events.Read session number start question) (played r) new
   read_refused old session n m number start question new r e f is_number is_start is same step =
       let event : events.Read session n m question ≡ events.Read session number start question = cc in
       tells_refused old (events.Read session number start question) new r e f is same (subst (λ (x : Event). Step old x (events.Refused f) new) event step)
@@ -159,51 +161,45 @@ module _ {Z : Type 0} where
   -- the store refused a range
   pub scan_refused : (old : World) (session : ℕ) (name : List ℕ) (lower upper : Key) (copy : Copied) (question : Question) (new : World) (r : Result (code_answer.Answer Z) Fault) (e f : Fault)
       → Ok question ≡ span_named old.settings.schema name lower upper → r ≡ Err e → e ≡ f → Step old (events.Read session copy.number copy.start question) (events.Refused f) new
-      → PlayedIn old new r (λ answer. ScansIn old session name lower upper copy answer new)
+      → PlayedIn old new r (CopyWantsScan old name lower upper) (λ answer. ScansIn old session name lower upper copy answer new)
   scan_refused old session name lower upper copy question new r e f asked is same step =
-      subst (λ (x : Result (code_answer.Answer Z) Fault). PlayedIn old new x (λ answer. ScansIn old session name lower upper copy answer new)) (sym (is ∙ ap Err same))
+      subst (λ (x : Result (code_answer.Answer Z) Fault). PlayedIn old new x (CopyWantsScan old name lower upper) (λ answer. ScansIn old session name lower upper copy answer new)) (sym (is ∙ ap Err same))
       (inr (subst
       (λ (g : Result Question Fault). Given g old (says.refused f) new (λ q. (reply : Reply) × Step old (events.Read session copy.number copy.start q) reply new × (says.refused f ≡ says.Replied (overlaid q copy.writes reply))))
       asked (events.Refused f, step, refl)))
 
--- the store refused a step for want of memory
-store_starves : (old : Replayed) (step : steps.Step) (new : Replayed) (answer : Answer) → answer ≡ says.refused faults.Memory → Plays old step answer new → Starved old step new
-store_starves old step new answer is so =
-    let plays = subst (λ (a : Answer). Plays old step a new) is so in
-    (refused_stays old step faults.Memory new plays, inr plays)
-
 module _ {Z : Type 0} where
   -- a step was refused for want of memory
-  starves : (b : Bool) (old : Replayed) (step : steps.Step) (new : Replayed) (r : Result (code_answer.Answer Z) Fault) → b ≡ takes_own_memory step → played r ≡ says.refused faults.Memory
-      → PlayedBy b old new r (λ answer. Plays old step answer new) → Starved old step new
-  starves true old step new r takes is (inl memory) = (ap (λ (s : Replayed). s.world) memory.1, inl (sym takes, memory.1))
-  starves true old step new r takes is (inr so) = store_starves old step new (played r) is so
-  starves false old step new r takes is so = store_starves old step new (played r) is so
+  starves : (old : Replayed) (step : steps.Step) (new : Replayed) (r : Result (code_answer.Answer Z) Fault) → played r ≡ says.refused faults.Memory
+      → Played r (Starved old step new) (λ answer. Plays old step answer new) → Starved old step new
+  starves old step new r is (inl memory) = memory.1
+  starves old step new r is (inr so) =
+      let plays = subst (λ (a : Answer). Plays old step a new) is so in
+      plays_starved old step new (refused_stays old step faults.Memory new plays) plays
 
   -- memory wasn't refused
-  plays_so : (b : Bool) (old : Replayed) (step : steps.Step) (new : Replayed) (r : Result (code_answer.Answer Z) Fault) → played r ≢ says.refused faults.Memory
-      → PlayedBy b old new r (λ answer. Plays old step answer new) → Plays old step (played r) new
-  plays_so true old step new r other (inl memory) = absurd (other memory.0)
-  plays_so true old step new r other (inr so) = so
-  plays_so false old step new r other so = so
+  plays_so : (old : Replayed) (step : steps.Step) (new : Replayed) (r : Result (code_answer.Answer Z) Fault) → played r ≢ says.refused faults.Memory
+      → Played r (Starved old step new) (λ answer. Plays old step answer new) → Plays old step (played r) new
+  plays_so old step new r other (inl memory) = absurd (other memory.0)
+  plays_so old step new r other (inr so) = so
 
   -- what a step ends with: its answer, unless that is a want of memory
   abbrev pub EndsWith : {E : Type 0} → Result (code_answer.Answer Z) E → Answer → Type 0
   EndsWith result given = MatchResult result (λ answer. (given ≢ says.refused faults.Memory) × (answer_of answer ≡ given)) (λ e. given ≡ says.refused faults.Memory)
 
-  pub ends_ok : {E : Type 0} (b : Bool) (old : Replayed) (step : steps.Step) (new : Replayed) (r : Result (code_answer.Answer Z) Fault) (result : Result (code_answer.Answer Z) E)
-      → EndsWith result (played r) → PlayedBy b old new r (λ answer. Plays old step answer new) → IfOk result (λ answer. Plays old step (answer_of answer) new)
-  ends_ok b old step new r (Ok answer) is so = subst (λ (a : Answer). Plays old step a new) (sym is.1) (plays_so b old step new r is.0 so)
-  ends_ok b old step new r (Err e) is so = tt
+  pub ends_ok : {E : Type 0} (old : Replayed) (step : steps.Step) (new : Replayed) (r : Result (code_answer.Answer Z) Fault) (result : Result (code_answer.Answer Z) E)
+      → EndsWith result (played r) → Played r (Starved old step new) (λ answer. Plays old step answer new) → IfOk result (λ answer. Plays old step (answer_of answer) new)
+  ends_ok old step new r (Ok answer) is so = subst (λ (a : Answer). Plays old step a new) (sym is.1) (plays_so old step new r is.0 so)
+  ends_ok old step new r (Err e) is so = tt
 
   pub ends_fed : {E : Type 0} (given : Answer) (result : Result (code_answer.Answer Z) E) → EndsWith result given → IfOk result (λ answer. answer_of answer ≢ says.refused faults.Memory)
   ends_fed given (Ok answer) is = subst (λ (a : Answer). a ≢ says.refused faults.Memory) (sym is.1) is.0
   ends_fed given (Err e) is = tt
 
   pub ends_err : {E : Type 0} (old : Replayed) (step : steps.Step) (new : Replayed) (r : Result (code_answer.Answer Z) Fault) (result : Result (code_answer.Answer Z) E)
-      → EndsWith result (played r) → PlayedBy (takes_own_memory step) old new r (λ answer. Plays old step answer new) → OnErr result (Starved old step new)
+      → EndsWith result (played r) → Played r (Starved old step new) (λ answer. Plays old step answer new) → OnErr result (Starved old step new)
   ends_err old step new r (Ok answer) is so = tt
-  ends_err old step new r (Err e) is so = starves (takes_own_memory step) old step new r refl is so
+  ends_err old step new r (Err e) is so = starves old step new r is so
 
 -- an element stands at its place
 pub found_at : {X : Type 0} (xs : List X) (place : ℕ) (x : X) → place < length xs → x ≡ get_or xs place x → slice_get xs place ≡ Some x
@@ -229,21 +225,21 @@ module _ {Z : Type 0} where
   owed_kept session item (events.Folded rows) = refl
 
   -- the store replied to an item that was to enter
-  pub entered_so : (old : World) (session : ℕ) (client : Client) (item : code_item.Item Z) (reply : code_reply.Reply Z) (next : Client) (new : World) → Some (item_of item) ≡ next_item client → Answers old (calls.Enter session item) reply new
-      → next ≡ record client { queue = still_waiting client; kept = handed_back reply } → Enters old session client (says.Replied (reply_of reply)) next new
+  pub entered_so : (old : Seen) (session : ℕ) (client : Client) (item : code_item.Item Z) (reply : code_reply.Reply Z) (next : Client) (new : Seen) → Some (item_of item) ≡ next_item client → Answers old (calls.Enter session item) reply new
+      → next ≡ record client { queue = still_waiting client; kept = handed_back reply } → Enters old.world session client (says.Replied (reply_of reply)) next new.world
   entered_so old session client item reply next new is (inl step, back) left =
       subst
-      (λ (o : Option Item). MatchOption o ((says.Replied (reply_of reply) ≡ says.Empty) × (next ≡ client) × (new ≡ old))
-      (λ i. (r : Reply) × Step old (events.Enter session i) r new × (says.Replied (reply_of reply) ≡ says.Replied r) × (next ≡ record client { queue = still_waiting client; kept = kept_after i r })))
+      (λ (o : Option Item). MatchOption o ((says.Replied (reply_of reply) ≡ says.Empty) × (next ≡ client) × (new.world ≡ old.world))
+      (λ i. (r : Reply) × Step old.world (events.Enter session i) r new.world × (says.Replied (reply_of reply) ≡ says.Replied r) × (next ≡ record client { queue = still_waiting client; kept = kept_after i r })))
       is (reply_of reply, step, refl, left ∙ ap (λ (k : Option Item). record client { queue = still_waiting client; kept = k }) (back ∙ owed_kept session item (reply_of reply)))
   entered_so old session client item reply next new is (inr off, back) left = absurd off
 
   -- the store refused an item, which is kept
-  pub refused_so : (old : World) (session : ℕ) (client : Client) (item : code_item.Item Z) (refused : code_refused.Refused (code_item.Item Z)) (known : Fault) (next : Client) (new : World) → Some (item_of item) ≡ next_item client
+  pub refused_so : (old : Seen) (session : ℕ) (client : Client) (item : code_item.Item Z) (refused : code_refused.Refused (code_item.Item Z)) (known : Fault) (next : Client) (new : Seen) → Some (item_of item) ≡ next_item client
       → Answers old (calls.Enter session item) (replies.RefusedItem refused) new → known ≡ refused.fault
-      → next ≡ record client { queue = still_waiting client; kept = Some (item_of refused.value) } → Enters old session client (says.Replied (events.Refused known)) next new
+      → next ≡ record client { queue = still_waiting client; kept = Some (item_of refused.value) } → Enters old.world session client (says.Replied (events.Refused known)) next new.world
   refused_so old session client item refused known next new is answered told_as left =
-      subst (λ (f : Fault). Enters old session client (says.Replied (events.Refused f)) next new) (sym told_as)
+      subst (λ (f : Fault). Enters old.world session client (says.Replied (events.Refused f)) next new.world) (sym told_as)
       (entered_so old session client item (replies.RefusedItem refused) next new is answered left)
 
 -- no element stands behind the end
@@ -276,22 +272,23 @@ module _ {Z : Type 0} where
   abbrev replying : code_reply.Reply Z → Result (code_answer.Answer Z) Fault
   replying reply = Ok (answers.Replied reply)
 
-  -- a step of the store alone, that may be put off or not
-  abbrev CalledBy : Bool → Replayed → Event → code_reply.Reply Z → Replayed → Type 0
-  CalledBy b old event reply new = PlayedBy b old new (replying reply) (λ answer. ByStore old event answer new)
+  -- a step of the store alone, which may be put off or not
+  abbrev CalledBy : Type 0 → Replayed → Event → code_reply.Reply Z → Replayed → Type 0
+  CalledBy Off old event reply new = Played (replying reply) Off (λ answer. ByStore old event answer new)
 
-  stepped : (old : Replayed) (event : Event) (reply : code_reply.Reply Z) (next : World) → Step old.world event (reply_of reply) next ⊎ ⊥ → CalledBy false old event reply (record old { world = next })
-  stepped old event reply next (inl step) = ((reply_of reply, step, refl), refl)
-  stepped old event reply next (inr off) = absurd off
+  stepped : (Off : Type 0) (old : Replayed) (event : Event) (reply : code_reply.Reply Z) (next : World) → Step old.world event (reply_of reply) next ⊎ ⊥ → CalledBy Off old event reply (record old { world = next })
+  stepped Off old event reply next (inl step) = inr ((reply_of reply, step, refl), refl)
+  stepped Off old event reply next (inr off) = absurd off
 
-  write_stepped : (old : Replayed) (session : ℕ) (reply : code_reply.Reply Z) (next : World) → Step old.world (events.WriteOne session) (reply_of reply) next ⊎ IsPutOff old.world (calls.WriteOne session) reply next
-      → CalledBy true old (events.WriteOne session) reply (record old { world = next })
+  write_stepped : (old : Replayed) (session : ℕ) (reply : code_reply.Reply Z) (next : World) → Step old.world (events.WriteOne session) (reply_of reply) next ⊎ IsPutOff (record { world = old.world }) (calls.WriteOne session) reply (record { world = next })
+      → CalledBy (PutOff {Z = Z} (calls.WriteOne session) old (record old { world = next })) old (events.WriteOne session) reply (record old { world = next })
   write_stepped old session reply next (inl step) = inr ((reply_of reply, step, refl), refl)
-  write_stepped old session (replies.Refused fault) next (inr off) = inl (ap says.refused off.1, ap (λ (w : World). record old { world = w }) off.2)
+  write_stepped old session (replies.Refused fault) next (inr off) = inl (ap says.refused off.2, ((off.0, off.1), ap (λ (s : Seen). record old { world = s.world }) off.3))
   write_stepped old session (replies.Found row) next (inr off) = absurd off
   write_stepped old session (replies.Rows rows) next (inr off) = absurd off
   write_stepped old session (replies.Forgotten there) next (inr off) = absurd off
-  write_stepped old session (replies.Entered entered) next (inr off) = absurd off
+  write_stepped old session (replies.Entered place index) next (inr off) = absurd off
+  write_stepped old session replies.Closed next (inr off) = absurd off
   write_stepped old session (replies.Decided verdict) next (inr off) = absurd off
   write_stepped old session (replies.Wrote object) next (inr off) = absurd off
   write_stepped old session replies.NoMore next (inr off) = absurd off
@@ -299,21 +296,21 @@ module _ {Z : Type 0} where
   write_stepped old session (replies.BackedUp number) next (inr off) = absurd off
   write_stepped old session (replies.RefusedItem given) next (inr off) = absurd off
 
-  by_call : (old : Replayed) (call : code_step.Step Z) (reply : code_reply.Reply Z) (next : World) → Answers old.world call reply next → CalledBy (may_be_put_off call) old (event_of call) reply (record old { world = next })
-  by_call old (calls.Read session number start table key) reply next h = stepped old (event_of (calls.Read session number start table key)) reply next h.0
-  by_call old (calls.Scan session number start table lower upper) reply next h = stepped old (event_of (calls.Scan session number start table lower upper)) reply next h.0
-  by_call old (calls.Forget session number) reply next h = stepped old (events.Forget session number) reply next h.0
-  by_call old (calls.Enter session item) reply next h = stepped old (events.Enter session (item_of item)) reply next h.0
-  by_call old (calls.Decide session) reply next h = stepped old (events.Decide session) reply next h.0
+  by_call : (old : Replayed) (call : code_step.Step Z) (reply : code_reply.Reply Z) (next : World) → Answers (record { world = old.world }) call reply (record { world = next }) → CalledBy (PutOff call old (record old { world = next })) old (event_of call) reply (record old { world = next })
+  by_call old (calls.Read session number start table key) reply next h = stepped _ old (event_of (calls.Read session number start table key)) reply next h.0
+  by_call old (calls.Scan session number start table lower upper) reply next h = stepped _ old (event_of (calls.Scan session number start table lower upper)) reply next h.0
+  by_call old (calls.Forget session number) reply next h = stepped _ old (events.Forget session number) reply next h.0
+  by_call old (calls.Enter session item) reply next h = stepped _ old (events.Enter session (item_of item)) reply next h.0
+  by_call old (calls.Decide session) reply next h = stepped _ old (events.Decide session) reply next h.0
   by_call old (calls.WriteOne session) reply next h = write_stepped old session reply next h.0
-  by_call old (calls.Finish session) reply next h = stepped old (events.Finish session) reply next h.0
-  by_call old (calls.BackUp session) reply next h = stepped old (events.BackUp session) reply next h.0
+  by_call old (calls.Finish session) reply next h = stepped _ old (events.Finish session) reply next h.0
+  by_call old (calls.BackUp session) reply next h = stepped _ old (events.BackUp session) reply next h.0
 
   -- the same of a replay that is seen so
-  pub by_calling : (world : World) (clients : List Client) (self : Replayed) → record { world = world; clients = clients } ≡ self → (call : code_step.Step Z) (reply : code_reply.Reply Z) (next : World) → Answers world call reply next
-      → CalledBy (may_be_put_off call) self (event_of call) reply (record { world = next; clients = clients })
+  pub by_calling : (world : World) (clients : List Client) (self : Replayed) → record { world = world; clients = clients } ≡ self → (call : code_step.Step Z) (reply : code_reply.Reply Z) (next : World) → Answers (record { world = world }) call reply (record { world = next })
+      → CalledBy (PutOff call self (record { world = next; clients = clients })) self (event_of call) reply (record { world = next; clients = clients })
   by_calling world clients self view call reply next h =
-      subst (λ (s : Replayed). CalledBy (may_be_put_off call) s (event_of call) reply (record { world = next; clients = clients })) view
+      subst (λ (s : Replayed). CalledBy (PutOff call s (record { world = next; clients = clients })) s (event_of call) reply (record { world = next; clients = clients })) view
       (by_call (record { world = world; clients = clients }) call reply next h)
 
 module _ {Z : Type 0} (world : World) (clients : List Client) (self : Replayed) (view : record { world = world; clients = clients } ≡ self) (r : Result (code_answer.Answer Z) Fault) where
@@ -333,8 +330,8 @@ module _ {Z : Type 0} (world : World) (clients : List Client) (self : Replayed) 
 
   -- a client that asks the store isn't there
   pub no_asker : (shown : List Client) (session : ℕ) (e f : Fault) (Asks : Answer → Client → Type 0) → shown ≡ clients → r ≡ Err e → e ≡ f → client_of shown session ≡ Err f
-      → PlayedIn self self r (λ answer. ByAsking self session answer self (Asks answer))
-  no_asker shown session e f Asks showing is same none = inr (no_seat shown session e f (λ answer c. Asks answer c × (self.clients ≡ self.clients)) showing is same none)
+      → ByAsking self session (played r) self (Asks (played r))
+  no_asker shown session e f Asks showing is same none = no_seat shown session e f (λ answer c. Asks answer c × (self.clients ≡ self.clients)) showing is same none
 
   -- a client that moves alone isn't there
   pub no_mover : (shown : List Client) (session : ℕ) (e f : Fault) (Moves : Answer → Client → Client → Type 0) → shown ≡ clients → r ≡ Err e → e ≡ f → client_of shown session ≡ Err f
@@ -362,6 +359,12 @@ module _ {Z : Type 0} (world : World) (clients : List Client) (self : Replayed) 
         subst (λ (s : Replayed). Given (client_of s.clients session) s (played r) new (P s (played r))) view
         (subst (λ (g : Result Client Fault). Given g before (played r) new (P before (played r))) (sym is_seated) does)
 
+    -- there is a client, of which that holds
+    seated_so : (P : World → Client → Type 0) → P world client → IsOkAnd (client_of self.clients session) (P self.world)
+    seated_so P so =
+        subst (λ (s : Replayed). IsOkAnd (client_of s.clients session) (P s.world)) view
+        (subst (λ (g : Result Client Fault). IsOkAnd g (P world)) (sym is_seated) so)
+
     -- a step of one client alone that takes no memory
     pub by_sure_client : (next : Client) (Moves : World → Answer → Client → Client → Type 0) → Moves world (played r) client next
         → ByClient self session (played r) (record { world = world; clients = slice_set clients place next }) (Moves self.world (played r))
@@ -371,16 +374,16 @@ module _ {Z : Type 0} (world : World) (clients : List Client) (self : Replayed) 
         seated after (λ old answer c. (n : Client) × Moves old.world answer c n × (after ≡ record old { clients = slice_set old.clients (session - 1) n })) (next, does, moved)
 
     -- a step of one client alone
-    pub by_client : (next : Client) (Moves : World → Answer → Client → Client → Type 0) → PlayedIn client next r (λ answer. Moves world answer client next)
-        → PlayedIn self (record { world = world; clients = slice_set clients place next }) r (λ answer. ByClient self session answer (record { world = world; clients = slice_set clients place next }) (Moves self.world answer))
-    by_client next Moves (inl memory) = inl (memory.0, ap (λ (l : List Client). record { world = world; clients = l }) (set_same clients place client next at memory.1) ∙ view)
-    by_client next Moves (inr does) = inr (by_sure_client next Moves does)
+    pub by_client : (next : Client) (Wanting : World → Client → Type 0) (Moves : World → Answer → Client → Client → Type 0) → PlayedIn client next r (Wanting world client) (λ answer. Moves world answer client next)
+        → PlayedIn self (record { world = world; clients = slice_set clients place next }) r (IsOkAnd (client_of self.clients session) (Wanting self.world)) (λ answer. ByClient self session answer (record { world = world; clients = slice_set clients place next }) (Moves self.world answer))
+    by_client next Wanting Moves (inl memory) = inl (memory.0, (seated_so Wanting memory.1.0, ap (λ (l : List Client). record { world = world; clients = l }) (set_same clients place client next at memory.1.1) ∙ view))
+    by_client next Wanting Moves (inr does) = inr (by_sure_client next Moves does)
 
     -- a step of a client that asks the store
-    pub by_asking : (next : World) (Asks : World → Answer → Client → Type 0) → PlayedIn world next r (λ answer. Asks world answer client)
-        → PlayedIn self (record { world = next; clients = clients }) r (λ answer. ByAsking self session answer (record { world = next; clients = clients }) (Asks self.world answer))
-    by_asking next Asks (inl memory) = inl (memory.0, ap (λ (w : World). record { world = w; clients = clients }) memory.1 ∙ view)
-    by_asking next Asks (inr does) = inr (seated (record { world = next; clients = clients }) (λ old answer c. Asks old.world answer c × (clients ≡ old.clients)) (does, refl))
+    pub by_asking : (next : World) (Wanting : World → Client → Type 0) (Asks : World → Answer → Client → Type 0) → PlayedIn world next r (Wanting world client) (λ answer. Asks world answer client)
+        → PlayedIn self (record { world = next; clients = clients }) r (IsOkAnd (client_of self.clients session) (Wanting self.world)) (λ answer. ByAsking self session answer (record { world = next; clients = clients }) (Asks self.world answer))
+    by_asking next Wanting Asks (inl memory) = inl (memory.0, (seated_so Wanting memory.1.0, ap (λ (w : World). record { world = w; clients = clients }) memory.1.1 ∙ view))
+    by_asking next Wanting Asks (inr does) = inr (seated (record { world = next; clients = clients }) (λ old answer c. Asks old.world answer c × (clients ≡ old.clients)) (does, refl))
 
     -- a step of a client that enters the store
     pub by_entering : (next : Client) (later : World) → Enters world session client (played r) next later

@@ -18,7 +18,7 @@ use Rattle.occ_sets.specs.Sets.{Copied}
 use Rattle.occ_cli.specs.declared.answers.Answer as code_answer
 use Rattle.occ_cli.specs.Answers.{answer_of}
 use Rattle.occ_cli.specs.Answers as says
-use Rattle.occ_cli.specs.Replaying.{Given, MayAnswer, PlayedIn, ScansIn, and_then, overlaid, span_named, table_named, unless}
+use Rattle.occ_cli.specs.Replaying.{CopyWantsScan, Given, MayAnswer, PlayedIn, ScansIn, and_then, overlaid, span_named, table_named, unless}
 
 -- a range that is named is a range
 abbrev pub IsRange : Question → Key → Key → Type 0
@@ -84,7 +84,7 @@ answered old session number start table lower upper question given new ranges (t
 -- and what is shown of it has the own writes over it
 pub scan_answered : {Z : Type 0} (old : World) (session : ℕ) (name : List ℕ) (lower upper : Key) (copy : Copied) (question : Question) (given : Answer) (new : World) (answer : code_answer.Answer Z)
     → Ok question ≡ span_named old.settings.schema name lower upper → Step old (Read session copy.number copy.start question) (Answered given) new → answer_of answer ≡ says.Replied (Answered (overlay question copy.writes given))
-    → PlayedIn old new (Ok answer) (λ a. ScansIn old session name lower upper copy a new)
+    → PlayedIn old new (Ok answer) (CopyWantsScan old name lower upper) (λ a. ScansIn old session name lower upper copy a new)
 scan_answered old session name lower upper copy question given new answer asked step is =
     inr (subst (λ (g : Result Question Fault). Given g old (answer_of answer) new (λ q. (reply : Reply) × Step old (Read session copy.number copy.start q) reply new × (answer_of answer ≡ says.Replied (overlaid q copy.writes reply))))
     asked (Answered given, step, is))

@@ -196,6 +196,9 @@ so_far_stopped result (troubles.Malformed n) quiet schema a b c old now next wa 
 so_far_stopped result troubles.Read quiet schema a b c old now next wa wb wc held holds keeps first mid last is s t =
     subst (λ (r : Result _ Trouble). TurnsGive quiet schema (Pushed wa wc held keeps) (PushedFront wa wc held keeps) r a c first old next) (sym is)
     (s.turns, t.0, b, now, s.are, t.1, t.2, pushed_no_more wa wb wc held holds keeps (lines_text (answer_lines quiet schema s.turns)) s.said t.3)
+so_far_stopped result troubles.TooManyLines quiet schema a b c old now next wa wb wc held holds keeps first mid last is s t =
+    subst (λ (r : Result _ Trouble). TurnsGive quiet schema (Pushed wa wc held keeps) (PushedFront wa wc held keeps) r a c first old next) (sym is)
+    (s.turns, b, now, s.are, sym s.number ∙ t.0, pushed_no_more wa wb wc held holds keeps (lines_text (answer_lines quiet schema s.turns)) s.said t.1)
 so_far_stopped result troubles.Write quiet schema a b c old now next wa wb wc held holds keeps first mid last is s t =
     subst (λ (r : Result _ Trouble). TurnsGive quiet schema (Pushed wa wc held keeps) (PushedFront wa wc held keeps) r a c first old next) (sym is)
     (half_more quiet schema a b c old now next wa wb wc held holds keeps first mid s t)

@@ -1,6 +1,6 @@
 -- A whole replay, put together from its parts.
-use Rattle.std.proofs.Common.{◌≡◌, ℕ, ◌+◌, Bool, true, List, [], ◌∷◌, ◌++◌, length, Option, None, Some, Result, Ok, Err, sym, ap, subst, ◌∙◌, ◌⊎◌, inl, inr, append_assoc, append-nil, length-append}
-use Rattle.std.specs.Bool.{Decides}
+use Rattle.std.proofs.Common.{◌≡◌, ℕ, ◌+◌, ◌-◌, ◌^◌, ◌≤◌, arith, refl, Bool, true, List, [], ◌∷◌, ◌++◌, length, Option, None, Some, Result, Ok, Err, sym, ap, subst, ◌∙◌, ◌⊎◌, inl, inr, append_assoc, append-nil, length-append}
+use Rattle.std.specs.Prelude.{IfErr}
 use Rattle.std.specs.Result.{IsErrAnd}
 use Rattle.std.specs.Io.KnownBytes.{Consumes, Appends, Keeps, IsAtEnd, prepend_known}
 use Rattle.std.proofs.KnownBytes.{Consumes-trans, Appends-trans, prepend_known-nil}
@@ -17,10 +17,10 @@ use Rattle.occ_text.specs.declared.trouble.Trouble.TheVariants as troubles
 use Rattle.occ_print.specs.Books.{book_lines}
 use Rattle.occ_text.specs.Headers.{Header, HeaderFits, header_text}
 use Rattle.occ_text.specs.HeaderTaking.{BeginsHeader, HeaderTaken}
-use Rattle.occ_text.specs.Line.{NoneTaken, lines_text}
+use Rattle.occ_text.specs.Line.{Source, HasFailed, NoneTaken, lines_text}
 use Rattle.occ_text.specs.Printing.{Pushed, PushedFront}
 use Rattle.occ_cli.specs.Replaying.{Replayed}
-use Rattle.occ_cli.specs.Schedules.{Turn, Schedule, IsReplayed, opened_by, step_lines, schedule_lines, answer_lines, book_at, book_after, IsAudited, closing_lines, replay_lines, IsMalformedAt, MalformedHeader, MalformedStep, IsUnreadable, UnreadHeader, UnreadStep, IsCutShort, CutBefore, CutAmid, CutInBook, CutInAudit, ReplayGives, AppendsFront}
+use Rattle.occ_cli.specs.Schedules.{Turn, Schedule, IsReplayed, opened_by, step_lines, schedule_lines, answer_lines, book_at, book_after, IsAudited, closing_lines, replay_lines, IsMalformedAt, MalformedHeader, MalformedStep, IsUnreadable, UnreadHeader, UnreadStep, IsUncounted, IsCutShort, CutBefore, CutAmid, CutAtEnd, ReplayGives, AppendsFront}
 use Rattle.occ_text.specs.Sending.{Sends}
 use Rattle.occ_text.specs.Steps.{step_text}
 use Rattle.occ_cli.specs.Turns.{AreTurns, TurnsGive, ClosingGives, is_cut_short}
@@ -44,48 +44,58 @@ part_taken a b c d xs ys part h k p = Consumes-trans a c d (lines_text (xs ++ ys
 -- ---- the exits
 
 -- the text isn't that of a header, or it couldn't be read, or memory was refused for it
-pub header_stopped : {X T : Type 0} (view : X → Header) (fault : ReadFault) (result : Result T Trouble) (quiet : Bool) (a b after : Option (List ℕ)) (w : Option (List ℕ)) (held : List ℕ) (last : ℕ) → IsErrAnd result (λ e. e ≡ read_trouble fault)
-    → HeaderTaken view (Err fault) a b last → ReplayGives quiet a (Pushed w w held held) (PushedFront w w held held) result after
-header_stopped view fault (Ok done) quiet a b after w held last is h = absurd is
-header_stopped view fault (Err e) quiet a b after w held last is h =
-    subst (λ (t : Trouble). ReplayGives quiet a (Pushed w w held held) (PushedFront w w held held) {T = Unit {0}} (Err t) after) (sym is) (by fault h.4)
+pub header_stopped : {X T : Type 0} (view : X → Header) (fault : ReadFault) (result : Result T Trouble) (quiet : Bool) (a b : Option (List ℕ)) (w : Option (List ℕ)) (held : List ℕ) (last : ℕ) → IsErrAnd result (λ e. e ≡ read_trouble fault)
+    → HeaderTaken view (Err fault) a b last → ReplayGives quiet a (Pushed w w held held) (PushedFront w w held held) result b
+header_stopped view fault (Ok done) quiet a b w held last is h = absurd is
+header_stopped view fault (Err e) quiet a b w held last is h =
+    subst (λ (t : Trouble). ReplayGives quiet a (Pushed w w held held) (PushedFront w w held held) {T = Unit {0}} (Err t) b) (sym is) (by fault h.5)
   where
-    by : (fault : ReadFault) → NoneTaken (λ line. BeginsHeader (h.0 ++ line ∷ [])) fault h.1 b (length h.0) → ReplayGives quiet a (Pushed w w held held) (PushedFront w w held held) {T = Unit {0}} (Err (read_trouble fault)) after
+    by : (fault : ReadFault) → NoneTaken (λ line. BeginsHeader (h.0 ++ line ∷ [])) fault h.1 b (length h.0) → ReplayGives quiet a (Pushed w w held held) (PushedFront w w held held) {T = Unit {0}} (Err (read_trouble fault)) b
     by (faults.Malformed n) k = MalformedHeader h.0 h.1 h.2 h.3 k.0 k.1 (Pushed-nothing w held)
-    by faults.Read k = UnreadHeader h.0 k.0 b (Consumes-trans a h.1 b (lines_text h.0) k.0 h.2 k.2) h.3 k.1 (Pushed-nothing w held)
+    by faults.Read k = UnreadHeader h.0 k.0 (Consumes-trans a h.1 b (lines_text h.0) k.0 h.2 k.2) h.3 k.1 (Pushed-nothing w held)
+    by faults.TooManyLines k = let few = h.4 in absurd (omega arith)
     by faults.Memory k = CutBefore (front_none w held [])
 
 abbrev stops : Trouble → Result (Unit {0}) Trouble
 stops trouble = Err trouble
 
+count : (front : List (List ℕ)) (turns : List Turn) → length (front ++ step_lines turns) ≡ length front + length turns
+count front turns = length-append front (step_lines turns) ∙ ap (λ (k : ℕ). length front + k) (length-map turns (λ (turn : Turn). step_text turn.0))
+
 -- the steps ended with trouble
-stopped_with : {T : Type 0} (result : Result T Trouble) (trouble : Trouble) (quiet : Bool) (header : Header) (a b c after : Option (List ℕ)) (w v : Option (List ℕ)) (held keeps : List ℕ) (first : ℕ) (new : Replayed) → result ≡ Err trouble
+stopped_with : {T : Type 0} (result : Result T Trouble) (trouble : Trouble) (quiet : Bool) (header : Header) (a b c : Option (List ℕ)) (w v : Option (List ℕ)) (held keeps : List ℕ) (first : ℕ) (new : Replayed) → result ≡ Err trouble
     → Consumes a b (lines_text (header_text header)) → HeaderFits header → first ≡ length (header_text header)
     → TurnsGive quiet header.tables (Pushed w v held keeps) (PushedFront w v held keeps) (stops trouble) b c first (opened_by header) new
-    → ReplayGives quiet a (Pushed w v held keeps) (PushedFront w v held keeps) result after
-stopped_with result (troubles.Malformed n) quiet header a b c after w v held keeps first new is taken fits number t =
-    subst (λ (r : Result _ Trouble). ReplayGives quiet a (Pushed w v held keeps) (PushedFront w v held keeps) r after) (sym is)
+    → ReplayGives quiet a (Pushed w v held keeps) (PushedFront w v held keeps) result c
+stopped_with result (troubles.Malformed n) quiet header a b c w v held keeps first new is taken fits number t =
+    subst (λ (r : Result _ Trouble). ReplayGives quiet a (Pushed w v held keeps) (PushedFront w v held keeps) r c) (sym is)
     (MalformedStep (of_turns header t.0 t.2) t.1 (is_replayed header t.0 t.2 b t.1 fits t.3) (lines_taken a b t.1 (header_text header) (step_lines t.0) taken t.3.taken) t.4
     (t.5 ∙ ap (λ (k : ℕ). k + length t.0 + 1) number ∙ ap (λ (k : ℕ). k + 1) (sym (count (header_text header) t.0))) t.6)
-  where
-    count : (front : List (List ℕ)) (turns : List Turn) → length (front ++ step_lines turns) ≡ length front + length turns
-    count front turns = length-append front (step_lines turns) ∙ ap (λ (k : ℕ). length front + k) (length-map turns (λ (turn : Turn). step_text turn.0))
-stopped_with result troubles.Read quiet header a b c after w v held keeps first new is taken fits number t =
-    subst (λ (r : Result _ Trouble). ReplayGives quiet a (Pushed w v held keeps) (PushedFront w v held keeps) r after) (sym is)
-    (UnreadStep (of_turns header t.0 t.3) t.1 c (is_replayed header t.0 t.3 b t.2 fits t.4) (part_taken a b t.2 c (header_text header) (step_lines t.0) t.1 taken t.4.taken t.6) t.5 t.7)
-stopped_with result troubles.Write quiet header a b c after w v held keeps first new is taken fits number t =
-    subst (λ (r : Result _ Trouble). ReplayGives quiet a (Pushed w v held keeps) (PushedFront w v held keeps) r after) (sym is)
+stopped_with result troubles.Read quiet header a b c w v held keeps first new is taken fits number t =
+    subst (λ (r : Result _ Trouble). ReplayGives quiet a (Pushed w v held keeps) (PushedFront w v held keeps) r c) (sym is)
+    (UnreadStep (of_turns header t.0 t.3) t.1 (is_replayed header t.0 t.3 b t.2 fits t.4) (part_taken a b t.2 c (header_text header) (step_lines t.0) t.1 taken t.4.taken t.6) t.5 t.7)
+stopped_with result troubles.TooManyLines quiet header a b c w v held keeps first new is taken fits number t =
+    subst (λ (r : Result _ Trouble). ReplayGives quiet a (Pushed w v held keeps) (PushedFront w v held keeps) r c) (sym is) (record {
+      schedule = of_turns header t.0 t.2;
+      rest = t.1;
+      replayed = is_replayed header t.0 t.2 b t.1 fits t.3;
+      taken = lines_taken a b t.1 (header_text header) (step_lines t.0) taken t.3.taken;
+      number = count (header_text header) t.0 ∙ ap (λ (k : ℕ). k + length t.0) (sym number) ∙ t.4;
+      wrote = t.5;
+    })
+stopped_with result troubles.Write quiet header a b c w v held keeps first new is taken fits number t =
+    subst (λ (r : Result _ Trouble). ReplayGives quiet a (Pushed w v held keeps) (PushedFront w v held keeps) r c) (sym is)
     (CutAmid (of_turns header t.turns t.new) t.rest (is_replayed header t.turns t.new b t.rest fits t.are) (lines_taken a b t.rest (header_text header) (step_lines t.turns) taken t.are.taken) t.wrote)
-stopped_with result troubles.Memory quiet header a b c after w v held keeps first new is taken fits number t =
-    subst (λ (r : Result _ Trouble). ReplayGives quiet a (Pushed w v held keeps) (PushedFront w v held keeps) r after) (sym is)
+stopped_with result troubles.Memory quiet header a b c w v held keeps first new is taken fits number t =
+    subst (λ (r : Result _ Trouble). ReplayGives quiet a (Pushed w v held keeps) (PushedFront w v held keeps) r c) (sym is)
     (CutAmid (of_turns header t.turns t.new) t.rest (is_replayed header t.turns t.new b t.rest fits t.are) (lines_taken a b t.rest (header_text header) (step_lines t.turns) taken t.are.taken) t.wrote)
 
-pub turns_stopped : {T : Type 0} (result : Result T Trouble) (trouble : Trouble) (quiet : Bool) (header : Header) (start : Replayed) (a b c after : Option (List ℕ)) (w v : Option (List ℕ)) (held keeps : List ℕ) (first : ℕ) (new : Replayed) → start ≡ opened_by header
+pub turns_stopped : {T : Type 0} (result : Result T Trouble) (trouble : Trouble) (quiet : Bool) (header : Header) (start : Replayed) (a b c : Option (List ℕ)) (w v : Option (List ℕ)) (held keeps : List ℕ) (first : ℕ) (new : Replayed) → start ≡ opened_by header
     → result ≡ Err trouble → Consumes a b (lines_text (header_text header)) → HeaderFits header → first ≡ length (header_text header)
     → TurnsGive quiet start.world.settings.schema (Pushed w v held keeps) (PushedFront w v held keeps) (stops trouble) b c first start new
-    → ReplayGives quiet a (Pushed w v held keeps) (PushedFront w v held keeps) result after
-turns_stopped result trouble quiet header start a b c after w v held keeps first new began is taken fits number t =
-    stopped_with result trouble quiet header a b c after w v held keeps first new is taken fits number
+    → ReplayGives quiet a (Pushed w v held keeps) (PushedFront w v held keeps) result c
+turns_stopped result trouble quiet header start a b c w v held keeps first new began is taken fits number t =
+    stopped_with result trouble quiet header a b c w v held keeps first new is taken fits number
     (subst (λ (r : Replayed). TurnsGive quiet r.world.settings.schema (Pushed w v held keeps) (PushedFront w v held keeps) (stops trouble) b c first r new) began t)
 
 -- what was pushed behind the answers
@@ -104,18 +114,15 @@ troubled (Err fault) = Err (write_trouble fault)
 
 -- the book behind the steps
 cut_in_closing : (quiet : Bool) (s : Schedule) (a rest : Option (List ℕ)) (w v u : Option (List ℕ)) (held mid keeps : List ℕ) → IsReplayed s → Consumes a rest (lines_text (schedule_lines s)) → IsAtEnd rest → Pushed w v held mid (lines_text (answer_lines quiet s.header.tables s.turns))
-    → PushedFront v u mid keeps (lines_text (book_lines (book_after s))) ⊎ ((holds : Bool) × Decides holds (IsAudited (book_after s)) × PushedFront v u mid keeps (lines_text (closing_lines (book_after s) holds)))
-    → IsCutShort quiet a (Pushed w u held keeps) (PushedFront w u held keeps)
-cut_in_closing quiet s a rest w v u held mid keeps is taken end said (inl k) =
-    CutInBook s rest is taken end (front_of_answers quiet s.header.tables w v u held mid keeps s.turns (book_lines (book_after s)) said k)
-cut_in_closing quiet s a rest w v u held mid keeps is taken end said (inr k) =
-    CutInAudit s rest is taken end k.0 k.1 (front_of_answers quiet s.header.tables w v u held mid keeps s.turns (closing_lines (book_after s) k.0) said k.2)
+    → IsAudited (book_after s) × PushedFront v u mid keeps (lines_text (closing_lines (book_after s))) → IsCutShort quiet a (Pushed w u held keeps) (PushedFront w u held keeps)
+cut_in_closing quiet s a rest w v u held mid keeps is taken end said k =
+    CutAtEnd s rest is taken end k.0 (front_of_answers quiet s.header.tables w v u held mid keeps s.turns (closing_lines (book_after s)) said k.1)
 
 closed_with : {T : Type 0} (closing : Result T WriteFault) (quiet : Bool) (s : Schedule) (a rest after : Option (List ℕ)) (w v u : Option (List ℕ)) (held mid keeps : List ℕ) → IsReplayed s → Consumes a rest (lines_text (schedule_lines s)) → IsAtEnd rest → Keeps rest after
     → Pushed w v held mid (lines_text (answer_lines quiet s.header.tables s.turns)) → ClosingGives (Pushed v u mid keeps) (PushedFront v u mid keeps) closing (book_after s)
     → ReplayGives quiet a (Pushed w u held keeps) (PushedFront w u held keeps) (troubled closing) after
 closed_with (Ok done) quiet s a rest after w v u held mid keeps is taken end kept said k =
-    (s, rest, is, taken, end, kept, k.0, k.1, behind_answers quiet s.header.tables w v u held mid keeps s.turns (closing_lines (book_after s) k.0) said k.2)
+    (s, rest, is, taken, end, kept, k.0, behind_answers quiet s.header.tables w v u held mid keeps s.turns (closing_lines (book_after s)) said k.1)
 closed_with (Err write_faults.Write) quiet s a rest after w v u held mid keeps is taken end kept said k = cut_in_closing quiet s a rest w v u held mid keeps is taken end said k
 closed_with (Err write_faults.Memory) quiet s a rest after w v u held mid keeps is taken end kept said k = cut_in_closing quiet s a rest w v u held mid keeps is taken end said k
 
@@ -204,31 +211,42 @@ end_of_reader (Some x) (Some y) unread e k = last_nil unread y (k ∙ e) ∙ sym
 cut_so : (quiet : Bool) (before : Option (List ℕ)) (Wrote WroteFront Writes WritesFront : List ℕ → Type 0) → ((text : List ℕ) → WroteFront text → WritesFront text) → IsCutShort quiet before Wrote WroteFront → IsCutShort quiet before Writes WritesFront
 cut_so quiet before Wrote WroteFront Writes WritesFront front (CutBefore said) = CutBefore (front [] said)
 cut_so quiet before Wrote WroteFront Writes WritesFront front (CutAmid s rest is taken said) = CutAmid s rest is taken (front (lines_text (answer_lines quiet s.header.tables s.turns)) said)
-cut_so quiet before Wrote WroteFront Writes WritesFront front (CutInBook s rest is taken end said) = CutInBook s rest is taken end (front (lines_text (answer_lines quiet s.header.tables s.turns ++ book_lines (book_after s))) said)
-cut_so quiet before Wrote WroteFront Writes WritesFront front (CutInAudit s rest is taken end holds decides said) = CutInAudit s rest is taken end holds decides (front (lines_text (replay_lines quiet s holds)) said)
+cut_so quiet before Wrote WroteFront Writes WritesFront front (CutAtEnd s rest is taken end audited said) = CutAtEnd s rest is taken end audited (front (lines_text (replay_lines quiet s)) said)
 
 module _ (quiet : Bool) (before : Option (List ℕ)) (Wrote WroteFront Writes WritesFront : List ℕ → Type 0) (whole : (text : List ℕ) → Wrote text → Writes text) (front : (text : List ℕ) → WroteFront text → WritesFront text) where
   malformed_so : (n : ℕ) → IsMalformedAt quiet before Wrote WroteFront n → IsMalformedAt quiet before Writes WritesFront n
   malformed_so n (MalformedHeader lines rest taken begins cannot number said) = MalformedHeader lines rest taken begins cannot number (whole [] said)
   malformed_so n (MalformedStep s rest is taken cannot number said) = MalformedStep s rest is taken cannot number (whole (lines_text (answer_lines quiet s.header.tables s.turns)) said)
 
-  unreadable_so : IsUnreadable quiet before Wrote WroteFront → IsUnreadable quiet before Writes WritesFront
-  unreadable_so (UnreadHeader lines part rest taken begins line said) = UnreadHeader lines part rest taken begins line (whole [] said)
-  unreadable_so (UnreadStep s part rest is taken line said) = UnreadStep s part rest is taken line (whole (lines_text (answer_lines quiet s.header.tables s.turns)) said)
+  unreadable_so : (known : Option (List ℕ)) → IsUnreadable quiet before Wrote WroteFront known → IsUnreadable quiet before Writes WritesFront known
+  unreadable_so known (UnreadHeader lines part taken begins line said) = UnreadHeader lines part taken begins line (whole [] said)
+  unreadable_so known (UnreadStep s part is taken line said) = UnreadStep s part is taken line (whole (lines_text (answer_lines quiet s.header.tables s.turns)) said)
 
-  gives_so : {T : Type 0} (result : Result T Trouble) (known : Option (List ℕ)) (unread : List ℕ) → ReplayGives quiet before Wrote WroteFront result (prepend_known unread known) → ReplayGives quiet before Writes WritesFront result known
-  gives_so (Ok done) known unread h =
-      (h.0, h.1, h.2, h.3, h.4, end_of_reader h.1 known unread h.4 h.5, h.6, h.7, whole (lines_text (replay_lines quiet h.0 h.6)) h.8)
-  gives_so (Err (troubles.Malformed n)) known unread h = malformed_so n h
-  gives_so (Err troubles.Read) known unread h = unreadable_so h
-  gives_so (Err troubles.Write) known unread h = cut_so quiet before Wrote WroteFront Writes WritesFront front h
-  gives_so (Err troubles.Memory) known unread h = cut_so quiet before Wrote WroteFront Writes WritesFront front h
+  uncounted_so : IsUncounted quiet before Wrote WroteFront → IsUncounted quiet before Writes WritesFront
+  uncounted_so h = record {
+    schedule = h.schedule;
+    rest = h.rest;
+    replayed = h.replayed;
+    taken = h.taken;
+    number = h.number;
+    wrote = whole (lines_text (answer_lines quiet h.schedule.header.tables h.schedule.turns)) h.wrote;
+  }
+
+  gives_so : {T : Type 0} (result : Result T Trouble) (known : Option (List ℕ)) (unread : List ℕ) → IfErr result (λ e. e ≡ troubles.Read → unread ≡ []) → ReplayGives quiet before Wrote WroteFront result (prepend_known unread known) → ReplayGives quiet before Writes WritesFront result known
+  gives_so (Ok done) known unread emptied h =
+      (h.0, h.1, h.2, h.3, h.4, end_of_reader h.1 known unread h.4 h.5, h.6, whole (lines_text (replay_lines quiet h.0)) h.7)
+  gives_so (Err (troubles.Malformed n)) known unread emptied h = malformed_so n h
+  gives_so (Err troubles.Read) known unread emptied h =
+      unreadable_so known (subst (IsUnreadable quiet before Wrote WroteFront) (ap (λ (u : List ℕ). prepend_known u known) (emptied refl) ∙ prepend_known-nil known) h)
+  gives_so (Err troubles.TooManyLines) known unread emptied h = uncounted_so h
+  gives_so (Err troubles.Write) known unread emptied h = cut_so quiet before Wrote WroteFront Writes WritesFront front h
+  gives_so (Err troubles.Memory) known unread emptied h = cut_so quiet before Wrote WroteFront Writes WritesFront front h
 
 -- all was flushed
-flushed : {T : Type 0} (result : Result T Trouble) (quiet : Bool) (before known : Option (List ℕ)) (unread : List ℕ) (a b c : Option (List ℕ)) (held : List ℕ) → Appends b c held
+flushed : {T : Type 0} (result : Result T Trouble) (quiet : Bool) (before known : Option (List ℕ)) (unread : List ℕ) (a b c : Option (List ℕ)) (held : List ℕ) → Appends b c held → IfErr result (λ e. e ≡ troubles.Read → unread ≡ [])
     → ReplayGives quiet before (Pushed a b [] held) (PushedFront a b [] held) result (prepend_known unread known) → ReplayGives quiet before (Appends a c) (AppendsFront a c) result known
-flushed result quiet before known unread a b c held sent h =
-    gives_so quiet before (Pushed a b [] held) (PushedFront a b [] held) (Appends a c) (AppendsFront a c) (λ text said. all_written a b c held text said sent) (λ text said. front_written a b c held text said sent) result known unread h
+flushed result quiet before known unread a b c held sent emptied h =
+    gives_so quiet before (Pushed a b [] held) (PushedFront a b [] held) (Appends a c) (AppendsFront a c) (λ text said. all_written a b c held text said sent) (λ text said. front_written a b c held text said sent) result known unread emptied h
 
 -- nothing is flushed where it was cut short
 left_unflushed : (quiet : Bool) (before : Option (List ℕ)) (a b : Option (List ℕ)) (held : List ℕ) → IsCutShort quiet before (Pushed a b [] held) (PushedFront a b [] held) → IsCutShort quiet before (Appends a b) (AppendsFront a b)
@@ -244,14 +262,16 @@ before_part (Some x) (Some z) xs ys h = (Some (ys ++ z), h ∙ append_assoc xs y
 flush_failed : {T : Type 0} (result : Result T Trouble) (quiet : Bool) (before after : Option (List ℕ)) (a b c : Option (List ℕ)) (held holds : List ℕ) → Sends b c held holds
     → ReplayGives quiet before (Pushed a b [] held) (PushedFront a b [] held) result after → IsCutShort quiet before (Appends a c) (AppendsFront a c)
 flush_failed (Ok done) quiet before after a b c held holds sent h =
-    CutInAudit h.0 h.1 h.2 h.3 h.4 h.6 h.7 (part_of_all a b c held holds (lines_text (replay_lines quiet h.0 h.6)) h.8 sent)
+    CutAtEnd h.0 h.1 h.2 h.3 h.4 h.6 (part_of_all a b c held holds (lines_text (replay_lines quiet h.0)) h.7 sent)
 flush_failed (Err (troubles.Malformed n)) quiet before after a b c held holds sent (MalformedHeader lines rest taken begins cannot number said) = CutBefore (part_of_all a b c held holds [] said sent)
 flush_failed (Err (troubles.Malformed n)) quiet before after a b c held holds sent (MalformedStep s rest is taken cannot number said) =
     CutAmid s rest is taken (part_of_all a b c held holds (lines_text (answer_lines quiet s.header.tables s.turns)) said sent)
-flush_failed (Err troubles.Read) quiet before after a b c held holds sent (UnreadHeader lines part rest taken begins line said) = CutBefore (part_of_all a b c held holds [] said sent)
-flush_failed (Err troubles.Read) quiet before after a b c held holds sent (UnreadStep s part rest is taken line said) =
-    let front = before_part before rest (lines_text (schedule_lines s)) part taken in
+flush_failed (Err troubles.Read) quiet before after a b c held holds sent (UnreadHeader lines part taken begins line said) = CutBefore (part_of_all a b c held holds [] said sent)
+flush_failed (Err troubles.Read) quiet before after a b c held holds sent (UnreadStep s part is taken line said) =
+    let front = before_part before after (lines_text (schedule_lines s)) part taken in
     CutAmid s front.0 is front.1 (part_of_all a b c held holds (lines_text (answer_lines quiet s.header.tables s.turns)) said sent)
+flush_failed (Err troubles.TooManyLines) quiet before after a b c held holds sent h =
+    CutAmid h.schedule h.rest h.replayed h.taken (part_of_all a b c held holds (lines_text (answer_lines quiet h.schedule.header.tables h.schedule.turns)) h.wrote sent)
 flush_failed (Err troubles.Write) quiet before after a b c held holds sent h =
     cut_so quiet before (Pushed a b [] held) (PushedFront a b [] held) (Appends a c) (AppendsFront a c) (λ text said. part_written a b c held holds text said sent) h
 flush_failed (Err troubles.Memory) quiet before after a b c held holds sent h =
@@ -273,13 +293,14 @@ pub ended_unflushed : {T : Type 0} (result : Result T Trouble) (quiet : Bool) (k
 ended_unflushed (Ok done) quiet known mid after unread old a b held is nothing none h = cc
 ended_unflushed (Err (troubles.Malformed n)) quiet known mid after unread old a b held is nothing none h = cc
 ended_unflushed (Err troubles.Read) quiet known mid after unread old a b held is nothing none h = cc
+ended_unflushed (Err troubles.TooManyLines) quiet known mid after unread old a b held is nothing none h = cc
 ended_unflushed (Err troubles.Write) quiet known mid after unread old a b held is nothing none h = unflushed quiet known unread old a b held nothing none h
 ended_unflushed (Err troubles.Memory) quiet known mid after unread old a b held is nothing none h = unflushed quiet known unread old a b held nothing none h
 
 pub ended_flushed : {T : Type 0} (result : Result T Trouble) (quiet : Bool) (known last : Option (List ℕ)) (unread old left : List ℕ) (a b c : Option (List ℕ)) (held : List ℕ) → unread ≡ [] → old ≡ [] → Appends b c held
-    → ReplayGives quiet (prepend_known unread known) (Pushed a b old held) (PushedFront a b old held) result (prepend_known left last) → ReplayGives quiet known (Appends a c) (AppendsFront a c) result last
-ended_flushed result quiet known last unread old left a b c held nothing none sent h =
-    flushed result quiet known last left a b c held sent (from_new known unread old (λ o l. ReplayGives quiet o (Pushed a b l held) (PushedFront a b l held) result (prepend_known left last)) nothing none h)
+    → IfErr result (λ e. e ≡ troubles.Read → left ≡ []) → ReplayGives quiet (prepend_known unread known) (Pushed a b old held) (PushedFront a b old held) result (prepend_known left last) → ReplayGives quiet known (Appends a c) (AppendsFront a c) result last
+ended_flushed result quiet known last unread old left a b c held nothing none sent emptied h =
+    flushed result quiet known last left a b c held sent emptied (from_new known unread old (λ o l. ReplayGives quiet o (Pushed a b l held) (PushedFront a b l held) result (prepend_known left last)) nothing none h)
 
 pub ended_amid_flush : {T S : Type 0} (result : Result T Trouble) (outcome : Result S Trouble) (quiet : Bool) (known mid after : Option (List ℕ)) (unread old : List ℕ) (a b c : Option (List ℕ)) (held holds : List ℕ) → IsErrAnd result (λ e. e ≡ troubles.Write)
     → unread ≡ [] → old ≡ [] → Sends b c held holds → ReplayGives quiet (prepend_known unread known) (Pushed a b old held) (PushedFront a b old held) outcome mid
@@ -288,3 +309,8 @@ ended_amid_flush (Ok done) outcome quiet known mid after unread old a b c held h
 ended_amid_flush {T} (Err e) outcome quiet known mid after unread old a b c held holds is nothing none sent h =
     subst (λ (t : Trouble). ReplayGives quiet known (Appends a c) (AppendsFront a c) {T = T} (Err t) after) (sym is)
     (flush_failed outcome quiet known mid a b c held holds sent (from_new known unread old (λ o l. ReplayGives quiet o (Pushed a b l held) (PushedFront a b l held) outcome mid) nothing none h))
+
+-- an input whose reader failed has nothing unread
+pub emptied_at : {T : Type 0} (result : Result T Trouble) (input : Source) → IfErr result (λ e. e ≡ troubles.Read → HasFailed input) → IfErr result (λ e. e ≡ troubles.Read → input.unread ≡ [])
+emptied_at (Ok done) input h = tt
+emptied_at (Err e) input h = λ (is : e ≡ troubles.Read). let failed = h is in failed.emptied

@@ -1,5 +1,5 @@
 -- What a replay does with one step of a schedule (our own choice).
-use Rattle.std.specs.Prelude.{◌≡◌, ℕ, Bool, true, false, zero, suc, ◌+◌, ◌-◌, ◌^◌, ◌≤◌, ◌⊎◌, min, nat_le, List, [], ◌∷◌, ◌++◌, length, replicate, drop, Option, None, Some, is_some, Result, Ok, Err, MatchOption, slice_get, slice_set}
+use Rattle.std.specs.Prelude.{◌≡◌, ℕ, true, false, zero, suc, ◌+◌, ◌-◌, ◌^◌, ◌≤◌, ◌⊎◌, min, nat_le, List, [], ◌∷◌, ◌++◌, length, replicate, drop, Option, None, Some, is_some, IsSomeAnd, Result, Ok, Err, IsOk, IsOkAnd, MatchOption, slice_get, slice_set}
 use Rattle.std.specs.List.{position}
 use Rattle.std.specs.Option.{ok_or}
 use Rattle.std.specs.FinMap as finite
@@ -16,7 +16,7 @@ use Rattle.occ_model.specs.State.{Write}
 use Rattle.occ_model.specs.State as states
 use Rattle.occ_model.specs.Overlay.{set, own, overlay}
 use Rattle.occ_model.specs.World.{World, Settings, opened, low, active_count}
-use Rattle.occ_model.specs.Refusal.{numbers_exhausted}
+use Rattle.occ_model.specs.Refusal.{numbers_exhausted, refusal, takes_memory, has_writes_left}
 use Rattle.occ_model.specs.Event.{Event, Item, Reply}
 use Rattle.occ_model.specs.Event as events
 use Rattle.occ_model.specs.Step as model
@@ -221,21 +221,6 @@ counts_of world = record {
   active = active_count world;
 }
 
--- whether a step may take memory of its own, beside what the store takes for it
-abbrev pub takes_own_memory : Step → Bool
-takes_own_memory (Does acts.Begin session) = false
-takes_own_memory (Does acts.Submit session) = false
-takes_own_memory (Does acts.Enter session) = false
-takes_own_memory (Does acts.Decide session) = false
-takes_own_memory (Does acts.Write session) = true
-takes_own_memory (Does acts.Finish session) = false
-takes_own_memory (Does acts.BackUp session) = false
-takes_own_memory (Get session name key) = true
-takes_own_memory (Scan session name lower upper) = true
-takes_own_memory (Put session name key row) = true
-takes_own_memory (Delete session name key) = true
-takes_own_memory Show = false
-
 -- the store stands as it was, or has done one step
 abbrev pub AtMostOneStep : World → World → Type 0
 AtMostOneStep old new = (new ≡ old) ⊎ ((event : Event) × (reply : Reply) × model.Step old event reply new)
@@ -261,9 +246,60 @@ Plays old (Delete session name key) answer new =
     ByClient old session answer new (λ client next. Writes old.world.settings.schema name key None client answer next)
 Plays old Show answer new = (answer ≡ says.Counted (counts_of old.world)) × (new ≡ old)
 
--- What want of memory leaves of a step: the store stands as it was. Where the step may take memory of its own, nothing at all changed; or the store refused it for want of memory, and it was played as any refusal: an item that was to enter is kept, and nothing else changed.
+-- an event that nothing refuses and that takes memory
+abbrev pub Wants : World → Event → Type 0
+Wants world event = (refusal world event ≡ None) × (takes_memory world event ≡ true)
+
+-- The open transaction wants memory for `get`: for a copy of its own row, or the store does for what it answers.
+abbrev pub CopyWantsGet : World → ℕ → List ℕ → Key → Copied → Type 0
+CopyWantsGet world session name key copy = IsOkAnd (object_named world.settings.schema name key) (λ object.
+    MatchOption (own copy.writes object)
+    (Wants world (events.Read session copy.number copy.start (One object.0 object.1)))
+    (λ row. is_some row ≡ true))
+
+abbrev pub WantsGet : World → ℕ → List ℕ → Key → Client → Type 0
+WantsGet world session name key client = IsOkAnd (copy_of client) (CopyWantsGet world session name key)
+
+-- For `scan` it wants room for the whole answer, which is taken before the store is asked.
+abbrev pub CopyWantsScan : World → List ℕ → Key → Key → Type 0
+CopyWantsScan world name lower upper = IsOk (span_named world.settings.schema name lower upper)
+
+abbrev pub WantsScan : World → List ℕ → Key → Key → Client → Type 0
+WantsScan world name lower upper client = IsOkAnd (copy_of client) (λ copy. CopyWantsScan world name lower upper)
+
+-- Writes want room for an object that is new, and not one too many; one that is written already takes its new row without.
+abbrev pub WantsRoom : List Write → Object → Type 0
+WantsRoom writes object = (is_full_for writes object ≡ false) × (own writes object ≡ None)
+
+-- For `put` and `delete` it wants room for the object.
+abbrev pub CopyWantsWrite : Schema → List ℕ → Key → Option Row → Copied → Type 0
+CopyWantsWrite schema name key row copy = IsOkAnd (write_named schema name key row copy) (λ write. WantsRoom copy.writes write.0)
+
+abbrev pub WantsWrite : Schema → List ℕ → Key → Option Row → Client → Type 0
+WantsWrite schema name key row client = IsOkAnd (copy_of client) (CopyWantsWrite schema name key row)
+
+-- The item to be entered next wants memory. It is kept.
+abbrev pub StarvesItem : World → ℕ → Client → Client → Type 0
+StarvesItem world session old new = IsSomeAnd (next_item old) (λ item.
+    Wants world (events.Enter session item)
+    × (new ≡ record old { queue = still_waiting old; kept = Some item }))
+
+-- A single write wants memory to name its object, or for the row to be put; one is left.
+abbrev pub WantsSingle : World → ℕ → Type 0
+WantsSingle world session = (refusal world (events.WriteOne session) ≡ None) × (has_writes_left world session ≡ true)
+
+-- When a step may want memory, and what it leaves then: no refusal applies that is tried before, and nothing changed, but that an item that was to enter is kept. Only a `scan` takes memory before the store is asked. The other steps take none.
 abbrev pub Starved : Replayed → Step → Replayed → Type 0
-Starved old step new = (new.world ≡ old.world) × (((takes_own_memory step ≡ true) × (new ≡ old)) ⊎ Plays old step (says.refused faults.Memory) new)
+Starved old (Does acts.Enter session) new = IsOkAnd (client_of old.clients session) (λ client.
+    (next : Client) × StarvesItem old.world session client next × (new ≡ record old { clients = slice_set old.clients (session - 1) next }))
+Starved old (Does acts.Write session) new = WantsSingle old.world session × (new ≡ old)
+Starved old (Get session name key) new = IsOkAnd (client_of old.clients session) (WantsGet old.world session name key) × (new ≡ old)
+Starved old (Scan session name lower upper) new = IsOkAnd (client_of old.clients session) (WantsScan old.world name lower upper) × (new ≡ old)
+Starved old (Put session name key row) new =
+    IsOkAnd (client_of old.clients session) (WantsWrite old.world.settings.schema name key (Some row)) × (new ≡ old)
+Starved old (Delete session name key) new =
+    IsOkAnd (client_of old.clients session) (WantsWrite old.world.settings.schema name key None) × (new ≡ old)
+Starved old step new = ⊥
 
 module _ {Z : Type 0} where
   -- the answer of a call; a fault is answered as a refusal
@@ -276,20 +312,15 @@ module _ {Z : Type 0} where
   replied (Ok seen) = events.Answered (sets.answer_of seen)
   replied (Err fault) = events.Refused fault
 
-  -- a call is played so, or memory was refused; of a call that changes nothing
-  abbrev pub Played : Result (code_answer.Answer Z) Fault → (Answer → Type 0) → Type 0
-  Played result Is = (played result ≡ says.refused faults.Memory) ⊎ Is (played result)
+  -- a call is played so, or it wanted memory, which leaves that
+  abbrev pub Played : Result (code_answer.Answer Z) Fault → Type 0 → (Answer → Type 0) → Type 0
+  Played result Starves Is = ((played result ≡ says.refused faults.Memory) × Starves) ⊎ Is (played result)
 
-  -- the same of a call that may change something; where memory was refused, nothing changed
-  abbrev pub PlayedIn : {S : Type 0} → S → S → Result (code_answer.Answer Z) Fault → (Answer → Type 0) → Type 0
-  PlayedIn old new result Is = ((played result ≡ says.refused faults.Memory) × (new ≡ old)) ⊎ Is (played result)
+  -- the same of a call that changes nothing where it wants memory
+  abbrev pub PlayedIn : {S : Type 0} → S → S → Result (code_answer.Answer Z) Fault → Type 0 → (Answer → Type 0) → Type 0
+  PlayedIn old new result Wanting Is = Played result (Wanting × (new ≡ old)) Is
 
-  -- the same of a call that may take memory of its own, or may not
-  abbrev pub PlayedBy : {S : Type 0} → Bool → S → S → Result (code_answer.Answer Z) Fault → (Answer → Type 0) → Type 0
-  PlayedBy true old new result Is = PlayedIn old new result Is
-  PlayedBy false old new result Is = Is (played result)
-
-  -- whether a step of the store may be put off for want of memory, before it is done
-  abbrev pub may_be_put_off : code_step.Step Z → Bool
-  may_be_put_off (calls.WriteOne session) = true
-  may_be_put_off step = false
+  -- what a step of the store leaves that is put off for want of memory, before it is done
+  abbrev pub PutOff : code_step.Step Z → Replayed → Replayed → Type 0
+  PutOff (calls.WriteOne session) old new = WantsSingle old.world session × (new ≡ old)
+  PutOff step old new = ⊥

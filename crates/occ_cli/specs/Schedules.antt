@@ -1,13 +1,12 @@
 -- A schedule from its first line to its last, and the text that its replay writes (our own choice).
-use Rattle.std.specs.Prelude.{◌≡◌, ◌≢◌, ◌+◌, ℕ, Bool, true, false, List, [], ◌∷◌, ◌++◌, map, length, Option, Result, Ok, Err, IfSome, All}
-use Rattle.std.specs.Bool.{Decides}
+use Rattle.std.specs.Prelude.{◌≡◌, ◌≢◌, ◌+◌, ◌-◌, ◌^◌, ℕ, Bool, true, false, List, [], ◌∷◌, ◌++◌, map, length, Option, Result, Ok, Err, IfSome, All}
 use Rattle.std.specs.Io.KnownBytes.{Consumes, Keeps, Appends, IsAtEnd}
 use Rattle.occ_types.specs.Schema.{Schema}
 use Rattle.occ_types.specs.declared.fault.Fault.TheVariants as faults
 use Rattle.occ_model.specs.Log.{Audited}
 use Rattle.occ_model.specs.World.{World, empty_base, low}
 use Rattle.occ_text.specs.declared.trouble.Trouble.{Trouble}
-use Rattle.occ_text.specs.declared.trouble.Trouble.TheVariants.{Read, Write, Memory, Malformed}
+use Rattle.occ_text.specs.declared.trouble.Trouble.TheVariants.{Read, TooManyLines, Write, Memory, Malformed}
 use Rattle.occ_cli.specs.Answers.{Answer, answer_text}
 use Rattle.occ_cli.specs.Answers as says
 use Rattle.occ_print.specs.Books.{Book, book_lines, audit_line}
@@ -72,12 +71,12 @@ abbrev pub IsAudited : Book → Type 0
 IsAudited book = Audited empty_base book.marks book.state book.log
 
 -- what is written behind the answers
-abbrev pub closing_lines : Book → Bool → List (List ℕ)
-closing_lines book holds = book_lines book ++ audit_line holds ∷ []
+abbrev pub closing_lines : Book → List (List ℕ)
+closing_lines book = book_lines book ++ audit_line true ∷ []
 
 -- what a whole replay writes
-abbrev pub replay_lines : Bool → Schedule → Bool → List (List ℕ)
-replay_lines quiet schedule holds = answer_lines quiet schedule.header.tables schedule.turns ++ closing_lines (book_after schedule) holds
+abbrev pub replay_lines : Bool → Schedule → List (List ℕ)
+replay_lines quiet schedule = answer_lines quiet schedule.header.tables schedule.turns ++ closing_lines (book_after schedule)
 
 -- what stands next is no line of a step: no line stands there, or another one
 pub data IsNoStep (rest : Option (List ℕ)) : Type 0 where
@@ -92,28 +91,36 @@ module _ (quiet : Bool) (before : Option (List ℕ)) (Wrote WroteFront : List �
     MalformedStep : (schedule : Schedule) (rest : Option (List ℕ)) → IsReplayed schedule → Consumes before rest (lines_text (schedule_lines schedule)) → IsNoStep rest → number ≡ length (schedule_lines schedule) + 1
         → Wrote (lines_text (answer_lines quiet schedule.header.tables schedule.turns)) → IsMalformedAt number
 
-  -- a read failed amid a line or before it, and all lines before were taken and answered
-  pub data IsUnreadable : Type 0 where
-    UnreadHeader : (lines : List (List ℕ)) (part : List ℕ) (rest : Option (List ℕ)) → Consumes before rest (lines_text lines ++ part) → BeginsHeader lines → IsLine part → Wrote [] → IsUnreadable
-    UnreadStep : (schedule : Schedule) (part : List ℕ) (rest : Option (List ℕ)) → IsReplayed schedule → Consumes before rest (lines_text (schedule_lines schedule) ++ part) → IsLine part
-        → Wrote (lines_text (answer_lines quiet schedule.header.tables schedule.turns)) → IsUnreadable
+  -- A read failed: all that the reader gave is the lines that were taken and answered, and a part of another. `after` is what it has left.
+  pub data IsUnreadable (after : Option (List ℕ)) : Type 0 where
+    UnreadHeader : (lines : List (List ℕ)) (part : List ℕ) → Consumes before after (lines_text lines ++ part) → BeginsHeader lines → IsLine part → Wrote [] → IsUnreadable after
+    UnreadStep : (schedule : Schedule) (part : List ℕ) → IsReplayed schedule → Consumes before after (lines_text (schedule_lines schedule) ++ part) → IsLine part
+        → Wrote (lines_text (answer_lines quiet schedule.header.tables schedule.turns)) → IsUnreadable after
+
+  -- all lines that have a number of 64 bits were taken and answered
+  pub record IsUncounted : Type 0 where
+    pub schedule : Schedule
+    pub rest : Option (List ℕ)
+    pub replayed : IsReplayed schedule
+    pub taken : Consumes before rest (lines_text (schedule_lines schedule))
+    pub number : length (schedule_lines schedule) ≡ 2 ^ 64 - 1
+    pub wrote : Wrote (lines_text (answer_lines quiet schedule.header.tables schedule.turns))
 
   -- a beginning of the text was written: of nothing yet, of the answers to the lines that were taken, or at their end of the whole
   pub data IsCutShort : Type 0 where
     CutBefore : WroteFront [] → IsCutShort
     CutAmid : (schedule : Schedule) (rest : Option (List ℕ)) → IsReplayed schedule → Consumes before rest (lines_text (schedule_lines schedule)) → WroteFront (lines_text (answer_lines quiet schedule.header.tables schedule.turns)) → IsCutShort
-    CutInBook : (schedule : Schedule) (rest : Option (List ℕ)) → IsReplayed schedule → Consumes before rest (lines_text (schedule_lines schedule)) → IsAtEnd rest
-        → WroteFront (lines_text (answer_lines quiet schedule.header.tables schedule.turns ++ book_lines (book_after schedule))) → IsCutShort
-    CutInAudit : (schedule : Schedule) (rest : Option (List ℕ)) → IsReplayed schedule → Consumes before rest (lines_text (schedule_lines schedule)) → IsAtEnd rest → (holds : Bool) → Decides holds (IsAudited (book_after schedule))
-        → WroteFront (lines_text (replay_lines quiet schedule holds)) → IsCutShort
+    CutAtEnd : (schedule : Schedule) (rest : Option (List ℕ)) → IsReplayed schedule → Consumes before rest (lines_text (schedule_lines schedule)) → IsAtEnd rest → IsAudited (book_after schedule)
+        → WroteFront (lines_text (replay_lines quiet schedule)) → IsCutShort
 
   -- what a replay leaves, by its outcome, where `after` is what the reader has left at the end
   abbrev pub ReplayGives : {T : Type 0} → Result T Trouble → Option (List ℕ) → Type 0
   ReplayGives (Ok done) after =
       (schedule : Schedule) × (rest : Option (List ℕ)) × IsReplayed schedule × Consumes before rest (lines_text (schedule_lines schedule)) × IsAtEnd rest × Keeps rest after
-      × (holds : Bool) × Decides holds (IsAudited (book_after schedule)) × Wrote (lines_text (replay_lines quiet schedule holds))
+      × IsAudited (book_after schedule) × Wrote (lines_text (replay_lines quiet schedule))
   ReplayGives (Err (Malformed number)) after = IsMalformedAt number
-  ReplayGives (Err Read) after = IsUnreadable
+  ReplayGives (Err Read) after = IsUnreadable after
+  ReplayGives (Err TooManyLines) after = IsUncounted
   ReplayGives (Err Write) after = IsCutShort
   ReplayGives (Err Memory) after = IsCutShort
 

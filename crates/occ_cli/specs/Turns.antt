@@ -1,5 +1,5 @@
 -- What the parts of a replay leave, by their outcomes.
-use Rattle.std.specs.Prelude.{◌≡◌, ◌≢◌, ◌+◌, ◌⊎◌, ℕ, Bool, true, false, List, [], ◌∷◌, ◌++◌, length, Option, Result, Ok, Err, All}
+use Rattle.std.specs.Prelude.{◌≡◌, ◌≢◌, ◌+◌, ◌-◌, ◌^◌, ◌⊎◌, ℕ, Bool, true, false, List, [], ◌∷◌, ◌++◌, length, Option, Result, Ok, Err, All}
 use Rattle.std.specs.Bool.{Decides}
 use Rattle.std.specs.Io.KnownBytes.{Consumes, Keeps, IsAtEnd}
 use Rattle.occ_types.specs.Schema.{Schema}
@@ -7,10 +7,10 @@ use Rattle.occ_types.specs.declared.fault.Fault.TheVariants as faults
 use Rattle.occ_text.specs.declared.faults.WriteFault.{WriteFault}
 use Rattle.occ_text.specs.declared.faults.WriteFault.TheVariants as write_faults
 use Rattle.occ_text.specs.declared.trouble.Trouble.{Trouble}
-use Rattle.occ_text.specs.declared.trouble.Trouble.TheVariants.{Read, Write, Memory, Malformed}
+use Rattle.occ_text.specs.declared.trouble.Trouble.TheVariants.{Read, TooManyLines, Write, Memory, Malformed}
 use Rattle.occ_cli.specs.Answers.{Answer}
 use Rattle.occ_cli.specs.Answers as says
-use Rattle.occ_print.specs.Books.{Book, book_lines, audit_line}
+use Rattle.occ_print.specs.Books.{Book, audit_line}
 use Rattle.occ_text.specs.Line.{IsLine, lines_text}
 use Rattle.occ_cli.specs.Replaying.{Replayed, Plays}
 use Rattle.occ_cli.specs.Schedules.{Turn, PlaysAll, step_lines, answer_lines, IsAudited, closing_lines, IsNoStep}
@@ -21,6 +21,7 @@ abbrev pub is_cut_short : {T : Type 0} → Result T Trouble → Bool
 is_cut_short (Ok done) = false
 is_cut_short (Err (Malformed number)) = false
 is_cut_short (Err Read) = false
+is_cut_short (Err TooManyLines) = false
 is_cut_short (Err Write) = true
 is_cut_short (Err Memory) = true
 
@@ -56,6 +57,7 @@ module _ (quiet : Bool) (schema : Schema) (Wrote WroteFront : List ℕ → Type 
   TurnGives (Ok false) before after first last old new = IsAtEnd before × Keeps before after × (new ≡ old) × Wrote []
   TurnGives (Err (Malformed number)) before after first last old new = IsNoStep before × (number ≡ first + 1) × Wrote []
   TurnGives (Err Read) before after first last old new = (part : List ℕ) × IsLine part × Consumes before after part × Wrote []
+  TurnGives (Err TooManyLines) before after first last old new = (first ≡ 2 ^ 64 - 1) × Wrote []
   TurnGives (Err Write) before after first last old new = IsHalfTurn before after old new
   TurnGives (Err Memory) before after first last old new = WroteFront [] ⊎ IsHalfTurn before after old new
 
@@ -81,15 +83,17 @@ module _ (quiet : Bool) (schema : Schema) (Wrote WroteFront : List ℕ → Type 
       (turns : List Turn) × (rest : Option (List ℕ)) × (last : Replayed) × AreTurns before rest old turns last × IsNoStep rest × (number ≡ first + length turns + 1) × Wrote (lines_text (answer_lines quiet schema turns))
   TurnsGive (Err Read) before after first old new =
       (turns : List Turn) × (part : List ℕ) × (rest : Option (List ℕ)) × (last : Replayed) × AreTurns before rest old turns last × IsLine part × Consumes rest after part × Wrote (lines_text (answer_lines quiet schema turns))
+  TurnsGive (Err TooManyLines) before after first old new =
+      (turns : List Turn) × (rest : Option (List ℕ)) × (last : Replayed) × AreTurns before rest old turns last × (first + length turns ≡ 2 ^ 64 - 1) × Wrote (lines_text (answer_lines quiet schema turns))
   TurnsGive (Err Write) before after first old new = AreHalfSaid before old
   TurnsGive (Err Memory) before after first old new = AreHalfSaid before old
 
 -- what stands behind the answers
 module _ (Wrote WroteFront : List ℕ → Type 0) where
-  -- what a book and its audit leave
+  -- what a book and its audit leave: the audit holds of it, and says so
   abbrev pub ClosingGives : {T : Type 0} → Result T WriteFault → Book → Type 0
-  ClosingGives (Ok done) book = (holds : Bool) × Decides holds (IsAudited book) × Wrote (lines_text (closing_lines book holds))
-  ClosingGives (Err fault) book = WroteFront (lines_text (book_lines book)) ⊎ ((holds : Bool) × Decides holds (IsAudited book) × WroteFront (lines_text (closing_lines book holds)))
+  ClosingGives (Ok done) book = IsAudited book × Wrote (lines_text (closing_lines book))
+  ClosingGives (Err fault) book = IsAudited book × WroteFront (lines_text (closing_lines book))
 
   -- what the line of an audit leaves that tells whether a claim holds
   abbrev pub AuditGives : {T : Type 0} → Result T WriteFault → Type 0 → Type 0

@@ -80,6 +80,7 @@ pub fn write_answer<A: Allocator>(
 /// - `rows K` and K times `KEY=ROW`: the rows of a range, in the order of the keys;
 /// - `ok`: the read phase is forgotten;
 /// - `entered PLACE`: a transaction entered the log at this place;
+/// - `closed`: the closing mark entered, and the session is closed;
 /// - `commit` or `backup CAUSE`: the verdict on a transaction;
 /// - `wrote NAME KEY`: a single write is done, or `nomore`: none is left;
 /// - `finished TN`: a transaction finished under this transaction number;
@@ -96,10 +97,8 @@ fn write_reply<A: Allocator>(
         Reply::Found(row) => write_found(line, row),
         Reply::Rows(rows) => write_rows(line, rows.as_slice()),
         Reply::Forgotten(_known) => line.push_str("ok"),
-        Reply::Entered(entered) => {
-            let place = entered.place;
-            write!(line, "entered {place}")
-        }
+        Reply::Entered { place, .. } => write!(line, "entered {place}"),
+        Reply::Closed => line.push_str("closed"),
         Reply::Decided(verdict) => line.push_str(verdict_text(*verdict)),
         Reply::Wrote(object) => write_written(line, schema, object),
         Reply::NoMore => line.push_str("nomore"),

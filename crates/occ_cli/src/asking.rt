@@ -1,6 +1,6 @@
 //! What a client reads: its own writes, and what the store answers.
 
-ghost use Rattle.std.specs.Prelude.{◌≡◌};
+ghost use Rattle.std.specs.Prelude.{◌≡◌, is_some, true};
 ghost use Rattle.std.specs.Option.{option_copied};
 ghost use Rattle.occ_types.specs.Question.{One};
 ghost use Rattle.occ_types.specs.Seen.{key_of, object_of, question_of};
@@ -11,7 +11,7 @@ ghost use Rattle.occ_sets.specs.Seen as sets;
 ghost use Rattle.occ_model.specs.State.{Found};
 ghost use Rattle.occ_cli.specs.Answers.{answer_of};
 ghost use Rattle.occ_cli.specs.Answers as says;
-ghost use Rattle.occ_cli.specs.Replaying.{GetsIn, MayAnswer, ScansIn, Tells, replied, Played, PlayedIn};
+ghost use Rattle.occ_cli.specs.Replaying.{CopyWantsGet, CopyWantsScan, GetsIn, MayAnswer, ScansIn, Tells, played, replied, Played, PlayedIn};
 
 use crate::answers::Answer;
 use crate::named::{object_named, span_named};
@@ -28,7 +28,7 @@ pub(crate) fn get<A: Allocator + Copy>(
     table: &str,
     key: Key<A>,
 ) -> Result<Answer<A>, Fault>
-    ensures { PlayedIn core.old.world core.new.world result (λ answer. GetsIn core.old.world session table.now (key_of key) copy.now answer core.new.world) }
+    ensures { PlayedIn core.old.world core.new.world result (CopyWantsGet core.old.world session table.now (key_of key) copy.now) (λ answer. GetsIn core.old.world session table.now (key_of key) copy.now answer core.new.world) }
 {
     let object = object_named(core.schema(), table, key)?;
     match copy.own(&object) {
@@ -39,7 +39,7 @@ pub(crate) fn get<A: Allocator + Copy>(
 
 // The answer of an own write.
 fn own_row<A: Allocator + Clone>(row: Option<&Row<A>>) -> Result<Answer<A>, Fault>
-    ensures { Played result (λ answer. answer ≡ says.Replied (events.Answered (Found (option_copied row.entry)))) }
+    ensures { Played result (is_some (option_copied row.entry) ≡ true) (λ answer. answer ≡ says.Replied (events.Answered (Found (option_copied row.entry)))) }
 {
     match row {
         None => Ok(Answer::Replied(Reply::Found(None))),
@@ -57,7 +57,7 @@ fn read<A: Allocator + Copy>(
     session: usize,
     object: &Object<A>,
 ) -> Result<Answer<A>, Fault>
-    ensures { PlayedIn core.old.world core.new.world result (λ answer. Tells core.old.world (events.Read session copy.now.number copy.now.start (One object.now.table (key_of object.now.key))) answer core.new.world) }
+    ensures { Tells core.old.world (events.Read session copy.now.number copy.now.start (One object.now.table (key_of object.now.key))) (played result) core.new.world }
 {
     let row = core.read(
         session,
@@ -78,7 +78,7 @@ pub(crate) fn scan<A: Allocator + Copy>(
     lower: Key<A>,
     upper: Key<A>,
 ) -> Result<Answer<A>, Fault>
-    ensures { PlayedIn core.old.world core.new.world result (λ answer. ScansIn core.old.world session table.now (key_of lower) (key_of upper) copy.now answer core.new.world) }
+    ensures { PlayedIn core.old.world core.new.world result (CopyWantsScan core.old.world table.now (key_of lower) (key_of upper)) (λ answer. ScansIn core.old.world session table.now (key_of lower) (key_of upper) copy.now answer core.new.world) }
 {
     let question = span_named(core.schema(), table, lower, upper)?;
     let prepared = copy.prepare(&question)?;

@@ -9,7 +9,7 @@ ghost use Rattle.occ_model.specs.Overlay.{set};
 ghost use Rattle.occ_queue.specs.Items.{item_of};
 ghost use Rattle.occ_sets.specs.Sets.{is_full_for};
 ghost use Rattle.occ_cli.specs.Answers.{Done};
-ghost use Rattle.occ_cli.specs.Replaying.{fresh, Begins, Writes, WritesCopy, Submits, Gets, Scans, Enters, next_item, still_waiting, Given, unless, check_written, played, PlayedIn};
+ghost use Rattle.occ_cli.specs.Replaying.{fresh, Begins, Writes, WritesCopy, Submits, Gets, Scans, Enters, next_item, still_waiting, Given, unless, check_written, WantsGet, WantsScan, WantsWrite, CopyWantsWrite, WantsRoom, played, PlayedIn};
 
 use crate::answers::Answer;
 use crate::asking;
@@ -86,7 +86,7 @@ impl<A: Allocator> Client<A> {
         key: Key<A>,
         row: Option<Row<A>>,
     ) -> Result<Answer<A>, Fault>
-        ensures { PlayedIn self.old self.new result (λ answer. Writes schema.now table.now (key_of key) row self.old answer self.new) }
+        ensures { PlayedIn self.old self.new result (WantsWrite schema.now table.now (key_of key) row self.old) (λ answer. Writes schema.now table.now (key_of key) row self.old answer self.new) }
     {
         match &mut self.copy {
             None => Err(Fault::NoReadOpen),
@@ -143,7 +143,7 @@ impl<A: Allocator + Copy> Client<A> {
         table: &str,
         key: Key<A>,
     ) -> Result<Answer<A>, Fault>
-        ensures { PlayedIn core.old.world core.new.world result (λ answer. Gets core.old.world session table.now (key_of key) self.now answer core.new.world) }
+        ensures { PlayedIn core.old.world core.new.world result (WantsGet core.old.world session table.now (key_of key) self.now) (λ answer. Gets core.old.world session table.now (key_of key) self.now answer core.new.world) }
     {
         match &self.copy {
             None => Err(Fault::NoReadOpen),
@@ -160,7 +160,7 @@ impl<A: Allocator + Copy> Client<A> {
         lower: Key<A>,
         upper: Key<A>,
     ) -> Result<Answer<A>, Fault>
-        ensures { PlayedIn core.old.world core.new.world result (λ answer. Scans core.old.world session table.now (key_of lower) (key_of upper) self.now answer core.new.world) }
+        ensures { PlayedIn core.old.world core.new.world result (WantsScan core.old.world table.now (key_of lower) (key_of upper) self.now) (λ answer. Scans core.old.world session table.now (key_of lower) (key_of upper) self.now answer core.new.world) }
     {
         match &self.copy {
             None => Err(Fault::NoReadOpen),
@@ -190,7 +190,7 @@ fn write_copy<A: Allocator>(
     key: Key<A>,
     row: Option<Row<A>>,
 ) -> Result<Answer<A>, Fault>
-    ensures { PlayedIn copy.old copy.new result (λ answer. WritesCopy schema.now table.now (key_of key) row copy.old answer copy.new) }
+    ensures { PlayedIn copy.old copy.new result (CopyWantsWrite schema.now table.now (key_of key) row copy.old) (λ answer. WritesCopy schema.now table.now (key_of key) row copy.old answer copy.new) }
 {
     let Object { table, key } = object_named(schema, table, key)?;
     check_written(schema, table, &row)?;
@@ -218,7 +218,7 @@ fn put_or_delete<A: Allocator>(
     key: Key<A>,
     row: Option<Row<A>>,
 ) -> Result<Answer<A>, Fault>
-    ensures { PlayedIn copy.old copy.new result (λ answer. Given (unless (fault_if (is_full_for copy.old.writes (table, key_of key)) faults.SetFull) copy.old) copy.old answer copy.new
+    ensures { PlayedIn copy.old copy.new result (WantsRoom copy.old.writes (table, key_of key)) (λ answer. Given (unless (fault_if (is_full_for copy.old.writes (table, key_of key)) faults.SetFull) copy.old) copy.old answer copy.new
         (λ old. (answer ≡ Done) × (copy.new ≡ record old { writes = set old.writes (table, key_of key) row }))) }
 {
     match row {

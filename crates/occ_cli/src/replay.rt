@@ -1,14 +1,16 @@
 //! The replay of a schedule: a text in, a text out.
 
-ghost use Rattle.std.specs.Prelude.{◌≡◌, ◌<◌, ◌^◌, ◌∷◌, [], true, IfOk};
+ghost use Rattle.std.specs.Prelude.{◌≡◌, ◌<◌, ◌^◌, ◌∷◌, [], true, IfOk, IfErr};
 ghost use Rattle.std.specs.Io.KnownBytes.{Appends, prepend_known};
 ghost use Rattle.occ_model.specs.Log.{Audited};
 ghost use Rattle.occ_model.specs.World.{empty_base};
 ghost use Rattle.occ_core.specs.Rows.{log_of};
 ghost use Rattle.occ_cli.specs.Answers.{answer_of, answer_text};
-ghost use Rattle.occ_text.specs.Line.{lines_text};
+ghost use Rattle.occ_text.specs.Line.{lines_text, HasFailed};
 ghost use Rattle.occ_text.specs.Printing.{Pushed, PushedFront, PrintGives};
 ghost use Rattle.occ_text.specs.Steps.{step_of};
+ghost use Rattle.occ_text.specs.declared.faults.WriteFault.TheVariants as write_faults;
+ghost use Rattle.occ_text.specs.declared.trouble.Trouble.TheVariants as troubles;
 ghost use Rattle.occ_cli.specs.Schedules.{ReplayGives, AppendsFront, book_at};
 ghost use Rattle.occ_cli.specs.Turns.{AnswerGives, TurnGives, TurnsGive, ClosingGives, AuditGives, is_cut_short};
 
@@ -30,10 +32,11 @@ use std::alloc::Allocator;
 use std::io::{Read, Write};
 
 /// Replays a schedule: reads its header, does each step and answers it by a line, and then writes the book of what came of it and
-/// whether its audit holds. Without answers where `quiet` is true.
+/// that its audit holds. Without answers where `quiet` is true.
 ///
-/// `Malformed` at the first line that is none of the grammar, and `Read` where the reader fails: the answers to all whole lines
-/// before were written then, and nothing else. `Write` where the writer fails, and `Memory` where memory was refused: a beginning
+/// `Malformed` at the first line that is none of the grammar, `Read` where the reader fails, and `TooManyLines` after 2^64 - 1
+/// lines: the answers to all whole lines before were written then, and nothing else. At `Read` these are all whole lines that the
+/// reader gave. `Write` where the writer fails, and `Memory` where memory was refused: a beginning
 /// of the text was written then. Its memory is bounded by what the store holds, and not by the text. At `Ok` the reader is at its
 /// end; at an error it may have given more than the lines that were taken.
 pub fn replay_text<R: Read, W: Write, A: Allocator + Copy>(
@@ -72,10 +75,12 @@ fn replay_lines<R: Read, W: Write, A: Allocator + Copy>(
     quiet: bool,
 ) -> Result<(), Trouble>
     requires { input.old.number ≡ 0 }
-    ensures { ReplayGives quiet (prepend_known input.old.unread (R.remaining reader.old))
-        (Pushed (W.contents writer.old) (W.contents writer.new) output.old output.new)
-        (PushedFront (W.contents writer.old) (W.contents writer.new) output.old output.new) result
+    ensures gives { ReplayGives quiet (prepend_known input.old.unread (R.remaining reader.old))
+        (Pushed (W.contents writer.old) (W.contents writer.new) output.old.held output.new.held)
+        (PushedFront (W.contents writer.old) (W.contents writer.new) output.old.held output.new.held) result
         (prepend_known input.new.unread (R.remaining reader.new)) }
+    ensures unread { IfErr result (λ trouble. trouble ≡ troubles.Read → HasFailed input.new) }
+    ensures unwritten { IfErr result (λ trouble. trouble ≡ troubles.Write → output.new.failed ≡ true) }
 {
     let header = read_header(alloc, input, reader)?;
     let Ok(mut replay) = Replay::open(alloc, header.schema, header.limits) else {
@@ -96,10 +101,12 @@ fn take_turns<R: Read, W: Write, A: Allocator + Copy>(
     replay: &mut Replay<A>,
     quiet: bool,
 ) -> Result<(), Trouble>
-    ensures { TurnsGive quiet replay.old.world.settings.schema (Pushed (W.contents writer.old) (W.contents writer.new) output.old output.new)
-        (PushedFront (W.contents writer.old) (W.contents writer.new) output.old output.new) result
+    ensures gives { TurnsGive quiet replay.old.world.settings.schema (Pushed (W.contents writer.old) (W.contents writer.new) output.old.held output.new.held)
+        (PushedFront (W.contents writer.old) (W.contents writer.new) output.old.held output.new.held) result
         (prepend_known input.old.unread (R.remaining reader.old)) (prepend_known input.new.unread (R.remaining reader.new))
         input.old.number replay.old replay.new }
+    ensures unread { IfErr result (λ trouble. trouble ≡ troubles.Read → HasFailed input.new) }
+    ensures unwritten { IfErr result (λ trouble. trouble ≡ troubles.Write → output.new.failed ≡ true) }
 {
     while take_turn(alloc, input, reader, output, writer, replay, quiet)? {}
     Ok(())
@@ -115,11 +122,13 @@ fn take_turn<R: Read, W: Write, A: Allocator + Copy>(
     replay: &mut Replay<A>,
     quiet: bool,
 ) -> Result<bool, Trouble>
-    ensures gives { TurnGives quiet replay.old.world.settings.schema (Pushed (W.contents writer.old) (W.contents writer.new) output.old output.new)
-        (PushedFront (W.contents writer.old) (W.contents writer.new) output.old output.new) result
+    ensures gives { TurnGives quiet replay.old.world.settings.schema (Pushed (W.contents writer.old) (W.contents writer.new) output.old.held output.new.held)
+        (PushedFront (W.contents writer.old) (W.contents writer.new) output.old.held output.new.held) result
         (prepend_known input.old.unread (R.remaining reader.old)) (prepend_known input.new.unread (R.remaining reader.new))
         input.old.number input.new.number replay.old replay.new }
     ensures counted { IfOk result (λ more. more ≡ true → input.new.number < 2 ^ 64) }
+    ensures unread { IfErr result (λ trouble. trouble ≡ troubles.Read → HasFailed input.new) }
+    ensures unwritten { IfErr result (λ trouble. trouble ≡ troubles.Write → output.new.failed ≡ true) }
 {
     match input.next_line(reader)? {
         Next::End => return Ok(false),
@@ -139,9 +148,10 @@ fn answer_step<W: Write, A: Allocator + Copy>(
     step: Step<'_, A>,
     quiet: bool,
 ) -> Result<(), WriteFault>
-    ensures { AnswerGives quiet replay.old.world.settings.schema (Pushed (W.contents writer.old) (W.contents writer.new) output.old output.new)
-        (PushedFront (W.contents writer.old) (W.contents writer.new) output.old output.new) result
+    ensures gives { AnswerGives quiet replay.old.world.settings.schema (Pushed (W.contents writer.old) (W.contents writer.new) output.old.held output.new.held)
+        (PushedFront (W.contents writer.old) (W.contents writer.new) output.old.held output.new.held) result
         (step_of step.entry) replay.old replay.new }
+    ensures cause { IfErr result (λ fault. fault ≡ write_faults.Write → output.new.failed ≡ true) }
 {
     let answer = replay.answer(step)?;
     if quiet {
@@ -158,7 +168,8 @@ fn say<W: Write, A: Allocator + Copy>(
     schema: &Schema<A>,
     answer: &Answer<A>,
 ) -> Result<(), WriteFault>
-    ensures { PrintGives result (W.contents writer.old) (W.contents writer.new) output.old output.new (lines_text (answer_text schema.now (answer_of answer.now) ∷ [])) }
+    ensures gives { PrintGives result (W.contents writer.old) (W.contents writer.new) output.old.held output.new.held (lines_text (answer_text schema.now (answer_of answer.now) ∷ [])) }
+    ensures cause { IfErr result (λ fault. fault ≡ write_faults.Write → output.new.failed ≡ true) }
 {
     let mut line = String::new(alloc);
     write_answer(&mut line, schema, answer)?;
@@ -173,11 +184,13 @@ fn close<W: Write, A: Allocator + Copy>(
     replay: &Replay<A>,
     limits: Limits,
 ) -> Result<(), WriteFault>
-    ensures { ClosingGives (Pushed (W.contents writer.old) (W.contents writer.new) output.old output.new)
-        (PushedFront (W.contents writer.old) (W.contents writer.new) output.old output.new) result
+    ensures gives { ClosingGives (Pushed (W.contents writer.old) (W.contents writer.new) output.old.held output.new.held)
+        (PushedFront (W.contents writer.old) (W.contents writer.new) output.old.held output.new.held) result
         (book_at (record { sessions = limits.sessions; queue = limits.queue; keep = limits.keep; tables = replay.now.world.settings.schema }) replay.now.world) }
+    ensures cause { IfErr result (λ fault. fault ≡ write_faults.Write → output.new.failed ≡ true) }
 {
     let core = replay.core();
+    core.law();
     let book = core.view();
     write_book(alloc, output, writer, limits, core.schema(), &book)?;
     write_audit(alloc, output, writer, &book)
@@ -190,9 +203,10 @@ fn write_audit<W: Write, A: Allocator + Copy>(
     writer: &mut W,
     book: &BookView<'_, A, OpenCase<A>>,
 ) -> Result<(), WriteFault>
-    ensures { AuditGives (Pushed (W.contents writer.old) (W.contents writer.new) output.old output.new)
-        (PushedFront (W.contents writer.old) (W.contents writer.new) output.old output.new) result
+    ensures gives { AuditGives (Pushed (W.contents writer.old) (W.contents writer.new) output.old.held output.new.held)
+        (PushedFront (W.contents writer.old) (W.contents writer.new) output.old.held output.new.held) result
         (Audited empty_base book.now.marks.now.marks book.now.table.now.state (log_of book.now.log.now)) }
+    ensures cause { IfErr result (λ fault. fault ≡ write_faults.Write → output.new.failed ≡ true) }
 {
     let Ok(holds) = audit_rows(alloc, book) else {
         return Err(WriteFault::Memory);

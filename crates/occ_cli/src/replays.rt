@@ -1,6 +1,6 @@
 //! A replay of a schedule, step by step.
 
-ghost use Rattle.std.specs.Prelude.{◌≡◌, ◌≢◌, ◌<◌, suc, Some, None, Ok, Err, length, replicate, IfOk, IfErr, OnErr, IsOkUnless, MatchResult};
+ghost use Rattle.std.specs.Prelude.{◌≡◌, ◌≢◌, ◌<◌, suc, Some, None, Ok, Err, length, replicate, IfOk, IfErr, OnErr, IsOkAnd, IsOkUnless, MatchResult};
 ghost use Rattle.occ_types.specs.Seen.{key_of};
 ghost use Rattle.occ_text.specs.declared.steps.Act.TheVariants as acts;
 ghost use Rattle.occ_types.specs.declared.fault.Fault.TheVariants as faults;
@@ -8,7 +8,7 @@ ghost use Rattle.occ_core.specs.Runs.{event_of, reply_of};
 ghost use Rattle.occ_cli.specs.Answers.{answer_of};
 ghost use Rattle.occ_cli.specs.Answers as says;
 ghost use Rattle.occ_text.specs.Steps.{step_of, Does, Get, Scan, Show};
-ghost use Rattle.occ_cli.specs.Replaying.{started, fresh, client_of, counts_of, ByClient, ByStore, Writes, Plays, PlayedIn, PlayedBy, Starved, takes_own_memory, may_be_put_off, played};
+ghost use Rattle.occ_cli.specs.Replaying.{started, fresh, client_of, counts_of, ByClient, ByStore, Writes, Plays, Played, PlayedIn, PutOff, Starved, WantsWrite, played};
 
 use crate::answers::{Answer, Counts};
 use crate::clients::Client;
@@ -67,7 +67,7 @@ impl<A: Allocator + Copy> Replay<A> {
         })
     }
 
-    /// Does a step, and answers it. It is an error where memory is refused, as it can be for `enter`, `write`, `get`, `scan`, `put` and `delete` alone: nothing has changed then, but that what the store refused to enter is kept for the next time, as after any refusal.
+    /// Does a step, and answers it. It is an error where memory is refused, which comes only where no other refusal applies that is tried before, and where the step takes memory: as it can be for `enter`, `write`, `get`, `scan`, `put` and `delete` alone. Nothing has changed then, but that what was to enter is kept for the next time, as after any refusal.
     pub(crate) fn answer(&mut self, step: Step<'_, A>) -> Result<Answer<A>, AllocError>
         ensures ok { IfOk result (λ answer. Plays self.old (step_of step.entry) (answer_of answer) self.new) }
         ensures fed { IfOk result (λ answer. answer_of answer ≢ says.refused faults.Memory) }
@@ -81,7 +81,7 @@ impl<A: Allocator + Copy> Replay<A> {
 
     // Does a step. What a client refuses is an error; what the store refuses may be one, or a reply.
     fn play(&mut self, step: Step<'_, A>) -> Result<Answer<A>, Fault>
-        ensures { PlayedBy (takes_own_memory (step_of step.entry)) self.old self.new result (λ answer. Plays self.old (step_of step.entry) answer self.new) }
+        ensures { Played result (Starved self.old (step_of step.entry) self.new) (λ answer. Plays self.old (step_of step.entry) answer self.new) }
     {
         match step {
             Step::Does { act, session } => self.act(act, session),
@@ -113,7 +113,7 @@ impl<A: Allocator + Copy> Replay<A> {
 
     // A step that names a session and nothing else.
     fn act(&mut self, act: Act, session: usize) -> Result<Answer<A>, Fault>
-        ensures { PlayedBy (takes_own_memory (Does act session)) self.old self.new result (λ answer. Plays self.old (Does act session) answer self.new) }
+        ensures { Played result (Starved self.old (Does act session) self.new) (λ answer. Plays self.old (Does act session) answer self.new) }
     {
         match act {
             Act::Begin => self.begin(session),
@@ -152,7 +152,7 @@ impl<A: Allocator + Copy> Replay<A> {
     }
 
     fn get(&mut self, session: usize, table: &str, key: Key<A>) -> Result<Answer<A>, Fault>
-        ensures { PlayedIn self.old self.new result (λ answer. Plays self.old (Get session table.now (key_of key)) answer self.new) }
+        ensures { Played result (Starved self.old (Get session table.now (key_of key)) self.new) (λ answer. Plays self.old (Get session table.now (key_of key)) answer self.new) }
     {
         let place = place_of(self.clients.as_slice(), session)?;
         let client = &self.clients[place];
@@ -166,7 +166,7 @@ impl<A: Allocator + Copy> Replay<A> {
         lower: Key<A>,
         upper: Key<A>,
     ) -> Result<Answer<A>, Fault>
-        ensures { PlayedIn self.old self.new result (λ answer. Plays self.old (Scan session table.now (key_of lower) (key_of upper)) answer self.new) }
+        ensures { Played result (Starved self.old (Scan session table.now (key_of lower) (key_of upper)) self.new) (λ answer. Plays self.old (Scan session table.now (key_of lower) (key_of upper)) answer self.new) }
     {
         let place = place_of(self.clients.as_slice(), session)?;
         let client = &self.clients[place];
@@ -181,7 +181,7 @@ impl<A: Allocator + Copy> Replay<A> {
         key: Key<A>,
         row: Option<Row<A>>,
     ) -> Result<Answer<A>, Fault>
-        ensures { PlayedIn self.old self.new result (λ answer. ByClient self.old session answer self.new (λ client next. Writes self.old.world.settings.schema table.now (key_of key) row client answer next)) }
+        ensures { PlayedIn self.old self.new result (IsOkAnd (client_of self.old.clients session) (WantsWrite self.old.world.settings.schema table.now (key_of key) row)) (λ answer. ByClient self.old session answer self.new (λ client next. Writes self.old.world.settings.schema table.now (key_of key) row client answer next)) }
     {
         let place = place_of(self.clients.as_slice(), session)?;
         let client = &mut self.clients[place];
@@ -190,7 +190,7 @@ impl<A: Allocator + Copy> Replay<A> {
 
     // A step of the store alone.
     fn call(&mut self, call: Call<A>) -> Result<Answer<A>, Fault>
-        ensures { PlayedBy (may_be_put_off call) self.old self.new result (λ answer. ByStore self.old (event_of call) answer self.new) }
+        ensures { Played result (PutOff call self.old self.new) (λ answer. ByStore self.old (event_of call) answer self.new) }
     {
         Ok(Answer::Replied(self.core.take(call)))
     }

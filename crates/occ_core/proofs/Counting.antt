@@ -22,7 +22,7 @@ abbrev listed : Option (List Write) → List (List Write)
 listed None = []
 listed (Some writes) = writes ∷ []
 
-of_row : (log : List LogRow) (o : Option LogRow) → (elim o as (λ _. List (List Write)) [ None ↦ [] | Some row ↦ cond (is_active row.standing) (row.writes ∷ []) [] ]) ≡ listed (elim o as (λ _. Option (List Write)) [ None ↦ None | Some row ↦ cond (is_active row.standing) (Some row.writes) None ])
+of_row : (log : ℕ → Option LogRow) (o : Option LogRow) → (elim o as (λ _. List (List Write)) [ None ↦ [] | Some row ↦ cond (is_active row.standing) (row.writes ∷ []) [] ]) ≡ listed (elim o as (λ _. Option (List Write)) [ None ↦ None | Some row ↦ cond (is_active row.standing) (Some row.writes) None ])
 of_row log None = refl
 of_row log (Some row) = chosen (is_active row.standing)
   where
@@ -30,23 +30,23 @@ of_row log (Some row) = chosen (is_active row.standing)
     chosen true = refl
     chosen false = refl
 
-of_hold : (log : List LogRow) (h : Option Hold) → (elim h as (λ _. List (List Write)) [ None ↦ [] | Some hold ↦ elim (slice_get log hold.place) [ None ↦ [] | Some row ↦ cond (is_active row.standing) (row.writes ∷ []) [] ] ])
-    ≡ listed (elim h as (λ _. Option (List Write)) [ None ↦ None | Some hold ↦ elim (slice_get log hold.place) [ None ↦ None | Some row ↦ cond (is_active row.standing) (Some row.writes) None ] ])
+of_hold : (log : ℕ → Option LogRow) (h : Option Hold) → (elim h as (λ _. List (List Write)) [ None ↦ [] | Some hold ↦ elim (log hold.place) [ None ↦ [] | Some row ↦ cond (is_active row.standing) (row.writes ∷ []) [] ] ])
+    ≡ listed (elim h as (λ _. Option (List Write)) [ None ↦ None | Some hold ↦ elim (log hold.place) [ None ↦ None | Some row ↦ cond (is_active row.standing) (Some row.writes) None ] ])
 of_hold log None = refl
-of_hold log (Some hold) = of_row log (slice_get log hold.place)
+of_hold log (Some hold) = of_row log (log hold.place)
 
-active_then : (log : List LogRow) (slots : List Slot) (k : ℕ) → k < length slots → active_from log (drop k slots) ≡ listed (active_at log (slice_get slots k)) ++ active_from log (drop (suc k) slots)
+active_then : (log : ℕ → Option LogRow) (slots : List Slot) (k : ℕ) → k < length slots → active_from log (drop k slots) ≡ listed (active_at log (slice_get slots k)) ++ active_from log (drop (suc k) slots)
 active_then log [] k less = absurd (omega arith)
 active_then log (slot ∷ slots) zero less = ap (λ l. l ++ active_from log slots) (of_hold log slot.hold)
 active_then log (slot ∷ slots) (suc k) less = active_then log slots k (omega arith)
 
-active_next : (log : List LogRow) (slots : List Slot) (k : ℕ) → k < length slots → active_from log (drop k slots) ≡ listed (active_at log (slice_get slots k)) ++ active_from log (drop (k + 1) slots)
+active_next : (log : ℕ → Option LogRow) (slots : List Slot) (k : ℕ) → k < length slots → active_from log (drop k slots) ≡ listed (active_at log (slice_get slots k)) ++ active_from log (drop (k + 1) slots)
 active_next log slots k less = active_then log slots k less ∙ ap (λ n. listed (active_at log (slice_get slots k)) ++ active_from log (drop n slots)) (let e : suc k ≡ k + 1 = omega arith in e)
 
-pub active_found : (log : List LogRow) (slots : List Slot) (k : ℕ) (writes : List Write) → k < length slots → Some writes ≡ active_at log (slice_get slots k) → active_from log (drop k slots) ≡ writes ∷ active_from log (drop (k + 1) slots)
+pub active_found : (log : ℕ → Option LogRow) (slots : List Slot) (k : ℕ) (writes : List Write) → k < length slots → Some writes ≡ active_at log (slice_get slots k) → active_from log (drop k slots) ≡ writes ∷ active_from log (drop (k + 1) slots)
 active_found log slots k writes less found = active_next log slots k less ∙ ap (λ o. listed o ++ active_from log (drop (k + 1) slots)) (sym found)
 
-pub active_skipped : (log : List LogRow) (slots : List Slot) (k : ℕ) → k < length slots → None ≡ active_at log (slice_get slots k) → active_from log (drop k slots) ≡ active_from log (drop (k + 1) slots)
+pub active_skipped : (log : ℕ → Option LogRow) (slots : List Slot) (k : ℕ) → k < length slots → None ≡ active_at log (slice_get slots k) → active_from log (drop k slots) ≡ active_from log (drop (k + 1) slots)
 active_skipped log slots k less found = active_next log slots k less ∙ ap (λ o. listed o ++ active_from log (drop (k + 1) slots)) (sym found)
 
 -- In the log.
@@ -173,10 +173,10 @@ counted n (row ∷ rows) one range =
     (λ no. let z : cond (is_active row.standing) 1 0 ≡ 0 = ap (λ b. cond b 1 0) no in ap (hit row.session 1 n) z ∙ hit_none row.session 1 n ∙ sym z) in
     omega arith
 
-slots_tally : (log : List LogRow) (slots : List Slot) (from : ℕ) → ((k : ℕ) (slot : Slot) → slice_get slots k ≡ Some slot → length (active_of log slot) ≡ act (latest (from + k) log)) → length (active_from log slots) ≡ tally log from (length slots)
+slots_tally : (log : List LogRow) (slots : List Slot) (from : ℕ) → ((k : ℕ) (slot : Slot) → slice_get slots k ≡ Some slot → length (active_of (slice_get log) slot) ≡ act (latest (from + k) log)) → length (active_from (slice_get log) slots) ≡ tally log from (length slots)
 slots_tally log [] from each = refl
 slots_tally log (slot ∷ slots) from each =
-    let l = length-append (active_of log slot) (active_from log slots) in
+    let l = length-append (active_of (slice_get log) slot) (active_from (slice_get log) slots) in
     let h = each 0 slot refl ∙ ap (λ s. act (latest s log)) (let e : from + 0 ≡ from = omega arith in e) in
     let t = slots_tally log slots (suc from) (λ k s at. each (suc k) s at ∙ ap (λ q. act (latest q log)) (let e : from + suc k ≡ suc from + k = omega arith in e)) in
     omega arith
@@ -194,7 +194,7 @@ idle slots (row ∷ rows) held s out = at (idle slots rows held.1 s out) (latest
     at again (Some later) e b f = ap act (sym e) ∙ again
 
 -- the active transactions are as many as are found through the sessions
-pub active_counted : (parts : Parts) → AreSound parts → length (active_from parts.log parts.slots) ≡ active_count (world_of parts)
+pub active_counted : (parts : Parts) → AreSound parts → length (active_from (slice_get parts.log) parts.slots) ≡ active_count (world_of parts)
 active_counted parts sound =
     slots_tally parts.log parts.slots 1 each
     ∙ counted (length parts.slots) parts.log sound.law.one_under_way (in_range parts.slots parts.log sound.law.active_held)
@@ -206,7 +206,7 @@ active_counted parts sound =
         at true = refl
         at false = refl
 
-    each : (k : ℕ) (slot : Slot) → slice_get parts.slots k ≡ Some slot → length (active_of parts.log slot) ≡ act (latest (1 + k) parts.log)
+    each : (k : ℕ) (slot : Slot) → slice_get parts.slots k ≡ Some slot → length (active_of (slice_get parts.log) slot) ≡ act (latest (1 + k) parts.log)
     each k slot at = of_hold' slot.hold refl
       where
         of_hold' : (h : Option Hold) → slot.hold ≡ h → length (elim h as (λ _. List (List Write)) [ None ↦ [] | Some hold ↦ elim (slice_get parts.log hold.place) [ None ↦ [] | Some row ↦ cond (is_active row.standing) (row.writes ∷ []) [] ] ]) ≡ act (latest (1 + k) parts.log)
@@ -233,7 +233,7 @@ pub none_of : {X : Type 0} (o : Option X) (f : X → List Write) (seen : Option 
 none_of None f seen e none = e
 none_of (Some x) f seen e none = cc
 
-pub count_found : (log : List LogRow) (slots : List Slot) (k count next total : ℕ) (writes : List Write) → k < length slots → Some writes ≡ active_at log (slice_get slots k) → next ≡ count + 1
+pub count_found : (log : ℕ → Option LogRow) (slots : List Slot) (k count next total : ℕ) (writes : List Write) → k < length slots → Some writes ≡ active_at log (slice_get slots k) → next ≡ count + 1
     → (count + length (active_from log (drop k slots)) ≡ total) × (count ≤ k) → (next + length (active_from log (drop (k + 1) slots)) ≡ total) × (next ≤ k + 1)
 count_found log slots k count next total writes less found is was =
     let e = ap length (active_found log slots k writes less found) in
@@ -244,7 +244,7 @@ count_found log slots k count next total writes less found is was =
     more : (count next left after total : ℕ) → left ≡ suc after → next ≡ count + 1 → count + left ≡ total → next + after ≡ total
     more count next left after total e is a = omega arith
 
-pub count_skipped : (log : List LogRow) (slots : List Slot) (k count next total : ℕ) → k < length slots → None ≡ active_at log (slice_get slots k) → next ≡ count
+pub count_skipped : (log : ℕ → Option LogRow) (slots : List Slot) (k count next total : ℕ) → k < length slots → None ≡ active_at log (slice_get slots k) → next ≡ count
     → (count + length (active_from log (drop k slots)) ≡ total) × (count ≤ k) → (next + length (active_from log (drop (k + 1) slots)) ≡ total) × (next ≤ k + 1)
 count_skipped log slots k count next total less found is was =
     let e = ap length (active_skipped log slots k less found) in
@@ -255,13 +255,13 @@ count_skipped log slots k count next total less found is was =
     more : (count next left after total : ℕ) → left ≡ after → next ≡ count → count + left ≡ total → next + after ≡ total
     more count next left after total e is a = omega arith
 
-pub share_found : (log : List LogRow) (slots : List Slot) (k : ℕ) (before after : List (List Write)) (writes : List Write) → k < length slots → Some writes ≡ active_at log (slice_get slots k) → after ≡ before ++ writes ∷ []
+pub share_found : (log : ℕ → Option LogRow) (slots : List Slot) (k : ℕ) (before after : List (List Write)) (writes : List Write) → k < length slots → Some writes ≡ active_at log (slice_get slots k) → after ≡ before ++ writes ∷ []
     → before ++ active_from log (drop k slots) ≡ active_from log slots → after ++ active_from log (drop (k + 1) slots) ≡ active_from log slots
 share_found log slots k before after writes less found is was =
     ap (λ l. l ++ active_from log (drop (k + 1) slots)) is ∙ append_assoc before (writes ∷ []) (active_from log (drop (k + 1) slots))
     ∙ ap (λ l. before ++ l) (sym (active_found log slots k writes less found)) ∙ was
 
-pub share_skipped : (log : List LogRow) (slots : List Slot) (k : ℕ) (before after : List (List Write)) → k < length slots → None ≡ active_at log (slice_get slots k) → after ≡ before
+pub share_skipped : (log : ℕ → Option LogRow) (slots : List Slot) (k : ℕ) (before after : List (List Write)) → k < length slots → None ≡ active_at log (slice_get slots k) → after ≡ before
     → before ++ active_from log (drop k slots) ≡ active_from log slots → after ++ active_from log (drop (k + 1) slots) ≡ active_from log slots
 share_skipped log slots k before after less found is was =
     ap (λ l. l ++ active_from log (drop (k + 1) slots)) is ∙ ap (λ l. before ++ l) (sym (active_skipped log slots k less found)) ∙ was

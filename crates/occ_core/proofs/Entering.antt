@@ -25,7 +25,7 @@ use Rattle.occ_core.specs.Phases.{reads_of}
 use Rattle.occ_core.specs.Reads.{session_fault, closed_fault, start_fault}
 use Rattle.occ_core.specs.Entries.{due_fault, busy_fault, spare_fault, turn_to_enter, write_fault, log_fault, counter_fault, room_to_enter}
 use Rattle.occ_core.specs.Slots.{Slot, Hold, last_of, active_from, ArePlaced, HoldsArePlaced}
-use Rattle.occ_core.specs.declared.core_entries.Entered as code_entry
+use Rattle.occ_core.specs.declared.core_entries.Entry.{Entry}
 use Rattle.occ_core.specs.Replies.{entry}
 use Rattle.occ_core.specs.Parts.{Parts, world_of, low_of, AreSound}
 use Rattle.occ_core.proofs.Calls.{held_world}
@@ -105,7 +105,7 @@ without (Some f) b c others = refl
 without None (Some f) c others = refl
 without None None (Some f) others = refl
 
-busy_is : (parts : Parts) (session : ℕ) → AreSound parts → session_fault parts.slots session ≡ None → refusals.session_busy (world_of parts) session ≡ busy_fault (slice_get parts.slots (session - 1))
+pub busy_is : (parts : Parts) (session : ℕ) → AreSound parts → session_fault parts.slots session ≡ None → refusals.session_busy (world_of parts) session ≡ busy_fault (slice_get parts.slots (session - 1))
 busy_is parts session sound free =
     let both = tests.and_true (nat_le 1 session) (nat_le session (length parts.slots)) (tests.not_false _ (not_refused _ faults.NoSession free)) in
     let from = leb-true 1 session both.0 in
@@ -115,7 +115,7 @@ busy_is parts session sound free =
     ap (λ s. fault_if (is_held (world_of parts) s) faults.SessionBusy) same
     ∙ ap (λ b. fault_if b faults.SessionBusy) (held_world parts (session - 1) found.0 found.1) ∙ sym (ap busy_fault found.1)
 
-counter_is : (parts : Parts) → AreSound parts → refusals.counter_exhausted (world_of parts) ≡ counter_fault parts.counter (length (active_from parts.log parts.slots))
+counter_is : (parts : Parts) → AreSound parts → refusals.counter_exhausted (world_of parts) ≡ counter_fault parts.counter (length (active_from (slice_get parts.log) parts.slots))
 counter_is parts sound =
     ap (λ b. fault_if b faults.CounterExhausted) (
     upto MAX_COUNTER parts.counter (active_count (world_of parts)))
@@ -130,7 +130,7 @@ counter_is parts sound =
 
 pub entry_refusal : (parts : Parts) (session number start : ℕ) (writes : List Write) → AreSound parts
     → refusal (world_of parts) (Enter session (Request number start writes))
-    ≡ first_fault (turn_to_enter parts.slots parts.marks parts.phases parts.counter session number start ∷ room_to_enter parts.settings.schema parts.slots parts.log parts.counter writes ∷ [])
+    ≡ first_fault (turn_to_enter parts.slots parts.marks parts.phases parts.counter session number start ∷ room_to_enter parts.settings.schema parts.slots (length parts.log) (slice_get parts.log) parts.counter writes ∷ [])
 entry_refusal parts session number start writes sound =
     ap (λ o. first_fault (o ∷ refusals.session_closed w session ∷ refusals.not_due w session number ∷ refusals.session_busy w session ∷ None ∷ rest)) (session_is parts session sound)
     ∙ at (session_fault parts.slots session) refl
@@ -139,7 +139,7 @@ entry_refusal parts session number start writes sound =
     w = world_of parts
 
     room : List (Option Fault)
-    room = check_writes parts.settings.schema writes ∷ log_fault (length parts.log) ∷ counter_fault parts.counter (length (active_from parts.log parts.slots)) ∷ []
+    room = check_writes parts.settings.schema writes ∷ log_fault (length parts.log) ∷ counter_fault parts.counter (length (active_from (slice_get parts.log) parts.slots)) ∷ []
 
     closed : Option Fault
     closed = closed_fault parts.marks session
@@ -193,7 +193,7 @@ low_same (row ∷ rows) counter low start less =
 
 pub open_case : (parts : Parts) (world : World) → world_of parts ≡ world → AreSound parts → (session number start : ℕ) (writes : List Write) (case : Case)
     → case.start ≡ start → case.low ≡ low world → case.reads ≡ map (λ o. o.0) (reads_of (finite.get parts.phases (session, number))) → case.writes ≡ writes
-    → case.finished ≡ drop (start - low world) parts.window → case.active ≡ active_from parts.log parts.slots → IsCaseOf world session number start writes case
+    → case.finished ≡ drop (start - low world) parts.window → case.active ≡ active_from (slice_get parts.log) parts.slots → IsCaseOf world session number start writes case
 open_case parts world seen sound session number start writes case start_is low_is reads_is writes_is finished_is active_is =
     subst (λ w. IsCaseOf w session number start writes case) seen (record {
       start_is = start_is;
@@ -227,14 +227,14 @@ pub entry_turned : (parts : Parts) (world : World) → world_of parts ≡ world 
     → refusal world (Enter session (Request number start writes)) ≡ Some fault
 entry_turned parts world seen session number start writes sound fault told =
     ap (λ w. refusal w (Enter session (Request number start writes))) (sym seen) ∙ entry_refusal parts session number start writes sound
-    ∙ ap (λ o. first_fault (o ∷ room_to_enter parts.settings.schema parts.slots parts.log parts.counter writes ∷ [])) told
+    ∙ ap (λ o. first_fault (o ∷ room_to_enter parts.settings.schema parts.slots (length parts.log) (slice_get parts.log) parts.counter writes ∷ [])) told
 
 pub entry_roomed : (parts : Parts) (world : World) → world_of parts ≡ world → (session number start : ℕ) (writes : List Write) → AreSound parts → turn_to_enter parts.slots parts.marks parts.phases parts.counter session number start ≡ None
-    → refusal world (Enter session (Request number start writes)) ≡ room_to_enter parts.settings.schema parts.slots parts.log parts.counter writes
+    → refusal world (Enter session (Request number start writes)) ≡ room_to_enter parts.settings.schema parts.slots (length parts.log) (slice_get parts.log) parts.counter writes
 entry_roomed parts world seen session number start writes sound free =
     ap (λ w. refusal w (Enter session (Request number start writes))) (sym seen) ∙ entry_refusal parts session number start writes sound
-    ∙ ap (λ o. first_fault (o ∷ room_to_enter parts.settings.schema parts.slots parts.log parts.counter writes ∷ [])) free
-    ∙ nest_last [] (check_writes parts.settings.schema writes ∷ log_fault (length parts.log) ∷ counter_fault parts.counter (length (active_from parts.log parts.slots)) ∷ [])
+    ∙ ap (λ o. first_fault (o ∷ room_to_enter parts.settings.schema parts.slots (length parts.log) (slice_get parts.log) parts.counter writes ∷ [])) free
+    ∙ nest_last [] (check_writes parts.settings.schema writes ∷ log_fault (length parts.log) ∷ counter_fault parts.counter (length (active_from (slice_get parts.log) parts.slots)) ∷ [])
 
 -- The entry.
 
@@ -318,7 +318,7 @@ enter_whole parts world seen sound session number start writes none row case is_
     none is_case row_is
 
 -- a fault is replied as it is
-pub entry_err : (old new : World) (event : Event) (reply : Result code_entry.Entered Fault) (fault : Fault) → reply ≡ Err fault → Step old event (Refused fault) new → Step old event (entry reply) new
+pub entry_err : (old new : World) (event : Event) (reply : Result Entry Fault) (fault : Fault) → reply ≡ Err fault → Step old event (Refused fault) new → Step old event (entry reply) new
 entry_err old new event reply fault is step = subst (λ r. Step old event (entry r) new) (sym is) step
 
 -- the entry of a request is that of the item which it is
@@ -330,6 +330,23 @@ pub entry_starved : (parts : Parts) (world : World) → world_of parts ≡ world
     → (phases : FinMap phase_cmp ReadPhase) → phases ≡ parts.phases → Step world (Enter session (Request number start writes)) (Refused faults.Memory) (world_of (record parts { phases = phases }))
 entry_starved parts world seen session number start writes none phases same =
     starved none refl refl (ap (λ p. world_of (record parts { phases = p })) same ∙ seen)
+
+-- and where the log was asked for room, which it has not, its rows are as they were too
+pub entry_roomless : (parts : Parts) (world : World) → world_of parts ≡ world → (session number start : ℕ) (writes : List Write) → refusal world (Enter session (Request number start writes)) ≡ None
+    → (log : List LogRow) → log ≡ parts.log → (phases : FinMap phase_cmp ReadPhase) → phases ≡ parts.phases → Step world (Enter session (Request number start writes)) (Refused faults.Memory) (world_of (record parts { log = log; phases = phases }))
+entry_roomless parts world seen session number start writes none log still phases same =
+    starved none refl refl ((λ i. world_of (record parts { log = still i; phases = same i })) ∙ seen)
+
+pub sound_kept : (parts : Parts) → AreSound parts → (log : List LogRow) → log ≡ parts.log → (phases : FinMap phase_cmp ReadPhase) → phases ≡ parts.phases → AreSound (record parts { log = log; phases = phases })
+sound_kept parts sound log still phases same =
+    subst (λ l. AreSound (record parts { log = l; phases = phases })) (sym still) (subst (λ p. AreSound (record parts { phases = p })) (sym same) sound)
+
+-- the place of the row of an entry
+pub entering_place : (parts : Parts) (world : World) → world_of parts ≡ world → (session number start : ℕ) (reads : List Observation) (writes : List Write) (standing : Standing)
+    → (entering world session number start reads writes standing).place ≡ length parts.log
+entering_place parts world seen session number start reads writes standing =
+    let first : 0 + length parts.log ≡ length parts.log = omega arith in
+    subst (λ w. (entering w session number start reads writes standing).place ≡ length parts.log) seen first
 
 -- the row of an entry, open, with its case
 abbrev pub IsOpenRow : World → ℕ → ℕ → ℕ → List Write → LogRow → Type 0

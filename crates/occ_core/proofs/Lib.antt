@@ -16,3 +16,7 @@ pub mod Nexts
 pub mod SingleWrites
 pub mod Replied
 pub mod Standing
+pub mod Listed
+pub mod Numbered
+pub mod Closing
+pub mod Dropping

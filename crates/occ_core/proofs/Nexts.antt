@@ -1,5 +1,5 @@
 -- The next single write of a session, over plain parts.
-use Rattle.std.proofs.Common.{◌≡◌, ℕ, zero, suc, ◌+◌, Bool, true, false, cond, List, [], ◌∷◌, drop, Option, None, Some, Result, Ok, Err, refl, sym, ap, ◌∙◌, arith}
+use Rattle.std.proofs.Common.{◌≡◌, ℕ, zero, suc, ◌+◌, Bool, true, false, cond, List, [], ◌∷◌, drop, Option, None, Some, Result, Ok, Err, refl, sym, ap, subst, ◌∙◌, arith}
 use Rattle.std.specs.Prelude.{is_some, slice_get, option_map}
 use Rattle.std.specs.FinSet as sets
 use Rattle.occ_types.specs.declared.fault.Fault.{Fault}
@@ -12,10 +12,10 @@ use Rattle.occ_model.specs.Event.{WriteOne}
 use Rattle.occ_model.specs.Refusal.{refusal}
 use Rattle.occ_core.specs.Slots.{Slot, Hold, held_from, row_under_way, writes_done}
 use Rattle.occ_core.specs.Parts.{Parts, world_of, AreSound}
-use Rattle.occ_core.specs.Replies.{first_object, next_object}
+use Rattle.occ_core.specs.Replies.{first_object, next_object, IsNextWrite}
 use Rattle.occ_core.proofs.Held.{is_held_at, contains-held, below_first}
 use Rattle.occ_core.proofs.Counting.{act, idle}
-use Rattle.occ_core.proofs.Places.{held_latest}
+use Rattle.occ_core.proofs.Places.{held_latest, slice_get-below}
 use Rattle.occ_core.proofs.Calls.{found_row}
 use Rattle.occ_core.proofs.Finishes.{found_is, writing_is, may_write}
 
@@ -96,3 +96,18 @@ next_free parts world seen sound session place row done found at goes =
     let u = found_row parts session place sound found in
     ap (λ w. refusal w (WriteOne session)) (sym seen) ∙ ap (λ s. refusal (world_of parts) (WriteOne s)) u.session_is
     ∙ may_write parts sound session place u row done at (writing_is row.standing done goes)
+
+-- the write that it does is the session's next
+pub next_placed : (parts : Parts) (world : World) → world_of parts ≡ world → AreSound parts → (session place : ℕ) (row : LogRow) (done : ℕ) (write : Write) → row_under_way parts.slots session ≡ Ok place → slice_get parts.log place ≡ Some row → writes_done row.standing ≡ Ok done
+    → slice_get row.writes done ≡ Some write → IsNextWrite world session place done
+next_placed parts world seen sound session place row done write found at goes next =
+    let u = found_row parts session place sound found in
+    subst (λ w. IsNextWrite w session place done) seen
+    (subst (λ s. IsNextWrite (world_of parts) s place done) (sym u.session_is)
+    (record {
+      found = row;
+      there = at;
+      own = held_latest (suc u.slot_at) u.hold.place parts.log u.row u.row_there ∙ ap Some (found_is parts session place u row at);
+      standing = writing_is row.standing done goes;
+      left = slice_get-below row.writes done write next;
+    }))

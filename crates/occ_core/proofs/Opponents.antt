@@ -76,7 +76,7 @@ any-append test (x ∷ xs) ys = ap (λ b. test x || b) (any-append test xs ys) �
     or_assoc false b c = refl
 
 -- what a session's row gives, some active row is
-from_session : (test : List Write → Bool) (log : List LogRow) (session : Slot) → list_any test (active_of log session) ≡ true → some_active test log ≡ true
+from_session : (test : List Write → Bool) (log : List LogRow) (session : Slot) → list_any test (active_of (slice_get log) session) ≡ true → some_active test log ≡ true
 from_session test log session some = at_held session.hold some
   where
     at_row : (place : ℕ) (row : LogRow) → slice_get log place ≡ Some row → (b : Bool) → is_active row.standing ≡ b → list_any test (cond b (row.writes ∷ []) []) ≡ true → some_active test log ≡ true
@@ -95,17 +95,17 @@ from_session test log session some = at_held session.hold some
     at_held None some = cc
     at_held (Some hold) some = at_place hold.place (slice_get log hold.place) refl some
 
-from_sessions : (test : List Write → Bool) (log : List LogRow) (sessions : List Slot) → list_any test (active_from log sessions) ≡ true → some_active test log ≡ true
+from_sessions : (test : List Write → Bool) (log : List LogRow) (sessions : List Slot) → list_any test (active_from (slice_get log) sessions) ≡ true → some_active test log ≡ true
 from_sessions test log [] some = cc
-from_sessions test log (session ∷ sessions) some = tests.decided (list_any test (active_of log session))
+from_sessions test log (session ∷ sessions) some = tests.decided (list_any test (active_of (slice_get log) session))
     (λ here. from_session test log session here)
-    (λ away. from_sessions test log sessions (sym (ap (λ b. b || list_any test (active_from log sessions)) away) ∙ sym (any-append test (active_of log session) (active_from log sessions)) ∙ some))
+    (λ away. from_sessions test log sessions (sym (ap (λ b. b || list_any test (active_from (slice_get log) sessions)) away) ∙ sym (any-append test (active_of (slice_get log) session) (active_from (slice_get log) sessions)) ∙ some))
 
 -- a session at a place gives its row
-to_sessions : (test : List Write → Bool) (log : List LogRow) (sessions : List Slot) (k : ℕ) (session : Slot) → slice_get sessions k ≡ Some session → list_any test (active_of log session) ≡ true → list_any test (active_from log sessions) ≡ true
+to_sessions : (test : List Write → Bool) (log : List LogRow) (sessions : List Slot) (k : ℕ) (session : Slot) → slice_get sessions k ≡ Some session → list_any test (active_of (slice_get log) session) ≡ true → list_any test (active_from (slice_get log) sessions) ≡ true
 to_sessions test log [] k session there some = cc
-to_sessions test log (x ∷ xs) zero session there some = let e : x ≡ session = cc in any-append test (active_of log x) (active_from log xs) ∙ tests.or_left _ _ (ap (λ s. list_any test (active_of log s)) e ∙ some)
-to_sessions test log (x ∷ xs) (suc k) session there some = any-append test (active_of log x) (active_from log xs) ∙ tests.or_right _ _ (to_sessions test log xs k session there some)
+to_sessions test log (x ∷ xs) zero session there some = let e : x ≡ session = cc in any-append test (active_of (slice_get log) x) (active_from (slice_get log) xs) ∙ tests.or_left _ _ (ap (λ s. list_any test (active_of (slice_get log) s)) e ∙ some)
+to_sessions test log (x ∷ xs) (suc k) session there some = any-append test (active_of (slice_get log) x) (active_from (slice_get log) xs) ∙ tests.or_right _ _ (to_sessions test log xs k session there some)
 
 -- the row that is held stands at its place, and is the latest of its session
 pub held-get : (session place : ℕ) (log : List LogRow) (row : LogRow) → IsHeldAt session place log row → slice_get log place ≡ Some row
@@ -123,7 +123,7 @@ held-latest session (suc place) (first ∷ rows) row at =
 
 pub active_same : (log : List LogRow) (slots : List Slot) → OneUnderWay log → ActiveAreHeld (held_from 1 slots) log
     → ((place : ℕ) (slot : Slot) (hold : Hold) → slice_get slots place ≡ Some slot → slot.hold ≡ Some hold → (row : LogRow) × IsHeldAt (suc place) hold.place log row)
-    → AreSame (active_from log slots) (active_opponents log)
+    → AreSame (active_from (slice_get log) slots) (active_opponents log)
 active_same log slots one are rows test = both_ways _ _ (from_sessions test log slots) (λ some.
     let found = find_active test log some in
     let held = held_active (held_from 1 slots) log found.place found.row are found.there found.active in

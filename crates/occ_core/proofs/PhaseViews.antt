@@ -16,11 +16,11 @@ use Rattle.occ_core.specs.Phases.{reads_of, phase_of, phases_of}
 use Rattle.occ_core.specs.declared.phases.Phase as code_phase
 
 -- keys that tie are the same
-tied : (q k : ℕ × ℕ) → eq_by_cmp phase_cmp q k ≡ true → q ≡ k
+pub tied : (q k : ℕ × ℕ) → eq_by_cmp phase_cmp q k ≡ true → q ≡ k
 tied q k e = phase_cmp-IsAntisymmetric q k ((Equal-is (phase_cmp q k)).0 e)
 
 -- two maps of phases that answer alike are equal
-same_phases : (m n : FinMap phase_cmp ReadPhase) → ((q : ℕ × ℕ) → get m q ≡ get n q) → m ≡ n
+pub same_phases : (m n : FinMap phase_cmp ReadPhase) → ((q : ℕ × ℕ) → get m q ≡ get n q) → m ≡ n
 same_phases = same_map phase_cmp_total phase_cmp-IsAntisymmetric
 
 chosen : {X Y : Type 0} (f : X → Y) (b : Bool) (o p : Option X) → option_map f (cond b o p) ≡ cond b (option_map f o) (option_map f p)

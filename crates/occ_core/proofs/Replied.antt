@@ -2,11 +2,12 @@
 use Rattle.std.proofs.Common.{◌≡◌, List, [], ◌∷◌, ◌++◌, Some, Result, Ok, Err, ℕ, refl, sym, ap, subst, inl, inr}
 use Rattle.std.specs.Prelude.{◌⊎◌, IfErr, option_map}
 use Rattle.std.specs.Result.{result_err}
-use Rattle.occ_model.specs.World.{World}
 use Rattle.occ_model.specs.Event.{Event, Reply}
-use Rattle.occ_model.specs.Step.{Step, Run}
+use Rattle.occ_model.specs.Step.{Run}
+use Rattle.occ_core.specs.Core.{Seen, Transition}
 use Rattle.occ_core.specs.Replies.{entering}
-use Rattle.occ_core.specs.declared.core_entries.Entered as entries
+use Rattle.occ_core.specs.declared.core_entries.Entry.{Entry}
+use Rattle.occ_core.specs.declared.core_entries.Entry.TheVariants as entries
 use Rattle.occ_types.specs.declared.fault.Refused as refusals
 use Rattle.occ_queue.specs.declared.items.Item as items
 use Rattle.occ_queue.specs.Items.{item_of}
@@ -18,22 +19,23 @@ use Rattle.occ_core.specs.declared.replies.Reply.TheVariants as replies
 
 module _ {Z : Type 0} where
   -- a reply that is the model's
-  pub answered : (old : World) (step : code_step.Step Z) (reply : code_reply.Reply Z) (said : Reply) (new : World) → reply_of reply ≡ said → Step old (event_of step) said new → handed_back reply ≡ owed step (reply_of reply) → Answers old step reply new
-  answered old step reply said new is stepped back = (inl (subst (λ r. Step old (event_of step) r new) (sym is) stepped), back)
+  pub answered : (old : Seen) (step : code_step.Step Z) (reply : code_reply.Reply Z) (said : Reply) (new : Seen) → reply_of reply ≡ said → Transition old (event_of step) said new → handed_back reply ≡ owed step (reply_of reply) → Answers old step reply new
+  answered old step reply said new is stepped back = (inl (subst (λ r. Transition old (event_of step) r new) (sym is) stepped), back)
 
   -- and so where the step is known by another name
-  pub answered_as : (old : World) (step named : code_step.Step Z) (reply : code_reply.Reply Z) (said : Reply) (new : World) → step ≡ named → reply_of reply ≡ said → Step old (event_of named) said new
+  pub answered_as : (old : Seen) (step named : code_step.Step Z) (reply : code_reply.Reply Z) (said : Reply) (new : Seen) → step ≡ named → reply_of reply ≡ said → Transition old (event_of named) said new
       → handed_back reply ≡ owed named (reply_of reply) → Answers old step reply new
   answered_as old step named reply said new name is stepped back = subst (λ s. Answers old s reply new) (sym name) (answered old named reply said new is stepped back)
 
   -- an entry that is refused has its own item handed back
-  pub entry_owed : (session : ℕ) (item : items.Item Z) (called : Result entries.Entered (refusals.Refused (items.Item Z))) → IfErr called (λ refused. item_of refused.value ≡ item_of item)
+  pub entry_owed : (session : ℕ) (item : items.Item Z) (called : Result Entry (refusals.Refused (items.Item Z))) → IfErr called (λ refused. item_of refused.value ≡ item_of item)
       → option_map (λ (r : refusals.Refused (items.Item Z)). item_of r.value) (result_err called) ≡ owed {Z = Z} (steps.Enter session item) (entering called)
-  entry_owed session item (Ok entered) back = refl
+  entry_owed session item (Ok (entries.Entered place index)) back = refl
+  entry_owed session item (Ok entries.MarkedClosed) back = refl
   entry_owed session item (Err refused) back = ap Some back
 
   -- one step more
-  pub runs_more : (old mid new : World) (done : List (code_step.Step Z)) (replies : List (code_reply.Reply Z)) (step : code_step.Step Z) (reply : code_reply.Reply Z)
+  pub runs_more : (old mid new : Seen) (done : List (code_step.Step Z)) (replies : List (code_reply.Reply Z)) (step : code_step.Step Z) (reply : code_reply.Reply Z)
       → Runs old done replies mid → Answers mid step reply new → Runs old (done ++ step ∷ []) (replies ++ reply ∷ []) new
   runs_more old mid new [] [] step reply runs answers = (new, subst (λ w. Answers w step reply new) runs answers, refl)
   runs_more old mid new [] (r ∷ rs) step reply runs answers = absurd runs
@@ -41,7 +43,7 @@ module _ {Z : Type 0} where
   runs_more old mid new (s ∷ ss) (r ∷ rs) step reply runs answers = (runs.0, runs.1, runs_more runs.0 mid new ss rs step reply runs.2 answers)
 
   -- what is put off moves nothing
-  put_off : (old : World) (step : code_step.Step Z) (reply : code_reply.Reply Z) (new : World) → IsPutOff old step reply new → new ≡ old
+  put_off : (old : Seen) (step : code_step.Step Z) (reply : code_reply.Reply Z) (new : Seen) → IsPutOff old step reply new → new ≡ old
   put_off old (steps.Read session number start table key) reply new off = absurd off
   put_off old (steps.Scan session number start table lower upper) reply new off = absurd off
   put_off old (steps.Forget session number) reply new off = absurd off
@@ -52,22 +54,23 @@ module _ {Z : Type 0} where
   put_off old (steps.WriteOne session) (replies.Found row) new off = absurd off
   put_off old (steps.WriteOne session) (replies.Rows rows) new off = absurd off
   put_off old (steps.WriteOne session) (replies.Forgotten there) new off = absurd off
-  put_off old (steps.WriteOne session) (replies.Entered entered) new off = absurd off
+  put_off old (steps.WriteOne session) (replies.Entered place index) new off = absurd off
+  put_off old (steps.WriteOne session) replies.Closed new off = absurd off
   put_off old (steps.WriteOne session) (replies.Decided verdict) new off = absurd off
   put_off old (steps.WriteOne session) (replies.Wrote object) new off = absurd off
   put_off old (steps.WriteOne session) replies.NoMore new off = absurd off
   put_off old (steps.WriteOne session) (replies.Finished number) new off = absurd off
   put_off old (steps.WriteOne session) (replies.BackedUp number) new off = absurd off
-  put_off old (steps.WriteOne session) (replies.Refused fault) new off = off.2
+  put_off old (steps.WriteOne session) (replies.Refused fault) new off = off.3
   put_off old (steps.WriteOne session) (replies.RefusedItem refused) new off = absurd off
 
   -- the steps that moved are a run of the model
-  pub run_of : (old new : World) (done : List (code_step.Step Z)) (said : List (code_reply.Reply Z)) → Runs old done said new → (events : List (Event × Reply)) × Run old events new
-  run_of old new [] [] runs = ([], runs)
+  pub run_of : (old new : Seen) (done : List (code_step.Step Z)) (said : List (code_reply.Reply Z)) → Runs old done said new → (events : List (Event × Reply)) × Run old.world events new.world
+  run_of old new [] [] runs = ([], ap (λ (s : Seen). s.world) runs)
   run_of old new [] (r ∷ rs) runs = absurd runs
   run_of old new (s ∷ ss) [] runs = absurd runs
   run_of old new (s ∷ ss) (r ∷ rs) runs = go runs.1.0 (run_of runs.0 new ss rs runs.2)
     where
-      go : Step old (event_of s) (reply_of r) runs.0 ⊎ IsPutOff old s r runs.0 → (events : List (Event × Reply)) × Run runs.0 events new → (events : List (Event × Reply)) × Run old events new
-      go (inl stepped) later = ((event_of s, reply_of r) ∷ later.0, (runs.0, stepped, later.1))
-      go (inr off) later = (later.0, subst (λ w. Run w later.0 new) (put_off old s r runs.0 off) later.1)
+      go : Transition old (event_of s) (reply_of r) runs.0 ⊎ IsPutOff old s r runs.0 → (events : List (Event × Reply)) × Run runs.0.world events new.world → (events : List (Event × Reply)) × Run old.world events new.world
+      go (inl stepped) later = ((event_of s, reply_of r) ∷ later.0, (runs.0.world, stepped, later.1))
+      go (inr off) later = (later.0, subst (λ (s : Seen). Run s.world later.0 new.world) (put_off old s r runs.0 off) later.1)

@@ -1,7 +1,10 @@
--- What clauses see of a core, and what holds of its parts.
+-- What clauses see of a core, what a call does to it, and what holds of its parts.
 use Rattle.std.specs.Prelude.{◌≡◌, length}
 use Rattle.occ_model.specs.World.{World}
+use Rattle.occ_model.specs.Event.{Event, Reply}
+use Rattle.occ_model.specs.Step.{Step}
 use Rattle.occ_core.specs.Slots.{HoldsArePlaced}
+use Rattle.occ_core.specs.Logs.{IsLogOf}
 use Rattle.occ_core.specs.Parts.{Parts, world_of, AreSound}
 use Rattle.occ_core.specs.declared.core_state.Core.TheInside.{Inside}
 
@@ -9,12 +12,16 @@ use Rattle.occ_core.specs.declared.core_state.Core.TheInside.{Inside}
 pub record Seen : Type 0 where
   pub world : World
 
+-- What each call that moves a core does to it: an event happens and gets this reply, and the world makes that step of the model.
+abbrev pub Transition : Seen → Event → Reply → Seen → Type 0
+Transition old event reply new = Step old.world event reply new.world
+
 module _ {Z : Type 0} where
   -- the parts of a core, as plain data
   abbrev pub parts_of : Inside Z → Parts
   parts_of c = record {
     settings = record { schema = c.schema; sessions = length c.sessions; keep = c.window.keep };
-    log = c.log;
+    log = c.log.rows;
     table = c.tables.state;
     counter = c.counter;
     marks = c.marks.marks;
@@ -31,4 +38,5 @@ module _ {Z : Type 0} where
     pub sound : AreSound (parts_of c)
     pub tables_match : c.tables.tables ≡ length c.schema
     pub marks_match : c.marks.sessions ≡ length c.sessions
+    pub log_match : IsLogOf c.log (world_of (parts_of c)).base.place (length c.sessions)
     pub placed : HoldsArePlaced c.tables.tables c.sessions

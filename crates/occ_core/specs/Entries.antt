@@ -37,6 +37,15 @@ turn_to_enter slots marks phases counter session number start = first_fault (
     ∷ start_fault phases counter session number start
     ∷ [])
 
+-- the session can't close under the number
+abbrev pub turn_to_close : List Slot → FinMap nat_cmp ℕ → ℕ → ℕ → Option Fault
+turn_to_close slots marks session number = first_fault (
+    session_fault slots session
+    ∷ closed_fault marks session
+    ∷ due_fault (last_of slots (session - 1)) number
+    ∷ busy_fault (slice_get slots (session - 1))
+    ∷ [])
+
 -- a write that may be there does not fit the schema
 abbrev pub write_fault : Schema → Option Write → Option Fault
 write_fault schema None = None
@@ -53,18 +62,18 @@ log_fault rows = fault_if (nat_le MAX_LOG_ROWS rows) LogFull
 abbrev pub counter_fault : ℕ → ℕ → Option Fault
 counter_fault counter active = fault_if (nat_le (MAX_COUNTER - counter) active) CounterExhausted
 
--- the writes don't fit, or there is no room for them
-abbrev pub room_to_enter : Schema → List Slot → List LogRow → ℕ → List Write → Option Fault
-room_to_enter schema slots log counter writes = first_fault (
+-- the writes don't fit, or there is no room for them; so many rows stand in the log, and are found by their places
+abbrev pub room_to_enter : Schema → List Slot → ℕ → (ℕ → Option LogRow) → ℕ → List Write → Option Fault
+room_to_enter schema slots rows log counter writes = first_fault (
     check_writes schema writes
-    ∷ log_fault (length log)
+    ∷ log_fault rows
     ∷ counter_fault counter (length (active_from log slots))
     ∷ [])
 
 -- the writes of the row of a session that may be there, where it is active
-abbrev pub active_at : List LogRow → Option Slot → Option (List Write)
+abbrev pub active_at : (ℕ → Option LogRow) → Option Slot → Option (List Write)
 active_at log None = None
 active_at log (Some slot) = elim slot.hold [
   | None ↦ None
-  | Some hold ↦ elim (slice_get log hold.place) [ None ↦ None | Some row ↦ cond (is_active row.standing) (Some row.writes) None ]
+  | Some hold ↦ elim (log hold.place) [ None ↦ None | Some row ↦ cond (is_active row.standing) (Some row.writes) None ]
 ]

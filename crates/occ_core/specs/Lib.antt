@@ -1,6 +1,7 @@
 pub mod Slots
 pub mod Parts
 pub mod Rows
+pub mod Logs
 pub mod Phases
 pub mod Window
 pub mod Core

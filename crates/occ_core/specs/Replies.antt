@@ -1,17 +1,18 @@
 -- What the calls of a core reply, as replies of the model.
-use Rattle.std.specs.Prelude.{ℕ, Bool, List, [], ◌∷◌, Option, None, Some, Result, Ok, Err, Vec}
+use Rattle.std.specs.Prelude.{◌≡◌, ◌<◌, ℕ, Bool, List, [], ◌∷◌, length, slice_get, Option, None, Some, Result, Ok, Err, Vec}
 use Rattle.occ_types.specs.declared.fault.Fault.{Fault}
 use Rattle.occ_types.specs.declared.keys.Key as code_key
 use Rattle.occ_types.specs.Object.{Object}
 use Rattle.occ_types.specs.Row.{Row}
 use Rattle.occ_model.specs.State.{Write, Found, Rows}
-use Rattle.occ_model.specs.Log.{LogRow, rest}
+use Rattle.occ_model.specs.Log.{LogRow, Writing, rest}
 use Rattle.occ_model.specs.World.{World, latest}
-use Rattle.occ_model.specs.Event.{Reply, Refused, Answered, Forgotten, Entered, Decided, Wrote, NoMore, Finished, BackedUp}
+use Rattle.occ_model.specs.Event.{Reply, Refused, Answered, Forgotten, Entered, Closed, Decided, Wrote, NoMore, Finished, BackedUp}
 use Rattle.occ_model.specs.declared.verdict.Verdict.{Verdict}
 use Rattle.occ_sets.specs.Seen.{rows_of}
 use Rattle.occ_core.specs.Slots.{written_in}
-use Rattle.occ_core.specs.declared.core_entries.Entered as entries
+use Rattle.occ_core.specs.declared.core_entries.Entry.{Entry}
+use Rattle.occ_core.specs.declared.core_entries.Entry.TheVariants as entries
 use Rattle.occ_queue.specs.declared.items.Item as items
 use Rattle.occ_types.specs.declared.fault.Refused as refused
 use Rattle.occ_core.specs.declared.core_state.SingleWrite.{SingleWrite}
@@ -21,15 +22,17 @@ abbrev pub decision : Result Verdict Fault → Reply
 decision (Ok verdict) = Decided verdict
 decision (Err fault) = Refused fault
 
--- an entry replies the place of its row and the index of its case
-abbrev pub entry : Result entries.Entered Fault → Reply
-entry (Ok entered) = Entered entered.place entered.index
+-- a request that enters replies the place of its row and the index of its case
+abbrev pub entry : Result Entry Fault → Reply
+entry (Ok (entries.Entered place index)) = Entered place index
+entry (Ok entries.MarkedClosed) = Closed
 entry (Err fault) = Refused fault
 
 module _ {Z : Type 0} where
   -- and so where it hands back what is refused
-  abbrev pub entering : Result entries.Entered (refused.Refused (items.Item Z)) → Reply
-  entering (Ok entered) = Entered entered.place entered.index
+  abbrev pub entering : Result Entry (refused.Refused (items.Item Z)) → Reply
+  entering (Ok (entries.Entered place index)) = Entered place index
+  entering (Ok entries.MarkedClosed) = Closed
   entering (Err refusal) = Refused refusal.fault
 
 abbrev pub finishing : Result ℕ Fault → Reply
@@ -48,6 +51,14 @@ first_object (write ∷ writes) = Some write.0
 -- the object of a session's next single write, where one is left
 abbrev pub next_object : World → ℕ → Option Object
 next_object world session = elim (latest session world.log) [ None ↦ None | Some row ↦ first_object (rest row) ]
+
+-- the places of a session's next single write: that of its latest row, which is in its write phase, and that of the first write of it that isn't done
+pub record IsNextWrite (world : World) (session row write : ℕ) : Type 0 where
+  pub found : LogRow
+  pub there : slice_get world.log row ≡ Some found
+  pub own : latest session world.log ≡ Some found
+  pub standing : found.standing ≡ Writing write
+  pub left : write < length found.writes
 
 -- a single write is named by its places in the log
 abbrev pub single : List LogRow → Result SingleWrite Fault → Reply

@@ -1,13 +1,12 @@
 -- What a list of steps does to a core, and what it is replied: a run of the model.
-use Rattle.std.specs.Prelude.{◌≡◌, ◌⊎◌, List, [], ◌∷◌, Option, None, Some}
+use Rattle.std.specs.Prelude.{◌≡◌, ◌⊎◌, true, List, [], ◌∷◌, Option, None, Some}
 use Rattle.occ_types.specs.declared.fault.Fault.TheVariants.{Memory}
 use Rattle.occ_types.specs.Question.{One, Span}
 use Rattle.occ_types.specs.Seen.{key_of, end_of, object_of}
 use Rattle.occ_model.specs.State.{Found, Rows}
-use Rattle.occ_model.specs.World.{World}
-use Rattle.occ_model.specs.Event.{Event, Item, Read, Forget, Enter, Decide, WriteOne, Finish, BackUp, Reply, Refused, Answered, Forgotten, Entered, Decided, Wrote, NoMore, Finished, BackedUp}
-use Rattle.occ_model.specs.Refusal.{refusal}
-use Rattle.occ_model.specs.Step.{Step}
+use Rattle.occ_model.specs.Event.{Event, Item, Read, Forget, Enter, Decide, WriteOne, Finish, BackUp, Reply, Refused, Answered, Forgotten, Entered, Closed, Decided, Wrote, NoMore, Finished, BackedUp}
+use Rattle.occ_model.specs.Refusal.{refusal, has_writes_left}
+use Rattle.occ_core.specs.Core.{Seen, Transition}
 use Rattle.occ_sets.specs.Seen.{rows_of}
 use Rattle.occ_queue.specs.Items.{item_of}
 use Rattle.occ_core.specs.declared.steps.Step as code_step
@@ -32,7 +31,8 @@ module _ {Z : Type 0} where
   reply_of (replies.Found row) = Answered (Found row)
   reply_of (replies.Rows rows) = Answered (Rows (rows_of rows.items))
   reply_of (replies.Forgotten there) = Forgotten there
-  reply_of (replies.Entered entered) = Entered entered.place entered.index
+  reply_of (replies.Entered place index) = Entered place index
+  reply_of replies.Closed = Closed
   reply_of (replies.Decided verdict) = Decided verdict
   reply_of (replies.Wrote object) = Wrote (object_of object)
   reply_of replies.NoMore = NoMore
@@ -51,17 +51,17 @@ module _ {Z : Type 0} where
   owed (steps.Enter session item) (Refused fault) = Some (item_of item)
   owed step reply = None
 
-  -- A single write is put off where there is no memory to name its object in the reply. (Of a deletion the model says that it takes none; its name may.)
-  abbrev pub IsPutOff : World → code_step.Step Z → code_reply.Reply Z → World → Type 0
-  IsPutOff old (steps.WriteOne session) (replies.Refused fault) new = (refusal old (WriteOne session) ≡ None) × (fault ≡ Memory) × (new ≡ old)
+  -- A single write is put off where there is one left, nothing refuses it, and there is no memory to name its object in the reply. (Of a deletion the model says that it takes none; its name may.)
+  abbrev pub IsPutOff : Seen → code_step.Step Z → code_reply.Reply Z → Seen → Type 0
+  IsPutOff old (steps.WriteOne session) (replies.Refused fault) new = (refusal old.world (WriteOne session) ≡ None) × (has_writes_left old.world session ≡ true) × (fault ≡ Memory) × (new ≡ old)
   IsPutOff old step reply new = ⊥
 
-  -- what a step is replied, and what it makes of the world
-  abbrev pub Answers : World → code_step.Step Z → code_reply.Reply Z → World → Type 0
-  Answers old step reply new = (Step old (event_of step) (reply_of reply) new ⊎ IsPutOff old step reply new) × (handed_back reply ≡ owed step (reply_of reply))
+  -- what a step is replied, and what it makes of the core
+  abbrev pub Answers : Seen → code_step.Step Z → code_reply.Reply Z → Seen → Type 0
+  Answers old step reply new = (Transition old (event_of step) (reply_of reply) new ⊎ IsPutOff old step reply new) × (handed_back reply ≡ owed step (reply_of reply))
 
   -- the steps, one after another, each with its reply
-  abbrev pub Runs : World → List (code_step.Step Z) → List (code_reply.Reply Z) → World → Type 0
+  abbrev pub Runs : Seen → List (code_step.Step Z) → List (code_reply.Reply Z) → Seen → Type 0
   Runs old [] [] new = new ≡ old
-  Runs old (step ∷ others) (reply ∷ further) new = (next : World) × Answers old step reply next × Runs next others further new
+  Runs old (step ∷ others) (reply ∷ further) new = (next : Seen) × Answers old step reply next × Runs next others further new
   Runs old others further new = ⊥

@@ -31,15 +31,15 @@ IsHeldAt session place [] row = ⊥
 IsHeldAt session zero (first ∷ rows) row = (first ≡ row) × (row.session ≡ session) × (latest session rows ≡ None)
 IsHeldAt session (suc place) (first ∷ rows) row = IsHeldAt session place rows row
 
--- the writes of a session's row, where it is active
-abbrev pub active_of : List LogRow → Slot → List (List Write)
+-- the writes of a session's row, where it is active; rows are found by their places
+abbrev pub active_of : (ℕ → Option LogRow) → Slot → List (List Write)
 active_of log slot = elim slot.hold [
   | None ↦ []
-  | Some hold ↦ elim (slice_get log hold.place) [ None ↦ [] | Some row ↦ cond (is_active row.standing) (row.writes ∷ []) [] ]
+  | Some hold ↦ elim (log hold.place) [ None ↦ [] | Some row ↦ cond (is_active row.standing) (row.writes ∷ []) [] ]
 ]
 
 -- the writes of all active rows, found through their sessions
-abbrev pub active_from : List LogRow → List Slot → List (List Write)
+abbrev pub active_from : (ℕ → Option LogRow) → List Slot → List (List Write)
 active_from log [] = []
 active_from log (slot ∷ slots) = active_of log slot ++ active_from log slots
 
@@ -67,9 +67,13 @@ back_fault (Writing done) = Some AlreadyDecided
 back_fault (Done number) = Some AlreadyDecided
 back_fault (Back cause) = None
 
--- the object of a write of the row at a place, by its place among the row's writes
+-- the object of a write of the row at a place, by its place among the row's writes; rows are found by their places
+abbrev pub written_at : (ℕ → Option LogRow) → ℕ → ℕ → Option Object
+written_at log place write = option_and_then (λ row. option_map (λ w. w.0) (slice_get row.writes write)) (log place)
+
+-- and so in a list of all rows
 abbrev pub written_in : List LogRow → ℕ → ℕ → Option Object
-written_in log place write = option_and_then (λ row. option_map (λ w. w.0) (slice_get row.writes write)) (slice_get log place)
+written_in log = written_at (slice_get log)
 
 -- how many writes a row that stands so has done, where it is in its write phase
 abbrev pub writes_done : Standing → Result ℕ Fault

@@ -6,14 +6,14 @@ ghost use Rattle.occ_types.specs.Question.{One, Span};
 ghost use Rattle.occ_types.specs.Seen.{key_of, end_of};
 ghost use Rattle.occ_model.specs.Event.{Read, Forget};
 ghost use Rattle.occ_model.specs.State.{answer, Found, Rows};
-ghost use Rattle.occ_model.specs.Step.{Step};
 ghost use Rattle.occ_sets.specs.Seen.{observation_of, rows_of};
 ghost use Rattle.occ_core.specs.Reads.{session_fault, closed_fault, number_fault, start_fault, turn_fault, size_fault, room_fault, noted};
 ghost use Rattle.occ_types.specs.declared.fault.Fault.TheVariants.{Memory};
+ghost use Rattle.occ_core.specs.Core.{Transition};
 ghost use Rattle.occ_core.specs.Replies.{reading, scanning, forgetting};
 
 use crate::core_state::Core;
-use crate::phases::ReadPhases;
+use crate::phases::{ReadPhases, Transaction};
 use crate::sessions::Sessions;
 use occ_book::{Marks, Tables};
 use occ_sets::{Answer, Observation};
@@ -47,7 +47,7 @@ impl<A: Allocator> Core<A> {
     /// Forgets what a session has read under a number, and answers whether it has read anything. The number may then be read under
     /// from another start. Refused where there is no such session. It takes no memory.
     pub fn forget(&mut self, session: usize, number: u64) -> Result<bool, Fault>
-        ensures { Step self.old.world (Forget session number) (forgetting result) self.new.world }
+        ensures { Transition self.old (Forget session number) (forgetting result) self.new }
     {
         check_session(&self.sessions, session)?;
         let phase = self.phases.take(session, number);
@@ -70,21 +70,24 @@ impl<A: Allocator + Copy> Core<A> {
         table: usize,
         key: &Key<A>,
     ) -> Result<Option<Row<A>>, Fault>
-        ensures { Step self.old.world (Read session number start (One table (key_of key.now))) (reading result) self.new.world }
+        ensures { Transition self.old (Read session number start (One table (key_of key.now))) (reading result) self.new }
     {
+        let transaction = Transaction {
+            session,
+            number,
+            start,
+        };
         check_turn(
             &self.sessions,
             &self.marks,
             &self.phases,
             self.counter,
-            session,
-            number,
-            start,
+            transaction,
         )?;
         self.schema.check_key(table, key)?;
         check_room(&self.phases, session, number)?;
         let (seen, row) = observe_row(&self.tables, table, key)?;
-        note(&mut self.phases, self.alloc, session, number, start, seen)?;
+        note(&mut self.phases, self.alloc, transaction, seen)?;
         Ok(row)
     }
 
@@ -102,41 +105,42 @@ impl<A: Allocator + Copy> Core<A> {
         lower: &Option<Key<A>>,
         upper: &Option<Key<A>>,
     ) -> Result<Vec<(Key<A>, Row<A>), A>, Fault>
-        ensures { Step self.old.world (Read session number start (Span table (end_of lower.now) (end_of upper.now))) (scanning result) self.new.world }
+        ensures { Transition self.old (Read session number start (Span table (end_of lower.now) (end_of upper.now))) (scanning result) self.new }
     {
+        let transaction = Transaction {
+            session,
+            number,
+            start,
+        };
         check_turn(
             &self.sessions,
             &self.marks,
             &self.phases,
             self.counter,
-            session,
-            number,
-            start,
+            transaction,
         )?;
         self.schema.check_range(table, lower, upper)?;
         check_size(&self.tables, table, lower, upper)?;
         check_room(&self.phases, session, number)?;
         let (seen, rows) = observe_rows(&self.tables, table, lower, upper)?;
-        note(&mut self.phases, self.alloc, session, number, start, seen)?;
+        note(&mut self.phases, self.alloc, transaction, seen)?;
         Ok(rows)
     }
 }
 
-// Notes an observation in a read phase that has room for it.
+// Notes an observation in the read phase of a transaction, which has room for it.
 fn note<A: Allocator + Copy>(
     phases: &mut ReadPhases<A>,
     alloc: A,
-    session: usize,
-    number: u64,
-    start: u64,
+    transaction: Transaction,
     seen: Observation<A>,
 ) -> Result<(), Fault>
-    requires few { room_fault phases.old session number ≡ None }
-    ensures ok { OnOk result (phases.new ≡ noted phases.old session number start (observation_of seen)) }
+    requires few { room_fault phases.old transaction.session transaction.number ≡ None }
+    ensures ok { OnOk result (phases.new ≡ noted phases.old transaction.session transaction.number transaction.start (observation_of seen)) }
     ensures err { OnErr result (phases.new ≡ phases.old) }
     ensures memory { IsOkUnless result Memory }
 {
-    phases.note(alloc, session, number, start, seen.question, seen.answer)
+    phases.note(alloc, transaction, seen.question, seen.answer)
 }
 
 // The question for the row under a key and what the tables answer, and a copy of the row.
@@ -221,39 +225,36 @@ fn check_number(last: u64, number: u64) -> Result<(), Fault>
     Ok(())
 }
 
-// Whether a start is that of the read phase, or has been reached where there is none.
+// Whether a transaction's start is that of its read phase, or has been reached where there is none.
 pub(crate) fn check_start<A: Allocator>(
     phases: &ReadPhases<A>,
     counter: u64,
-    session: usize,
-    number: u64,
-    start: u64,
+    transaction: Transaction,
 ) -> Result<(), Fault>
-    ensures { result_err result ≡ start_fault phases.now counter session number start }
+    ensures { result_err result ≡ start_fault phases.now counter transaction.session transaction.number transaction.start }
 {
-    match phases.start(session, number) {
-        None if start > counter => Err(Fault::FutureStart),
-        Some(begun) if begun != start => Err(Fault::StartDiffers),
+    match phases.start(transaction.session, transaction.number) {
+        None if transaction.start > counter => Err(Fault::FutureStart),
+        Some(begun) if begun != transaction.start => Err(Fault::StartDiffers),
         _ => Ok(()),
     }
 }
 
-// Whether a session may read under a number from a start.
+// Whether a session may read for a transaction.
 fn check_turn<A: Allocator>(
     sessions: &Sessions<A>,
     marks: &Marks<A>,
     phases: &ReadPhases<A>,
     counter: u64,
-    session: usize,
-    number: u64,
-    start: u64,
+    transaction: Transaction,
 ) -> Result<(), Fault>
-    ensures { result_err result ≡ turn_fault sessions.now marks.now.marks phases.now counter session number start }
+    ensures { result_err result ≡ turn_fault sessions.now marks.now.marks phases.now counter transaction.session transaction.number transaction.start }
 {
+    let session = transaction.session;
     check_session(sessions, session)?;
     check_unclosed(marks, session)?;
-    check_number(sessions.last(session - 1), number)?;
-    check_start(phases, counter, session, number, start)
+    check_number(sessions.last(session - 1), transaction.number)?;
+    check_start(phases, counter, transaction)
 }
 
 // Whether the answer to a range has no more rows than an answer may have. They are counted, and none is copied.

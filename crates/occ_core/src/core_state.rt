@@ -1,18 +1,21 @@
 //! The core of the store: the world of the model, kept.
-ghost use Rattle.std.specs.Prelude.{◌≡◌, ◌≤◌, ◌+◌, ℕ, [], length, IfOk, IfErr, OnOk, IsOkUnless, IsSome, Some, None, Ok, Err, is_some, true, option_map, slice_get};
+ghost use Rattle.std.specs.Prelude.{◌≡◌, ◌≤◌, ◌+◌, ℕ, [], length, IfOk, IfErr, OnOk, IsOkUnless, IsSome, Some, None, Ok, Err, is_some, true, option_map};
 ghost use Rattle.std.specs.FinMap as finite;
 ghost use Rattle.occ_types.specs.declared.fault.Fault.TheVariants.{Memory};
 ghost use Rattle.occ_types.specs.Seen.{object_of};
 ghost use Rattle.occ_types.specs.declared.limits.TheConstants.{MAX_COUNTER, MAX_LOG_ROWS, MAX_NUMBER};
 ghost use Rattle.occ_model.specs.Invariant.{Invariant};
 ghost use Rattle.occ_model.specs.Log.{Audited};
+ghost use Rattle.occ_model.specs.Poll.{row_numbered};
 ghost use Rattle.occ_model.specs.World.{opened, low, empty_base, active_count, has_session, last_entered};
 ghost use Rattle.occ_model.specs.Event.{Enter, Request, Decide, WriteOne, Finish, BackUp};
 ghost use Rattle.occ_model.specs.Refusal.{refusal};
-ghost use Rattle.occ_model.specs.Step.{Step, decided};
+ghost use Rattle.occ_model.specs.Step.{decided};
+ghost use Rattle.occ_core.specs.Core.{Transition};
+ghost use Rattle.occ_core.specs.Logs.{IsBegun, row_at};
 ghost use Rattle.occ_core.specs.Slots.{idle_slots, row_under_way, written_in, back_fault, writes_done, finish_fault};
 ghost use Rattle.occ_core.specs.Rows.{log_of, log_row_of, standing_of};
-ghost use Rattle.occ_core.specs.Replies.{decision, single, next_object, finishing, backing};
+ghost use Rattle.occ_core.specs.Replies.{decision, single, next_object, IsNextWrite, finishing, backing};
 ghost use Rattle.occ_core.specs.declared.core_state.SingleWrite.TheVariants.{Wrote};
 
 use crate::log::Log;
@@ -44,9 +47,9 @@ pub struct Core<A: Allocator> {
 pub enum SingleWrite {
     /// It put or deleted the row of the object that `Core::written` shows under these places.
     Wrote {
-        /// The place of the transaction in the log.
+        /// The place in the log of the transaction that the session has under way.
         row: usize,
-        /// The place of the write in the order of its first writes.
+        /// The place of the write in the order of its first writes, which is how many of them were done before.
         write: usize,
     },
     /// Nothing, since no write was left.
@@ -80,7 +83,7 @@ impl<A: Allocator + Copy> Core<A> {
         ensures handed_back { IfErr result (λ refused. (refused.value ≡ schema) × (refused.fault ≡ Memory)) }
     {
         let count = schema.tables().len();
-        let (tables, states, window, marks) = match room(alloc, count, sessions, keep) {
+        let (tables, states, window, marks, log) = match room(alloc, count, sessions, keep) {
             Ok(parts) => parts,
             Err(fault) => {
                 return Err(Refused {
@@ -93,7 +96,7 @@ impl<A: Allocator + Copy> Core<A> {
             alloc,
             schema,
             tables,
-            log: Log::new(alloc),
+            log,
             counter: 0,
             phases: ReadPhases::new(alloc),
             sessions: states,
@@ -106,8 +109,9 @@ impl<A: Allocator + Copy> Core<A> {
     /// left. Refused where there is no such session, where nothing of it is under way, where that is not decided, where it is to
     /// be backed up, and where there is no memory for the row to be put. A deletion takes no memory.
     pub fn write_one(&mut self, session: usize) -> Result<SingleWrite, Fault>
-        ensures step { Step self.old.world (WriteOne session) (single self.new.world.log result) self.new.world }
+        ensures step { Transition self.old (WriteOne session) (single self.new.world.log result) self.new }
         ensures named { (row write : ℕ) → result ≡ Ok (Wrote row write) → is_some (written_in self.new.world.log row write) ≡ true }
+        ensures own { (row write : ℕ) → result ≡ Ok (Wrote row write) → IsNextWrite self.old.world session row write }
     {
         let (place, row) = under_way(&self.sessions, &self.log, session)?;
         let done = writes_done(&row.standing)?;
@@ -160,7 +164,15 @@ impl<A: Allocator> Core<A> {
         self.log.rows()
     }
 
-    /// The closing marks: of each session that is closed, the number of its mark. No call closes a session yet, so there are none.
+    /// The row of a session's transaction with this number, or none where it does not stand in the log. It is found at once, however
+    /// long the log is: the core keeps the places of each session's rows, and their numbers have no gap.
+    pub fn row(&self, session: usize, number: u64) -> Option<&LogRow<A, OpenCase<A>>>
+        ensures { option_map (λ r. log_row_of r.now) result ≡ row_numbered session number self.now.world.log }
+    {
+        self.log.numbered(session, number)
+    }
+
+    /// The closing marks: of each session that is closed, the number of its mark.
     pub fn marks(&self) -> &Marks<A>
         ensures marks { result.now.marks ≡ self.now.world.marks }
         ensures sessions { result.now.sessions ≡ self.now.world.settings.sessions }
@@ -198,7 +210,7 @@ impl<A: Allocator> Core<A> {
     /// Decides the transaction that the session has entered: by the verdict on its case, it commits or is to be backed up. Refused
     /// where there is no such session, where nothing of it is under way, and where it is decided. It takes no memory.
     pub fn decide(&mut self, session: usize) -> Result<Verdict, Fault>
-        ensures { Step self.old.world (Decide session) (decision result) self.new.world }
+        ensures { Transition self.old (Decide session) (decision result) self.new }
     {
         let (place, row) = under_way(&self.sessions, &self.log, session)?;
         let Standing::Open(open) = &row.standing else {
@@ -213,7 +225,7 @@ impl<A: Allocator> Core<A> {
     /// answered, and the session may go on. Refused where there is no such session, where nothing of it is under way, where that
     /// is not decided, where it is to be backed up, and where single writes of it are left. It takes no memory.
     pub fn finish(&mut self, session: usize) -> Result<u64, Fault>
-        ensures { Step self.old.world (Finish session) (finishing result) self.new.world }
+        ensures { Transition self.old (Finish session) (finishing result) self.new }
     {
         let (place, row) = under_way(&self.sessions, &self.log, session)?;
         if let Some(fault) = finish_fault(&row.standing, row.writes.len()) {
@@ -230,7 +242,7 @@ impl<A: Allocator> Core<A> {
     /// row stays in the log. Refused where there is no such session, where nothing of it is under way, where that is not decided,
     /// and where it commits. It takes no memory.
     pub fn back_up(&mut self, session: usize) -> Result<u64, Fault>
-        ensures { Step self.old.world (BackUp session) (backing result) self.new.world }
+        ensures { Transition self.old (BackUp session) (backing result) self.new }
     {
         let (place, row) = under_way(&self.sessions, &self.log, session)?;
         if let Some(fault) = back_fault(&row.standing) {
@@ -242,24 +254,27 @@ impl<A: Allocator> Core<A> {
     }
 }
 
-// The parts of an empty store that take memory: so many tables, so many sessions with a slot for a mark each, and a window of so many write sets.
+// The parts of an empty store that take memory: so many tables, so many sessions with a slot for a mark each and a log for their rows, and a window
+// of so many write sets.
 fn room<A: Allocator + Copy>(
     alloc: A,
     tables: usize,
     sessions: usize,
     keep: usize,
-) -> Result<(Tables<A>, Sessions<A>, Window<A>, Marks<A>), Fault>
+) -> Result<(Tables<A>, Sessions<A>, Window<A>, Marks<A>, Log<A>), Fault>
     ensures tables { IfOk result (λ parts. parts.0 ≡ record { tables = tables; state = finite.empty }) }
     ensures sessions { IfOk result (λ parts. parts.1 ≡ idle_slots sessions) }
     ensures window { IfOk result (λ parts. parts.2 ≡ record { keep = keep; sets = [] }) }
     ensures marks { IfOk result (λ parts. parts.3 ≡ record { sessions = sessions; marks = finite.empty }) }
+    ensures log { IfOk result (λ parts. IsBegun sessions parts.4) }
     ensures memory { IsOkUnless result Memory }
 {
     let tables = Tables::new(alloc, tables)?;
     let states = Sessions::new(alloc, sessions)?;
     let window = Window::new(alloc, keep)?;
     let marks = Marks::new(alloc, sessions)?;
-    Ok((tables, states, window, marks))
+    let log = Log::new(alloc, sessions)?;
+    Ok((tables, states, window, marks, log))
 }
 
 // The place in the log of the row that a session has under way, and the row. Refused where there is no such session, and where nothing of it is
@@ -269,10 +284,10 @@ fn under_way<'a, A: Allocator>(
     log: &'a Log<A>,
     session: usize,
 ) -> Result<(usize, &'a LogRow<A, OpenCase<A>>), Fault>
-    requires { (place : ℕ) → row_under_way sessions.now session ≡ Ok place → is_some (slice_get log.now place) ≡ true }
+    requires { (place : ℕ) → row_under_way sessions.now session ≡ Ok place → is_some (row_at log.now place) ≡ true }
     ensures session { OnOk result (1 ≤ session) }
     ensures place { IfOk result (λ found. row_under_way sessions.now session ≡ Ok found.0) }
-    ensures row { IfOk result (λ found. slice_get log.now found.0 ≡ Some (log_row_of found.1.now)) }
+    ensures row { IfOk result (λ found. row_at log.now found.0 ≡ Some (log_row_of found.1.now)) }
     ensures err { IfErr result (λ fault. row_under_way sessions.now session ≡ Err fault) }
 {
     let place = row_under_way(sessions, session)?;

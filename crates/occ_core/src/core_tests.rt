@@ -1,4 +1,5 @@
 //! Each call of the core, on its happy path and where it is refused.
+use crate::core_entries::Entry;
 use crate::core_reads::check_size;
 use crate::core_state::{Core, SingleWrite};
 use occ_book::Tables;
@@ -154,7 +155,7 @@ fn commits(rt: HostRuntime) -> Result<(), Fail> {
     let alloc = rt.alloc();
     let mut core = stock(alloc)?;
     let entered = core.enter(1, request(alloc, 7, 100)?);
-    assert!(rt; entered.is_ok_and(|entered| entered.place == 0));
+    assert!(rt; entered.is_ok_and(|entry| entry == Entry::Entered { place: 0, index: 0 }));
     assert_eq!(rt; core.active(), 1);
     assert!(rt; core.decide(1) == Ok(Verdict::Commit));
     assert!(rt; core.finish(1) == Err(Fault::WritesLeft));
@@ -164,6 +165,21 @@ fn commits(rt: HostRuntime) -> Result<(), Fail> {
     assert_eq!(rt; core.tnc(), 1);
     assert_eq!(rt; core.table().len(), 1);
     assert_eq!(rt; core.active(), 0);
+    Ok(())
+}
+
+#[test]
+fn finds_rows(rt: HostRuntime) -> Result<(), Fail> {
+    let alloc = rt.alloc();
+    let mut core = stock(alloc)?;
+    assert!(rt; core.row(1, 1).is_none());
+    assert!(rt; core.enter(2, request(alloc, 7, 1)?).is_ok());
+    assert!(rt; core.enter(1, request(alloc, 8, 2)?).is_ok());
+    assert!(rt; core.row(1, 1).is_some_and(|row| row.place == 1));
+    assert!(rt; core.row(2, 1).is_some_and(|row| row.place == 0));
+    assert!(rt; core.row(1, 0).is_none());
+    assert!(rt; core.row(1, 2).is_none());
+    assert!(rt; core.row(3, 1).is_none());
     Ok(())
 }
 
@@ -194,8 +210,16 @@ fn turned_away(
         writes,
     };
     match core.enter(1, item) {
-        Ok(_entered) => None,
+        Ok(_entry) => None,
         Err(refused) => Some(refused.fault),
+    }
+}
+
+// What comes of the closing mark of a session; where it is refused, why.
+fn close(core: &mut Core<Global>, session: usize, number: u64) -> Result<Entry, Fault> {
+    match core.enter(session, Item::Close { number }) {
+        Ok(entry) => Ok(entry),
+        Err(refused) => Err(refused.fault),
     }
 }
 
@@ -207,6 +231,42 @@ fn turns_away(rt: HostRuntime) -> Result<(), Fail> {
     assert!(rt; turned_away(&mut core, 1, 1, one_write(alloc, 7, 1)?) == Some(Fault::FutureStart));
     assert!(rt; turned_away(&mut core, 1, 0, one_write(alloc, 7, 1)?) == None);
     assert!(rt; turned_away(&mut core, 2, 0, one_write(alloc, 7, 1)?) == Some(Fault::SessionBusy));
+    assert!(rt; close(&mut core, 1, 2) == Err(Fault::SessionBusy));
+    Ok(())
+}
+
+#[test]
+fn closes(rt: HostRuntime) -> Result<(), Fail> {
+    let mut core = stock(rt.alloc())?;
+    for number in 1..3 {
+        assert!(rt; refused(&mut core, 1, number, 0) == None);
+    }
+    assert!(rt; refused(&mut core, 2, 1, 0) == None);
+    assert!(rt; close(&mut core, 3, 1) == Err(Fault::NoSession));
+    assert!(rt; close(&mut core, 1, 2) == Err(Fault::OutOfTurn));
+    assert!(rt; close(&mut core, 1, 1) == Ok(Entry::MarkedClosed));
+    assert!(rt; core.marks().get(1) == Some(1));
+    for number in 1..3 {
+        assert!(rt; core.forget(1, number) == Ok(false));
+    }
+    assert!(rt; core.forget(2, 1) == Ok(true));
+    Ok(())
+}
+
+#[test]
+fn a_closed_session_is_over(rt: HostRuntime) -> Result<(), Fail> {
+    let alloc = rt.alloc();
+    let mut core = stock(alloc)?;
+    assert!(rt; close(&mut core, 1, 1).is_ok());
+    assert!(rt; close(&mut core, 1, 2) == Err(Fault::SessionClosed));
+    assert!(rt;
+        turned_away(&mut core, 2, 0, one_write(alloc, 7, 1)?) == Some(Fault::SessionClosed)
+    );
+    assert!(rt; refused(&mut core, 1, 2, 0) == Some(Fault::SessionClosed));
+    assert!(rt; core.decide(1) == Err(Fault::NothingEntered));
+    assert!(rt; core.write_one(1) == Err(Fault::NothingEntered));
+    assert!(rt; core.finish(1) == Err(Fault::NothingEntered));
+    assert!(rt; core.back_up(1) == Err(Fault::NothingEntered));
     Ok(())
 }
 

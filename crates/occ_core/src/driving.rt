@@ -24,9 +24,9 @@ pub fn drive<A: Allocator + Copy>(
     core: &mut Core<A>,
     steps: Vec<Step<A>, A>,
 ) -> Result<Vec<Reply<A>, A>, Refused<Vec<Step<A>, A>>>
-    ensures ok { IfOk result (λ replies. Runs core.old.world steps.items replies.items core.new.world) }
+    ensures ok { IfOk result (λ replies. Runs core.old steps.items replies.items core.new) }
     ensures run { OnOk result ((events : List (Event × Said)) × Run core.old.world events core.new.world) }
-    ensures err { OnErr result (core.new.world ≡ core.old.world) }
+    ensures err { OnErr result (core.new ≡ core.old) }
     ensures handed_back { IfErr result (λ refused. refused.value ≡ steps) }
     ensures memory { IfErr result (λ refused. refused.fault ≡ Memory) }
 {
@@ -46,9 +46,9 @@ impl<A: Allocator + Copy> Core<A> {
     /// Does one step, and answers its reply. Where it is refused, the core is as it was.
     ///
     /// The object of a single write is copied for the reply before the write is done. Where there is no memory for the copy the step
-    /// is refused with `Memory`, also where the write is a deletion.
+    /// is refused with `Memory`, also where the write is a deletion. Where no write is left none is copied, and it is `NoMore`.
     pub fn take(&mut self, step: Step<A>) -> Reply<A>
-        ensures { Answers self.old.world step result self.new.world }
+        ensures { Answers self.old step result self.new }
     {
         match step {
             Step::Read {
@@ -77,7 +77,7 @@ impl<A: Allocator + Copy> Core<A> {
 
     // Does the next single write of a session, whose object is copied before that.
     fn take_write(&mut self, session: usize) -> Reply<A>
-        ensures { Answers self.old.world (steps.WriteOne session) result self.new.world }
+        ensures { Answers self.old (steps.WriteOne session) result self.new }
     {
         let Some(next) = self.next_write(session) else {
             return to_no_write(self.write_one(session));

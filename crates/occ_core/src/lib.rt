@@ -2,6 +2,7 @@
 #![tactic(auto)]
 
 mod core_book;
+mod core_closing;
 mod core_entries;
 mod core_reads;
 mod core_state;
@@ -17,7 +18,7 @@ mod steps;
 mod tests;
 mod window;
 
-pub use core_entries::Entered;
+pub use core_entries::Entry;
 pub use core_state::{Core, SingleWrite};
 pub use driving::drive;
 pub use replies::Reply;

@@ -1,93 +1,170 @@
 //! The decision log.
-ghost use Rattle.std.specs.Prelude.{◌≡◌, ◌<◌, [], ◌∷◌, ◌++◌, length, IfOk, IfErr, OnOk, OnErr, slice_get, slice_set, Some};
+ghost use Rattle.std.specs.Prelude.{◌≡◌, ◌<◌, ◌≤◌, ◌+◌, ◌-◌, ◌^◌, [], ◌∷◌, ◌++◌, length, is_some, true, IfOk, OnOk, slice_get, slice_set, Some};
 ghost use Rattle.std.specs.Option.{option_map};
 ghost use Rattle.occ_types.specs.Seen.{object_of};
+ghost use Rattle.occ_core.specs.Logs.{row_at, HasRoom, IsBegun, HaveNoGap, rows_of, places_in};
 ghost use Rattle.occ_core.specs.Rows.{log_row_of, log_of, standing_of};
-ghost use Rattle.occ_core.specs.Slots.{written_in};
+ghost use Rattle.occ_core.specs.Slots.{written_at};
 ghost use Rattle.occ_model.specs.Log.{LogRow as PlainRow};
+ghost use Rattle.occ_model.specs.Poll.{row_numbered};
 
 use occ_book::{LogRow, Standing};
 use occ_case::OpenCase;
 use occ_types::Object;
-use std::alloc::{AllocError, AllocFailed, Allocator};
+use std::alloc::{AllocError, Allocator};
 use std::marker::Model;
 
-/// The rows that entered, in the order of their entry. Clauses see the list of the plain rows.
+/// The rows that entered, in the order of their entry. They are counted from a first place on, and each is found by its place.
+/// Clauses see that place, the list of the plain rows, and whether one more row takes memory.
 #[derive(Drop)]
 pub struct Log<A: Allocator> {
+    first: usize,
     rows: Vec<LogRow<A, OpenCase<A>>, A>,
+    // Of each session, in order, the places of its rows.
+    places: Vec<Vec<usize, A>, A>,
 }
 
 impl<A: Allocator> Model for Log<A> {
-    ghost use Rattle.std.specs.Prelude.{List};
-    ghost use Rattle.occ_model.specs.Log.{LogRow as PlainRow};
-
-    ghost Value = { List PlainRow };
-
+    ghost use Rattle.occ_core.specs.Logs.{Kept, AreListed, kept_of, lists_of};
     ghost use Rattle.occ_core.specs.Rows.{log_of};
 
-    ghost view = { λ l. log_of l.rows.items };
+    ghost Value = { Kept };
+
+    ghost view = { λ l. kept_of l.first l.rows l.places };
+
+    ghost invariant = { λ l. AreListed l.first (log_of l.rows.items) (lists_of l.places.items) };
+}
+
+impl<A: Allocator + Copy> Log<A> {
+    /// A log without a row, for the rows of so many sessions; an error where there is no memory for it.
+    pub fn new(alloc: A, sessions: usize) -> Result<Log<A>, AllocError>
+        ensures { IfOk result (λ log. IsBegun sessions log) }
+    {
+        let mut places = Vec::with_capacity(alloc, sessions)?;
+        for _ in 0..sessions {
+            places.push(Vec::new(alloc))?;
+        }
+        Ok(Log {
+            first: 0,
+            rows: Vec::new(alloc),
+            places,
+        })
+    }
 }
 
 impl<A: Allocator> Log<A> {
-    /// A log without a row.
-    pub fn new(alloc: A) -> Log<A>
-        ensures { result ≡ [] }
-    {
-        Log {
-            rows: Vec::new(alloc),
-        }
-    }
-
     /// How many rows stand in the log.
     pub fn len(&self) -> usize
-        ensures { result ≡ length self.now }
+        ensures { result ≡ length self.now.rows }
     {
         self.rows.len()
     }
 
-    /// The row at a place.
-    pub fn row(&self, place: usize) -> Option<&LogRow<A, OpenCase<A>>>
-        ensures { option_map (λ r. log_row_of r.now) result ≡ slice_get self.now place }
+    /// The place of the next row to enter.
+    pub fn next_place(&self) -> usize
+        requires { self.now.first + length self.now.rows < 2 ^ 64 }
+        ensures { result ≡ self.now.first + length self.now.rows }
     {
-        self.rows.get(place)
+        self.first + self.rows.len()
+    }
+
+    /// The row at a place, or none where it does not stand in the log.
+    pub fn row(&self, place: usize) -> Option<&LogRow<A, OpenCase<A>>>
+        ensures { option_map (λ r. log_row_of r.now) result ≡ row_at self.now place }
+    {
+        if place < self.first {
+            return None;
+        }
+        self.rows.get(place - self.first)
+    }
+
+    /// The row of a session with a number, or none where it does not stand in the log. The numbers of each session stand without a
+    /// gap. So the row is found without a search, by how far its number lies above that of the session's first row.
+    pub fn numbered(&self, session: usize, number: u64) -> Option<&LogRow<A, OpenCase<A>>>
+        requires { HaveNoGap self.now.rows }
+        ensures { option_map (λ r. log_row_of r.now) result ≡ row_numbered session number self.now.rows }
+    {
+        let oldest = self.row_of(session, 0)?;
+        if number < oldest.number {
+            return None;
+        }
+        self.row_of(session, (number - oldest.number) as usize)
+    }
+
+    // The row of a session that has so many rows of the session before it.
+    fn row_of(&self, session: usize, before: usize) -> Option<&LogRow<A, OpenCase<A>>>
+        ensures { option_map (λ r. log_row_of r.now) result ≡ slice_get (rows_of session self.now.rows) before }
+    {
+        let place = self.place_of(session, before)?;
+        self.row(place)
+    }
+
+    // The place of that row.
+    fn place_of(&self, session: usize, before: usize) -> Option<usize>
+        ensures { result ≡ slice_get (places_in session self.now.first self.now.rows) before }
+    {
+        let lists = &self.places;
+        if session == 0 {
+            return None;
+        }
+        let places = lists.get(session - 1)?;
+        places.get(before).copied()
     }
 
     /// The rows, in the order of entry.
     pub fn rows(&self) -> &[LogRow<A, OpenCase<A>>]
-        ensures { log_of result.now ≡ self.now }
+        ensures { log_of result.now ≡ self.now.rows }
     {
         self.rows.as_slice()
     }
 
     /// The object of a write of the row at a place, by its place in the order of the first writes.
     pub fn written(&self, place: usize, write: usize) -> Option<&Object<A>>
-        ensures { option_map (λ o. object_of o.now) result ≡ written_in self.now place write }
+        ensures { option_map (λ o. object_of o.now) result ≡ written_at (row_at self.now) place write }
     {
         let row = self.row(place)?;
         let (object, _row) = row.writes.write_at(write)?;
         Some(object)
     }
 
-    /// A row comes in at the end; it is handed back where there is no memory.
-    pub fn push(
-        &mut self,
-        row: LogRow<A, OpenCase<A>>,
-    ) -> Result<(), AllocFailed<LogRow<A, OpenCase<A>>>>
-        ensures ok { OnOk result (self.new ≡ self.old ++ log_row_of row ∷ []) }
-        ensures err { OnErr result (self.new ≡ self.old) }
-        ensures handed_back { IfErr result (λ refused. refused.value ≡ row) }
+    /// Takes room for one more row of a session, so that it can come in without memory; an error where there is none. The rows stay
+    /// as they are.
+    pub fn reserve(&mut self, session: usize) -> Result<(), AllocError>
+        requires from { 1 ≤ session }
+        requires below { session ≤ self.old.sessions }
+        ensures room { OnOk result (HasRoom self.new session) }
+        ensures rows { self.new.rows ≡ self.old.rows }
+        ensures first { self.new.first ≡ self.old.first }
+        ensures sessions { self.new.sessions ≡ self.old.sessions }
     {
-        self.rows.push(row)?;
+        self.rows.reserve(1)?;
+        let places = &mut self.places[session - 1];
+        places.reserve(1)?;
         Ok(())
+    }
+
+    /// A row comes in at the end, in the room that was taken for one of its session. It takes no memory.
+    pub fn push(&mut self, row: LogRow<A, OpenCase<A>>)
+        requires from { 1 ≤ row.session }
+        requires room { HasRoom self.old row.session }
+        requires place { row.place ≡ self.old.first + length self.old.rows }
+        ensures rows { self.new.rows ≡ self.old.rows ++ log_row_of row ∷ [] }
+        ensures first { self.new.first ≡ self.old.first }
+        ensures sessions { self.new.sessions ≡ self.old.sessions }
+    {
+        let places = &mut self.places[row.session - 1];
+        places.push_reserved(row.place);
+        self.rows.push_reserved(row);
     }
 
     /// The row at a place takes another standing.
     pub fn stand(&mut self, place: usize, standing: Standing<OpenCase<A>>)
-        requires { place < length self.old }
-        ensures { (row : PlainRow) → slice_get self.old place ≡ Some row → self.new ≡ slice_set self.old place (record row { standing = standing_of standing }) }
+        requires { is_some (row_at self.old place) ≡ true }
+        ensures rows { (row : PlainRow) → row_at self.old place ≡ Some row → self.new.rows ≡ slice_set self.old.rows (place - self.old.first) (record row { standing = standing_of standing }) }
+        ensures first { self.new.first ≡ self.old.first }
+        ensures sessions { self.new.sessions ≡ self.old.sessions }
     {
-        let row = &mut self.rows[place];
+        let row = &mut self.rows[place - self.first];
         row.standing = standing;
     }
 }
@@ -95,7 +172,7 @@ impl<A: Allocator> Log<A> {
 impl<A: Allocator + Clone> Log<A> {
     /// A clone of each row, whose write set and read set are shared; an error where there is no memory for them.
     pub fn share_rows(&self) -> Result<Vec<LogRow<A, OpenCase<A>>, A>, AllocError>
-        ensures { IfOk result (λ shared. log_of shared.items ≡ self.now) }
+        ensures { IfOk result (λ shared. log_of shared.items ≡ self.now.rows) }
     {
         let shared = self.rows.clone()?;
         Ok(shared)

@@ -1,5 +1,5 @@
 //! The read phases under way.
-ghost use Rattle.std.specs.Prelude.{◌≡◌, ◌==◌, ◌<◌, ◌++◌, [], ◌∷◌, not, length, OnOk, OnErr, IfOk, IsOkUnless};
+ghost use Rattle.std.specs.Prelude.{◌≡◌, ◌==◌, ◌<◌, ◌++◌, ℕ, [], ◌∷◌, not, true, length, None, OnOk, OnErr, IfOk, IfSome, IfNone, IsOkUnless};
 ghost use Rattle.std.specs.Option.{option_map};
 ghost use Rattle.std.specs.FinMap as finite;
 ghost use Rattle.occ_types.specs.declared.fault.Fault.TheVariants.{Memory};
@@ -13,6 +13,17 @@ use occ_types::{Fault, Question};
 use std::alloc::Allocator;
 use std::collections::BTreeMap;
 use std::marker::Model;
+
+/// A transaction as its session names it, before it enters.
+#[derive(Clone, Copy)]
+pub struct Transaction {
+    /// The session, numbered from 1.
+    pub session: usize,
+    /// The number that the session gives it.
+    pub number: u64,
+    /// What the transaction counter was when its read phase began.
+    pub start: u64,
+}
 
 /// A read phase under way.
 #[derive(Drop)]
@@ -96,11 +107,33 @@ impl<A: Allocator> ReadPhases<A> {
         self.phases.remove(&(session, number))
     }
 
-    /// Ends all phases of a session. It takes no memory.
+    /// Ends all phases of a session. It looks at no phase of another one, and takes no memory.
     pub fn drop_session(&mut self, session: usize)
         ensures { self.new ≡ finite.retain_keys self.old (λ key. not (key.0 == session)) }
     {
-        self.phases.retain(|key, _phase| key.0 != session);
+        while let Some(number) = self.first_number(session) {
+            self.discard(session, number);
+        }
+    }
+
+    // Ends a phase, of which nothing is left.
+    fn discard(&mut self, session: usize, number: u64)
+        ensures { self.new ≡ finite.remove self.old (session, number) }
+    {
+        let _phase = self.take(session, number);
+    }
+
+    // The first number under which a session reads.
+    fn first_number(&self, session: usize) -> Option<u64>
+        ensures some { IfSome result (λ number. finite.contains_key self.now (session, number) ≡ true) }
+        ensures none { IfNone result ((number : ℕ) → finite.get self.now (session, number) ≡ None) }
+    {
+        let (key, _phase) = self.phases.range((session, 0)..).next()?;
+        if is_of(session, *key) {
+            Some(key.1)
+        } else {
+            None
+        }
     }
 }
 
@@ -120,31 +153,36 @@ impl<A: Allocator + Copy> ReadPhases<A> {
         Ok(shared)
     }
 
-    /// Notes a question and the table's answer after the others of a phase, which begins with it where it is not under way, and has this start.
+    /// Notes a question and the table's answer after the others of a transaction's phase, which begins with it where it is not under way, and has its start.
     ///
     /// Refused with `Memory` where there is none, which leaves the phases as they were.
     pub fn note(
         &mut self,
         alloc: A,
-        session: usize,
-        number: u64,
-        start: u64,
+        transaction: Transaction,
         question: Question<A>,
         answer: Answer<A>,
     ) -> Result<(), Fault>
-        requires few { length (reads_of (finite.get self.old (session, number))) < limit.MAX_QUESTIONS }
-        ensures ok { OnOk result (self.new ≡ finite.insert self.old (session, number) (record { start = start; reads = reads_of (finite.get self.old (session, number)) ++ (question_of question, answer_of answer) ∷ [] })) }
+        requires few { length (reads_of (finite.get self.old (transaction.session, transaction.number))) < limit.MAX_QUESTIONS }
+        ensures ok { OnOk result (self.new ≡ finite.insert self.old (transaction.session, transaction.number) (record { start = transaction.start; reads = reads_of (finite.get self.old (transaction.session, transaction.number)) ++ (question_of question, answer_of answer) ∷ [] })) }
         ensures err { OnErr result (self.new ≡ self.old) }
         ensures memory { IsOkUnless result Memory }
     {
-        let key = (session, number);
+        let key = (transaction.session, transaction.number);
         if let Some(phase) = self.phases.get_mut(&key) {
             phase.reads.note(question, answer)?;
-            phase.start = start;
+            phase.start = transaction.start;
             return Ok(());
         }
-        let phase = Phase::first(alloc, start, question, answer)?;
+        let phase = Phase::first(alloc, transaction.start, question, answer)?;
         self.phases.insert(key, phase)?;
         Ok(())
     }
+}
+
+// Whether a phase, named by its session and its number, is of this session.
+fn is_of(session: usize, phase: (usize, u64)) -> bool
+    ensures { result ≡ (phase.0 == session) }
+{
+    phase.0 == session
 }

@@ -6,7 +6,7 @@ ghost use Rattle.occ_core.specs.Replies.{reading, scanning, forgetting, entering
 ghost use Rattle.occ_core.specs.Runs.{reply_of, handed_back};
 ghost use Rattle.occ_queue.specs.Items.{item_of};
 
-use crate::core_entries::Entered;
+use crate::core_entries::Entry;
 use crate::core_state::SingleWrite;
 use occ_case::Verdict;
 use occ_queue::Item;
@@ -22,8 +22,15 @@ pub enum Reply<A: Allocator> {
     Rows(Vec<(Key<A>, Row<A>), A>),
     /// To a forget: whether there was such a read phase.
     Forgotten(bool),
-    /// To an entry: the place of its row in the log, and the index that names its case.
-    Entered(Entered),
+    /// To the entry of a transaction.
+    Entered {
+        /// The place of its row in the log.
+        place: usize,
+        /// The index that names its case.
+        index: u64,
+    },
+    /// To the entry of a closing mark: the session is closed.
+    Closed,
     /// To a decision: the verdict.
     Decided(Verdict),
     /// To a single write: the object whose row it put or deleted.
@@ -74,12 +81,13 @@ pub(crate) fn to_forget<A: Allocator>(called: Result<bool, Fault>) -> Reply<A>
 }
 
 // The reply to an entry.
-pub(crate) fn to_entry<A: Allocator>(called: Result<Entered, Refused<Item<A>>>) -> Reply<A>
+pub(crate) fn to_entry<A: Allocator>(called: Result<Entry, Refused<Item<A>>>) -> Reply<A>
     ensures reply { reply_of result ≡ entering called }
     ensures back { handed_back result ≡ option_map (λ refused. item_of refused.value) (result_err called) }
 {
     match called {
-        Ok(entered) => Reply::Entered(entered),
+        Ok(Entry::Entered { place, index }) => Reply::Entered { place, index },
+        Ok(Entry::MarkedClosed) => Reply::Closed,
         Err(refused) => Reply::RefusedItem(refused),
     }
 }

@@ -1,5 +1,5 @@
 //! The read phases and the window, on their happy paths.
-use crate::phases::ReadPhases;
+use crate::phases::{ReadPhases, Transaction};
 use crate::window::Window;
 use occ_sets::{Answer, WriteSet};
 use occ_types::limits::MAX_QUESTIONS;
@@ -26,7 +26,12 @@ fn note(
         return Err(Fault::SetFull);
     }
     let question = Question::One(object(key));
-    phases.note(alloc, session, number, 5, question, Answer::Found(None))
+    let transaction = Transaction {
+        session,
+        number,
+        start: 5,
+    };
+    phases.note(alloc, transaction, question, Answer::Found(None))
 }
 
 #[test]

@@ -94,10 +94,8 @@ fn tell(words: &mut String<Global>, reply: &Reply<Global>) -> Result<(), AllocEr
             write!(words, "{count} rows; ")
         }
         Reply::Forgotten(there) => write!(words, "forgotten {there}; "),
-        Reply::Entered(entered) => {
-            let place = entered.place;
-            write!(words, "entered {place}; ")
-        }
+        Reply::Entered { place, .. } => write!(words, "entered {place}; "),
+        Reply::Closed => words.push_str("closed; "),
         Reply::Decided(verdict) => write!(words, "{verdict:?}; "),
         Reply::Wrote(object) => tell_key(words, object),
         Reply::NoMore => words.push_str("no more; "),
@@ -126,9 +124,14 @@ fn tell_refusal(
     words: &mut String<Global>,
     refused: &Refused<Item<Global>>,
 ) -> Result<(), AllocError> {
-    let Item::Request { writes, .. } = &refused.value;
-    let (fault, count) = (refused.fault, writes.len());
-    write!(words, "turned away {fault:?} with {count}; ")
+    let fault = refused.fault;
+    match &refused.value {
+        Item::Request { writes, .. } => {
+            let count = writes.len();
+            write!(words, "turned away {fault:?} with {count}; ")
+        }
+        Item::Close { number } => write!(words, "mark {number} turned away {fault:?}; "),
+    }
 }
 
 #[test]
@@ -189,6 +192,48 @@ fn each_kind_of_step(rt: HostRuntime) -> Result<(), Fail> {
         "none; forgotten true; entered 0; Commit; refused WritesLeft; wrote 7; finished 1; turned away OutOfTurn with 1; \
          refused NoSession; row 5; entered 1; BackUp(Conflict); backed 1; "
     );
+    Ok(())
+}
+
+// The entry of the closing mark of a session.
+fn close(session: usize, number: u64) -> Step<Global> {
+    Step::Enter {
+        session,
+        item: Item::Close { number },
+    }
+}
+
+// Session 1 commits a row and closes; what it hands in too early, and after its mark, is refused.
+fn life(alloc: Global) -> Result<Vec<Step<Global>, Global>, Fault> {
+    let mut steps = Vec::new(alloc);
+    steps.push(read(1, 7))?;
+    steps.push(close(1, 2))?;
+    steps.push(enter(alloc, 1, 7)?)?;
+    steps.push(close(1, 2))?;
+    steps.push(Step::Decide(1))?;
+    steps.push(Step::WriteOne(1))?;
+    steps.push(Step::Finish(1))?;
+    steps.push(close(1, 2))?;
+    steps.push(close(1, 3))?;
+    steps.push(enter(alloc, 1, 8)?)?;
+    steps.push(Step::Decide(1))?;
+    Ok(steps)
+}
+
+#[test]
+fn a_session_closes(rt: HostRuntime) -> Result<(), Fail> {
+    let alloc = rt.alloc();
+    let mut core = store(alloc)?;
+    let steps = life(alloc)?;
+    assert_eq!(rt;
+        told(alloc, &mut core, steps)?.as_str(),
+        "none; mark 2 turned away OutOfTurn; entered 0; mark 2 turned away SessionBusy; Commit; wrote 7; finished 1; closed; \
+         mark 3 turned away SessionClosed; turned away SessionClosed with 1; refused NothingEntered; "
+    );
+    let book = core.book()?;
+    assert_eq!(rt; book.marks.len(), 1);
+    assert!(rt; book.marks.get(1) == Some(2));
+    assert!(rt; audit_rows(alloc, &book.view())?);
     Ok(())
 }
 

@@ -22,7 +22,7 @@ pub verdict_is_validity : VerdictIsValidity
 verdict_is_validity = verdict-validity
 
 -- no event that is taken is replied to as a refusal
-not_told : (old new : World) (event : Event) (fault : Fault) → Taken old event (Refused fault) new → ⊥
+pub not_told : (old new : World) (event : Event) (fault : Fault) → Taken old event (Refused fault) new → ⊥
 not_told old new (Read session number start question) fault t = let e = t.0 in cc e
 not_told old new (Forget session number) fault t = let e = t.0 in cc e
 not_told old new (Enter session (Request number start writes)) fault t = let e = t.3 in cc e

@@ -1,3 +1,4 @@
 pub mod Printing
+pub mod Readable
 pub mod SessionMarks
 pub mod TableRows

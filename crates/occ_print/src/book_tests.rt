@@ -1,9 +1,8 @@
 //! Worked books, built row by row, and books on devices that fail.
 
-use crate::books::write_book;
+use crate::{BookFault, write_readable_book};
 use occ_book::{BookView, LogRow, Marks, Standing, Tables};
 use occ_sets::{Answer, ReadSet, WriteSet};
-use occ_text::faults::WriteFault;
 use occ_text::headers::Limits;
 use occ_text::output::Output;
 use occ_types::{Cell, Key, KeyKind, Kind, Object, Question, Row, Schema, TableDef, Text};
@@ -134,7 +133,7 @@ fn printed(
     rows: &[(u64, i64)],
     closed: &[(usize, u64)],
     fails: usize,
-) -> Result<(Vec<u8>, Result<(), WriteFault>), AllocError> {
+) -> Result<(Vec<u8>, Result<(), BookFault>), AllocError> {
     let tables = tables(alloc, rows)?;
     let marks = marks(alloc, closed)?;
     let book = BookView {
@@ -158,16 +157,18 @@ fn written(
     page: &mut Page,
     schema: &Schema<Global>,
     book: &BookView<'_, Global, ()>,
-) -> Result<(), WriteFault> {
+) -> Result<(), BookFault> {
     let limits = Limits {
         sessions: 2,
         queue: 4,
         keep: 8,
     };
     let mut output = Output::new(alloc);
-    write_book(alloc, &mut output, page, limits, schema, book)?;
-    output.flush(page)?;
-    Ok(())
+    write_readable_book(alloc, &mut output, page, limits, schema, book)?;
+    match output.flush(page) {
+        Ok(()) => Ok(()),
+        Err(_failed) => Err(BookFault::Write),
+    }
 }
 
 /// Entry order against number order: the first row to enter finished as the second.
@@ -189,7 +190,7 @@ fn a_book_has_its_lines(rt: HostRuntime) -> Result<(), Fail> {
             assert!(rt; bytes.as_slice() == BOOK.as_bytes());
             whole = true;
         } else {
-            assert!(rt; ended == Err(WriteFault::Write));
+            assert!(rt; ended == Err(BookFault::Write));
             assert!(rt; BOOK.as_bytes().starts_with(bytes.as_slice()));
         }
     }
@@ -217,6 +218,35 @@ fn a_range_is_printed_with_its_rows(rt: HostRuntime) -> Result<(), Fail> {
         b"\nlog 1\nrow 0 1 1 0 0 1 1 done 1\nspan t 1 9 2\npair 3 30\npair 5 -50\ndel t 3\nmarks 0\nstate 0\ncounter";
     let (_, rest) = bytes.as_slice().split_at(bytes.len().min(47));
     assert!(rt; rest.starts_with(lines.as_slice()));
+    Ok(())
+}
+
+// What the printing of a book answers that has a range with these ends, and how many bytes it wrote.
+fn with_range(
+    alloc: Global,
+    lower: Option<u64>,
+    upper: Option<u64>,
+) -> Result<(Result<(), BookFault>, usize), AllocError> {
+    let question = Question::Span {
+        table: 0,
+        lower: lower.map(|key| Key::Num(key)),
+        upper: upper.map(|key| Key::Num(key)),
+    };
+    let reads = reading(alloc, question, Answer::Rows(Vec::new(alloc)))?;
+    let mut log = Vec::new(alloc);
+    log.push(finished(alloc, (0, 1, 1), reads, (3, None))?)?;
+    let (bytes, ended) = printed(alloc, log.as_slice(), &[], &[], usize::MAX)?;
+    Ok((ended, bytes.len()))
+}
+
+#[test]
+fn a_range_with_a_missing_end_is_not_printed(rt: HostRuntime) -> Result<(), Fail> {
+    let alloc = rt.alloc();
+    for (lower, upper) in [(None, Some(9)), (Some(1), None), (None, None)] {
+        assert!(rt; with_range(alloc, lower, upper)? == (Err(BookFault::MissingEnd), 0));
+    }
+    let (ended, bytes) = with_range(alloc, Some(1), Some(9))?;
+    assert!(rt; ended == Ok(()) && bytes > 0);
     Ok(())
 }
 

@@ -1,6 +1,6 @@
 //! The book of a store, printed line by line: what is held is one line, and less than a block of what is on its way.
 
-ghost use Rattle.std.specs.Prelude.{◌≡◌, ℕ, ◌<◌, ◌++◌, ◌∷◌, [], map, slice_get, codes, string_bytes};
+ghost use Rattle.std.specs.Prelude.{◌≡◌, ℕ, ◌<◌, ◌++◌, ◌∷◌, [], true, map, slice_get, IfErr, codes, string_bytes};
 ghost use Rattle.std.specs.List.{flat_map};
 ghost use Rattle.std.specs.FinMap as finite;
 ghost use Rattle.std.specs.Option.{option_copied, option_to_list};
@@ -12,6 +12,7 @@ ghost use Rattle.occ_book.specs.Marks.{mark_at};
 ghost use Rattle.occ_book.specs.Rows.{log_row_of, log_of};
 ghost use Rattle.occ_text.specs.Line.{lines_text};
 ghost use Rattle.occ_text.specs.Printing.{PrintGives};
+ghost use Rattle.occ_text.specs.declared.faults.WriteFault.TheVariants as write_faults;
 ghost use Rattle.occ_text.specs.Headers.{count_text, limits_lines, table_text};
 ghost use Rattle.occ_print.specs.Books.{book_of, header_of, header_lines, pair_line, pair_lines, read_lines, write_line, row_lines, log_lines, mark_line, mark_lines, at_line, rows_at, state_lines, counter_line, book_text};
 
@@ -35,7 +36,8 @@ pub fn push_line<W: Write, A: Allocator>(
     writer: &mut W,
     line: &mut String<A>,
 ) -> Result<(), WriteFault>
-    ensures { PrintGives result (W.contents writer.old) (W.contents writer.new) output.old output.new (lines_text (string_bytes line.old ∷ [])) }
+    ensures printed { PrintGives result (W.contents writer.old) (W.contents writer.new) output.old.held output.new.held (lines_text (string_bytes line.old ∷ [])) }
+    ensures cause { IfErr result (λ fault. fault ≡ write_faults.Write → output.new.failed ≡ true) }
 {
     line.push('\n')?;
     output.push(writer, line.as_bytes())
@@ -48,7 +50,8 @@ fn print_count<W: Write, A: Allocator>(
     word: &str,
     count: u128,
 ) -> Result<(), WriteFault>
-    ensures { PrintGives result (W.contents writer.old) (W.contents writer.new) output.old output.new (lines_text (count_text word.now count ∷ [])) }
+    ensures printed { PrintGives result (W.contents writer.old) (W.contents writer.new) output.old.held output.new.held (lines_text (count_text word.now count ∷ [])) }
+    ensures cause { IfErr result (λ fault. fault ≡ write_faults.Write → output.new.failed ≡ true) }
 {
     count_line(line, word, count)?;
     push_line(output, writer, line)
@@ -59,7 +62,8 @@ fn print_version<W: Write, A: Allocator>(
     writer: &mut W,
     line: &mut String<A>,
 ) -> Result<(), WriteFault>
-    ensures { PrintGives result (W.contents writer.old) (W.contents writer.new) output.old output.new (lines_text (codes "occ 1" ∷ [])) }
+    ensures printed { PrintGives result (W.contents writer.old) (W.contents writer.new) output.old.held output.new.held (lines_text (codes "occ 1" ∷ [])) }
+    ensures cause { IfErr result (λ fault. fault ≡ write_faults.Write → output.new.failed ≡ true) }
 {
     version_line(line)?;
     push_line(output, writer, line)
@@ -71,7 +75,8 @@ fn print_limits<W: Write, A: Allocator>(
     line: &mut String<A>,
     limits: Limits,
 ) -> Result<(), WriteFault>
-    ensures { PrintGives result (W.contents writer.old) (W.contents writer.new) output.old output.new (lines_text (limits_lines limits)) }
+    ensures printed { PrintGives result (W.contents writer.old) (W.contents writer.new) output.old.held output.new.held (lines_text (limits_lines limits)) }
+    ensures cause { IfErr result (λ fault. fault ≡ write_faults.Write → output.new.failed ≡ true) }
 {
     print_version(output, writer, line)?;
     print_count(output, writer, line, "sessions", limits.sessions as u128)?;
@@ -85,7 +90,8 @@ fn print_table<W: Write, A: Allocator>(
     line: &mut String<A>,
     table: &TableDef<A>,
 ) -> Result<(), WriteFault>
-    ensures { PrintGives result (W.contents writer.old) (W.contents writer.new) output.old output.new (lines_text (table_text (table_of table.now) ∷ [])) }
+    ensures printed { PrintGives result (W.contents writer.old) (W.contents writer.new) output.old.held output.new.held (lines_text (table_text (table_of table.now) ∷ [])) }
+    ensures cause { IfErr result (λ fault. fault ≡ write_faults.Write → output.new.failed ≡ true) }
 {
     table_line(line, table)?;
     push_line(output, writer, line)
@@ -97,7 +103,8 @@ fn print_tables<W: Write, A: Allocator>(
     line: &mut String<A>,
     tables: &[TableDef<A>],
 ) -> Result<(), WriteFault>
-    ensures { PrintGives result (W.contents writer.old) (W.contents writer.new) output.old output.new (lines_text (map table_text (tables_of tables.now))) }
+    ensures printed { PrintGives result (W.contents writer.old) (W.contents writer.new) output.old.held output.new.held (lines_text (map table_text (tables_of tables.now))) }
+    ensures cause { IfErr result (λ fault. fault ≡ write_faults.Write → output.new.failed ≡ true) }
 {
     for table in tables {
         print_table(output, writer, line, table)?;
@@ -112,7 +119,8 @@ fn print_header<W: Write, A: Allocator>(
     limits: Limits,
     schema: &Schema<A>,
 ) -> Result<(), WriteFault>
-    ensures { PrintGives result (W.contents writer.old) (W.contents writer.new) output.old output.new (lines_text (header_lines (header_of limits schema.now))) }
+    ensures printed { PrintGives result (W.contents writer.old) (W.contents writer.new) output.old.held output.new.held (lines_text (header_lines (header_of limits schema.now))) }
+    ensures cause { IfErr result (λ fault. fault ≡ write_faults.Write → output.new.failed ≡ true) }
 {
     print_limits(output, writer, line, limits)?;
     print_tables(output, writer, line, schema.tables())
@@ -125,7 +133,8 @@ fn print_pair<W: Write, A: Allocator>(
     key: &Key<A>,
     row: &Row<A>,
 ) -> Result<(), WriteFault>
-    ensures { PrintGives result (W.contents writer.old) (W.contents writer.new) output.old output.new (lines_text (pair_line (key_of key.now, row.now) ∷ [])) }
+    ensures printed { PrintGives result (W.contents writer.old) (W.contents writer.new) output.old.held output.new.held (lines_text (pair_line (key_of key.now, row.now) ∷ [])) }
+    ensures cause { IfErr result (λ fault. fault ≡ write_faults.Write → output.new.failed ≡ true) }
 {
     pair_line(line, key, row)?;
     push_line(output, writer, line)
@@ -137,7 +146,8 @@ fn print_pairs<W: Write, A: Allocator>(
     line: &mut String<A>,
     pairs: &[(Key<A>, Row<A>)],
 ) -> Result<(), WriteFault>
-    ensures { PrintGives result (W.contents writer.old) (W.contents writer.new) output.old output.new (lines_text (map pair_line (rows_of pairs.now))) }
+    ensures printed { PrintGives result (W.contents writer.old) (W.contents writer.new) output.old.held output.new.held (lines_text (map pair_line (rows_of pairs.now))) }
+    ensures cause { IfErr result (λ fault. fault ≡ write_faults.Write → output.new.failed ≡ true) }
 {
     for (key, row) in pairs {
         print_pair(output, writer, line, key, row)?;
@@ -151,7 +161,8 @@ fn print_answer<W: Write, A: Allocator>(
     line: &mut String<A>,
     answer: &Answer<A>,
 ) -> Result<(), WriteFault>
-    ensures { PrintGives result (W.contents writer.old) (W.contents writer.new) output.old output.new (lines_text (pair_lines (answer_of answer.now))) }
+    ensures printed { PrintGives result (W.contents writer.old) (W.contents writer.new) output.old.held output.new.held (lines_text (pair_lines (answer_of answer.now))) }
+    ensures cause { IfErr result (λ fault. fault ≡ write_faults.Write → output.new.failed ≡ true) }
 {
     match answer {
         Answer::Found(_) => Ok(()),
@@ -166,7 +177,8 @@ fn print_read<W: Write, A: Allocator>(
     schema: &Schema<A>,
     read: &Observation<A>,
 ) -> Result<(), WriteFault>
-    ensures { PrintGives result (W.contents writer.old) (W.contents writer.new) output.old output.new (lines_text (read_lines schema.now (observation_of read.now))) }
+    ensures printed { PrintGives result (W.contents writer.old) (W.contents writer.new) output.old.held output.new.held (lines_text (read_lines schema.now (observation_of read.now))) }
+    ensures cause { IfErr result (λ fault. fault ≡ write_faults.Write → output.new.failed ≡ true) }
 {
     read_line(line, schema, read)?;
     push_line(output, writer, line)?;
@@ -180,7 +192,8 @@ fn print_reads<W: Write, A: Allocator>(
     schema: &Schema<A>,
     reads: &[Observation<A>],
 ) -> Result<(), WriteFault>
-    ensures { PrintGives result (W.contents writer.old) (W.contents writer.new) output.old output.new (lines_text (flat_map (read_lines schema.now) (observations_of reads.now))) }
+    ensures printed { PrintGives result (W.contents writer.old) (W.contents writer.new) output.old.held output.new.held (lines_text (flat_map (read_lines schema.now) (observations_of reads.now))) }
+    ensures cause { IfErr result (λ fault. fault ≡ write_faults.Write → output.new.failed ≡ true) }
 {
     for read in reads {
         print_read(output, writer, line, schema, read)?;
@@ -196,7 +209,8 @@ fn print_write<W: Write, A: Allocator>(
     object: &Object<A>,
     row: Option<&Row<A>>,
 ) -> Result<(), WriteFault>
-    ensures { PrintGives result (W.contents writer.old) (W.contents writer.new) output.old output.new (lines_text (write_line schema.now (object_of object.now, option_copied row.entry) ∷ [])) }
+    ensures printed { PrintGives result (W.contents writer.old) (W.contents writer.new) output.old.held output.new.held (lines_text (write_line schema.now (object_of object.now, option_copied row.entry) ∷ [])) }
+    ensures cause { IfErr result (λ fault. fault ≡ write_faults.Write → output.new.failed ≡ true) }
 {
     write_line(line, schema, object, row)?;
     push_line(output, writer, line)
@@ -210,7 +224,8 @@ fn print_write_at<W: Write, A: Allocator>(
     writes: &WriteSet<A>,
     place: usize,
 ) -> Result<(), WriteFault>
-    ensures { PrintGives result (W.contents writer.old) (W.contents writer.new) output.old output.new (lines_text (map (write_line schema.now) (option_to_list (slice_get writes.now place)))) }
+    ensures printed { PrintGives result (W.contents writer.old) (W.contents writer.new) output.old.held output.new.held (lines_text (map (write_line schema.now) (option_to_list (slice_get writes.now place)))) }
+    ensures cause { IfErr result (λ fault. fault ≡ write_faults.Write → output.new.failed ≡ true) }
 {
     match writes.write_at(place) {
         Some((object, row)) => print_write(output, writer, line, schema, object, row),
@@ -225,7 +240,8 @@ fn print_writes<W: Write, A: Allocator>(
     schema: &Schema<A>,
     writes: &WriteSet<A>,
 ) -> Result<(), WriteFault>
-    ensures { PrintGives result (W.contents writer.old) (W.contents writer.new) output.old output.new (lines_text (map (write_line schema.now) writes.now)) }
+    ensures printed { PrintGives result (W.contents writer.old) (W.contents writer.new) output.old.held output.new.held (lines_text (map (write_line schema.now) writes.now)) }
+    ensures cause { IfErr result (λ fault. fault ≡ write_faults.Write → output.new.failed ≡ true) }
 {
     for place in 0..writes.len() {
         print_write_at(output, writer, line, schema, writes, place)?;
@@ -240,7 +256,8 @@ fn print_row<W: Write, A: Allocator, O>(
     schema: &Schema<A>,
     row: &LogRow<A, O>,
 ) -> Result<(), WriteFault>
-    ensures { (opened : O → ℕ × Case) → PrintGives result (W.contents writer.old) (W.contents writer.new) output.old output.new (lines_text (row_lines schema.now (log_row_of opened row.now))) }
+    ensures printed { (opened : O → ℕ × Case) → PrintGives result (W.contents writer.old) (W.contents writer.new) output.old.held output.new.held (lines_text (row_lines schema.now (log_row_of opened row.now))) }
+    ensures cause { IfErr result (λ fault. fault ≡ write_faults.Write → output.new.failed ≡ true) }
 {
     row_line(line, row)?;
     push_line(output, writer, line)?;
@@ -255,7 +272,8 @@ fn print_rows<W: Write, A: Allocator, O>(
     schema: &Schema<A>,
     log: &[LogRow<A, O>],
 ) -> Result<(), WriteFault>
-    ensures { (opened : O → ℕ × Case) → PrintGives result (W.contents writer.old) (W.contents writer.new) output.old output.new (lines_text (flat_map (row_lines schema.now) (log_of opened log.now))) }
+    ensures printed { (opened : O → ℕ × Case) → PrintGives result (W.contents writer.old) (W.contents writer.new) output.old.held output.new.held (lines_text (flat_map (row_lines schema.now) (log_of opened log.now))) }
+    ensures cause { IfErr result (λ fault. fault ≡ write_faults.Write → output.new.failed ≡ true) }
 {
     for row in log {
         print_row(output, writer, line, schema, row)?;
@@ -270,7 +288,8 @@ fn print_log<W: Write, A: Allocator, O>(
     schema: &Schema<A>,
     log: &[LogRow<A, O>],
 ) -> Result<(), WriteFault>
-    ensures { (opened : O → ℕ × Case) → PrintGives result (W.contents writer.old) (W.contents writer.new) output.old output.new (lines_text (log_lines schema.now (log_of opened log.now))) }
+    ensures printed { (opened : O → ℕ × Case) → PrintGives result (W.contents writer.old) (W.contents writer.new) output.old.held output.new.held (lines_text (log_lines schema.now (log_of opened log.now))) }
+    ensures cause { IfErr result (λ fault. fault ≡ write_faults.Write → output.new.failed ≡ true) }
 {
     print_count(output, writer, line, "log", log.len() as u128)?;
     print_rows(output, writer, line, schema, log)
@@ -283,7 +302,8 @@ fn print_mark<W: Write, A: Allocator>(
     session: usize,
     number: u64,
 ) -> Result<(), WriteFault>
-    ensures { PrintGives result (W.contents writer.old) (W.contents writer.new) output.old output.new (lines_text (mark_line (session, number) ∷ [])) }
+    ensures printed { PrintGives result (W.contents writer.old) (W.contents writer.new) output.old.held output.new.held (lines_text (mark_line (session, number) ∷ [])) }
+    ensures cause { IfErr result (λ fault. fault ≡ write_faults.Write → output.new.failed ≡ true) }
 {
     mark_line(line, session, number)?;
     push_line(output, writer, line)
@@ -297,7 +317,8 @@ fn print_mark_of<W: Write, A: Allocator>(
     marks: &Marks<A>,
     session: usize,
 ) -> Result<(), WriteFault>
-    ensures { PrintGives result (W.contents writer.old) (W.contents writer.new) output.old output.new (lines_text (map mark_line (mark_at session (finite.get marks.now.marks session)))) }
+    ensures printed { PrintGives result (W.contents writer.old) (W.contents writer.new) output.old.held output.new.held (lines_text (map mark_line (mark_at session (finite.get marks.now.marks session)))) }
+    ensures cause { IfErr result (λ fault. fault ≡ write_faults.Write → output.new.failed ≡ true) }
 {
     match marks.get(session) {
         Some(number) => print_mark(output, writer, line, session, number),
@@ -311,7 +332,8 @@ fn print_each_mark<W: Write, A: Allocator>(
     line: &mut String<A>,
     marks: &Marks<A>,
 ) -> Result<(), WriteFault>
-    ensures { PrintGives result (W.contents writer.old) (W.contents writer.new) output.old output.new (lines_text (map mark_line (finite.entries marks.now.marks))) }
+    ensures printed { PrintGives result (W.contents writer.old) (W.contents writer.new) output.old.held output.new.held (lines_text (map mark_line (finite.entries marks.now.marks))) }
+    ensures cause { IfErr result (λ fault. fault ≡ write_faults.Write → output.new.failed ≡ true) }
 {
     for done in 0..marks.sessions() {
         print_mark_of(output, writer, line, marks, done + 1)?;
@@ -325,7 +347,8 @@ fn print_marks<W: Write, A: Allocator>(
     line: &mut String<A>,
     marks: &Marks<A>,
 ) -> Result<(), WriteFault>
-    ensures { PrintGives result (W.contents writer.old) (W.contents writer.new) output.old output.new (lines_text (mark_lines marks.now.marks)) }
+    ensures printed { PrintGives result (W.contents writer.old) (W.contents writer.new) output.old.held output.new.held (lines_text (mark_lines marks.now.marks)) }
+    ensures cause { IfErr result (λ fault. fault ≡ write_faults.Write → output.new.failed ≡ true) }
 {
     print_count(output, writer, line, "marks", marks.len() as u128)?;
     print_each_mark(output, writer, line, marks)
@@ -340,7 +363,8 @@ fn print_at<W: Write, A: Allocator>(
     key: &Key<A>,
     row: &Row<A>,
 ) -> Result<(), WriteFault>
-    ensures { PrintGives result (W.contents writer.old) (W.contents writer.new) output.old output.new (lines_text (at_line schema.now ((place, key_of key.now), row.now) ∷ [])) }
+    ensures printed { PrintGives result (W.contents writer.old) (W.contents writer.new) output.old.held output.new.held (lines_text (at_line schema.now ((place, key_of key.now), row.now) ∷ [])) }
+    ensures cause { IfErr result (λ fault. fault ≡ write_faults.Write → output.new.failed ≡ true) }
 {
     at_line(line, schema, place, key, row)?;
     push_line(output, writer, line)
@@ -354,7 +378,8 @@ fn print_map<W: Write, A: Allocator>(
     place: usize,
     rows: &BTreeMap<Key<A>, Row<A>, A>,
 ) -> Result<(), WriteFault>
-    ensures { PrintGives result (W.contents writer.old) (W.contents writer.new) output.old output.new (lines_text (map (at_line schema.now) (placed place rows.now.entries))) }
+    ensures printed { PrintGives result (W.contents writer.old) (W.contents writer.new) output.old.held output.new.held (lines_text (map (at_line schema.now) (placed place rows.now.entries))) }
+    ensures cause { IfErr result (λ fault. fault ≡ write_faults.Write → output.new.failed ≡ true) }
 {
     for (key, row) in rows {
         print_at(output, writer, line, schema, place, key, row)?;
@@ -371,7 +396,8 @@ fn print_rows_at<W: Write, A: Allocator>(
     place: usize,
 ) -> Result<(), WriteFault>
     requires { place < tables.now.tables }
-    ensures { PrintGives result (W.contents writer.old) (W.contents writer.new) output.old output.new (lines_text (map (at_line schema.now) (rows_at place tables.now.state))) }
+    ensures printed { PrintGives result (W.contents writer.old) (W.contents writer.new) output.old.held output.new.held (lines_text (map (at_line schema.now) (rows_at place tables.now.state))) }
+    ensures cause { IfErr result (λ fault. fault ≡ write_faults.Write → output.new.failed ≡ true) }
 {
     match tables.table(place) {
         Some(rows) => print_map(output, writer, line, schema, place, rows),
@@ -386,7 +412,8 @@ fn print_all_rows<W: Write, A: Allocator + Clone>(
     schema: &Schema<A>,
     tables: &Tables<A>,
 ) -> Result<(), WriteFault>
-    ensures { PrintGives result (W.contents writer.old) (W.contents writer.new) output.old output.new (lines_text (map (at_line schema.now) (finite.entries tables.now.state))) }
+    ensures printed { PrintGives result (W.contents writer.old) (W.contents writer.new) output.old.held output.new.held (lines_text (map (at_line schema.now) (finite.entries tables.now.state))) }
+    ensures cause { IfErr result (λ fault. fault ≡ write_faults.Write → output.new.failed ≡ true) }
 {
     for place in 0..tables.count() {
         print_rows_at(output, writer, line, schema, tables, place)?;
@@ -401,7 +428,8 @@ fn print_state<W: Write, A: Allocator + Clone>(
     schema: &Schema<A>,
     tables: &Tables<A>,
 ) -> Result<(), WriteFault>
-    ensures { PrintGives result (W.contents writer.old) (W.contents writer.new) output.old output.new (lines_text (state_lines schema.now tables.now.state)) }
+    ensures printed { PrintGives result (W.contents writer.old) (W.contents writer.new) output.old.held output.new.held (lines_text (state_lines schema.now tables.now.state)) }
+    ensures cause { IfErr result (λ fault. fault ≡ write_faults.Write → output.new.failed ≡ true) }
 {
     print_count(output, writer, line, "state", tables.len() as u128)?;
     print_all_rows(output, writer, line, schema, tables)
@@ -414,13 +442,16 @@ fn print_counter<W: Write, A: Allocator>(
     counter: u64,
     low: u64,
 ) -> Result<(), WriteFault>
-    ensures { PrintGives result (W.contents writer.old) (W.contents writer.new) output.old output.new (lines_text (counter_line counter low ∷ [])) }
+    ensures printed { PrintGives result (W.contents writer.old) (W.contents writer.new) output.old.held output.new.held (lines_text (counter_line counter low ∷ [])) }
+    ensures cause { IfErr result (λ fault. fault ≡ write_faults.Write → output.new.failed ≡ true) }
 {
     counter_line(line, counter, low)?;
     push_line(output, writer, line)
 }
 
 /// Prints the book of a store that was opened with these limits and this schema. It ends with its `counter` line.
+///
+/// It is for a book whose ranges have both ends, as those that a schedule asks for have them. Of another it prints `*` for a missing end, which no reader of this version takes; `write_readable_book` refuses such a book.
 ///
 /// What is held of a row that is not decided is not told, and so the clause holds for each way to see it. At `Write` and `Memory` a beginning of the book was pushed, and no more is promised of what the writer has.
 pub fn write_book<W: Write, A: Allocator + Clone, O>(
@@ -431,7 +462,8 @@ pub fn write_book<W: Write, A: Allocator + Clone, O>(
     schema: &Schema<A>,
     book: &BookView<'_, A, O>,
 ) -> Result<(), WriteFault>
-    ensures { (opened : O → ℕ × Case) → PrintGives result (W.contents writer.old) (W.contents writer.new) output.old output.new (book_text (book_of opened limits schema.now book.now)) }
+    ensures printed { (opened : O → ℕ × Case) → PrintGives result (W.contents writer.old) (W.contents writer.new) output.old.held output.new.held (book_text (book_of opened limits schema.now book.now)) }
+    ensures cause { IfErr result (λ fault. fault ≡ write_faults.Write → output.new.failed ≡ true) }
 {
     let mut line = String::new(alloc);
     print_header(output, writer, &mut line, limits, schema)?;

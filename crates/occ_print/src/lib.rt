@@ -4,4 +4,7 @@
 #[cfg(test)]
 mod book_tests;
 pub mod books;
+pub mod ends;
 pub mod lines;
+
+pub use ends::{BookFault, write_readable_book};

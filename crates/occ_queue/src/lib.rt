@@ -3,8 +3,10 @@
 
 mod items;
 mod queues;
+mod session_queues;
 #[cfg(test)]
 mod tests;
 
 pub use items::Item;
 pub use queues::Queue;
+pub use session_queues::SessionQueue;

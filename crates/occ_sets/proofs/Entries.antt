@@ -1,6 +1,7 @@
 -- The entries of a map, seen as plain writes.
-use Rattle.std.proofs.Common.{◌≡◌, ◌≤◌, ℕ, ◌+◌, if◌then◌else◌, Bool, true, false, cond, ◌&&◌, not, nat_le, List, [], ◌∷◌, Option, None, Some, is_some, length, refl, sym, ap, ◌∙◌, arith}
-use Rattle.std.proofs.lemmas.List.{length-map}
+use Rattle.std.proofs.Common.{◌≡◌, ◌≤◌, ℕ, ◌+◌, Bool, true, false, cond, ◌&&◌, not, nat_le, List, [], ◌∷◌, ◌++◌, Option, None, Some, is_some, Result, Ok, Err, length, refl, sym, ap, subst, ◌∙◌, arith}
+use Rattle.std.proofs.lemmas.List.{length-map, length_push}
+use Rattle.std.specs.Prelude.{OnOk, OnErr}
 use Rattle.std.proofs.lemmas.Bool.Decides.{nat_tests}
 use Rattle.std.specs.List.{IsDistinct, AllByRecursion}
 use Rattle.std.specs.Map.{keys_of, lookup}
@@ -13,6 +14,7 @@ use Rattle.occ_types.specs.Row.{Row}
 use Rattle.occ_types.specs.Seen.{object_of}
 use Rattle.occ_model.specs.State.{Write}
 use Rattle.occ_model.specs.Overlay.{set, own}
+use Rattle.occ_model.proofs.RangeLaws.{sets_own}
 use Rattle.occ_sets.specs.Seen.{write_of, writes_of}
 use Rattle.occ_sets.specs.Sets.{objects, is_full_for}
 
@@ -36,8 +38,8 @@ full_for_new writes object full = by (own writes object) refl
         cc
 
 -- one write more or none, where a write is not one too many
-pub one_more : (n : ℕ) (there : Bool) → (nat_le MAX_WRITES n && not there) ≡ false → n ≤ 256 → n + (if there then 0 else 1) ≤ 256
-one_more n true room few = omega arith
+one_more : (n : ℕ) (there : Bool) → (nat_le MAX_WRITES n && not there) ≡ false → n ≤ 256 → cond there n (n + 1) ≤ 256
+one_more n true room few = few
 one_more n false room few = by (nat_le MAX_WRITES n) refl
   where
     by : (b : Bool) → nat_le MAX_WRITES n ≡ b → n + 1 ≤ 256
@@ -45,6 +47,25 @@ one_more n false room few = by (nat_le MAX_WRITES n) refl
         let full : true ≡ false = sym (ap (λ b. b && true) e) ∙ room in
         cc
     by false e = grind (arith, nat_tests)
+
+counted : (b : Bool) (xs : List Object) (object : Object) → length (cond b xs (xs ++ object ∷ [])) ≡ cond b (length xs) (length xs + 1)
+counted true xs object = refl
+counted false xs object = length_push xs object
+
+-- a write of a new object is one more, and one of an object that is there none
+set_length : (writes : List Write) (object : Object) (row : Option Row) → length (set writes object row) ≡ cond (is_some (own writes object)) (length writes) (length writes + 1)
+set_length writes object row =
+    let many : length (objects writes) ≡ length writes = length-map writes (λ (w : Write). w.0) in
+    sym (length-map (set writes object row) (λ (w : Write). w.0))
+    ∙ ap length (sets_own writes object row).places
+    ∙ counted (is_some (own writes object)) (objects writes) object
+    ∙ ap (λ (n : ℕ). cond (is_some (own writes object)) n (n + 1)) many
+
+-- a set that was not full for an object has at most as many writes as it may, also after the write
+pub few_set : {X Y : Type 0} (r : Result X Y) (writes new : List Write) (object : Object) (row : Option Row) → is_full_for writes object ≡ false → OnOk r (new ≡ set writes object row) → OnErr r (new ≡ writes) → length writes ≤ MAX_WRITES → length new ≤ MAX_WRITES
+few_set (Ok x) writes new object row room ok err few =
+    subst (λ (n : ℕ). n ≤ 256) (sym (ap length ok ∙ set_length writes object row)) (one_more (length writes) (is_some (own writes object)) room few)
+few_set (Err y) writes new object row room ok err few = subst (λ (n : ℕ). n ≤ 256) (sym (ap length err)) few
 
 module _ {Z : Type 0} where
   -- whether two objects are equal

@@ -1,10 +1,9 @@
 -- Copies of observations, and one more of them.
-use Rattle.std.proofs.Common.{◌≡◌, ◌⊎◌, inl, inr, ℕ, ◌+◌, ◌<◌, ◌≤◌, false, nat_le, List, [], ◌∷◌, ◌++◌, Result, Ok, Err, Vec, vec_len, length, refl, ap, ◌∙◌, arith}
+use Rattle.std.proofs.Common.{◌≡◌, ◌⊎◌, inl, inr, ℕ, ◌<◌, false, nat_le, List, [], ◌∷◌, ◌++◌, Vec, vec_len, refl, ap, ◌∙◌, arith}
 use Rattle.std.proofs.lemmas.Bool.Decides.{nat_tests}
 use Rattle.occ_types.specs.declared.limits.TheConstants.{MAX_QUESTIONS}
-use Rattle.std.proofs.lemmas.List.{length-map, map-append, length_push}
+use Rattle.std.proofs.lemmas.List.{map-append}
 use Rattle.std.specs.List.{AllZip}
-use Rattle.std.specs.Prelude.{OnOk, OnErr}
 use Rattle.occ_sets.specs.declared.reads.Observation as code
 use Rattle.occ_sets.specs.Seen.{observation_of, observations_of}
 
@@ -31,9 +30,3 @@ module _ {Z : Type 0} where
   -- one more observation
   pub one_more_seen : (os more : List (code.Observation Z)) (seen : code.Observation Z) → more ≡ os ++ seen ∷ [] → observations_of more ≡ observations_of os ++ observation_of seen ∷ []
   one_more_seen os more seen e = ap observations_of e ∙ map-append observation_of os (seen ∷ [])
-
-  -- at most one observation more
-  pub one_more_at_most : {X Y : Type 0} (r : Result X Y) (os more : List (code.Observation Z)) (seen : code.Observation Z) → OnOk r (observations_of more ≡ observations_of os ++ observation_of seen ∷ []) → OnErr r (observations_of more ≡ observations_of os) → length more ≤ length os + 1
-  one_more_at_most (Ok x) os more seen ok err =
-      omega (arith, length-map more observation_of, length-map os observation_of, ap length ok, length_push (observations_of os) (observation_of seen))
-  one_more_at_most (Err y) os more seen ok err = omega (arith, length-map more observation_of, length-map os observation_of, ap length err)

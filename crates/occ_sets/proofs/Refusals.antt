@@ -5,12 +5,7 @@ use Rattle.occ_types.specs.declared.fault.Fault.TheVariants.{SetFull, Memory}
 use Rattle.occ_types.specs.declared.fault.Refused.{Refused}
 
 module _ {X Y : Type 0} where
-  -- what is refused where there is room is refused for memory alone
-  pub for_memory : (r : Result X (Refused Y)) (full : Bool) → full ≡ false → MatchResult r (λ _. full ≡ false) (λ refused. refused.fault ≡ cond full SetFull Memory) → IfErr r (λ refused. refused.fault ≡ Memory)
-  for_memory (Ok x) full room h = tt
-  for_memory (Err refused) full room h = h ∙ ap (λ b. cond b SetFull Memory) room
-
-  -- and so it is told
+  -- what is refused where there is room is refused for memory alone, and so it is told
   pub told_memory : (r : Result X (Refused Y)) (full : Bool) → full ≡ false → IfErr r (λ refused. refused.fault ≡ Memory) → MatchResult r (λ _. full ≡ false) (λ refused. refused.fault ≡ cond full SetFull Memory)
   told_memory (Ok x) full room h = room
   told_memory (Err refused) full room h = h ∙ sym (ap (λ b. cond b SetFull Memory) room)

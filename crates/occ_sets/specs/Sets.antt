@@ -11,10 +11,14 @@ use Rattle.occ_model.specs.Overlay.{own}
 abbrev pub objects : List Write → List Object
 objects = map (λ write. write.0)
 
--- the writes of one transaction: not too many, and no object twice
+-- no object is written twice
+abbrev pub WritesOnce : List Write → Type 0
+WritesOnce writes = IsDistinct (eq_by_cmp object_cmp) (objects writes)
+
+-- the writes that a transaction may hand in: not too many, and no object twice
 pub record IsWriteSet (writes : List Write) : Type 0 where
   pub few : length writes ≤ MAX_WRITES
-  pub distinct : IsDistinct (eq_by_cmp object_cmp) (objects writes)
+  pub distinct : WritesOnce writes
 
 -- whether a write of the object would be one too many: it is new, and there are as many as there may be
 abbrev pub is_full_for : List Write → Object → Bool

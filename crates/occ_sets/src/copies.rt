@@ -9,7 +9,7 @@ ghost use Rattle.occ_sets.specs.Seen.{answer_of};
 ghost use Rattle.occ_sets.specs.Sets.{IsWriteSet, is_full_for};
 
 use crate::maps::{Write, WriteMap};
-use crate::overlays::{over_row, over_rows};
+use crate::overlays::{over_range, over_row};
 use crate::reads::Answer;
 use crate::writes::WriteSet;
 use occ_types::{Fault, Key, Object, Question, Refused, Row};
@@ -26,11 +26,15 @@ pub struct PrivateCopy<A: Allocator> {
 }
 
 impl<A: Allocator> Model for PrivateCopy<A> {
+    ghost use Rattle.std.specs.Prelude.{◌≤◌, length};
+    ghost use Rattle.occ_types.specs.declared.limits.TheConstants.{MAX_WRITES};
     ghost use Rattle.occ_sets.specs.Sets.{Copied};
 
     ghost Value = { Copied };
 
     ghost view = { λ copy. record { number = copy.number; start = copy.start; writes = copy.writes } };
+
+    ghost invariant = { λ copy. length copy.writes ≤ MAX_WRITES };
 }
 
 impl<A: Allocator + Copy> PrivateCopy<A> {
@@ -45,16 +49,21 @@ impl<A: Allocator + Copy> PrivateCopy<A> {
         }
     }
 
-    /// What the transaction sees where the table answers `given`: for a single key its own write where there is one, for a range the given rows with its own writes of the range done. Refused with `Memory` where there is none; the copy stays as it is.
-    pub fn overlay(&self, question: &Question<A>, given: Answer<A>) -> Result<Answer<A>, Fault>
+    /// What the transaction sees where the table answers `given`: for a single key its own write where there is one, for a range the given rows with its own writes of the range done. The rows of a range are copied. Refused with `Memory` where there is none, and what was given is handed back then; the copy stays as it is.
+    pub fn overlay(
+        &self,
+        question: &Question<A>,
+        given: Answer<A>,
+    ) -> Result<Answer<A>, Refused<Answer<A>>>
         ensures seen { IfOk result (λ seen. answer_of seen ≡ overlay (question_of question.now) self.now.writes (answer_of given)) }
-        ensures memory { IsOkUnless result Memory }
+        ensures handed_back { IfErr result (λ refused. refused.value ≡ given) }
+        ensures memory { IfErr result (λ refused. refused.fault ≡ Memory) }
     {
         match question {
-            Question::One(object) => Ok(over_row(&self.writes, object, given)?),
+            Question::One(object) => over_row(&self.writes, object, given),
             Question::Span { .. } => match given {
                 Answer::Found(row) => Ok(Answer::Found(row)),
-                Answer::Rows(rows) => Ok(Answer::Rows(over_rows(&self.writes, question, rows)?)),
+                Answer::Rows(rows) => over_range(&self.writes, question, rows),
             },
         }
     }
@@ -144,8 +153,11 @@ impl<A: Allocator> PrivateCopy<A> {
 
     /// The number, the start and the writes, for the request to enter. It takes no memory.
     pub fn into_request(self) -> (u64, u64, WriteSet<A>)
-        ensures { result ≡ (self.number, self.start, self.writes) }
+        ensures value { result ≡ (self.number, self.start, self.writes) }
+        ensures fits { IsWriteSet self.writes }
     {
+        // Its clause says what holds of the writes.
+        let _len = self.len();
         let PrivateCopy {
             number,
             start,

@@ -1,12 +1,12 @@
 //! The writes of one transaction, by their objects.
-ghost use Rattle.std.specs.Prelude.{◌≡◌, ◌<◌, [], false, cond, length, slice_get, is_some, None, IfErr, IfSome, OnOk, OnErr, MatchResult};
+ghost use Rattle.std.specs.Prelude.{◌≡◌, ◌<◌, ◌≤◌, ◌^◌, [], false, cond, length, slice_get, is_some, None, IfErr, IfSome, OnOk, OnErr, MatchResult};
 ghost use Rattle.std.specs.Option.{option_copied, option_map};
 ghost use Rattle.occ_types.specs.declared.fault.Fault.TheVariants.{SetFull, Memory};
 ghost use Rattle.occ_types.specs.declared.limits.TheConstants as limit;
 ghost use Rattle.occ_types.specs.Seen.{object_of, question_of};
 ghost use Rattle.occ_model.specs.State.{meets_question};
 ghost use Rattle.occ_model.specs.Overlay.{set, own};
-ghost use Rattle.occ_sets.specs.Sets.{IsWriteSet, is_full_for};
+ghost use Rattle.occ_sets.specs.Sets.{WritesOnce, is_full_for};
 
 use indexmap::IndexMap;
 use occ_types::limits::MAX_WRITES;
@@ -26,8 +26,7 @@ pub(crate) struct WriteMap<A: Allocator> {
 }
 
 impl<A: Allocator> Model for WriteMap<A> {
-    ghost use Rattle.std.specs.Prelude.{◌≤◌, List, length};
-    ghost use Rattle.occ_types.specs.declared.limits.TheConstants.{MAX_WRITES};
+    ghost use Rattle.std.specs.Prelude.{List};
     ghost use Rattle.occ_model.specs.State.{Write};
 
     ghost Value = { List Write };
@@ -35,8 +34,6 @@ impl<A: Allocator> Model for WriteMap<A> {
     ghost use Rattle.occ_sets.specs.Seen.{writes_of};
 
     ghost view = { λ s. writes_of s.entries.entries };
-
-    ghost invariant = { λ s. length s.entries.entries ≤ MAX_WRITES };
 }
 
 impl<A: Allocator + Copy> WriteMap<A> {
@@ -54,19 +51,40 @@ impl<A: Allocator> WriteMap<A> {
     /// How many objects are written.
     pub(crate) fn len(&self) -> usize
         ensures value { result ≡ length self.now }
-        ensures fits { IsWriteSet self.now }
+        ensures once { WritesOnce self.now }
     {
         self.entries.len()
     }
 
-    /// Whether a write of the object would be one too many: it is new, and there are 256 writes.
+    /// Whether a write of the object would be one too many for a transaction: it is new, and there are 256 writes or more.
     pub(crate) fn is_full_for(&self, object: &Object<A>) -> bool
         ensures { result ≡ is_full_for self.now (object_of object.now) }
     {
         self.entries.len() >= MAX_WRITES && !self.entries.contains_key(object)
     }
 
-    /// Writes an object, or deletes it where `row` is none. A new object goes last; one that is there keeps its place and takes the new row, which needs no memory and has room always. A new one is refused with `SetFull` where there are 256 writes, and else with `Memory` where the map cannot grow; both leave it as it was and hand the write back.
+    /// Writes an object, or deletes it where `row` is none. A new object goes last; one that is there keeps its place and takes the new row, which needs no memory. A new one is refused with `Memory` where the map cannot grow. That leaves it as it was and hands the write back.
+    pub(crate) fn insert(
+        &mut self,
+        object: Object<A>,
+        row: Option<Row<A>>,
+    ) -> Result<(), Refused<Write<A>>>
+        ensures ok { OnOk result (self.new ≡ set self.old (object_of object) row) }
+        ensures err { OnErr result (self.new ≡ self.old) }
+        ensures handed_back { IfErr result (λ refused. refused.value ≡ (object, row)) }
+        ensures memory { IfErr result (λ refused. refused.fault ≡ Memory) }
+        ensures only_new { OnErr result (own self.old (object_of object) ≡ None) }
+    {
+        match self.entries.insert(object, row) {
+            Ok(_) => Ok(()),
+            Err(AllocFailed { value }) => Err(Refused {
+                value,
+                fault: Fault::Memory,
+            }),
+        }
+    }
+
+    /// Writes an object as `insert` does, for a transaction. A new object is refused with `SetFull` where there are 256 writes or more, and else with `Memory` where the map cannot grow; both leave the map as it was and hand the write back.
     pub(crate) fn set(
         &mut self,
         object: Object<A>,
@@ -81,6 +99,7 @@ impl<A: Allocator> WriteMap<A> {
             (λ _. is_full_for self.old (object_of object) ≡ false)
             (λ refused. refused.fault ≡ cond (is_full_for self.old (object_of object)) SetFull Memory) }
         ensures only_new { OnErr result (own self.old (object_of object) ≡ None) }
+        ensures few { length self.old ≤ limit.MAX_WRITES → length self.new ≤ limit.MAX_WRITES }
     {
         if self.is_full_for(&object) {
             return Err(Refused {
@@ -88,13 +107,7 @@ impl<A: Allocator> WriteMap<A> {
                 fault: Fault::SetFull,
             });
         }
-        match self.entries.insert(object, row) {
-            Ok(_) => Ok(()),
-            Err(AllocFailed { value }) => Err(Refused {
-                value,
-                fault: Fault::Memory,
-            }),
-        }
+        self.insert(object, row)
     }
 
     /// The own write of an object: none where there is none, and else its new row, or none where it is deleted.
@@ -114,8 +127,11 @@ impl<A: Allocator> WriteMap<A> {
     /// The write at a place, in the order of the first writes.
     pub(crate) fn write_at(&self, place: usize) -> Option<(&Object<A>, Option<&Row<A>>)>
         ensures value { option_map (λ w. (object_of w.0.now, option_copied w.1)) result ≡ slice_get self.now place }
-        ensures few { IfSome result (λ _. place < limit.MAX_WRITES) }
+        ensures within { IfSome result (λ _. place < length self.now) }
+        ensures small { IfSome result (λ _. place < 2 ^ 63) }
     {
+        // Its clause bounds the places.
+        let _len = self.entries.len();
         self.entries
             .get_index(place)
             .map(|(object, row)| (object, row.as_ref()))

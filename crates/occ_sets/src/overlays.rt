@@ -1,5 +1,5 @@
 //! What a private copy answers: the table's answer with the own writes over it.
-ghost use Rattle.std.specs.Prelude.{◌≡◌, Some, slice_get, OnOk, IfOk};
+ghost use Rattle.std.specs.Prelude.{◌≡◌, Some, slice_get, OnOk, IfOk, IfErr};
 ghost use Rattle.std.specs.Map.{keys_of};
 ghost use Rattle.std.specs.List.Sorted.{IsStrictlySortedBy};
 ghost use Rattle.std.specs.Ordering.{on};
@@ -7,41 +7,68 @@ ghost use Rattle.occ_types.specs.Key.{key_cmp};
 ghost use Rattle.occ_types.specs.Seen.{key_of, object_of, question_of, table_asked};
 ghost use Rattle.occ_model.specs.Overlay as model;
 ghost use Rattle.occ_model.specs.Overlay.{own};
-ghost use Rattle.occ_model.specs.State.{Write};
+ghost use Rattle.occ_model.specs.State.{Write, Rows};
 ghost use Rattle.occ_sets.specs.Overlays.{Agrees, FollowsWrite, FollowsWrites, over_row, rows_over};
 ghost use Rattle.occ_sets.specs.Seen.{answer_of, rows_of};
+ghost use Rattle.occ_sets.specs.declared.reads.Answer.TheVariants as answers;
+ghost use Rattle.occ_types.specs.declared.fault.Fault.TheVariants.{Memory};
 
 use crate::maps::WriteMap;
 use crate::reads::Answer;
-use occ_types::{Key, Object, Question, Row};
+use occ_types::{Fault, Key, Object, Question, Refused, Row};
 use std::alloc::{AllocError, Allocator};
 use std::collections::BTreeMap;
 
-// The answer for a single key, from the own write where there is one.
+// The answer for a single key, from the own write where there is one. A refusal hands back what was given.
 pub(crate) fn over_row<A: Allocator + Clone>(
     writes: &WriteMap<A>,
     object: &Object<A>,
     given: Answer<A>,
-) -> Result<Answer<A>, AllocError>
-    ensures { IfOk result (λ seen. answer_of seen ≡ over_row (own writes.now (object_of object.now)) (answer_of given)) }
+) -> Result<Answer<A>, Refused<Answer<A>>>
+    ensures seen { IfOk result (λ seen. answer_of seen ≡ over_row (own writes.now (object_of object.now)) (answer_of given)) }
+    ensures refused { IfErr result (λ refused. refused ≡ record { value = given; fault = Memory }) }
 {
     match writes.own(object) {
         None => Ok(given),
         Some(None) => Ok(Answer::Found(None)),
-        Some(Some(row)) => Ok(Answer::Found(Some(row.clone()?))),
+        Some(Some(row)) => match row.clone() {
+            Ok(row) => Ok(Answer::Found(Some(row))),
+            Err(_refused) => Err(Refused {
+                value: given,
+                fault: Fault::Memory,
+            }),
+        },
     }
 }
 
-// The rows of a range with the own writes over them.
-pub(crate) fn over_rows<A: Allocator + Copy>(
+// The answer for a range, with the own writes over its rows. A refusal hands back the rows that were given.
+pub(crate) fn over_range<A: Allocator + Copy>(
     writes: &WriteMap<A>,
     question: &Question<A>,
     rows: Vec<(Key<A>, Row<A>), A>,
+) -> Result<Answer<A>, Refused<Answer<A>>>
+    ensures seen { IfOk result (λ seen. answer_of seen ≡ Rows (rows_over (question_of question.now) writes.now (rows_of rows.items))) }
+    ensures refused { IfErr result (λ refused. refused ≡ record { value = answers.Rows rows; fault = Memory }) }
+{
+    match over_rows(writes, question, &rows) {
+        Ok(seen) => Ok(Answer::Rows(seen)),
+        Err(_refused) => Err(Refused {
+            value: Answer::Rows(rows),
+            fault: Fault::Memory,
+        }),
+    }
+}
+
+// Copies of the rows of a range, with the own writes over them.
+fn over_rows<A: Allocator + Copy>(
+    writes: &WriteMap<A>,
+    question: &Question<A>,
+    rows: &Vec<(Key<A>, Row<A>), A>,
 ) -> Result<Vec<(Key<A>, Row<A>), A>, AllocError>
-    ensures { IfOk result (λ seen. rows_of seen.items ≡ rows_over (question_of question.now) writes.now (rows_of rows.items)) }
+    ensures { IfOk result (λ seen. rows_of seen.items ≡ rows_over (question_of question.now) writes.now (rows_of rows.now.items)) }
 {
     let alloc = *writes.entries.allocator();
-    let mut seen = rows_asked(alloc, question, rows)?;
+    let mut seen = rows_asked(alloc, question, rows.clone()?)?;
     write_all(&mut seen, question, writes)?;
     let rows = in_order(alloc, seen)?;
     Ok(rows)

@@ -1,7 +1,6 @@
 //! The read set of a transaction.
-ghost use Rattle.std.specs.Prelude.{◌≡◌, ◌==◌, ◌≤◌, ◌++◌, [], ◌∷◌, false, cond, length, IfErr, IfOk, OnOk, OnErr, MatchResult, IsOkUnless};
+ghost use Rattle.std.specs.Prelude.{◌≡◌, ◌==◌, ◌<◌, ◌^◌, ◌++◌, [], ◌∷◌, false, cond, length, IfErr, IfOk, OnOk, OnErr, MatchResult, IsOkUnless};
 ghost use Rattle.occ_types.specs.declared.fault.Fault.TheVariants.{SetFull, Memory};
-ghost use Rattle.occ_types.specs.declared.limits.TheConstants as limit;
 ghost use Rattle.occ_types.specs.Seen.{question_of};
 ghost use Rattle.occ_sets.specs.Seen.{answer_of, observation_of, observations_of};
 ghost use Rattle.occ_sets.specs.Sets.{is_full};
@@ -64,8 +63,7 @@ pub struct ReadSet<A: Allocator> {
 }
 
 impl<A: Allocator> Model for ReadSet<A> {
-    ghost use Rattle.std.specs.Prelude.{◌≤◌, List, length};
-    ghost use Rattle.occ_types.specs.declared.limits.TheConstants.{MAX_QUESTIONS};
+    ghost use Rattle.std.specs.Prelude.{List};
     ghost use Rattle.occ_model.specs.State.{Observation as Seen};
 
     ghost Value = { List Seen };
@@ -74,8 +72,6 @@ impl<A: Allocator> Model for ReadSet<A> {
     ghost use Rattle.occ_sets.specs.Shareable.{held};
 
     ghost view = { λ s. observations_of (held s.content).items };
-
-    ghost invariant = { λ s. length (held s.content).items ≤ MAX_QUESTIONS };
 }
 
 impl<A: Allocator> ReadSet<A> {
@@ -91,7 +87,7 @@ impl<A: Allocator> ReadSet<A> {
     /// How many questions were asked.
     pub fn len(&self) -> usize
         ensures value { result ≡ length self.now }
-        ensures few { result ≤ limit.MAX_QUESTIONS }
+        ensures small { result < 2 ^ 63 }
     {
         self.content.get().len()
     }
@@ -122,7 +118,7 @@ impl<A: Allocator + Copy> ReadSet<A> {
         Ok(())
     }
 
-    /// Notes a question and the table's answer after the others. What others share is copied first. Refused with `SetFull` where 256 are noted, and else with `Memory` where the set cannot grow or be copied; both leave the set as it was and hand back what was to be noted.
+    /// Notes a question and the table's answer after the others. What others share is copied first. Refused with `SetFull` where 256 or more are noted, and else with `Memory` where the set cannot grow or be copied; both leave the set as it was and hand back what was to be noted.
     pub fn note(
         &mut self,
         question: Question<A>,
@@ -137,13 +133,29 @@ impl<A: Allocator + Copy> ReadSet<A> {
             (λ _. is_full self.old ≡ false)
             (λ refused. refused.fault ≡ cond (is_full self.old) SetFull Memory) }
     {
-        let seen = Observation { question, answer };
         if self.len() >= MAX_QUESTIONS {
             return Err(Refused {
-                value: seen,
+                value: Observation { question, answer },
                 fault: Fault::SetFull,
             });
         }
+        self.push(question, answer)
+    }
+
+    /// Notes a question and the table's answer as `note` does, however many are noted: for what a text tells of a transaction, which no limit of the store's own sets bounds. A read phase itself notes by `note`.
+    ///
+    /// Refused with `Memory` alone, where the set cannot grow or be copied. That leaves the set as it was and hands back what was to be noted.
+    pub fn push(
+        &mut self,
+        question: Question<A>,
+        answer: Answer<A>,
+    ) -> Result<(), Refused<Observation<A>>>
+        ensures ok { OnOk result (self.new ≡ self.old ++ (question_of question, answer_of answer) ∷ []) }
+        ensures err { OnErr result (self.new ≡ self.old) }
+        ensures handed_back { IfErr result (λ refused. refused.value ≡ record { question = question; answer = answer }) }
+        ensures memory { IfErr result (λ refused. refused.fault ≡ Memory) }
+    {
+        let seen = Observation { question, answer };
         let empty = Vec::new(*self.content.get().allocator());
         let content = mem::replace(&mut self.content, Shareable::Plain(empty));
         let (content, done) = note_in(content, seen);

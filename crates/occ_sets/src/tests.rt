@@ -8,8 +8,8 @@ ghost use Rattle.occ_model.specs.State.{State, Rows, answer};
 ghost use Rattle.occ_sets.specs.Seen.{rows_of};
 
 use crate::{Answer, Observation, PrivateCopy, ReadSet, WriteSet, meets_reads, meets_writes};
-use occ_types::limits::{MAX_ANSWER_ROWS, MAX_WRITES};
-use occ_types::{Cell, Key, Object, Question, Row};
+use occ_types::limits::{MAX_ANSWER_ROWS, MAX_QUESTIONS, MAX_WRITES};
+use occ_types::{Cell, Fault, Key, Object, Question, Row};
 use std::alloc::Global;
 use std::test::Fail;
 
@@ -262,5 +262,45 @@ fn sees_most(alloc: Global) -> Option<usize> {
 #[test]
 fn the_most_rows_and_writes_have_room(rt: HostRuntime) -> Result<(), Fail> {
     assert!(rt; sees_most(rt.alloc()) == Some(1024 + 256));
+    Ok(())
+}
+
+// A set of one write more than a transaction may have.
+fn too_many_writes(alloc: Global) -> Option<WriteSet<Global>> {
+    let mut set = WriteSet::new(alloc);
+    for key in 0..=MAX_WRITES {
+        set.insert(0, Key::Num(key as u64), None).ok()?;
+    }
+    Some(set)
+}
+
+// A set of one observation more than a read phase may have.
+fn too_many_reads(alloc: Global) -> Option<ReadSet<Global>> {
+    let mut reads = ReadSet::new(alloc);
+    for key in 0..=MAX_QUESTIONS {
+        let question = Question::One(object(0, key as u64));
+        reads.push(question, Answer::Found(None)).ok()?;
+    }
+    Some(reads)
+}
+
+#[test]
+fn what_a_text_tells_has_no_limit(rt: HostRuntime) -> Result<(), Fail> {
+    let alloc = rt.alloc();
+    let Some(mut writes) = too_many_writes(alloc) else {
+        assert!(rt; false, "there is memory");
+        return Ok(());
+    };
+    assert!(rt; writes.len() == 257);
+    let refused = writes.set(0, Key::Num(257), None).err();
+    assert!(rt; refused.map(|refused| refused.fault) == Some(Fault::SetFull));
+    assert!(rt; writes.set(0, Key::Num(256), None).is_ok());
+    let Some(mut reads) = too_many_reads(alloc) else {
+        assert!(rt; false, "there is memory");
+        return Ok(());
+    };
+    assert!(rt; reads.len() == 257);
+    let refused = reads.note(Question::One(object(0, 1)), Answer::Found(None));
+    assert!(rt; refused.err().map(|refused| refused.fault) == Some(Fault::SetFull));
     Ok(())
 }

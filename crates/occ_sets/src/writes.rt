@@ -1,12 +1,11 @@
 //! The write set of a transaction.
-ghost use Rattle.std.specs.Prelude.{◌≡◌, ◌==◌, ◌<◌, [], false, cond, length, slice_get, is_some, IfErr, IfSome, IfOk, OnOk, OnErr, MatchResult, IsOkUnless};
+ghost use Rattle.std.specs.Prelude.{◌≡◌, ◌==◌, ◌<◌, ◌^◌, [], false, cond, length, slice_get, is_some, IfErr, IfSome, IfOk, OnOk, OnErr, MatchResult, IsOkUnless};
 ghost use Rattle.std.specs.Option.{option_copied, option_map};
 ghost use Rattle.occ_types.specs.declared.fault.Fault.TheVariants.{SetFull, Memory};
-ghost use Rattle.occ_types.specs.declared.limits.TheConstants as limit;
 ghost use Rattle.occ_types.specs.Seen.{object_of, key_of, question_of};
 ghost use Rattle.occ_model.specs.State.{meets_question};
 ghost use Rattle.occ_model.specs.Overlay.{set, own};
-ghost use Rattle.occ_sets.specs.Sets.{IsWriteSet, is_full_for};
+ghost use Rattle.occ_sets.specs.Sets.{WritesOnce, is_full_for};
 ghost use Rattle.occ_sets.specs.Shareable.{held};
 
 use crate::maps::{Write, WriteMap};
@@ -63,7 +62,7 @@ impl<A: Allocator> WriteSet<A> {
     /// How many objects are written.
     pub fn len(&self) -> usize
         ensures value { result ≡ length self.now }
-        ensures fits { IsWriteSet self.now }
+        ensures once { WritesOnce self.now }
     {
         self.map().len()
     }
@@ -92,7 +91,7 @@ impl<A: Allocator> WriteSet<A> {
     /// The write at a place, in the order of the first writes.
     pub fn write_at(&self, place: usize) -> Option<(&Object<A>, Option<&Row<A>>)>
         ensures value { option_map (λ w. (object_of w.0.now, option_copied w.1)) result ≡ slice_get self.now place }
-        ensures few { IfSome result (λ _. place < limit.MAX_WRITES) }
+        ensures small { IfSome result (λ _. place < 2 ^ 63) }
     {
         self.map().write_at(place)
     }
@@ -118,7 +117,7 @@ impl<A: Allocator + Copy> WriteSet<A> {
 
     /// Writes an object of a table, or deletes it where `row` is none. A new object goes last; one that is there keeps its place and takes the new row. What others share is copied first.
     ///
-    /// A new object is refused with `SetFull` where there are 256 writes, and else with `Memory` where the set cannot grow. An object that is there is refused only where there is no memory for that copy. A refusal leaves the set as it was and hands the write back.
+    /// A new object is refused with `SetFull` where there are 256 writes or more, and else with `Memory` where the set cannot grow. An object that is there is refused only where there is no memory for that copy. A refusal leaves the set as it was and hands the write back.
     pub fn set(
         &mut self,
         table: usize,
@@ -141,20 +140,37 @@ impl<A: Allocator + Copy> WriteSet<A> {
                 fault: Fault::SetFull,
             });
         }
+        let Object { table, key } = object;
+        self.insert(table, key, row)
+    }
+
+    /// Writes an object of a table as `set` does, however many writes there are: for what a text tells of a transaction, which no limit of the store's own sets bounds. A transaction itself writes by `set`, or by its private copy.
+    ///
+    /// Refused with `Memory` alone, where the set cannot grow or be copied. That leaves the set as it was and hands the write back.
+    pub fn insert(
+        &mut self,
+        table: usize,
+        key: Key<A>,
+        row: Option<Row<A>>,
+    ) -> Result<(), Refused<Write<A>>>
+        ensures ok { OnOk result (self.new ≡ set self.old (table, key_of key) row) }
+        ensures err { OnErr result (self.new ≡ self.old) }
+        ensures handed_back { IfErr result (λ refused. refused.value ≡ (record { table = table; key = key }, row)) }
+        ensures memory { IfErr result (λ refused. refused.fault ≡ Memory) }
+    {
         let empty = WriteMap::new(*self.map().entries.allocator());
         let content = mem::replace(&mut self.content, Shareable::Plain(empty));
-        let (content, done) = set_in(content, (object, row));
+        let (content, done) = insert_in(content, (Object { table, key }, row));
         self.content = content;
         done
     }
 }
 
-// Does a write that there is room for. It is refused, and handed back, where there is no memory.
-fn set_in<A: Allocator + Clone>(
+// Does a write. It is refused, and handed back, where there is no memory.
+fn insert_in<A: Allocator + Clone>(
     content: Shareable<WriteMap<A>, A>,
     write: Write<A>,
 ) -> (Shareable<WriteMap<A>, A>, Result<(), Refused<Write<A>>>)
-    requires room { is_full_for (held content) (object_of write.0) ≡ false }
     ensures ok { OnOk result.1 (held result.0 ≡ set (held content) (object_of write.0) write.1) }
     ensures err { OnErr result.1 (held result.0 ≡ held content) }
     ensures handed_back { IfErr result.1 (λ refused. refused.value ≡ write) }
@@ -163,7 +179,7 @@ fn set_in<A: Allocator + Clone>(
     match content.into_plain() {
         Ok(mut map) => {
             let (object, row) = write;
-            let done = map.set(object, row);
+            let done = map.insert(object, row);
             (Shareable::Plain(map), done)
         }
         Err(content) => (

@@ -12,3 +12,4 @@ pub mod Taking
 pub mod Values
 pub mod WholeHeader
 pub mod Words
+pub mod Causes

@@ -37,3 +37,7 @@ Sends-held a bytes held e = subst (Sends a a bytes) (sym e) (Sends-none a bytes)
 -- where all was sent, nothing is held back
 pub Sends-all : (a b : Option (List ℕ)) (bytes held : List ℕ) → Appends a b bytes → held ≡ [] → Sends a b bytes held
 Sends-all a b bytes held w none = record { sent = bytes; written = w; whole = sym (append-nil bytes) ∙ ap (λ (l : List ℕ). bytes ++ l) (sym none) }
+
+-- where all was sent, and the writer failed behind it, nothing is held back
+pub Sends-unflushed : (a b c : Option (List ℕ)) (bytes sent held : List ℕ) → held ≡ sent → Appends a b bytes → sent ≡ [] → Keeps b c → Sends a c bytes held
+Sends-unflushed a b c bytes sent held same w none k = Sends-kept a b c bytes held (Sends-all a b bytes held w (same ∙ none)) k

@@ -39,6 +39,7 @@ CannotStand-narrower P Q rest h (OtherLine line after taken alone other) = Other
 pub NoneTaken-narrower : (P Q : List ℕ → Type 0) (fault : ReadFault) (a b : Option (List ℕ)) (taken : ℕ) → ((line : List ℕ) → Q line → P line) → NoneTaken P fault a b taken → NoneTaken Q fault a b taken
 NoneTaken-narrower P Q (faults.Malformed n) a b taken h t = (CannotStand-narrower P Q a h t.0, t.1)
 NoneTaken-narrower P Q faults.Read a b taken h t = t
+NoneTaken-narrower P Q faults.TooManyLines a b taken h t = t
 NoneTaken-narrower P Q faults.Memory a b taken h t = tt
 
 feedless : (line : List ℕ) → list_all (λ byte. not (byte == 10)) line ≡ true → All (λ byte. byte ≢ 10) line

@@ -192,6 +192,7 @@ end_limits shown fault (Err e) a b first last is start t =
       t.1,
       t.2,
       header_begins lines t.3,
+      omega arith,
       subst (λ (f : ReadFault). NoneTaken Next f t.1 b (length lines)) (sym is) (subst (NoneTaken Next (read_fault fault) t.1 b) count
           (NoneTaken-narrower (λ line. BeginsLimits (lines ++ line ∷ [])) Next (read_fault fault) t.1 b (first + length lines)
           (λ line g. limits_begin (lines ++ line ∷ []) (omega (arith, length-append lines (line ∷ []))) g) t.5)),
@@ -226,6 +227,7 @@ end_tables shown fault (Err e) limits a b c first mid last is start f t =
       t.1,
       both_lines (limits_lines limits) (map table_text t.0) a b t.1 f.0 t.2,
       begins_tables limits t.0 f.1 t.3,
+      omega (arith, t.3.few),
       subst (λ (f : ReadFault). NoneTaken Next f t.1 c (length lines)) (sym is) (subst (NoneTaken Next fault t.1 c) count
           (NoneTaken-narrower (GoesOn t.0) Next fault t.1 c (mid + length t.0) (λ line g. behind_tables limits t.0 line g) t.4)),
     )

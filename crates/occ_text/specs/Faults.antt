@@ -13,10 +13,12 @@ use Rattle.occ_text.specs.declared.trouble.Trouble.TheVariants as troubles
 
 abbrev pub read_fault : LineFault → ReadFault
 read_fault lines.Read = reads.Read
+read_fault lines.TooManyLines = reads.TooManyLines
 read_fault (lines.Malformed number) = reads.Malformed number
 
 abbrev pub read_trouble : ReadFault → Trouble
 read_trouble reads.Read = troubles.Read
+read_trouble reads.TooManyLines = troubles.TooManyLines
 read_trouble (reads.Malformed number) = troubles.Malformed number
 read_trouble reads.Memory = troubles.Memory
 

@@ -62,7 +62,8 @@ BeginsHeader lines = (header : Header) × HeaderFits header × (more : List (Lis
 abbrev pub HeaderTaken : {X : Type 0} (view : X → Header) → Result X ReadFault → Option (List ℕ) → Option (List ℕ) → ℕ → Type 0
 HeaderTaken view (Ok x) before after last = Consumes before after (lines_text (header_text (view x))) × HeaderFits (view x) × (last ≡ length (header_text (view x)))
 HeaderTaken view (Err fault) before after last =
-    (lines : List (List ℕ)) × (rest : Option (List ℕ)) × Consumes before rest (lines_text lines) × BeginsHeader lines × NoneTaken (λ line. BeginsHeader (lines ++ line ∷ [])) fault rest after (length lines)
+    (lines : List (List ℕ)) × (rest : Option (List ℕ)) × Consumes before rest (lines_text lines) × BeginsHeader lines × (length lines ≤ 36)
+    × NoneTaken (λ line. BeginsHeader (lines ++ line ∷ [])) fault rest after (length lines)
 
 module _ {Z : Type 0} where
   -- the plain header

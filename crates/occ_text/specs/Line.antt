@@ -1,5 +1,5 @@
 -- The lines of a text, one after another (our own choice: a line ends at a line feed and has at most 8,192 bytes before it).
-use Rattle.std.specs.Prelude.{◌≡◌, ◌≢◌, ◌<◌, ◌≤◌, ◌+◌, ◌-◌, ◌^◌, ◌⊎◌, ℕ, List, [], ◌∷◌, ◌++◌, Option, Result, Ok, Err, IfSome, All, length}
+use Rattle.std.specs.Prelude.{◌≡◌, ◌≢◌, ◌<◌, ◌≤◌, ◌+◌, ◌-◌, ◌^◌, ◌⊎◌, ℕ, Bool, true, List, [], ◌∷◌, ◌++◌, Option, Result, Ok, Err, IfSome, All, length}
 use Rattle.std.specs.List.{flat_map}
 use Rattle.std.specs.Io.KnownBytes.{Consumes, Keeps, IsAtEnd}
 use Rattle.occ_text.specs.declared.input.Next.{Next}
@@ -8,7 +8,7 @@ use Rattle.occ_text.specs.declared.input.Piece.{Piece}
 use Rattle.occ_text.specs.declared.input.Piece.TheVariants.{Whole, Part, Long, Nothing}
 use Rattle.occ_text.specs.declared.faults.ReadFailed.{ReadFailed}
 use Rattle.occ_text.specs.declared.faults.LineFault.{LineFault}
-use Rattle.occ_text.specs.declared.faults.LineFault.TheVariants.{Read, Malformed}
+use Rattle.occ_text.specs.declared.faults.LineFault.TheVariants.{Read, TooManyLines, Malformed}
 use Rattle.occ_text.specs.declared.faults.ReadFault.{ReadFault}
 use Rattle.occ_text.specs.declared.faults.ReadFault.TheVariants as faults
 use Rattle.occ_text.specs.Faults.{read_fault}
@@ -17,11 +17,17 @@ use Rattle.occ_text.specs.Faults.{read_fault}
 abbrev pub lines_text : List (List ℕ) → List ℕ
 lines_text lines = flat_map (λ line. line ++ 10 ∷ []) lines
 
--- an input without where it lies in memory: what was read and not yet taken, the last line taken, and how many lines were taken
+-- an input without where it lies in memory: what was read and not yet taken, the last line taken, how many lines were taken, and whether the reader failed
 pub record Source : Type 0 where
   pub unread : List ℕ
   pub line : List ℕ
   pub number : ℕ
+  pub failed : Bool
+
+-- the reader failed, and all that it gave before is taken
+pub record HasFailed (input : Source) : Type 0 where
+  pub failed : input.failed ≡ true
+  pub emptied : input.unread ≡ []
 
 -- no byte is a line feed
 abbrev pub HasNoFeed : List ℕ → Type 0
@@ -47,6 +53,8 @@ LineGives (Ok End) before after old new = IsAtEnd before × Keeps before after �
 LineGives (Err (Malformed line)) before after old new = IfSome before BeginsNoLine × (line ≡ old.number + 1) × (new.number ≡ old.number)
 -- a read failed: what is lost is a part of a line
 LineGives (Err Read) before after old new = (part : List ℕ) × IsLine part × Consumes before after part × (new.number ≡ old.number)
+-- the next line has no number
+LineGives (Err TooManyLines) before after old new = Keeps before after × (old.number ≡ 2 ^ 64 - 1) × (new.number ≡ old.number)
 
 -- what is taken of the unread bytes for a line, at least one of them
 abbrev pub TakesPiece : Piece → Source → Source → Type 0
@@ -79,10 +87,11 @@ pub data CannotStand (IsKind : List ℕ → Type 0) (rest : Option (List ℕ)) :
   NoLine : IfSome rest BeginsNoLine → CannotStand IsKind rest
   OtherLine : (line : List ℕ) (after : Option (List ℕ)) → Consumes rest after (line ++ 10 ∷ []) → IsLine line → (IsKind line → ⊥) → CannotStand IsKind rest
 
--- no line of a kind is taken, behind so many lines: another one stands there, or none, or the read failed amid it
+-- no line of a kind is taken, behind so many lines: another one stands there, or none, or the read failed amid it, or it has no number
 abbrev pub NoneTaken : (List ℕ → Type 0) → ReadFault → Option (List ℕ) → Option (List ℕ) → ℕ → Type 0
 NoneTaken IsKind (faults.Malformed n) before after taken = CannotStand IsKind before × (n ≡ taken + 1)
 NoneTaken IsKind faults.Read before after taken = (part : List ℕ) × IsLine part × Consumes before after part
+NoneTaken IsKind faults.TooManyLines before after taken = taken ≡ 2 ^ 64 - 1
 NoneTaken IsKind faults.Memory before after taken = Unit {0}
 
 -- any line is taken

@@ -1,9 +1,14 @@
 -- What an output sends of what was pushed.
-use Rattle.std.specs.Prelude.{◌≡◌, ◌<◌, ℕ, List, [], ◌++◌, Option, Result, Ok, Err, length}
+use Rattle.std.specs.Prelude.{◌≡◌, ◌<◌, ℕ, Bool, List, [], ◌++◌, Option, Result, Ok, Err, length}
 use Rattle.std.specs.Io.KnownBytes.{Appends, Keeps}
 use Rattle.occ_text.specs.declared.faults.WriteFailed.{WriteFailed}
 use Rattle.occ_text.specs.declared.faults.WriteFault.{WriteFault}
 use Rattle.occ_text.specs.declared.faults.WriteFault.TheVariants.{Write, Memory}
+
+-- an output without where it lies in memory: what it holds back, and whether the writer failed
+pub record Outgoing : Type 0 where
+  pub held : List ℕ
+  pub failed : Bool
 
 -- the writer took a front of the bytes, and the rest is held back
 pub record Sends (before after : Option (List ℕ)) (bytes held : List ℕ) : Type 0 where

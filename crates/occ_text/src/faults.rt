@@ -22,6 +22,8 @@ pub struct WriteFailed;
 pub enum LineFault {
     /// The reader failed.
     Read,
+    /// 2^64 - 1 lines were taken, and no further one has a number.
+    TooManyLines,
     /// What stands at the line of this number, counted from 1, can't stand there.
     Malformed(u64),
 }
@@ -31,6 +33,8 @@ pub enum LineFault {
 pub enum ReadFault {
     /// The reader failed.
     Read,
+    /// 2^64 - 1 lines were taken, and no further one has a number.
+    TooManyLines,
     /// What stands at the line of this number, counted from 1, can't stand there.
     Malformed(u64),
     /// Memory was refused.
@@ -60,6 +64,7 @@ impl From<LineFault> for ReadFault {
     fn from(line: LineFault) -> ReadFault {
         match line {
             LineFault::Read => ReadFault::Read,
+            LineFault::TooManyLines => ReadFault::TooManyLines,
             LineFault::Malformed(number) => ReadFault::Malformed(number),
         }
     }

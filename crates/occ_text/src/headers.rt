@@ -1,6 +1,6 @@
 //! The header of a schedule: the readers of its lines, and of the whole. A book begins with the same lines up to its tables.
 
-ghost use Rattle.std.specs.Prelude.{◌≡◌, ◌↔◌, Some, IfOk, IsTrue, codes};
+ghost use Rattle.std.specs.Prelude.{◌≡◌, ◌↔◌, Some, IfOk, IfErr, IsTrue, codes};
 ghost use Rattle.std.specs.List.{list_any};
 ghost use Rattle.std.specs.Io.KnownBytes.{prepend_known};
 ghost use Rattle.occ_types.specs.Schema as plain;
@@ -8,10 +8,12 @@ ghost use Rattle.occ_types.specs.Fits.{has_name};
 ghost use Rattle.occ_types.specs.Seen.{table_of, tables_of};
 ghost use Rattle.occ_text.specs.Escapes.{Gives};
 ghost use Rattle.occ_text.specs.Faults.{widened};
+ghost use Rattle.occ_text.specs.declared.faults.LineFault.TheVariants as line_faults;
+ghost use Rattle.occ_text.specs.declared.faults.ReadFault.TheVariants as read_faults;
 ghost use Rattle.occ_text.specs.HeaderReading.{count_of_parts, count_of_tokens, count_of_line, key_kind_of, kind_of, columns_of, table_of_parts, table_of_tokens, table_of_line};
 ghost use Rattle.occ_text.specs.HeaderTaking.{TablesSoFar, table_behind, NextTaken, TablesTaken, LimitsTaken, HeaderTaken, header_of};
 ghost use Rattle.occ_text.specs.Headers.{count_text, table_text, Within, TableFits};
-ghost use Rattle.occ_text.specs.Line.{Taken};
+ghost use Rattle.occ_text.specs.Line.{Taken, HasFailed};
 ghost use Rattle.occ_text.specs.Reading.{Reads};
 ghost use Rattle.occ_text.specs.Spelling.{IsToken};
 
@@ -196,9 +198,10 @@ fn take_version<R: Read, A: Allocator>(
     input: &mut Input<A>,
     reader: &mut R,
 ) -> Result<(), LineFault>
-    ensures { Taken (λ taken. taken) (λ version. codes "occ 1") (λ version. Unit {0}) (widened result)
+    ensures gives { Taken (λ taken. taken) (λ version. codes "occ 1") (λ version. Unit {0}) (widened result)
         (prepend_known input.old.unread (R.remaining reader.old))
         (prepend_known input.new.unread (R.remaining reader.new)) input.old.number input.new.number }
+    ensures cause { IfErr result (λ fault. fault ≡ line_faults.Read → HasFailed input.new) }
 {
     input.take_line(reader)?;
     if is_version(input.line()) {
@@ -210,7 +213,7 @@ fn take_version<R: Read, A: Allocator>(
 
 /// Takes a line of a word and a number from `least` to `most`, and answers the number.
 ///
-/// `Malformed` where another line stands next, or none; `Read` where the reader fails.
+/// `Malformed` where another line stands next, or none; `Read` where the reader fails; `TooManyLines` where the line has no number.
 pub fn take_count<R: Read, A: Allocator>(
     input: &mut Input<A>,
     reader: &mut R,
@@ -219,9 +222,10 @@ pub fn take_count<R: Read, A: Allocator>(
     most: u64,
 ) -> Result<u64, LineFault>
     requires { IsToken word.now }
-    ensures { Taken (λ n. n) (count_text word.now) (Within least most) (widened result)
+    ensures gives { Taken (λ n. n) (count_text word.now) (Within least most) (widened result)
         (prepend_known input.old.unread (R.remaining reader.old))
         (prepend_known input.new.unread (R.remaining reader.new)) input.old.number input.new.number }
+    ensures cause { IfErr result (λ fault. fault ≡ line_faults.Read → HasFailed input.new) }
 {
     input.take_line(reader)?;
     count(input.line(), word, least, most).ok_or(LineFault::Malformed(input.number()))
@@ -230,13 +234,14 @@ pub fn take_count<R: Read, A: Allocator>(
 /// Takes the first four lines of a schedule or a book: `occ 1`, `sessions N`, `queue N` and `keep N`.
 ///
 /// `Malformed` at the first line that can't stand where it stands, also where the text ends before; `Read` where the reader
-/// fails. After any of them the input is of no more use.
+/// fails; `TooManyLines` where a line has no number. After any of them the input is of no more use.
 pub fn take_limits<R: Read, A: Allocator>(
     input: &mut Input<A>,
     reader: &mut R,
 ) -> Result<Limits, LineFault>
-    ensures { LimitsTaken result (prepend_known input.old.unread (R.remaining reader.old))
+    ensures gives { LimitsTaken result (prepend_known input.old.unread (R.remaining reader.old))
         (prepend_known input.new.unread (R.remaining reader.new)) input.old.number input.new.number }
+    ensures cause { IfErr result (λ fault. fault ≡ line_faults.Read → HasFailed input.new) }
 {
     take_version(input, reader)?;
     let sessions = take_count(input, reader, "sessions", 1, MAX_SESSIONS as u64)?;
@@ -283,9 +288,10 @@ fn take_next<R: Read, A: Allocator + Copy>(
     tables: &[TableDef<A>],
 ) -> Result<Option<TableDef<A>>, ReadFault>
     requires { TablesSoFar (tables_of tables.now) }
-    ensures { NextTaken table_of result (tables_of tables.now)
+    ensures gives { NextTaken table_of result (tables_of tables.now)
         (prepend_known input.old.unread (R.remaining reader.old))
         (prepend_known input.new.unread (R.remaining reader.new)) input.old.number input.new.number }
+    ensures cause { IfErr result (λ fault. fault ≡ read_faults.Read → HasFailed input.new) }
 {
     input.take_line(reader)?;
     if is_steps(input.line()) {
@@ -301,8 +307,9 @@ fn take_tables<R: Read, A: Allocator + Copy>(
     input: &mut Input<A>,
     reader: &mut R,
 ) -> Result<Schema<A>, ReadFault>
-    ensures { TablesTaken result (prepend_known input.old.unread (R.remaining reader.old))
+    ensures gives { TablesTaken result (prepend_known input.old.unread (R.remaining reader.old))
         (prepend_known input.new.unread (R.remaining reader.new)) input.old.number input.new.number }
+    ensures cause { IfErr result (λ fault. fault ≡ read_faults.Read → HasFailed input.new) }
 {
     let mut tables = Vec::new(alloc);
     loop {
@@ -327,8 +334,9 @@ pub fn read_header<R: Read, A: Allocator + Copy>(
     reader: &mut R,
 ) -> Result<Header<A>, ReadFault>
     requires { input.old.number ≡ 0 }
-    ensures { HeaderTaken header_of result (prepend_known input.old.unread (R.remaining reader.old))
+    ensures gives { HeaderTaken header_of result (prepend_known input.old.unread (R.remaining reader.old))
         (prepend_known input.new.unread (R.remaining reader.new)) input.new.number }
+    ensures cause { IfErr result (λ fault. fault ≡ read_faults.Read → HasFailed input.new) }
 {
     let limits = take_limits(input, reader)?;
     let schema = take_tables(alloc, input, reader)?;

@@ -1,8 +1,9 @@
 //! Input that is taken line by line, in a bounded room whatever the text is.
 
-ghost use Rattle.std.specs.Prelude.{◌≡◌, ◌≤◌, ◌<◌, ◌+◌, [], length, IfOk, true, false};
+ghost use Rattle.std.specs.Prelude.{◌≡◌, ◌≤◌, ◌<◌, ◌+◌, [], length, IfOk, IfErr, true, false};
 ghost use Rattle.std.specs.Io.KnownBytes.{Keeps, IsAtEnd, ReadConsumes, prepend_known};
-ghost use Rattle.occ_text.specs.Line.{LineGives, LineTaken, GatherGives, PieceGives, TakesPiece};
+ghost use Rattle.occ_text.specs.Line.{LineGives, LineTaken, GatherGives, PieceGives, TakesPiece, HasFailed};
+ghost use Rattle.occ_text.specs.declared.faults.LineFault.TheVariants as line_faults;
 
 use crate::faults::{LineFault, ReadFailed};
 use crate::parts::find;
@@ -51,6 +52,8 @@ pub struct Input<A: Allocator> {
     line: Vec<u8, A>,
     /// Lines taken so far.
     number: u64,
+    /// Whether a read failed.
+    failed: bool,
 }
 
 impl<A: Allocator> Model for Input<A> {
@@ -59,7 +62,7 @@ impl<A: Allocator> Model for Input<A> {
 
     ghost Value = { Source };
 
-    ghost view = { λ i. record { unread = slice_range i.block.items i.from i.to; line = i.line.items; number = i.number } };
+    ghost view = { λ i. record { unread = slice_range i.block.items i.from i.to; line = i.line.items; number = i.number; failed = i.failed } };
 
     ghost invariant = { λ i. record {
       ordered : i.from ≤ i.to;
@@ -74,7 +77,7 @@ impl<A: Allocator> Input<A> {
     pub fn new(alloc: A) -> Result<Self, AllocError>
     where
         A: Clone,
-        ensures { IfOk result (λ input. input ≡ record { unread = []; line = []; number = 0 }) }
+        ensures { IfOk result (λ input. input ≡ record { unread = []; line = []; number = 0; failed = false }) }
     {
         let block = vec![in alloc.clone()?; 0u8; BLOCK]?;
         let line = Vec::with_capacity(alloc, MAX_LINE)?;
@@ -84,6 +87,7 @@ impl<A: Allocator> Input<A> {
             to: 0,
             line,
             number: 0,
+            failed: false,
         })
     }
 
@@ -104,13 +108,16 @@ impl<A: Allocator> Input<A> {
     /// Takes the next line, which `line` then shows.
     ///
     /// `Malformed` where no line of at most 8,192 bytes and a line feed stands next, with its number; `Read` where the
-    /// reader fails, and after 2^64 - 1 lines. After either of them the input is of no more use.
+    /// reader fails, and then all that it gave is taken; `TooManyLines` after 2^64 - 1 lines. After any of them the input is of no
+    /// more use.
     pub fn next_line<R: Read>(&mut self, reader: &mut R) -> Result<Next, LineFault>
-        ensures { LineGives result (prepend_known self.old.unread (R.remaining reader.old))
+        ensures gives { LineGives result (prepend_known self.old.unread (R.remaining reader.old))
             (prepend_known self.new.unread (R.remaining reader.new)) self.old self.new }
+        ensures cause { IfErr result (λ fault. fault ≡ line_faults.Read → HasFailed self.new) }
+        ensures unfailed { IfOk result (λ next. self.new.failed ≡ self.old.failed) }
     {
         if self.number == u64::MAX {
-            return Err(LineFault::Read);
+            return Err(LineFault::TooManyLines);
         }
         self.line.clear();
         match self.gather(reader)? {
@@ -127,8 +134,10 @@ impl<A: Allocator> Input<A> {
     ///
     /// `Malformed` also where the text is at its end; else as `next_line` fails. After that the input is of no more use.
     pub fn take_line<R: Read>(&mut self, reader: &mut R) -> Result<(), LineFault>
-        ensures { LineTaken result (prepend_known self.old.unread (R.remaining reader.old))
+        ensures gives { LineTaken result (prepend_known self.old.unread (R.remaining reader.old))
             (prepend_known self.new.unread (R.remaining reader.new)) self.old self.new }
+        ensures cause { IfErr result (λ fault. fault ≡ line_faults.Read → HasFailed self.new) }
+        ensures unfailed { IfOk result (λ taken. self.new.failed ≡ self.old.failed) }
     {
         match self.next_line(reader)? {
             Next::Line => Ok(()),
@@ -150,6 +159,8 @@ impl<A: Allocator> Input<A> {
         ensures gives { GatherGives result (prepend_known self.old.unread (R.remaining reader.old))
             (prepend_known self.new.unread (R.remaining reader.new)) self.new.line }
         ensures number { self.new.number ≡ self.old.number }
+        ensures cause { IfErr result (λ failed. HasFailed self.new) }
+        ensures unfailed { IfOk result (λ piece. self.new.failed ≡ self.old.failed) }
     {
         loop {
             match self.take_piece(reader)? {
@@ -163,6 +174,8 @@ impl<A: Allocator> Input<A> {
         ensures gives { PieceGives result (prepend_known self.old.unread (R.remaining reader.old))
             (prepend_known self.new.unread (R.remaining reader.new)) self.old self.new }
         ensures number { self.new.number ≡ self.old.number }
+        ensures cause { IfErr result (λ failed. HasFailed self.new) }
+        ensures unfailed { IfOk result (λ piece. self.new.failed ≡ self.old.failed) }
     {
         if !self.refill(reader)? {
             return Ok(Piece::Nothing);
@@ -178,13 +191,21 @@ impl<A: Allocator> Input<A> {
         ensures end { IfOk result (λ more. more ≡ false → IsAtEnd (prepend_known self.new.unread (R.remaining reader.new))) }
         ensures line { self.new.line ≡ self.old.line }
         ensures number { self.new.number ≡ self.old.number }
+        ensures cause { IfErr result (λ failed. HasFailed self.new) }
+        ensures unfailed { IfOk result (λ more. self.new.failed ≡ self.old.failed) }
     {
         if self.from < self.to {
             return Ok(true);
         }
         self.from = 0;
         self.to = 0;
-        self.to = read_some(reader, self.block.as_mut_slice())?;
+        match read_some(reader, self.block.as_mut_slice()) {
+            Ok(count) => self.to = count,
+            Err(failed) => {
+                self.failed = true;
+                return Err(failed);
+            }
+        }
         Ok(self.to > 0)
     }
 
@@ -193,6 +214,7 @@ impl<A: Allocator> Input<A> {
         requires { 0 < length self.old.unread }
         ensures takes { TakesPiece result self.old self.new }
         ensures number { self.new.number ≡ self.old.number }
+        ensures unfailed { self.new.failed ≡ self.old.failed }
     {
         let unread = &self.block[self.from..self.to];
         let len = find(unread, FEED);

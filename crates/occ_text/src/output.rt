@@ -1,8 +1,9 @@
 //! Output that is sent in blocks, and never loses, doubles or reorders a byte.
 
-ghost use Rattle.std.specs.Prelude.{◌≡◌, ◌≤◌, ◌<◌, [], length, drop, IfOk};
+ghost use Rattle.std.specs.Prelude.{◌≡◌, ◌≤◌, ◌<◌, [], length, drop, false, true, IfOk, IfErr};
 ghost use Rattle.std.specs.Io.KnownBytes.{WriteAppends};
 ghost use Rattle.occ_text.specs.Sending.{Sends, PushGives, FlushGives};
+ghost use Rattle.occ_text.specs.declared.faults.WriteFault.TheVariants as write_faults;
 
 use crate::faults::{WriteFailed, WriteFault};
 use std::alloc::Allocator;
@@ -12,20 +13,23 @@ use std::marker::Model;
 /// What is held back at most: a push that passes it sends all.
 pub const BLOCK: usize = 8192;
 
-/// Bytes on their way to a writer. What clauses see is what is held back.
+/// Bytes on their way to a writer. What clauses see is what is held back, and whether the writer failed.
 #[derive(Drop)]
 pub struct Output<A: Allocator> {
     text: Vec<u8, A>,
     /// How much of `text` the writer has.
     sent: usize,
+    /// Whether the writer failed, or took nothing.
+    failed: bool,
 }
 
 impl<A: Allocator> Model for Output<A> {
-    ghost use Rattle.std.specs.Prelude.{List, ℕ, ◌≤◌, drop, length};
+    ghost use Rattle.std.specs.Prelude.{◌≤◌, drop, length};
+    ghost use Rattle.occ_text.specs.Sending.{Outgoing};
 
-    ghost Value = { List ℕ };
+    ghost Value = { Outgoing };
 
-    ghost view = { λ o. drop o.sent o.text.items };
+    ghost view = { λ o. record { held = drop o.sent o.text.items; failed = o.failed } };
 
     ghost invariant = { λ o. o.sent ≤ length o.text.items };
 }
@@ -33,11 +37,12 @@ impl<A: Allocator> Model for Output<A> {
 impl<A: Allocator> Output<A> {
     /// An output that holds nothing. Allocates nothing.
     pub fn new(alloc: A) -> Self
-        ensures { result ≡ [] }
+        ensures { result ≡ record { held = []; failed = false } }
     {
         Output {
             text: Vec::new(alloc),
             sent: 0,
+            failed: false,
         }
     }
 
@@ -45,7 +50,9 @@ impl<A: Allocator> Output<A> {
     ///
     /// At `Write` what wasn't sent is still held; at `Memory` nothing was taken.
     pub fn push<W: Write>(&mut self, writer: &mut W, bytes: &[u8]) -> Result<(), WriteFault>
-        ensures { PushGives result (W.contents writer.old) (W.contents writer.new) self.old self.new bytes.now }
+        ensures gives { PushGives result (W.contents writer.old) (W.contents writer.new) self.old.held self.new.held bytes.now }
+        ensures cause { IfErr result (λ fault. fault ≡ write_faults.Write → self.new.failed ≡ true) }
+        ensures unfailed { IfOk result (λ pushed. self.new.failed ≡ self.old.failed) }
     {
         self.text.extend_from_slice(bytes)?;
         if self.text.len() - self.sent < BLOCK {
@@ -57,19 +64,29 @@ impl<A: Allocator> Output<A> {
 
     /// Sends all that is held, and flushes the writer. Where the writer fails, what wasn't sent is still held.
     pub fn flush<W: Write>(&mut self, writer: &mut W) -> Result<(), WriteFailed>
-        ensures { FlushGives result (W.contents writer.old) (W.contents writer.new) self.old self.new }
+        ensures gives { FlushGives result (W.contents writer.old) (W.contents writer.new) self.old.held self.new.held }
+        ensures cause { IfErr result (λ failed. self.new.failed ≡ true) }
+        ensures unfailed { IfOk result (λ sent. self.new.failed ≡ self.old.failed) }
     {
         self.send(writer)?;
         match writer.flush() {
             Ok(()) => Ok(()),
-            Err(_) => Err(WriteFailed),
+            Err(_) => {
+                self.failed = true;
+                Err(WriteFailed)
+            }
         }
     }
 
     fn send<W: Write>(&mut self, writer: &mut W) -> Result<(), WriteFailed>
-        ensures { FlushGives result (W.contents writer.old) (W.contents writer.new) self.old self.new }
+        ensures gives { FlushGives result (W.contents writer.old) (W.contents writer.new) self.old.held self.new.held }
+        ensures cause { IfErr result (λ failed. self.new.failed ≡ true) }
+        ensures unfailed { IfOk result (λ sent. self.new.failed ≡ self.old.failed) }
     {
-        send_all(writer, self.text.as_slice(), &mut self.sent)?;
+        if let Err(failed) = send_all(writer, self.text.as_slice(), &mut self.sent) {
+            self.failed = true;
+            return Err(failed);
+        }
         self.text.clear();
         self.sent = 0;
         Ok(())

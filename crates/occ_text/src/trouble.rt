@@ -15,6 +15,9 @@ pub enum Trouble {
     /// The reader failed.
     #[error("cannot read")]
     Read,
+    /// 2^64 - 1 lines were taken, and no further one has a number.
+    #[error("too many lines")]
+    TooManyLines,
     /// The writer failed, or took nothing.
     #[error("cannot write")]
     Write,
@@ -48,6 +51,7 @@ impl From<LineFault> for Trouble {
     fn from(fault: LineFault) -> Trouble {
         match fault {
             LineFault::Read => Trouble::Read,
+            LineFault::TooManyLines => Trouble::TooManyLines,
             LineFault::Malformed(line) => Trouble::Malformed(line),
         }
     }
@@ -59,6 +63,7 @@ impl From<ReadFault> for Trouble {
     fn from(fault: ReadFault) -> Trouble {
         match fault {
             ReadFault::Read => Trouble::Read,
+            ReadFault::TooManyLines => Trouble::TooManyLines,
             ReadFault::Malformed(line) => Trouble::Malformed(line),
             ReadFault::Memory => Trouble::Memory,
         }
@@ -84,7 +89,8 @@ impl From<WriteFault> for Trouble {
     }
 }
 
-/// The exit status of an engine: 0 for a yes, 3 for a no, 1 where a device or memory failed, 2 at a malformed line.
+/// The exit status of an engine: 0 for a yes, 3 for a no, 1 where a device or memory failed or the lines can't be counted, 2 at a
+/// malformed line.
 pub fn status_of(outcome: &Result<bool, Trouble>) -> u8
     ensures { result ≡ status outcome.now }
 {
@@ -92,6 +98,6 @@ pub fn status_of(outcome: &Result<bool, Trouble>) -> u8
         Ok(true) => 0,
         Ok(false) => 3,
         Err(Trouble::Malformed(_)) => 2,
-        Err(Trouble::Read | Trouble::Write | Trouble::Memory) => 1,
+        Err(Trouble::Read | Trouble::TooManyLines | Trouble::Write | Trouble::Memory) => 1,
     }
 }

@@ -11,7 +11,7 @@ use Rattle.occ_books.proofs.printed.take_marks.Goals as goal
 pub loop-init : goal.loop-init
 loop-init g c = record {
   so_far = marks_start c.args.sessions c.in_ok-marks.marks _ (rw c.in_ok-marks.ensures.given at c.new.ensures.empty);
-  led = λ schema. count_first (codes "marks") 0 (2 ^ 64 - 1) (Marks (frame_of schema c.args.sessions)) (λ n. marks_to_come (frame_of schema c.args.sessions) n 0) c.in_ok-count.count (c.in_ok-count.count - 0) _ _ _ _ (marks_lead (frame_of schema c.args.sessions)) (omega arith) c.in_ok-count.ensures;
+  led = λ schema. count_first (codes "marks") 0 (2 ^ 64 - 1) (Marks (frame_of schema c.args.sessions)) (λ n. marks_to_come (frame_of schema c.args.sessions) n 0) c.in_ok-count.count (c.in_ok-count.count - 0) _ _ _ _ (marks_lead (frame_of schema c.args.sessions)) (omega arith) c.in_ok-count.ensures.gives;
 }
 
 pub loop-preserved : goal.loop-preserved
@@ -21,7 +21,7 @@ loop-preserved g c = record {
 }
 
 pub returns-clause-taken : goal.returns-clause-taken
-returns-clause-taken g c = marks_end c.args.sessions c.loop.last c.in_ok-count.count c.loop.counter c.loop.marks _ _ _ (one_line (count_text (codes "marks") c.in_ok-count.count) _ _ c.in_ok-count.ensures.0) c.loop.invariant.so_far (omega arith)
+returns-clause-taken g c = marks_end c.args.sessions c.loop.last c.in_ok-count.count c.loop.counter c.loop.marks _ _ _ (one_line (count_text (codes "marks") c.in_ok-count.count) _ _ c.in_ok-count.ensures.gives.0) c.loop.invariant.so_far (omega arith)
 
 pub returns-clause-led : goal.returns-clause-led
 returns-clause-led g c = λ schema. marks_led (frame_of schema c.args.sessions) (c.in_ok-count.count - c.loop.counter) c.loop.last _ _ _ _ (omega arith) (c.loop.invariant.led schema)
@@ -30,7 +30,7 @@ pub returns-in_err-count-clause-led : goal.returns-in_err-count-clause-led
 returns-in_err-count-clause-led g c = λ schema.
     let frame = frame_of schema c.args.sessions in
     let fault = read_fault c.in_err-count.field-0.0 in
-    failed fault c.from_residual.result (Marks frame) (λ marks. State frame) _ _ _ _ c.from_residual.ensures.1 (count_fails (codes "marks") 0 (2 ^ 64 - 1) (Marks frame) (λ n. marks_to_come frame n 0) fault _ _ _ (marks_lead frame) c.in_err-count.ensures)
+    failed fault c.from_residual.result (Marks frame) (λ marks. State frame) _ _ _ _ c.from_residual.ensures.1 (count_fails (codes "marks") 0 (2 ^ 64 - 1) (Marks frame) (λ n. marks_to_come frame n 0) fault _ _ _ (marks_lead frame) c.in_err-count.ensures.gives)
 
 pub returns-in_err-mark-clause-led : goal.returns-in_err-mark-clause-led
 returns-in_err-mark-clause-led g c = λ schema.

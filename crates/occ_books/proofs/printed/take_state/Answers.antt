@@ -18,7 +18,7 @@ loop-init g c =
     record {
       so_far = state_start c.args.schema.now c.in_ok-tables.tables.tables c.in_ok-tables.tables.state _ (ap (λ (t : Content). t.state) made) (ap (λ (t : Content). t.tables) made ∙ sym (length-map c.tables.result.now table_of) ∙ ap length c.tables.ensures.value);
       led = λ sessions. count_first (codes "state") 0 (2 ^ 64 - 1) (State (frame_of c.args.schema.now sessions)) (λ n. state_to_come (frame_of c.args.schema.now sessions) n None) c.in_ok-count.count (c.in_ok-count.count - 0) _ _ _ _ (state_leads (frame_of c.args.schema.now sessions)) (omega arith)
-          c.in_ok-count.ensures;
+          c.in_ok-count.ensures.gives;
     }
 
 pub put-requires : goal.put-requires
@@ -36,7 +36,7 @@ loop-preserved g c =
 
 pub returns-clause-taken : goal.returns-clause-taken
 returns-clause-taken g c =
-    state_end c.args.schema.now (option_map object_of c.loop.last) c.in_ok-count.count c.loop.counter c.loop.tables.tables c.loop.tables.state _ _ _ (one_line (count_text (codes "state") c.in_ok-count.count) _ _ c.in_ok-count.ensures.0) c.in_ok-count.ensures.1.most_count c.loop.invariant.so_far (omega arith)
+    state_end c.args.schema.now (option_map object_of c.loop.last) c.in_ok-count.count c.loop.counter c.loop.tables.tables c.loop.tables.state _ _ _ (one_line (count_text (codes "state") c.in_ok-count.count) _ _ c.in_ok-count.ensures.gives.0) c.in_ok-count.ensures.gives.1.most_count c.loop.invariant.so_far (omega arith)
 
 pub returns-clause-led : goal.returns-clause-led
 returns-clause-led g c = λ sessions. state_led (frame_of c.args.schema.now sessions) (c.in_ok-count.count - c.loop.counter) (option_map object_of c.loop.last) _ _ _ _ (omega arith) (c.loop.invariant.led sessions)
@@ -45,7 +45,7 @@ pub returns-in_err-count-clause-led : goal.returns-in_err-count-clause-led
 returns-in_err-count-clause-led g c = λ sessions.
     let frame = frame_of c.args.schema.now sessions in
     let fault = read_fault c.in_err-count.field-0.0 in
-    failed fault c.from_residual.result (State frame) (λ tables. Counter) _ _ _ _ c.from_residual.ensures.1 (count_fails (codes "state") 0 (2 ^ 64 - 1) (State frame) (λ n. state_to_come frame n None) fault _ _ _ (state_leads frame) c.in_err-count.ensures)
+    failed fault c.from_residual.result (State frame) (λ tables. Counter) _ _ _ _ c.from_residual.ensures.1 (count_fails (codes "state") 0 (2 ^ 64 - 1) (State frame) (λ n. state_to_come frame n None) fault _ _ _ (state_leads frame) c.in_err-count.ensures.gives)
 
 pub returns-in_err-object-clause-led : goal.returns-in_err-object-clause-led
 returns-in_err-object-clause-led g c = λ sessions.

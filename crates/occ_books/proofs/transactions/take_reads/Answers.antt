@@ -6,6 +6,8 @@ use Rattle.occ_books.specs.Taking.{ReadFits}
 use Rattle.occ_books.specs.Places.{reads_to_come, writes_to_come}
 use Rattle.occ_books.proofs.Gathering.{nothing_yet, gathered_next, count_more}
 use Rattle.occ_books.proofs.Leading.{failed, begun, turn, turn_fails, turned}
+use Rattle.occ_text.specs.declared.faults.ReadFault.TheVariants as read_faults
+use Rattle.occ_text.proofs.Causes.{caused}
 use Rattle.occ_books.proofs.transactions.take_reads.Goals as goal
 
 pub loop-init : goal.loop-init
@@ -35,3 +37,6 @@ returns-clause-led g c = λ row same. turned (reads_to_come row) (reads_to_come 
 pub returns-in_err-note-clause-led : goal.returns-in_err-note-clause-led
 returns-in_err-note-clause-led g c = λ row same.
     failed Memory c.from_residual-in_err-note.result (reads_to_come row c.args.count) (λ _. writes_to_come row row.head.writes []) _ _ _ _ c.from_residual-in_err-note.ensures.1 tt
+
+pub returns-in_err-read-clause-cause : goal.returns-in_err-read-clause-cause
+returns-in_err-read-clause-cause g c = caused c.in_err-read.field-0.0 read_faults.Read c.from_residual.result _ c.from_residual.ensures.1 c.in_err-read.ensures.cause

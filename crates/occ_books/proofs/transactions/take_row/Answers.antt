@@ -5,6 +5,8 @@ use Rattle.occ_books.specs.Places.{LogRow, frame_of, in_row, rows_to_come, reads
 use Rattle.occ_books.proofs.RowTaking.{row_taken}
 use Rattle.occ_books.proofs.Leading.{led_led, failed, led_failed}
 use Rattle.occ_books.proofs.RowLeading.{head_fails, head_led}
+use Rattle.occ_text.specs.declared.faults.ReadFault.TheVariants as read_faults
+use Rattle.occ_text.proofs.Causes.{caused}
 use Rattle.occ_books.proofs.transactions.take_row.Goals as goal
 
 pub returns-clause-taken : goal.returns-clause-taken
@@ -42,3 +44,6 @@ returns-clause-led g c = λ rows.
     led_led (LogRow frame rows) (writes_to_come row head.writes []) (rows_to_come frame rows) _ _ _ _ c.take_reads.new.input.number _
     (led_led (LogRow frame rows) (reads_to_come row head.reads) (writes_to_come row head.writes []) _ _ _ _ c.take_head.new.input.number _ (head_led head c.args.schema.now c.args.sessions rows _ _ _ _ c.in_ok-head.ensures.led)
     (c.in_ok-reads.ensures.led row refl)) (c.in_ok-writes.ensures.led row refl)
+
+pub returns-in_err-writes-clause-cause : goal.returns-in_err-writes-clause-cause
+returns-in_err-writes-clause-cause g c = caused c.in_err-writes.field-0.0 read_faults.Read c.from_residual-in_err-writes.result _ c.from_residual-in_err-writes.ensures.1 c.in_err-writes.ensures.cause

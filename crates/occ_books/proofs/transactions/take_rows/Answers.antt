@@ -5,6 +5,8 @@ use Rattle.occ_books.specs.Taking.{LogRowFits}
 use Rattle.occ_books.specs.Places.{Marks, frame_of, rows_to_come}
 use Rattle.occ_books.proofs.Gathering.{nothing_viewed, viewed_next, count_more}
 use Rattle.occ_books.proofs.Leading.{failed, begun, turn, turn_fails, turned}
+use Rattle.occ_text.specs.declared.faults.ReadFault.TheVariants as read_faults
+use Rattle.occ_text.proofs.Causes.{caused}
 use Rattle.occ_books.proofs.transactions.take_rows.Goals as goal
 
 pub loop-init : goal.loop-init
@@ -34,3 +36,6 @@ pub returns-clause-led : goal.returns-clause-led
 returns-clause-led g c =
     let frame = frame_of c.args.schema.now c.args.sessions in
     turned (rows_to_come frame) (rows_to_come frame c.args.count) _ _ _ _ c.args.count c.loop.counter c.loop-test.false c.loop.invariant.led
+
+pub returns-in_err-row-clause-cause : goal.returns-in_err-row-clause-cause
+returns-in_err-row-clause-cause g c = caused c.in_err-row.field-0.0 read_faults.Read c.from_residual.result _ c.from_residual.ensures.1 c.in_err-row.ensures.cause

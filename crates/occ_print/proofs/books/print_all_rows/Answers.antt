@@ -10,15 +10,15 @@ use Rattle.occ_print.proofs.books.print_all_rows.Goals as goal
 pub loop-place-init : goal.loop-place-init
 loop-place-init g c = record { done = []; whole = sym (rows_from-first c.args.tables.now.state); printed = Pushed-nothing _ _ }
 
-pub returns-in_err-print_rows_at : goal.returns-in_err-print_rows_at
-returns-in_err-print_rows_at g c =
+pub returns-in_err-print_rows_at-clause-printed : goal.returns-in_err-print_rows_at-clause-printed
+returns-in_err-print_rows_at-clause-printed g c =
     let r = c.from_residual.result in
     let state = c.args.tables.now.state in
     let place = c.loop-place.place in
     let done = c.loop-place.invariant.done in
     failed _ r _ _ _ _ _ c.from_residual.ensures.1
     (values_front (at_line c.args.schema.now) _ _ _ _ _ _ done (rows_at place state) (rows_from (place + 1) state) (entries state)
-    (c.loop-place.invariant.whole ∙ ap (λ l. done ++ l) (rows_from-split place state)) c.loop-place.invariant.printed c.in_err-print_rows_at.ensures)
+    (c.loop-place.invariant.whole ∙ ap (λ l. done ++ l) (rows_from-split place state)) c.loop-place.invariant.printed c.in_err-print_rows_at.ensures.printed)
 
 pub loop-place-preserved : goal.loop-place-preserved
 loop-place-preserved g c =
@@ -28,11 +28,11 @@ loop-place-preserved g c =
     record {
       done = done ++ rows_at place state;
       whole = c.loop-place.invariant.whole ∙ ap (λ l. done ++ l) (rows_from-split place state) ∙ sym (append_assoc done (rows_at place state) (rows_from (place + 1) state));
-      printed = values_more (at_line c.args.schema.now) _ _ _ _ _ _ done (rows_at place state) _ refl c.loop-place.invariant.printed c.in_ok-print_rows_at.ensures;
+      printed = values_more (at_line c.args.schema.now) _ _ _ _ _ _ done (rows_at place state) _ refl c.loop-place.invariant.printed c.in_ok-print_rows_at.ensures.printed;
     }
 
-pub returns : goal.returns
-returns g c =
+pub returns-clause-printed : goal.returns-clause-printed
+returns-clause-printed g c =
     let state = c.args.tables.now.state in
     let place = c.loop-place.place in
     let done = c.loop-place.invariant.done in

@@ -13,5 +13,5 @@ abbrev pub invariant-loop-place : goal.invariant-loop-place
 invariant-loop-place g l = record {
   done : List (Object × Row);
   whole : entries l.tables.state ≡ done ++ rows_from l.place l.tables.state;
-  printed : Pushed (g.W.Write.contents l.fn.writer) (g.W.Write.contents l.writer) l.fn.output l.output (lines_text (map (at_line l.schema) done));
+  printed : Pushed (g.W.Write.contents l.fn.writer) (g.W.Write.contents l.writer) l.fn.output.held l.output.held (lines_text (map (at_line l.schema) done));
 }

@@ -6,8 +6,8 @@ use Rattle.occ_print.proofs.SessionMarks.{marks_next, marks_amid}
 use Rattle.occ_print.proofs.Printing.{failed, values_more, values_front, lines_same}
 use Rattle.occ_print.proofs.books.print_each_mark.Goals as goal
 
-pub returns-in_err-print_mark_of : goal.returns-in_err-print_mark_of
-returns-in_err-print_mark_of g c =
+pub returns-in_err-print_mark_of-clause-printed : goal.returns-in_err-print_mark_of-clause-printed
+returns-in_err-print_mark_of-clause-printed g c =
     let marks = c.args.marks.now.marks in
     let sessions = c.args.marks.now.sessions in
     let done = c.loop-done.done in
@@ -16,16 +16,16 @@ returns-in_err-print_mark_of g c =
     let less : done < sessions = omega arith in
     failed _ c.from_residual.result _ _ _ _ _ c.from_residual.ensures.1
     (values_front mark_line _ _ _ _ _ _ (marks_listed marks 1 done) (mark_at (done + 1) (get marks (done + 1))) (marks_listed marks (suc (done + 1)) (sessions - (done + 1))) (entries marks)
-    (c.sessions-done-end.ensures.listed ∙ marks_amid marks done sessions less) c.loop-done.invariant c.in_err-print_mark_of.ensures)
+    (c.sessions-done-end.ensures.listed ∙ marks_amid marks done sessions less) c.loop-done.invariant c.in_err-print_mark_of.ensures.printed)
 
 pub loop-done-preserved : goal.loop-done-preserved
 loop-done-preserved g c =
     let marks = c.args.marks.now.marks in
     let done = c.loop-done.done in
-    values_more mark_line _ _ _ _ _ _ (marks_listed marks 1 done) (mark_at (done + 1) (get marks (done + 1))) _ (marks_next marks done) c.loop-done.invariant c.in_ok-print_mark_of.ensures
+    values_more mark_line _ _ _ _ _ _ (marks_listed marks 1 done) (mark_at (done + 1) (get marks (done + 1))) _ (marks_next marks done) c.loop-done.invariant c.in_ok-print_mark_of.ensures.printed
 
-pub returns : goal.returns
-returns g c =
+pub returns-clause-printed : goal.returns-clause-printed
+returns-clause-printed g c =
     let marks = c.args.marks.now.marks in
     let sessions = c.args.marks.now.sessions in
     let done = c.loop-done.done in

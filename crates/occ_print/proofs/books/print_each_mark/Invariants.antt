@@ -7,5 +7,5 @@ use Rattle.occ_print.proofs.books.print_each_mark.Given as goal
 
 -- the marks of this many sessions are printed
 abbrev pub invariant-loop-done : goal.invariant-loop-done
-invariant-loop-done g l = Pushed (g.W.Write.contents l.fn.writer) (g.W.Write.contents l.writer) l.fn.output l.output
+invariant-loop-done g l = Pushed (g.W.Write.contents l.fn.writer) (g.W.Write.contents l.writer) l.fn.output.held l.output.held
     (lines_text (map mark_line (marks_listed l.marks.marks 1 l.done)))

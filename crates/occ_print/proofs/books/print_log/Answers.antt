@@ -7,15 +7,15 @@ use Rattle.occ_text.specs.Headers.{count_text}
 use Rattle.occ_print.proofs.Printing.{failed, front_line, line_then}
 use Rattle.occ_print.proofs.books.print_log.Goals as goal
 
-pub returns-in_err-print_count : goal.returns-in_err-print_count
-returns-in_err-print_count g c = λ opened.
+pub returns-in_err-print_count-clause-printed : goal.returns-in_err-print_count-clause-printed
+returns-in_err-print_count-clause-printed g c = λ opened.
     let r = c.from_residual.result in
     let log = c.args.log.now in
     failed _ r _ _ _ _ _ c.from_residual.ensures.1
-    (front_line _ _ _ _ (count_text (codes "log") (length (log_of opened log))) _ (flat_map (row_lines c.args.schema.now) (log_of opened log)) (ap (count_text (codes "log")) (sym (length-map log (log_row_of opened)))) c.in_err-print_count.ensures)
+    (front_line _ _ _ _ (count_text (codes "log") (length (log_of opened log))) _ (flat_map (row_lines c.args.schema.now) (log_of opened log)) (ap (count_text (codes "log")) (sym (length-map log (log_row_of opened)))) c.in_err-print_count.ensures.printed)
 
-pub returns : goal.returns
-returns g c = λ opened.
+pub returns-clause-printed : goal.returns-clause-printed
+returns-clause-printed g c = λ opened.
     let log = c.args.log.now in
     line_then c.print_rows.result _ _ _ _ _ _ (count_text (codes "log") (length (log_of opened log))) _ (flat_map (row_lines c.args.schema.now) (log_of opened log))
-    (ap (count_text (codes "log")) (sym (length-map log (log_row_of opened)))) c.in_ok-print_count.ensures (c.print_rows.ensures opened)
+    (ap (count_text (codes "log")) (sym (length-map log (log_row_of opened)))) c.in_ok-print_count.ensures.printed (c.print_rows.ensures.printed opened)

@@ -7,5 +7,5 @@ use Rattle.occ_print.specs.Books.{at_line}
 use Rattle.occ_print.proofs.books.print_map.Given as goal
 
 abbrev pub invariant-loop-key : goal.invariant-loop-key
-invariant-loop-key g l = Pushed (g.W.Write.contents l.fn.writer) (g.W.Write.contents l.writer) l.fn.output l.output
+invariant-loop-key g l = Pushed (g.W.Write.contents l.fn.writer) (g.W.Write.contents l.writer) l.fn.output.held l.output.held
     (lines_text (map (at_line l.schema) (placed l.place (map deref_pair l.yielded))))

@@ -6,14 +6,14 @@ use Rattle.occ_print.proofs.Printing.{failed, front_line, line_then}
 use Rattle.std.specs.FinMap as finite
 use Rattle.occ_print.proofs.books.print_marks.Goals as goal
 
-pub returns-in_err-print_count : goal.returns-in_err-print_count
-returns-in_err-print_count g c =
+pub returns-in_err-print_count-clause-printed : goal.returns-in_err-print_count-clause-printed
+returns-in_err-print_count-clause-printed g c =
     let marks = c.args.marks.now.marks in
     failed _ c.from_residual.result _ _ _ _ _ c.from_residual.ensures.1
-    (front_line _ _ _ _ (count_text (codes "marks") (finite.len marks)) _ (map mark_line (entries marks)) (ap (count_text (codes "marks")) c.len.ensures) c.in_err-print_count.ensures)
+    (front_line _ _ _ _ (count_text (codes "marks") (finite.len marks)) _ (map mark_line (entries marks)) (ap (count_text (codes "marks")) c.len.ensures) c.in_err-print_count.ensures.printed)
 
-pub returns : goal.returns
-returns g c =
+pub returns-clause-printed : goal.returns-clause-printed
+returns-clause-printed g c =
     let marks = c.args.marks.now.marks in
     line_then c.print_each_mark.result _ _ _ _ _ _ (count_text (codes "marks") (finite.len marks)) _ (map mark_line (entries marks))
-    (ap (count_text (codes "marks")) c.len.ensures) c.in_ok-print_count.ensures c.print_each_mark.ensures
+    (ap (count_text (codes "marks")) c.len.ensures) c.in_ok-print_count.ensures.printed c.print_each_mark.ensures.printed

@@ -3,13 +3,13 @@ use Rattle.occ_print.specs.Books.{pair_line}
 use Rattle.occ_print.proofs.Printing.{failed, each_more, each_front}
 use Rattle.occ_print.proofs.books.print_pairs.Goals as goal
 
-pub returns-in_err-print_pair : goal.returns-in_err-print_pair
-returns-in_err-print_pair g c =
+pub returns-in_err-print_pair-clause-printed : goal.returns-in_err-print_pair-clause-printed
+returns-in_err-print_pair-clause-printed g c =
     failed _ c.from_residual.result _ _ _ _ _ c.from_residual.ensures.1
     (each_front pair_line (λ e. (key_of e.0, e.1)) _ _ _ _ _ _ c.args.pairs.now c.loop-key.key-index c.loop-key-item.result c.loop-key-test.true c.loop-key-item.is
-    c.loop-key.invariant c.in_err-print_pair.ensures)
+    c.loop-key.invariant c.in_err-print_pair.ensures.printed)
 
 pub loop-key-preserved : goal.loop-key-preserved
 loop-key-preserved g c =
     each_more pair_line (λ e. (key_of e.0, e.1)) _ _ _ _ _ _ c.args.pairs.now c.loop-key.key-index c.loop-key-item.result c.loop-key-test.true c.loop-key-item.is
-    c.loop-key.invariant c.in_ok-print_pair.ensures
+    c.loop-key.invariant c.in_ok-print_pair.ensures.printed

@@ -7,5 +7,5 @@ use Rattle.occ_print.specs.Books.{read_lines}
 use Rattle.occ_print.proofs.books.print_reads.Given as goal
 
 abbrev pub invariant-loop-read : goal.invariant-loop-read
-invariant-loop-read g l = Pushed (g.W.Write.contents l.fn.writer) (g.W.Write.contents l.writer) l.fn.output l.output
+invariant-loop-read g l = Pushed (g.W.Write.contents l.fn.writer) (g.W.Write.contents l.writer) l.fn.output.held l.output.held
     (lines_text (flat_map (read_lines l.schema) (observations_of (take l.read-index l.reads))))

@@ -8,5 +8,5 @@ use Rattle.occ_print.specs.Books.{row_lines}
 use Rattle.occ_print.proofs.books.print_rows.Given as goal
 
 abbrev pub invariant-loop-row : goal.invariant-loop-row
-invariant-loop-row g l = (opened : g.row.O.Denot → ℕ × Case) → Pushed (g.W.Write.contents l.fn.writer) (g.W.Write.contents l.writer) l.fn.output l.output
+invariant-loop-row g l = (opened : g.row.O.Denot → ℕ × Case) → Pushed (g.W.Write.contents l.fn.writer) (g.W.Write.contents l.writer) l.fn.output.held l.output.held
     (lines_text (flat_map (row_lines l.schema) (log_of opened (take l.row-index l.log))))

@@ -4,12 +4,12 @@ use Rattle.occ_print.proofs.Printing.{lines_same}
 use Rattle.occ_print.proofs.TableRows.{placed-is}
 use Rattle.occ_print.proofs.books.print_rows_at.Goals as goal
 
-pub returns-in-Some : goal.returns-in-Some
-returns-in-Some g c =
-    lines_same c.print_map.result _ _ _ _ _ _ (ap (map (at_line c.args.schema.now)) (placed-is c.args.place c.args.tables.now.state c.in-Some.rows.now.entries c.in-Some.ensures)) c.print_map.ensures
+pub returns-in-Some-clause-printed : goal.returns-in-Some-clause-printed
+returns-in-Some-clause-printed g c =
+    lines_same c.print_map.result _ _ _ _ _ _ (ap (map (at_line c.args.schema.now)) (placed-is c.args.place c.args.tables.now.state c.in-Some.rows.now.entries c.in-Some.ensures)) c.print_map.ensures.printed
 
-pub returns-in-None : goal.returns-in-None
-returns-in-None g c =
+pub returns-in-None-clause-printed : goal.returns-in-None-clause-printed
+returns-in-None-clause-printed g c =
     let past = c.in-None.ensures in
     let within = c.requires in
     absurd (omega arith)

@@ -5,15 +5,15 @@ use Rattle.occ_text.specs.Headers.{count_text}
 use Rattle.occ_print.proofs.Printing.{failed, front_line, line_then}
 use Rattle.occ_print.proofs.books.print_state.Goals as goal
 
-pub returns-in_err-print_count : goal.returns-in_err-print_count
-returns-in_err-print_count g c =
+pub returns-in_err-print_count-clause-printed : goal.returns-in_err-print_count-clause-printed
+returns-in_err-print_count-clause-printed g c =
     let r = c.from_residual.result in
     let state = c.args.tables.now.state in
     failed _ r _ _ _ _ _ c.from_residual.ensures.1
-    (front_line _ _ _ _ (count_text (codes "state") (row_count state)) _ (map (at_line c.args.schema.now) (entries state)) (ap (count_text (codes "state")) c.len.ensures) c.in_err-print_count.ensures)
+    (front_line _ _ _ _ (count_text (codes "state") (row_count state)) _ (map (at_line c.args.schema.now) (entries state)) (ap (count_text (codes "state")) c.len.ensures) c.in_err-print_count.ensures.printed)
 
-pub returns : goal.returns
-returns g c =
+pub returns-clause-printed : goal.returns-clause-printed
+returns-clause-printed g c =
     let state = c.args.tables.now.state in
     line_then c.print_all_rows.result _ _ _ _ _ _ (count_text (codes "state") (row_count state)) _ (map (at_line c.args.schema.now) (entries state))
-    (ap (count_text (codes "state")) c.len.ensures) c.in_ok-print_count.ensures c.print_all_rows.ensures
+    (ap (count_text (codes "state")) c.len.ensures) c.in_ok-print_count.ensures.printed c.print_all_rows.ensures.printed

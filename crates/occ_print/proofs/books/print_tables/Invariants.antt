@@ -6,5 +6,5 @@ use Rattle.occ_text.specs.Headers.{table_text}
 use Rattle.occ_print.proofs.books.print_tables.Given as goal
 
 abbrev pub invariant-loop-table : goal.invariant-loop-table
-invariant-loop-table g l = Pushed (g.W.Write.contents l.fn.writer) (g.W.Write.contents l.writer) l.fn.output l.output
+invariant-loop-table g l = Pushed (g.W.Write.contents l.fn.writer) (g.W.Write.contents l.writer) l.fn.output.held l.output.held
     (lines_text (map table_text (tables_of (take l.table-index l.tables))))

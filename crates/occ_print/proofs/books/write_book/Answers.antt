@@ -3,8 +3,8 @@ use Rattle.occ_print.specs.Books.{book_of, header_lines, log_lines, mark_lines, 
 use Rattle.occ_print.proofs.Printing.{failed, front_before, front_amid, lines_then}
 use Rattle.occ_print.proofs.books.write_book.Goals as goal
 
-pub returns-in_err-print_header : goal.returns-in_err-print_header
-returns-in_err-print_header g c = λ opened.
+pub returns-in_err-print_header-clause-printed : goal.returns-in_err-print_header-clause-printed
+returns-in_err-print_header-clause-printed g c = λ opened.
     let book = book_of opened c.args.limits c.args.schema.now c.args.book.now in
     let header = header_lines book.header in
     let log = log_lines book.header.tables book.log in
@@ -14,10 +14,10 @@ returns-in_err-print_header g c = λ opened.
     failed _ c.from_residual.result _ _ _ _ _ c.from_residual.ensures.1
     (front_before _ _ _ _ (header ++ log ++ marks ++ state) counter
     (front_before _ _ _ _ (header ++ log ++ marks) state
-    (front_before _ _ _ _ (header ++ log) marks (front_before _ _ _ _ header log c.in_err-print_header.ensures))))
+    (front_before _ _ _ _ (header ++ log) marks (front_before _ _ _ _ header log c.in_err-print_header.ensures.printed))))
 
-pub returns-in_err-print_log : goal.returns-in_err-print_log
-returns-in_err-print_log g c = λ opened.
+pub returns-in_err-print_log-clause-printed : goal.returns-in_err-print_log-clause-printed
+returns-in_err-print_log-clause-printed g c = λ opened.
     let book = book_of opened c.args.limits c.args.schema.now c.args.book.now in
     let header = header_lines book.header in
     let log = log_lines book.header.tables book.log in
@@ -27,10 +27,10 @@ returns-in_err-print_log g c = λ opened.
     failed _ c.from_residual-in_err-print_log.result _ _ _ _ _ c.from_residual-in_err-print_log.ensures.1
     (front_before _ _ _ _ (header ++ log ++ marks ++ state) counter
     (front_before _ _ _ _ (header ++ log ++ marks) state
-    (front_amid _ _ _ _ _ _ header log marks c.in_ok-print_header.ensures (c.in_err-print_log.ensures opened))))
+    (front_amid _ _ _ _ _ _ header log marks c.in_ok-print_header.ensures.printed (c.in_err-print_log.ensures.printed opened))))
 
-pub returns-in_err-print_marks : goal.returns-in_err-print_marks
-returns-in_err-print_marks g c = λ opened.
+pub returns-in_err-print_marks-clause-printed : goal.returns-in_err-print_marks-clause-printed
+returns-in_err-print_marks-clause-printed g c = λ opened.
     let book = book_of opened c.args.limits c.args.schema.now c.args.book.now in
     let header = header_lines book.header in
     let log = log_lines book.header.tables book.log in
@@ -40,10 +40,10 @@ returns-in_err-print_marks g c = λ opened.
     failed _ c.from_residual-in_err-print_marks.result _ _ _ _ _ c.from_residual-in_err-print_marks.ensures.1
     (front_before _ _ _ _ (header ++ log ++ marks ++ state) counter
     (front_amid _ _ _ _ _ _ (header ++ log) marks state
-    (lines_then (Ok tt) _ _ _ _ _ _ header log c.in_ok-print_header.ensures (c.in_ok-print_log.ensures opened)) c.in_err-print_marks.ensures))
+    (lines_then (Ok tt) _ _ _ _ _ _ header log c.in_ok-print_header.ensures.printed (c.in_ok-print_log.ensures.printed opened)) c.in_err-print_marks.ensures.printed))
 
-pub returns-in_err-print_state : goal.returns-in_err-print_state
-returns-in_err-print_state g c = λ opened.
+pub returns-in_err-print_state-clause-printed : goal.returns-in_err-print_state-clause-printed
+returns-in_err-print_state-clause-printed g c = λ opened.
     let book = book_of opened c.args.limits c.args.schema.now c.args.book.now in
     let header = header_lines book.header in
     let log = log_lines book.header.tables book.log in
@@ -53,11 +53,11 @@ returns-in_err-print_state g c = λ opened.
     failed _ c.from_residual-in_err-print_state.result _ _ _ _ _ c.from_residual-in_err-print_state.ensures.1
     (front_amid _ _ _ _ _ _ (header ++ log ++ marks) state counter
     (lines_then (Ok tt) _ _ _ _ _ _ (header ++ log) marks
-    (lines_then (Ok tt) _ _ _ _ _ _ header log c.in_ok-print_header.ensures (c.in_ok-print_log.ensures opened)) c.in_ok-print_marks.ensures)
-    c.in_err-print_state.ensures)
+    (lines_then (Ok tt) _ _ _ _ _ _ header log c.in_ok-print_header.ensures.printed (c.in_ok-print_log.ensures.printed opened)) c.in_ok-print_marks.ensures.printed)
+    c.in_err-print_state.ensures.printed)
 
-pub returns : goal.returns
-returns g c = λ opened.
+pub returns-clause-printed : goal.returns-clause-printed
+returns-clause-printed g c = λ opened.
     let book = book_of opened c.args.limits c.args.schema.now c.args.book.now in
     let header = header_lines book.header in
     let log = log_lines book.header.tables book.log in
@@ -67,6 +67,6 @@ returns g c = λ opened.
     lines_then c.print_counter.result _ _ _ _ _ _ (header ++ log ++ marks ++ state) counter
     (lines_then (Ok tt) _ _ _ _ _ _ (header ++ log ++ marks) state
     (lines_then (Ok tt) _ _ _ _ _ _ (header ++ log) marks
-    (lines_then (Ok tt) _ _ _ _ _ _ header log c.in_ok-print_header.ensures (c.in_ok-print_log.ensures opened)) c.in_ok-print_marks.ensures)
-    c.in_ok-print_state.ensures)
-    c.print_counter.ensures
+    (lines_then (Ok tt) _ _ _ _ _ _ header log c.in_ok-print_header.ensures.printed (c.in_ok-print_log.ensures.printed opened)) c.in_ok-print_marks.ensures.printed)
+    c.in_ok-print_state.ensures.printed)
+    c.print_counter.ensures.printed

@@ -1,14 +1,18 @@
-use Rattle.std.proofs.Common.{Some, refl, ap, sym, subst, ◌∙◌, ◌-◌, length}
+use Rattle.std.proofs.Common.{◌≤◌, Some, refl, ap, sym, subst, ◌∙◌, ◌-◌, length, [], ◌∷◌, ◌++◌, arith}
 use Rattle.std.specs.Prelude.{slice_set}
 use Rattle.std.specs.FinMap as finite
 use Rattle.std.proofs.lemmas.Result.{err_from_is_err_and}
 use Rattle.occ_model.specs.Event.{Enter, Request, Refused}
+use Rattle.occ_model.specs.Log.{LogRow, Open}
+use Rattle.occ_model.specs.World.{reads_under}
 use Rattle.occ_model.specs.Step.{Step, refused}
 use Rattle.occ_core.specs.Core.{parts_of}
 use Rattle.occ_core.specs.Parts.{world_of}
+use Rattle.occ_core.specs.Logs.{HasRoom}
 use Rattle.occ_core.specs.Rows.{log_row_of}
 use Rattle.occ_core.proofs.Places.{length-set}
-use Rattle.occ_core.proofs.Entering.{entry_err, entry_starved, open_row_kept, enter_from, enter_below, enter_whole, enter_placed, held_placed}
+use Rattle.occ_core.proofs.Entering.{entry_err, entry_starved, entry_roomless, sound_kept, entering_place, open_row_kept, enter_from, enter_below, enter_whole, enter_placed, held_placed}
+use Rattle.occ_core.proofs.Listed.{next_kept}
 use Rattle.occ_core.proofs.core_state.Core.enter_request.Goals as goal
 
 pub returns-in_err-check_entry-clause-step : goal.returns-in_err-check_entry-clause-step
@@ -20,36 +24,89 @@ pub returns-in_err-shared-clause-step : goal.returns-in_err-shared-clause-step
 returns-in_err-shared-clause-step g c =
     let p = err_from_is_err_and c.from_residual-in_err-shared.result c.from_residual-in_err-shared.ensures.1 in
     let world = c.args.self.now.world in
-    let event = Enter c.args.session (Request c.args.number c.args.start c.args.writes.now) in
+    let event = Enter c.args.transaction.session (Request c.args.transaction.number c.args.transaction.start c.args.writes.now) in
     entry_err _ _ _ _ p.0 p.1 (subst (λ f. Step world event (Refused f) (world_of (record (parts_of c.self.inside) { phases = c.share-2.new.self }))) (sym p.2)
-    (entry_starved (parts_of c.self.inside) world (ap (λ s. s.world) c.self.view_is) c.args.session c.args.number c.args.start c.args.writes.now (sym c.in_ok-check_entry.ensures) c.share-2.new.self c.share-2.ensures.kept))
+    (entry_starved (parts_of c.self.inside) world (ap (λ s. s.world) c.self.view_is) c.args.transaction.session c.args.transaction.number c.args.transaction.start c.args.writes.now (sym c.in_ok-check_entry.ensures) c.share-2.new.self c.share-2.ensures.kept))
+
+pub reserve-requires-clause-from : goal.reserve-requires-clause-from
+reserve-requires-clause-from g c =
+    enter_from (parts_of c.self.inside) c.args.self.now.world (ap (λ s. s.world) c.self.view_is) c.args.transaction.session c.args.transaction.number c.args.transaction.start c.args.writes.now (sym c.in_ok-check_entry.ensures)
+
+pub reserve-requires-clause-below : goal.reserve-requires-clause-below
+reserve-requires-clause-below g c =
+    let from = enter_from (parts_of c.self.inside) c.args.self.now.world (ap (λ s. s.world) c.self.view_is) c.args.transaction.session c.args.transaction.number c.args.transaction.start c.args.writes.now (sym c.in_ok-check_entry.ensures) in
+    let below = enter_below (parts_of c.self.inside) c.args.self.now.world (ap (λ s. s.world) c.self.view_is) c.self.invariant.sound c.args.transaction.session c.args.transaction.number c.args.transaction.start c.args.writes.now (sym c.in_ok-check_entry.ensures) in
+    let knows = c.self.invariant.log_match.knows in
+    omega arith
+
+pub returns-in_err-reserve-clause-step : goal.returns-in_err-reserve-clause-step
+returns-in_err-reserve-clause-step g c =
+    let p = err_from_is_err_and c.from_residual-in_err-reserve.result c.from_residual-in_err-reserve.ensures.1 in
+    let world = c.args.self.now.world in
+    let event = Enter c.args.transaction.session (Request c.args.transaction.number c.args.transaction.start c.args.writes.now) in
+    entry_err _ _ _ _ p.0 p.1 (subst (λ f. Step world event (Refused f) (world_of (record (parts_of c.self.inside) { log = c.reserve.new.self.rows; phases = c.share-2.new.self }))) (sym p.2)
+    (entry_roomless (parts_of c.self.inside) world (ap (λ s. s.world) c.self.view_is) c.args.transaction.session c.args.transaction.number c.args.transaction.start c.args.writes.now (sym c.in_ok-check_entry.ensures)
+    c.reserve.new.self.rows c.in_err-reserve.ensures.rows c.share-2.new.self c.share-2.ensures.kept))
+
+pub push-requires-clause-from : goal.push-requires-clause-from
+push-requires-clause-from g c =
+    let seen = ap (λ s. s.world) c.self.view_is in
+    let row = open_row_kept (parts_of c.self.inside) c.args.self.now.world seen c.args.transaction.session c.args.transaction.number c.args.transaction.start c.args.writes.now c.share.new.self c.share.ensures.kept c.share-2.new.self c.share-2.ensures.kept (log_row_of c.in_ok-row.row) c.in_ok-row.ensures in
+    subst (λ s. 1 ≤ s) (sym (ap (λ (r : LogRow). r.session) row.2))
+    (enter_from (parts_of c.self.inside) c.args.self.now.world seen c.args.transaction.session c.args.transaction.number c.args.transaction.start c.args.writes.now (sym c.in_ok-check_entry.ensures))
+
+pub push-requires-clause-room : goal.push-requires-clause-room
+push-requires-clause-room g c =
+    let row = open_row_kept (parts_of c.self.inside) c.args.self.now.world (ap (λ s. s.world) c.self.view_is) c.args.transaction.session c.args.transaction.number c.args.transaction.start c.args.writes.now c.share.new.self c.share.ensures.kept c.share-2.new.self c.share-2.ensures.kept (log_row_of c.in_ok-row.row) c.in_ok-row.ensures in
+    subst (HasRoom c.reserve.new.self) (sym (ap (λ (r : LogRow). r.session) row.2)) c.in_ok-reserve.ensures.room
+
+pub push-requires-clause-place : goal.push-requires-clause-place
+push-requires-clause-place g c =
+    let seen = ap (λ s. s.world) c.self.view_is in
+    let row = open_row_kept (parts_of c.self.inside) c.args.self.now.world seen c.args.transaction.session c.args.transaction.number c.args.transaction.start c.args.writes.now c.share.new.self c.share.ensures.kept c.share-2.new.self c.share-2.ensures.kept (log_row_of c.in_ok-row.row) c.in_ok-row.ensures in
+    ap (λ (r : LogRow). r.place) row.2 ∙ entering_place (parts_of c.self.inside) c.args.self.now.world seen c.args.transaction.session c.args.transaction.number c.args.transaction.start (reads_under c.args.self.now.world c.args.transaction.session c.args.transaction.number) c.args.writes.now (Open (length c.args.self.now.world.log) row.0)
+    ∙ next_kept c.self.inside.log c.reserve.new.self c.self.invariant.log_match.begins c.in_ok-reserve.ensures.first c.in_ok-reserve.ensures.rows
 
 pub overflow_sub-session : goal.overflow_sub-session
 overflow_sub-session g c =
-    enter_from (parts_of c.self.inside) c.args.self.now.world (ap (λ s. s.world) c.self.view_is) c.args.session c.args.number c.args.start c.args.writes.now (sym c.in_ok-check_entry.ensures)
+    enter_from (parts_of c.self.inside) c.args.self.now.world (ap (λ s. s.world) c.self.view_is) c.args.transaction.session c.args.transaction.number c.args.transaction.start c.args.writes.now (sym c.in_ok-check_entry.ensures)
 
 pub hold-requires : goal.hold-requires
 hold-requires g c =
-    enter_below (parts_of c.self.inside) c.args.self.now.world (ap (λ s. s.world) c.self.view_is) c.self.invariant.sound c.args.session c.args.number c.args.start c.args.writes.now (sym c.in_ok-check_entry.ensures)
+    enter_below (parts_of c.self.inside) c.args.self.now.world (ap (λ s. s.world) c.self.view_is) c.self.invariant.sound c.args.transaction.session c.args.transaction.number c.args.transaction.start c.args.writes.now (sym c.in_ok-check_entry.ensures)
+
+pub invariant_of-self-in_err-reserve : goal.invariant_of-self-in_err-reserve
+invariant_of-self-in_err-reserve g c = record {
+  sound = sound_kept (parts_of c.self.inside) c.self.invariant.sound c.reserve.new.self.rows c.in_err-reserve.ensures.rows c.share-2.new.self c.share-2.ensures.kept;
+  tables_match = c.self.invariant.tables_match;
+  marks_match = c.self.invariant.marks_match;
+  log_match = record { begins = c.in_err-reserve.ensures.first ∙ c.self.invariant.log_match.begins; knows = c.in_err-reserve.ensures.sessions ∙ c.self.invariant.log_match.knows };
+  placed = c.self.invariant.placed;
+}
 
 pub invariant_of-self-3 : goal.invariant_of-self-3
 invariant_of-self-3 g c =
     let parts = parts_of c.self.inside in
     let world = c.args.self.now.world in
     let seen = ap (λ s. s.world) c.self.view_is in
-    let number = c.args.number in
+    let number = c.args.transaction.number in
     let writes = c.args.writes.now in
     let none = sym c.in_ok-check_entry.ensures in
-    let row = open_row_kept parts world seen c.args.session number c.args.start writes c.share.new.self c.share.ensures.kept c.share-2.new.self c.share-2.ensures.kept (log_row_of c.in_ok-row.row) c.in_ok-row.ensures in
-    let phases = c.take-reads.ensures.gone ∙ ap (λ p. finite.remove p (c.args.session, number)) c.share-2.ensures.kept in
-    let slots = c.hold.ensures ∙ ap (λ ws. slice_set c.self.inside.sessions (c.args.session - 1) (record { last = number; hold = Some (record { place = c.in_ok-row.row.place; writes = ws }) })) (c.in_ok-shared.ensures.cases ∙ c.share.ensures.kept) in
+    let row = open_row_kept parts world seen c.args.transaction.session number c.args.transaction.start writes c.share.new.self c.share.ensures.kept c.share-2.new.self c.share-2.ensures.kept (log_row_of c.in_ok-row.row) c.in_ok-row.ensures in
+    let pushed = c.push.ensures.rows ∙ ap (λ log. log ++ log_row_of c.in_ok-row.row ∷ []) c.in_ok-reserve.ensures.rows in
+    let phases = c.take-reads.ensures.gone ∙ ap (λ p. finite.remove p (c.args.transaction.session, number)) c.share-2.ensures.kept in
+    let slots = c.hold.ensures ∙ ap (λ ws. slice_set c.self.inside.sessions (c.args.transaction.session - 1) (record { last = number; hold = Some (record { place = c.in_ok-row.row.place; writes = ws }) })) (c.in_ok-shared.ensures.cases ∙ c.share.ensures.kept) in
     record {
-      sound = (enter_whole parts world seen c.self.invariant.sound c.args.session number c.args.start writes none (log_row_of c.in_ok-row.row) row.0 row.1 row.2
-          c.push.new.self c.in_ok-push.ensures.ok c.take-reads.new.self phases c.hold.new.self slots).1;
+      sound = (enter_whole parts world seen c.self.invariant.sound c.args.transaction.session number c.args.transaction.start writes none (log_row_of c.in_ok-row.row) row.0 row.1 row.2
+          c.push.new.self.rows pushed c.take-reads.new.self phases c.hold.new.self slots).1;
       tables_match = c.self.invariant.tables_match;
-      marks_match = c.self.invariant.marks_match ∙ sym (ap length slots ∙ length-set c.self.inside.sessions (c.args.session - 1) _);
-      placed = held_placed c.self.inside.tables.tables (length c.self.inside.schema) c.self.invariant.tables_match c.self.inside.sessions (c.args.session - 1) number c.in_ok-row.row.place writes c.self.invariant.placed
-          (enter_placed parts world seen c.args.session number c.args.start writes none) c.hold.new.self slots;
+      marks_match = c.self.invariant.marks_match ∙ sym (ap length slots ∙ length-set c.self.inside.sessions (c.args.transaction.session - 1) _);
+      log_match = record {
+        begins = c.push.ensures.first ∙ c.in_ok-reserve.ensures.first ∙ c.self.invariant.log_match.begins;
+        knows = c.push.ensures.sessions ∙ c.in_ok-reserve.ensures.sessions ∙ c.self.invariant.log_match.knows ∙ sym (ap length slots ∙ length-set c.self.inside.sessions (c.args.transaction.session - 1) _);
+      };
+      placed = held_placed c.self.inside.tables.tables (length c.self.inside.schema) c.self.invariant.tables_match c.self.inside.sessions (c.args.transaction.session - 1) number c.in_ok-row.row.place writes c.self.invariant.placed
+          (enter_placed parts world seen c.args.transaction.session number c.args.transaction.start writes none) c.hold.new.self slots;
     }
 
 pub returns-clause-step : goal.returns-clause-step
@@ -57,11 +114,12 @@ returns-clause-step g c =
     let parts = parts_of c.self.inside in
     let world = c.args.self.now.world in
     let seen = ap (λ s. s.world) c.self.view_is in
-    let number = c.args.number in
+    let number = c.args.transaction.number in
     let writes = c.args.writes.now in
     let none = sym c.in_ok-check_entry.ensures in
-    let row = open_row_kept parts world seen c.args.session number c.args.start writes c.share.new.self c.share.ensures.kept c.share-2.new.self c.share-2.ensures.kept (log_row_of c.in_ok-row.row) c.in_ok-row.ensures in
-    let phases = c.take-reads.ensures.gone ∙ ap (λ p. finite.remove p (c.args.session, number)) c.share-2.ensures.kept in
-    let slots = c.hold.ensures ∙ ap (λ ws. slice_set c.self.inside.sessions (c.args.session - 1) (record { last = number; hold = Some (record { place = c.in_ok-row.row.place; writes = ws }) })) (c.in_ok-shared.ensures.cases ∙ c.share.ensures.kept) in
-    (enter_whole parts world seen c.self.invariant.sound c.args.session number c.args.start writes none (log_row_of c.in_ok-row.row) row.0 row.1 row.2
-    c.push.new.self c.in_ok-push.ensures.ok c.take-reads.new.self phases c.hold.new.self slots).0
+    let row = open_row_kept parts world seen c.args.transaction.session number c.args.transaction.start writes c.share.new.self c.share.ensures.kept c.share-2.new.self c.share-2.ensures.kept (log_row_of c.in_ok-row.row) c.in_ok-row.ensures in
+    let pushed = c.push.ensures.rows ∙ ap (λ log. log ++ log_row_of c.in_ok-row.row ∷ []) c.in_ok-reserve.ensures.rows in
+    let phases = c.take-reads.ensures.gone ∙ ap (λ p. finite.remove p (c.args.transaction.session, number)) c.share-2.ensures.kept in
+    let slots = c.hold.ensures ∙ ap (λ ws. slice_set c.self.inside.sessions (c.args.transaction.session - 1) (record { last = number; hold = Some (record { place = c.in_ok-row.row.place; writes = ws }) })) (c.in_ok-shared.ensures.cases ∙ c.share.ensures.kept) in
+    (enter_whole parts world seen c.self.invariant.sound c.args.transaction.session number c.args.transaction.start writes none (log_row_of c.in_ok-row.row) row.0 row.1 row.2
+    c.push.new.self.rows pushed c.take-reads.new.self phases c.hold.new.self slots).0

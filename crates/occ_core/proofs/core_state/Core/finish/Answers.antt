@@ -1,17 +1,18 @@
 use Rattle.std.proofs.Common.{ap, sym, subst, ◌∙◌, ◌-◌, length, Some, Err}
-use Rattle.std.specs.Prelude.{option_map}
+use Rattle.std.specs.Prelude.{is_some, option_map}
 use Rattle.std.proofs.lemmas.Result.{err_from_is_err_and}
 use Rattle.occ_core.specs.Core.{parts_of}
 use Rattle.occ_core.specs.Slots.{HoldsArePlaced, last_of, finish_fault}
 use Rattle.occ_core.specs.Rows.{log_row_of, standing_of, hold_of}
 use Rattle.occ_core.proofs.Calls.{stands_there, slot_below}
 use Rattle.occ_core.proofs.Changes.{placed-free}
-use Rattle.occ_core.proofs.Places.{slice_get-below, length-set}
+use Rattle.occ_core.proofs.Places.{length-set}
 use Rattle.occ_core.proofs.Finishes.{finish_exit, finish_kept, finish_whole}
+use Rattle.occ_core.proofs.Listed.{found_in, in_log, stood_in}
 use Rattle.occ_core.proofs.core_state.Core.finish.Goals as goal
 
 pub under_way-requires : goal.under_way-requires
-under_way-requires g c = stands_there (parts_of c.self.inside) c.args.session c.self.invariant.sound
+under_way-requires g c = λ place under. ap is_some (found_in c.self.inside.log place c.self.invariant.log_match.begins) ∙ stands_there (parts_of c.self.inside) c.args.session c.self.invariant.sound place under
 
 pub returns-in_err-place : goal.returns-in_err-place
 returns-in_err-place g c =
@@ -20,27 +21,28 @@ returns-in_err-place g c =
 
 pub returns-in-Some : goal.returns-in-Some
 returns-in-Some g c =
-    finish_kept (parts_of c.self.inside) c.args.self.now.world (ap (λ s. s.world) c.self.view_is) c.self.invariant.sound c.args.session c.in_ok-place.place (log_row_of c.in_ok-place.row.now) c.in-Some.fault c.in_ok-place.ensures.place c.in_ok-place.ensures.row
+    finish_kept (parts_of c.self.inside) c.args.self.now.world (ap (λ s. s.world) c.self.view_is) c.self.invariant.sound c.args.session c.in_ok-place.place (log_row_of c.in_ok-place.row.now) c.in-Some.fault c.in_ok-place.ensures.place (in_log c.self.inside.log c.in_ok-place.place (log_row_of c.in_ok-place.row.now) c.self.invariant.log_match.begins c.in_ok-place.ensures.row)
     (sym (c.in-Some.ensures ∙ ap (finish_fault (standing_of c.in_ok-place.row.now.standing)) c.len.ensures.value))
 
 pub release-requires : goal.release-requires
 release-requires g c = slot_below (parts_of c.self.inside) c.args.session c.in_ok-place.place c.self.invariant.sound c.in_ok-place.ensures.place
 
 pub stand-requires : goal.stand-requires
-stand-requires g c = slice_get-below c.self.inside.log c.in_ok-place.place (log_row_of c.in_ok-place.row.now) c.in_ok-place.ensures.row
+stand-requires g c = ap is_some c.in_ok-place.ensures.row
 
 pub invariant_of-self : goal.invariant_of-self
 invariant_of-self g c = record {
   sound = (finish_whole (parts_of c.self.inside) c.args.self.now.world (ap (λ s. s.world) c.self.view_is) c.self.invariant.sound c.args.session c.in_ok-place.place (log_row_of c.in_ok-place.row.now)
-      c.in_ok-place.ensures.place c.in_ok-place.ensures.row (sym (c.in_default.ensures ∙ ap (finish_fault (standing_of c.in_ok-place.row.now.standing)) c.len.ensures.value))
-      (hold_of c.unwrap-held.result) (c.release.ensures.held ∙ ap (λ h. Some (record { last = last_of c.self.inside.sessions (c.args.session - 1); hold = option_map hold_of h })) c.unwrap-held.ensures) c.release.new.self c.release.ensures.released c.stand.new.self (c.stand.ensures (log_row_of c.in_ok-place.row.now) c.in_ok-place.ensures.row) c.advance.new.self c.advance.ensures).1;
+      c.in_ok-place.ensures.place (in_log c.self.inside.log c.in_ok-place.place (log_row_of c.in_ok-place.row.now) c.self.invariant.log_match.begins c.in_ok-place.ensures.row) (sym (c.in_default.ensures ∙ ap (finish_fault (standing_of c.in_ok-place.row.now.standing)) c.len.ensures.value))
+      (hold_of c.unwrap-held.result) (c.release.ensures.held ∙ ap (λ h. Some (record { last = last_of c.self.inside.sessions (c.args.session - 1); hold = option_map hold_of h })) c.unwrap-held.ensures) c.release.new.self c.release.ensures.released c.stand.new.self.rows (stood_in c.self.inside.log c.in_ok-place.place _ c.stand.new.self.rows c.self.invariant.log_match.begins (c.stand.ensures.rows (log_row_of c.in_ok-place.row.now) c.in_ok-place.ensures.row)) c.advance.new.self c.advance.ensures).1;
   tables_match = c.self.invariant.tables_match;
   marks_match = c.self.invariant.marks_match ∙ sym (ap length c.release.ensures.released ∙ length-set c.self.inside.sessions (c.args.session - 1) _);
+  log_match = record { begins = c.stand.ensures.first ∙ c.self.invariant.log_match.begins; knows = c.stand.ensures.sessions ∙ c.self.invariant.log_match.knows ∙ sym (ap length c.release.ensures.released ∙ length-set c.self.inside.sessions (c.args.session - 1) _) };
   placed = subst (HoldsArePlaced c.self.inside.tables.tables) (sym c.release.ensures.released) (placed-free c.self.inside.tables.tables c.self.inside.sessions (c.args.session - 1) (last_of c.self.inside.sessions (c.args.session - 1)) c.self.invariant.placed);
 }
 
 pub returns : goal.returns
 returns g c =
     (finish_whole (parts_of c.self.inside) c.args.self.now.world (ap (λ s. s.world) c.self.view_is) c.self.invariant.sound c.args.session c.in_ok-place.place (log_row_of c.in_ok-place.row.now)
-    c.in_ok-place.ensures.place c.in_ok-place.ensures.row (sym (c.in_default.ensures ∙ ap (finish_fault (standing_of c.in_ok-place.row.now.standing)) c.len.ensures.value))
-    (hold_of c.unwrap-held.result) (c.release.ensures.held ∙ ap (λ h. Some (record { last = last_of c.self.inside.sessions (c.args.session - 1); hold = option_map hold_of h })) c.unwrap-held.ensures) c.release.new.self c.release.ensures.released c.stand.new.self (c.stand.ensures (log_row_of c.in_ok-place.row.now) c.in_ok-place.ensures.row) c.advance.new.self c.advance.ensures).0
+    c.in_ok-place.ensures.place (in_log c.self.inside.log c.in_ok-place.place (log_row_of c.in_ok-place.row.now) c.self.invariant.log_match.begins c.in_ok-place.ensures.row) (sym (c.in_default.ensures ∙ ap (finish_fault (standing_of c.in_ok-place.row.now.standing)) c.len.ensures.value))
+    (hold_of c.unwrap-held.result) (c.release.ensures.held ∙ ap (λ h. Some (record { last = last_of c.self.inside.sessions (c.args.session - 1); hold = option_map hold_of h })) c.unwrap-held.ensures) c.release.new.self c.release.ensures.released c.stand.new.self.rows (stood_in c.self.inside.log c.in_ok-place.place _ c.stand.new.self.rows c.self.invariant.log_match.begins (c.stand.ensures.rows (log_row_of c.in_ok-place.row.now) c.in_ok-place.ensures.row)) c.advance.new.self c.advance.ensures).0

@@ -14,5 +14,6 @@ invariant_of-self g c = record {
   sound = forget_sound (parts_of c.self.inside) c.args.session c.args.number c.self.invariant.sound (sym c.in_ok-check_session.ensures) c.take-phase.new.self c.take-phase.ensures.gone;
   tables_match = c.self.invariant.tables_match;
   marks_match = c.self.invariant.marks_match;
+  log_match = c.self.invariant.log_match;
   placed = c.self.invariant.placed;
 }

@@ -1,24 +1,32 @@
-use Rattle.std.proofs.Common.{ap, sym, ◌∙◌, ◌-◌, map, drop}
+use Rattle.std.proofs.Common.{ap, sym, ◌∙◌, ◌-◌, map, drop, arith}
 use Rattle.occ_model.specs.State.{Observation}
 use Rattle.occ_model.specs.Log.{Case, Open}
 use Rattle.occ_model.specs.World.{reads_under}
 use Rattle.std.specs.FinMap as finite
+use Rattle.occ_core.specs.Slots.{active_from}
 use Rattle.occ_core.specs.Core.{parts_of}
 use Rattle.occ_core.proofs.Reading.{reads_are}
 use Rattle.occ_core.proofs.Entering.{open_case, open_row}
+use Rattle.occ_core.proofs.Listed.{rows_found, next_is}
 use Rattle.occ_core.proofs.core_state.Core.open_row.Goals as goal
 
 pub returns : goal.returns
 returns g c =
     let seen = ap (λ s. s.world) c.self.view_is in
-    let reads_is = c.requires ∙ ap (λ w. reads_under w c.args.session c.args.number) (sym seen) ∙ reads_are (finite.get c.self.inside.phases (c.args.session, c.args.number)) in (
+    let reads_is = c.requires ∙ ap (λ w. reads_under w c.args.transaction.session c.args.transaction.number) (sym seen) ∙ reads_are (finite.get c.self.inside.phases (c.args.transaction.session, c.args.transaction.number)) in (
       c.new-case.result,
-      open_case (parts_of c.self.inside) c.args.self.now.world seen c.self.invariant.sound c.args.session c.args.number c.args.start c.args.writes.now c.new-case.result
+      open_case (parts_of c.self.inside) c.args.self.now.world seen c.self.invariant.sound c.args.transaction.session c.args.transaction.number c.args.transaction.start c.args.writes.now c.new-case.result
           (ap (λ (k : Case). k.start) c.new-case.ensures)
           (ap (λ (k : Case). k.low) c.new-case.ensures ∙ c.low-low.ensures)
           (ap (λ (k : Case). k.reads) c.new-case.ensures ∙ ap (map (λ (o : Observation). o.0)) (c.in_ok-clone.ensures.cases ∙ reads_is))
           (ap (λ (k : Case). k.writes) c.new-case.ensures ∙ c.in_ok-clone-2.ensures.cases)
-          (ap (λ (k : Case). k.finished) c.new-case.ensures ∙ c.in_ok-finished.ensures ∙ ap (λ n. drop n c.self.inside.window.sets) (c.saturating_sub-skip.ensures ∙ ap (λ l. c.args.start - l) c.low-low.ensures))
-          (ap (λ (k : Case). k.active) c.new-case.ensures ∙ c.in_ok-active.ensures),
-      open_row (parts_of c.self.inside) c.args.self.now.world seen c.args.session c.args.number c.args.start _ (c.reads.view_is ∙ reads_is) c.args.writes.now _ c.in_ok-clone-3.ensures.cases c.len-place.result c.len-place.ensures c.new-case.result (Open c.new-open_case.result.index c.new-open_case.result.case) (ap (λ o. Open o.index o.case) c.new-open_case.ensures),
+          (ap (λ (k : Case). k.finished) c.new-case.ensures ∙ c.in_ok-finished.ensures ∙ ap (λ n. drop n c.self.inside.window.sets) (c.saturating_sub-skip.ensures ∙ ap (λ l. c.args.transaction.start - l) c.low-low.ensures))
+          (ap (λ (k : Case). k.active) c.new-case.ensures ∙ c.in_ok-active.ensures ∙ ap (λ at. active_from at c.self.inside.sessions) (rows_found c.self.inside.log c.self.invariant.log_match.begins)),
+      open_row (parts_of c.self.inside) c.args.self.now.world seen c.args.transaction.session c.args.transaction.number c.args.transaction.start _ (c.reads.view_is ∙ reads_is) c.args.writes.now _ c.in_ok-clone-3.ensures.cases c.next_place-place.result (c.next_place-place.ensures ∙ next_is c.self.inside.log c.self.invariant.log_match.begins) c.new-case.result (Open c.new-open_case.result.index c.new-open_case.result.case) (ap (λ o. Open o.index o.case) c.new-open_case.ensures),
     )
+
+pub next_place-place-requires : goal.next_place-place-requires
+next_place-place-requires g c =
+    let begins = c.self.invariant.log_match.begins in
+    let room = c.self.invariant.sound.log_room in
+    omega arith

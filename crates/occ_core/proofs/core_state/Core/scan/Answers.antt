@@ -57,6 +57,7 @@ invariant_of-self g c = record {
       (not_refused_read _ _ _ _ (sym c.in_ok-check_turn.ensures) (sym c.in_ok-check_range.ensures) (sym c.in_ok-check_size.ensures) (sym c.in_ok-check_room.ensures)) c.note.new.phases c.in_err-note.ensures.err).1;
   tables_match = c.self.invariant.tables_match;
   marks_match = c.self.invariant.marks_match;
+  log_match = c.self.invariant.log_match;
   placed = c.self.invariant.placed;
 }
 
@@ -67,6 +68,7 @@ invariant_of-self-2 g c = record {
       (not_refused_read _ _ _ _ (sym c.in_ok-check_turn.ensures) (sym c.in_ok-check_range.ensures) (sym c.in_ok-check_size.ensures) (sym c.in_ok-check_room.ensures)) (observation_of c.in_ok-seen.seen) c.in_ok-seen.ensures.answered.0 c.note.new.phases c.in_ok-note.ensures.ok (Rows (rows_of c.in_ok-seen.rows.items)) c.in_ok-seen.ensures.answered.1).1;
   tables_match = c.self.invariant.tables_match;
   marks_match = c.self.invariant.marks_match;
+  log_match = c.self.invariant.log_match;
   placed = c.self.invariant.placed;
 }
 

@@ -6,33 +6,33 @@ use Rattle.occ_core.proofs.core_state.Core.take.Goals as goal
 
 pub returns-in-Read : goal.returns-in-Read
 returns-in-Read g c =
-    answered_as c.args.self.now.world c.args.step (steps.Read c.in-Read.session c.in-Read.number c.in-Read.start c.in-Read.table c.in-Read.key) c.to_read.result _ c.read.new.self.world c.in-Read.is c.to_read.ensures.reply c.read.ensures c.to_read.ensures.none
+    answered_as c.args.self.now c.args.step (steps.Read c.in-Read.session c.in-Read.number c.in-Read.start c.in-Read.table c.in-Read.key) c.to_read.result _ c.read.new.self c.in-Read.is c.to_read.ensures.reply c.read.ensures c.to_read.ensures.none
 
 pub returns-in-Scan : goal.returns-in-Scan
 returns-in-Scan g c =
-    answered_as c.args.self.now.world c.args.step (steps.Scan c.in-Scan.session c.in-Scan.number c.in-Scan.start c.in-Scan.table c.in-Scan.lower c.in-Scan.upper) c.to_scan.result _ c.scan.new.self.world c.in-Scan.is c.to_scan.ensures.reply c.scan.ensures c.to_scan.ensures.none
+    answered_as c.args.self.now c.args.step (steps.Scan c.in-Scan.session c.in-Scan.number c.in-Scan.start c.in-Scan.table c.in-Scan.lower c.in-Scan.upper) c.to_scan.result _ c.scan.new.self c.in-Scan.is c.to_scan.ensures.reply c.scan.ensures c.to_scan.ensures.none
 
 pub returns-in-Forget : goal.returns-in-Forget
 returns-in-Forget g c =
-    answered_as c.args.self.now.world c.args.step (steps.Forget c.in-Forget.session c.in-Forget.number) c.to_forget.result _ c.forget.new.self.world c.in-Forget.is c.to_forget.ensures.reply c.forget.ensures c.to_forget.ensures.none
+    answered_as c.args.self.now c.args.step (steps.Forget c.in-Forget.session c.in-Forget.number) c.to_forget.result _ c.forget.new.self c.in-Forget.is c.to_forget.ensures.reply c.forget.ensures c.to_forget.ensures.none
 
 pub returns-in-Enter : goal.returns-in-Enter
 returns-in-Enter g c =
-    answered_as c.args.self.now.world c.args.step (steps.Enter c.in-Enter.session c.in-Enter.item) c.to_entry.result _ c.enter.new.self.world c.in-Enter.is c.to_entry.ensures.reply c.enter.ensures.step
+    answered_as c.args.self.now c.args.step (steps.Enter c.in-Enter.session c.in-Enter.item) c.to_entry.result _ c.enter.new.self c.in-Enter.is c.to_entry.ensures.reply c.enter.ensures.step
     (c.to_entry.ensures.back ∙ entry_owed c.in-Enter.session c.in-Enter.item c.enter.result c.enter.ensures.handed_back
     ∙ ap (owed {Z = g.row.A.Denot} (steps.Enter c.in-Enter.session c.in-Enter.item)) (sym c.to_entry.ensures.reply))
 
 pub returns-in-Decide : goal.returns-in-Decide
 returns-in-Decide g c =
-    answered_as c.args.self.now.world c.args.step (steps.Decide c.in-Decide.session) c.to_decision.result _ c.decide.new.self.world c.in-Decide.is c.to_decision.ensures.reply c.decide.ensures c.to_decision.ensures.none
+    answered_as c.args.self.now c.args.step (steps.Decide c.in-Decide.session) c.to_decision.result _ c.decide.new.self c.in-Decide.is c.to_decision.ensures.reply c.decide.ensures c.to_decision.ensures.none
 
 pub returns-in-WriteOne : goal.returns-in-WriteOne
-returns-in-WriteOne g c = subst (λ s. Answers c.args.self.now.world s c.take_write.result c.take_write.new.self.world) (sym c.in-WriteOne.is) c.take_write.ensures
+returns-in-WriteOne g c = subst (λ s. Answers c.args.self.now s c.take_write.result c.take_write.new.self) (sym c.in-WriteOne.is) c.take_write.ensures
 
 pub returns-in-Finish : goal.returns-in-Finish
 returns-in-Finish g c =
-    answered_as c.args.self.now.world c.args.step (steps.Finish c.in-Finish.session) c.to_finish.result _ c.finish.new.self.world c.in-Finish.is c.to_finish.ensures.reply c.finish.ensures c.to_finish.ensures.none
+    answered_as c.args.self.now c.args.step (steps.Finish c.in-Finish.session) c.to_finish.result _ c.finish.new.self c.in-Finish.is c.to_finish.ensures.reply c.finish.ensures c.to_finish.ensures.none
 
 pub returns-in-BackUp : goal.returns-in-BackUp
 returns-in-BackUp g c =
-    answered_as c.args.self.now.world c.args.step (steps.BackUp c.in-BackUp.session) c.to_back_up.result _ c.back_up.new.self.world c.in-BackUp.is c.to_back_up.ensures.reply c.back_up.ensures c.to_back_up.ensures.none
+    answered_as c.args.self.now c.args.step (steps.BackUp c.in-BackUp.session) c.to_back_up.result _ c.back_up.new.self c.in-BackUp.is c.to_back_up.ensures.reply c.back_up.ensures c.to_back_up.ensures.none

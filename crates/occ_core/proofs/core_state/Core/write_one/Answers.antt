@@ -9,14 +9,16 @@ use Rattle.occ_core.specs.Parts.{AreSound}
 use Rattle.occ_core.specs.Slots.{written_in, HoldsArePlaced}
 use Rattle.occ_model.specs.Log.{Writing}
 use Rattle.occ_core.proofs.Changes.{puts_some}
+use Rattle.occ_core.specs.Replies.{IsNextWrite}
 use Rattle.occ_core.specs.Rows.{log_row_of}
 use Rattle.occ_core.proofs.Calls.{stands_there}
-use Rattle.occ_core.proofs.Places.{slice_get-below}
 use Rattle.occ_core.proofs.Finishes.{write_exit, write_kept, write_none, write_starved, write_placed, write_named, write_whole, write_err}
+use Rattle.occ_core.proofs.Listed.{found_in, in_log, stood_in}
+use Rattle.occ_core.proofs.Nexts.{next_placed}
 use Rattle.occ_core.proofs.core_state.Core.write_one.Goals as goal
 
 pub under_way-requires : goal.under_way-requires
-under_way-requires g c = stands_there (parts_of c.self.inside) c.args.session c.self.invariant.sound
+under_way-requires g c = λ place under. ap is_some (found_in c.self.inside.log place c.self.invariant.log_match.begins) ∙ stands_there (parts_of c.self.inside) c.args.session c.self.invariant.sound place under
 
 pub returns-in_err-place-clause-step : goal.returns-in_err-place-clause-step
 returns-in_err-place-clause-step g c =
@@ -27,27 +29,27 @@ pub returns-in_err-done-clause-step : goal.returns-in_err-done-clause-step
 returns-in_err-done-clause-step g c =
     let p = err_from_is_err_and c.from_residual-in_err-done.result c.from_residual-in_err-done.ensures.1 in
     write_kept (parts_of c.self.inside) c.args.self.now.world (ap (λ s. s.world) c.self.view_is) c.self.invariant.sound c.args.session c.in_ok-place.place (log_row_of c.in_ok-place.row.now) c.from_residual-in_err-done.result p.0 p.1
-    c.in_ok-place.ensures.place c.in_ok-place.ensures.row (sym c.in_err-done.ensures ∙ ap Err (sym p.2))
+    c.in_ok-place.ensures.place (in_log c.self.inside.log c.in_ok-place.place (log_row_of c.in_ok-place.row.now) c.self.invariant.log_match.begins c.in_ok-place.ensures.row) (sym c.in_err-done.ensures ∙ ap Err (sym p.2))
 
 pub returns-in_default-clause-step : goal.returns-in_default-clause-step
 returns-in_default-clause-step g c =
     write_none (parts_of c.self.inside) c.args.self.now.world (ap (λ s. s.world) c.self.view_is) c.self.invariant.sound c.args.session c.in_ok-place.place (log_row_of c.in_ok-place.row.now) c.in_ok-done.done
-    c.in_ok-place.ensures.place c.in_ok-place.ensures.row (sym c.in_ok-done.ensures)
+    c.in_ok-place.ensures.place (in_log c.self.inside.log c.in_ok-place.place (log_row_of c.in_ok-place.row.now) c.self.invariant.log_match.begins c.in_ok-place.ensures.row) (sym c.in_ok-done.ensures)
     (sym c.in_default.ensures.value)
 
 pub put-requires : goal.put-requires
 put-requires g c =
     write_placed (parts_of c.self.inside) c.self.invariant.sound c.args.session c.in_ok-place.place (log_row_of c.in_ok-place.row.now) c.self.inside.tables.tables c.self.invariant.placed
-    c.in_ok-place.ensures.place c.in_ok-place.ensures.row c.in_ok-done.done (object_of c.in-Some.object.now, option_copied c.in-Some.write)
+    c.in_ok-place.ensures.place (in_log c.self.inside.log c.in_ok-place.place (log_row_of c.in_ok-place.row.now) c.self.invariant.log_match.begins c.in_ok-place.ensures.row) c.in_ok-done.done (object_of c.in-Some.object.now, option_copied c.in-Some.write)
     (sym c.in-Some.ensures.value)
 
 pub returns-in_err-put-clause-step : goal.returns-in_err-put-clause-step
 returns-in_err-put-clause-step g c =
     let p = err_from_is_err_and c.from_residual-in_err-put.result c.from_residual-in_err-put.ensures.1 in
     let write : Write = (object_of c.in-Some.object.now, option_copied c.in-Some.write) in
-    write_err c.args.self.now.world _ c.args.session c.self.inside.log c.from_residual-in_err-put.result (p.1 ∙ ap Err (p.2 ∙ c.in_err-put.ensures.memory))
+    write_err c.args.self.now.world _ c.args.session c.self.inside.log.rows c.from_residual-in_err-put.result (p.1 ∙ ap Err (p.2 ∙ c.in_err-put.ensures.memory))
     (write_starved (parts_of c.self.inside) c.args.self.now.world (ap (λ s. s.world) c.self.view_is) c.self.invariant.sound c.args.session c.in_ok-place.place (log_row_of c.in_ok-place.row.now) c.in_ok-done.done write
-    c.in_ok-place.ensures.place c.in_ok-place.ensures.row (sym c.in_ok-done.ensures) (sym c.in-Some.ensures.value)
+    c.in_ok-place.ensures.place (in_log c.self.inside.log c.in_ok-place.place (log_row_of c.in_ok-place.row.now) c.self.invariant.log_match.begins c.in_ok-place.ensures.row) (sym c.in_ok-done.ensures) (sym c.in-Some.ensures.value)
     (puts_some write.1 c.in_err-put.ensures.deletes)
     c.put.new.self.state (ap (λ t. t.state) c.in_err-put.ensures.err))
 
@@ -56,11 +58,12 @@ invariant_of-self g c = record {
   sound = subst (λ t. AreSound (record (parts_of c.self.inside) { table = t })) (sym (ap (λ t. t.state) c.in_err-put.ensures.err)) c.self.invariant.sound;
   tables_match = ap (λ t. t.tables) c.in_err-put.ensures.err ∙ c.self.invariant.tables_match;
   marks_match = c.self.invariant.marks_match;
+  log_match = c.self.invariant.log_match;
   placed = subst (λ n. HoldsArePlaced n c.self.inside.sessions) (sym (ap (λ t. t.tables) c.in_err-put.ensures.err)) c.self.invariant.placed;
 }
 
 pub stand-requires : goal.stand-requires
-stand-requires g c = slice_get-below c.self.inside.log c.in_ok-place.place (log_row_of c.in_ok-place.row.now) c.in_ok-place.ensures.row
+stand-requires g c = ap is_some c.in_ok-place.ensures.row
 
 pub invariant_of-self-2 : goal.invariant_of-self-2
 invariant_of-self-2 g c =
@@ -68,11 +71,12 @@ invariant_of-self-2 g c =
     record {
       sound = (write_whole (parts_of c.self.inside) c.args.self.now.world (ap (λ s. s.world) c.self.view_is) c.self.invariant.sound c.args.session c.in_ok-place.place (log_row_of c.in_ok-place.row.now) c.in_ok-done.done
           (object_of c.in-Some.object.now, option_copied c.in-Some.write)
-          c.in_ok-place.ensures.place c.in_ok-place.ensures.row (sym c.in_ok-done.ensures)
+          c.in_ok-place.ensures.place (in_log c.self.inside.log c.in_ok-place.place (log_row_of c.in_ok-place.row.now) c.self.invariant.log_match.begins c.in_ok-place.ensures.row) (sym c.in_ok-done.ensures)
           (sym c.in-Some.ensures.value)
-          c.stand.new.self (c.stand.ensures (log_row_of c.in_ok-place.row.now) c.in_ok-place.ensures.row) c.put.new.self.state (ap (λ t. t.state) done)).1;
+          c.stand.new.self.rows (stood_in c.self.inside.log c.in_ok-place.place _ c.stand.new.self.rows c.self.invariant.log_match.begins (c.stand.ensures.rows (log_row_of c.in_ok-place.row.now) c.in_ok-place.ensures.row)) c.put.new.self.state (ap (λ t. t.state) done)).1;
       tables_match = ap (λ t. t.tables) done ∙ c.self.invariant.tables_match;
       marks_match = c.self.invariant.marks_match;
+      log_match = record { begins = c.stand.ensures.first ∙ c.self.invariant.log_match.begins; knows = c.stand.ensures.sessions ∙ c.self.invariant.log_match.knows };
       placed = subst (λ n. HoldsArePlaced n c.self.inside.sessions) (sym (ap (λ t. t.tables) done)) c.self.invariant.placed;
     }
 
@@ -81,15 +85,25 @@ returns-clause-step g c =
     let done = c.in_ok-put.ensures.ok in
     (write_whole (parts_of c.self.inside) c.args.self.now.world (ap (λ s. s.world) c.self.view_is) c.self.invariant.sound c.args.session c.in_ok-place.place (log_row_of c.in_ok-place.row.now) c.in_ok-done.done
     (object_of c.in-Some.object.now, option_copied c.in-Some.write)
-    c.in_ok-place.ensures.place c.in_ok-place.ensures.row (sym c.in_ok-done.ensures)
+    c.in_ok-place.ensures.place (in_log c.self.inside.log c.in_ok-place.place (log_row_of c.in_ok-place.row.now) c.self.invariant.log_match.begins c.in_ok-place.ensures.row) (sym c.in_ok-done.ensures)
     (sym c.in-Some.ensures.value)
-    c.stand.new.self (c.stand.ensures (log_row_of c.in_ok-place.row.now) c.in_ok-place.ensures.row) c.put.new.self.state (ap (λ t. t.state) done)).0
+    c.stand.new.self.rows (stood_in c.self.inside.log c.in_ok-place.place _ c.stand.new.self.rows c.self.invariant.log_match.begins (c.stand.ensures.rows (log_row_of c.in_ok-place.row.now) c.in_ok-place.ensures.row)) c.put.new.self.state (ap (λ t. t.state) done)).0
 
 pub returns-clause-named : goal.returns-clause-named
 returns-clause-named g c = λ row write is.
     let row_is : c.in_ok-place.place ≡ row = cc in
     let write_is : c.in_ok-done.done ≡ write = cc in
-    ap (λ p. is_some (written_in c.stand.new.self p write)) (sym row_is) ∙ ap (λ p. is_some (written_in c.stand.new.self c.in_ok-place.place p)) (sym write_is)
-    ∙ ap is_some (write_named c.stand.new.self c.self.inside.log c.in_ok-place.place (log_row_of c.in_ok-place.row.now) (Writing (c.in_ok-done.done + 1)) c.in_ok-done.done
-    (object_of c.in-Some.object.now, option_copied c.in-Some.write) c.in_ok-place.ensures.row (c.stand.ensures (log_row_of c.in_ok-place.row.now) c.in_ok-place.ensures.row)
+    ap (λ p. is_some (written_in c.stand.new.self.rows p write)) (sym row_is) ∙ ap (λ p. is_some (written_in c.stand.new.self.rows c.in_ok-place.place p)) (sym write_is)
+    ∙ ap is_some (write_named c.stand.new.self.rows c.self.inside.log.rows c.in_ok-place.place (log_row_of c.in_ok-place.row.now) (Writing (c.in_ok-done.done + 1)) c.in_ok-done.done
+    (object_of c.in-Some.object.now, option_copied c.in-Some.write) (in_log c.self.inside.log c.in_ok-place.place (log_row_of c.in_ok-place.row.now) c.self.invariant.log_match.begins c.in_ok-place.ensures.row) (stood_in c.self.inside.log c.in_ok-place.place _ c.stand.new.self.rows c.self.invariant.log_match.begins (c.stand.ensures.rows (log_row_of c.in_ok-place.row.now) c.in_ok-place.ensures.row))
     (sym c.in-Some.ensures.value))
+
+pub returns-clause-own : goal.returns-clause-own
+returns-clause-own g c = λ row write is.
+    let row_is : c.in_ok-place.place ≡ row = cc in
+    let write_is : c.in_ok-done.done ≡ write = cc in
+    subst (λ p. IsNextWrite c.args.self.now.world c.args.session p write) row_is
+    (subst (λ p. IsNextWrite c.args.self.now.world c.args.session c.in_ok-place.place p) write_is
+    (next_placed (parts_of c.self.inside) c.args.self.now.world (ap (λ s. s.world) c.self.view_is) c.self.invariant.sound c.args.session c.in_ok-place.place (log_row_of c.in_ok-place.row.now) c.in_ok-done.done
+    (object_of c.in-Some.object.now, option_copied c.in-Some.write)
+    c.in_ok-place.ensures.place (in_log c.self.inside.log c.in_ok-place.place (log_row_of c.in_ok-place.row.now) c.self.invariant.log_match.begins c.in_ok-place.ensures.row) (sym c.in_ok-done.ensures) (sym c.in-Some.ensures.value)))

@@ -5,4 +5,4 @@ use Rattle.occ_core.proofs.log.Log.share_rows.Goals as goal
 
 pub returns : goal.returns
 returns g c =
-    ap log_of (same_rows c.self.inside.rows.items c.in_ok-shared.shared.items c.in_ok-shared.ensures.cases.0) ∙ c.self.view_is
+    ap log_of (same_rows c.self.inside.rows.items c.in_ok-shared.shared.items c.in_ok-shared.ensures.cases.0) ∙ ap (λ k. k.rows) c.self.view_is

@@ -21,8 +21,8 @@ at_err (Err e) p = p
 pub returns-in-Some-clause-ok : goal.returns-in-Some-clause-ok
 returns-in-Some-clause-ok g c =
     let at = sym (ap option_copied_mut c.in-Some.is) ∙ c.get_mut.ensures.value in
-    let phase : code_phase.Phase g.row.A.Denot = record { start = c.args.start; reads = c.note.new.self } in
-    phases-noted c.self.inside.phases (c.get_mut.follows.lender phase) (c.args.session, c.args.number) (Some c.in-Some.phase.now) phase c.args.start (question_of c.args.question, answer_of c.args.answer) c.args.self.now
+    let phase : code_phase.Phase g.row.A.Denot = record { start = c.args.transaction.start; reads = c.note.new.self } in
+    phases-noted c.self.inside.phases (c.get_mut.follows.lender phase) (c.args.transaction.session, c.args.transaction.number) (Some c.in-Some.phase.now) phase c.args.transaction.start (question_of c.args.question, answer_of c.args.answer) c.args.self.now
     c.self.view_is at ((c.get_mut.follows.holds phase).3 (subst IsSome at refl)).0 refl c.in_ok-note.ensures.ok
 
 pub returns-in_err-note-clause-err : goal.returns-in_err-note-clause-err
@@ -31,13 +31,13 @@ returns-in_err-note-clause-err g c =
     let was = c.in-Some.phase.now in
     let phase : code_phase.Phase g.row.A.Denot = record { start = was.start; reads = c.note.new.self } in
     at_err c.from_residual.result
-    (phases-same c.self.inside.phases (c.get_mut.follows.lender phase) (c.args.session, c.args.number) was phase c.args.self.now c.self.view_is at ((c.get_mut.follows.holds phase).3 (subst IsSome at refl)).0 refl c.in_err-note.ensures.err)
+    (phases-same c.self.inside.phases (c.get_mut.follows.lender phase) (c.args.transaction.session, c.args.transaction.number) was phase c.args.self.now c.self.view_is at ((c.get_mut.follows.holds phase).3 (subst IsSome at refl)).0 refl c.in_err-note.ensures.err)
 
 pub returns-clause-ok : goal.returns-clause-ok
 returns-clause-ok g c =
     let before = ap phases_of c.get_mut.follows.holds-at-none ∙ c.self.view_is in
     let at = sym (ap option_copied_mut c.in_default.is) ∙ c.get_mut.ensures.value in
-    phases-noted c.get_mut.follows.lender-at-none c.insert.new.self (c.args.session, c.args.number) None c.in_ok-phase.phase c.args.start (question_of c.args.question, answer_of c.args.answer) c.args.self.now
+    phases-noted c.get_mut.follows.lender-at-none c.insert.new.self (c.args.transaction.session, c.args.transaction.number) None c.in_ok-phase.phase c.args.transaction.start (question_of c.args.question, answer_of c.args.answer) c.args.self.now
     before (rw c.get_mut.follows.holds-at-none at) c.in_ok-insert.ensures.updates.0 c.in_ok-phase.ensures.noted.0 c.in_ok-phase.ensures.noted.1
 
 pub returns-in_err-insert-clause-err : goal.returns-in_err-insert-clause-err
@@ -50,6 +50,6 @@ pub returns-in_err-note-clause-memory : goal.returns-in_err-note-clause-memory
 returns-in_err-note-clause-memory g c =
     let p = err_from_is_err_and c.from_residual.result c.from_residual.ensures.1 in
     let at = sym (ap option_copied_mut c.in-Some.is) ∙ c.get_mut.ensures.value in
-    let found = phase-found c.self.inside.phases (c.args.session, c.args.number) (Some c.in-Some.phase.now) c.args.self.now c.self.view_is at in
+    let found = phase-found c.self.inside.phases (c.args.transaction.session, c.args.transaction.number) (Some c.in-Some.phase.now) c.args.self.now c.self.view_is at in
     let room = room_for (length c.in-Some.phase.now.reads) (subst (λ o. length (reads_of o) < limit.MAX_QUESTIONS) (sym found) c.requires.few) in
     subst (λ r. IsOkUnless r Memory) (sym p.1) (p.2 ∙ c.in_err-note.ensures.fault ∙ ap (λ b. cond b SetFull Memory) room)

@@ -9,6 +9,7 @@ invariant-loop-last g l = record {
   taken : Consumes (prepend_known l.fn.self.unread (g.R.Read.remaining l.fn.reader)) (prepend_known l.self.unread (g.R.Read.remaining l.reader)) l.self.line;
   line : IsLine l.self.line;
   number : l.self.number ≡ l.fn.self.number;
+  failed : l.self.failed ≡ l.fn.self.failed;
 }
 
 abbrev pub decreases-loop-last : goal.decreases-loop-last

@@ -1,5 +1,7 @@
-use Rattle.occ_text.proofs.Sending.{Sends-kept, Sends-all}
+use Rattle.std.proofs.Common.{ap}
+use Rattle.occ_text.specs.Sending.{Outgoing}
+use Rattle.occ_text.proofs.Sending.{Sends-unflushed}
 use Rattle.occ_text.proofs.output.Output.flush.Goals as goal
 
-pub returns-in-Err : goal.returns-in-Err
-returns-in-Err g c = Sends-kept _ _ _ _ _ (Sends-all _ _ _ _ c.in_ok-send.ensures.0 c.in_ok-send.ensures.1) c.in-Err.ensures.bytes
+pub returns-in-Err-clause-gives : goal.returns-in-Err-clause-gives
+returns-in-Err-clause-gives g c = Sends-unflushed _ _ _ _ _ _ (ap (λ (o : Outgoing). o.held) c.self.view_is) c.in_ok-send.ensures.gives.0 c.in_ok-send.ensures.gives.1 c.in-Err.ensures.bytes

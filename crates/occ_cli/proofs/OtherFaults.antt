@@ -1,0 +1,256 @@
+-- No refusal of the store or of a client is a want of memory: that comes after all of them.
+use Rattle.std.proofs.Common.{◌≡◌, ℕ, zero, suc, ◌+◌, List, [], ◌∷◌, length, Option, Some, None, Result, Ok, Err, refl}
+use Rattle.std.specs.Prelude.{Bool, true, false, not, ◌==◌, is_some, slice_get, nat_le, nat_lt, nat_eq, ◌||◌}
+use Rattle.std.specs.FinMap as finite
+use Rattle.std.specs.List.{list_any, position}
+use Rattle.std.specs.Option.{ok_or}
+use Rattle.occ_types.specs.declared.fault.Fault.{Fault}
+use Rattle.occ_types.specs.declared.fault.Fault.TheVariants as faults
+use Rattle.occ_types.specs.declared.kind.Kind.{Kind}
+use Rattle.occ_types.specs.declared.kind.Kind.TheVariants as cells
+use Rattle.occ_types.specs.Fits.{has_name}
+use Rattle.occ_types.specs.Key.{Key}
+use Rattle.occ_types.specs.Question.{Question, One, Span}
+use Rattle.occ_types.specs.Row.{Row}
+use Rattle.occ_types.specs.Schema.{Schema, Table, fault_if, first_fault, in_table, key_has_kind, key_is_too_long, cell_has_kind, cell_is_too_long, check_key, check_key_in, check_cells, check_row, check_row_in, check_end, is_empty_range, check_question}
+use Rattle.occ_types.specs.declared.limits.TheConstants.{MAX_QUESTIONS, MAX_OPERATIONS, MAX_ANSWER_ROWS, MAX_LOG_ROWS, MAX_COUNTER, MAX_NUMBER, READ_AHEAD}
+use Rattle.occ_model.specs.State.{Write, answer, answer_size}
+use Rattle.occ_model.specs.Log.{is_open, is_active}
+use Rattle.occ_model.specs.Operations.{Operation, Get, Scan, Put, Delete, Add}
+use Rattle.occ_model.specs.World.{World, ReadPhase, due, reads_under, active_count, has_session, has_mark, has_phase, is_held}
+use Rattle.occ_model.specs.Event.{Request, Alone, Close, Event, Read, Forget, Enter, Decide, WriteOne, Finish, BackUp, SerialEnd, RunAlone, Checkpoint}
+use Rattle.occ_model.specs.Refusal as refusals
+use Rattle.occ_model.specs.Refusal.{refusal, row_is_open, row_is_back, has_writes_left, wrong_start, check_writes, check_number, check_operation, check_operations, refusal_of_request, refusal_of_close, refusal_of_alone}
+use Rattle.occ_sets.specs.Sets.{Copied, is_full_for}
+use Rattle.occ_cli.specs.Replaying.{Client, and_then, unless, client_of, copy_of, table_named, object_named, span_named, next_number, submitted, check_written, write_named}
+
+-- whether a fault is the want of memory
+abbrev is_memory : Fault → Bool
+is_memory faults.Memory = true
+is_memory fault = false
+
+-- whether there is one, and it is that
+abbrev pub is_want : Option Fault → Bool
+is_want None = false
+is_want (Some fault) = is_memory fault
+
+-- whether a call is refused for that
+abbrev pub wants : {X : Type 0} → Result X Fault → Bool
+wants (Ok x) = false
+wants (Err fault) = is_memory fault
+
+by_test : (test : Bool) (fault : Fault) → is_memory fault ≡ false → is_want (fault_if test fault) ≡ false
+by_test true fault other = other
+by_test false fault other = refl
+
+-- the first fault isn't that, where the first test doesn't answer it and the others don't
+first : (test : Option Fault) (tests : List (Option Fault)) → is_want test ≡ false → is_want (first_fault tests) ≡ false → is_want (first_fault (test ∷ tests)) ≡ false
+first None tests other others = others
+first (Some fault) tests other others = other
+
+guard : (test : Bool) (fault : Fault) (tests : List (Option Fault)) → is_memory fault ≡ false → is_want (first_fault tests) ≡ false → is_want (first_fault (fault_if test fault ∷ tests)) ≡ false
+guard test fault tests other others = first (fault_if test fault) tests (by_test test fault other) others
+
+-- of a schema
+
+by_table : (schema : Schema) (place : ℕ) (check : Table → Option Fault) → ((table : Table) → is_want (check table) ≡ false) → is_want (in_table schema place check) ≡ false
+by_table schema place check each = go (slice_get schema place)
+  where
+    go : (o : Option Table) → is_want (elim o as (λ _. Option Fault) [ None ↦ Some faults.NoTable | Some table ↦ check table ]) ≡ false
+    go None = refl
+    go (Some table) = each table
+
+by_key_in : (table : Table) (key : Key) → is_want (check_key_in table key) ≡ false
+by_key_in table key = guard (not (key_has_kind table.key key)) faults.WrongKind _ refl (guard (key_is_too_long key) faults.TooLong [] refl refl)
+
+by_key : (schema : Schema) (place : ℕ) (key : Key) → is_want (check_key schema place key) ≡ false
+by_key schema place key = by_table schema place (λ table. check_key_in table key) (λ table. by_key_in table key)
+
+by_cells : (kinds : List Kind) (row : Row) → is_want (check_cells kinds row) ≡ false
+by_cells [] row = refl
+by_cells (kind ∷ kinds) [] = refl
+by_cells (kind ∷ kinds) (cell ∷ row) =
+    guard (not (cell_has_kind kind cell)) faults.WrongKind _ refl
+    (guard (cell_is_too_long cell) faults.TooLong _ refl
+    (first (check_cells kinds row) [] (by_cells kinds row) refl))
+
+by_row_in : (table : Table) (row : Row) → is_want (check_row_in table row) ≡ false
+by_row_in table row = guard (not (nat_eq (length row) (length table.columns))) faults.WrongColumns _ refl (first (check_cells table.columns row) [] (by_cells table.columns row) refl)
+
+by_row : (schema : Schema) (place : ℕ) (row : Row) → is_want (check_row schema place row) ≡ false
+by_row schema place row = by_table schema place (λ table. check_row_in table row) (λ table. by_row_in table row)
+
+by_end : (table : Table) (end : Option Key) → is_want (check_end table end) ≡ false
+by_end table None = refl
+by_end table (Some end) = by_key_in table end
+
+by_question : (schema : Schema) (question : Question) → is_want (check_question schema question) ≡ false
+by_question schema (One place key) = by_key schema place key
+by_question schema (Span place lower upper) =
+    by_table schema place (λ table. first_fault (check_end table lower ∷ check_end table upper ∷ fault_if (is_empty_range lower upper) faults.EmptyRange ∷ []))
+    (λ table. first (check_end table lower) _ (by_end table lower)
+    (first (check_end table upper) _ (by_end table upper)
+    (guard (is_empty_range lower upper) faults.EmptyRange [] refl refl)))
+
+-- of the store
+
+by_written : (schema : Schema) (place : ℕ) (row : Option Row) → is_want (check_written schema place row) ≡ false
+by_written schema place None = refl
+by_written schema place (Some row) = by_row schema place row
+
+by_writes : (schema : Schema) (writes : List Write) → is_want (check_writes schema writes) ≡ false
+by_writes schema [] = refl
+by_writes schema (write ∷ writes) =
+    first (check_key schema write.0.0 write.0.1) _ (by_key schema write.0.0 write.0.1)
+    (first (check_written schema write.0.0 write.1) _ (by_written schema write.0.0 write.1)
+    (first (check_writes schema writes) [] (by_writes schema writes) refl))
+
+by_start : (world : World) (session number start : ℕ) → is_want (wrong_start world session number start) ≡ false
+by_start world session number start = go (finite.get world.phases (session, number))
+  where
+    go : (o : Option ReadPhase) → is_want (elim o as (λ _. Option Fault) [
+      | None ↦ fault_if (nat_lt world.counter start) faults.FutureStart
+      | Some phase ↦ fault_if (not (phase.start == start)) faults.StartDiffers
+    ]) ≡ false
+    go None = by_test (nat_lt world.counter start) faults.FutureStart refl
+    go (Some phase) = by_test (not (phase.start == start)) faults.StartDiffers refl
+
+by_kind : (kind : Kind) → is_want (elim kind as (λ _. Option Fault) [ cells.Int ↦ None | cells.Text ↦ Some faults.WrongKind ]) ≡ false
+by_kind cells.Int = refl
+by_kind cells.Text = refl
+
+-- the fault of columns that aren't one whole number
+abbrev column_fault : List Kind → Option Fault
+column_fault columns = elim columns [ [] ↦ None | kind ∷ kinds ↦ elim kind [ cells.Int ↦ None | cells.Text ↦ Some faults.WrongKind ] ]
+
+by_column : (columns : List Kind) → is_want (column_fault columns) ≡ false
+by_column [] = refl
+by_column (kind ∷ kinds) = by_kind kind
+
+by_number : (schema : Schema) (place : ℕ) → is_want (check_number schema place) ≡ false
+by_number schema place =
+    by_table schema place (λ table. first_fault (fault_if (not (length table.columns == 1)) faults.WrongColumns ∷ column_fault table.columns ∷ []))
+    (λ table. guard (not (length table.columns == 1)) faults.WrongColumns _ refl (first (column_fault table.columns) [] (by_column table.columns) refl))
+
+by_operation : (schema : Schema) (operation : Operation) → is_want (check_operation schema operation) ≡ false
+by_operation schema (Get place key) = by_key schema place key
+by_operation schema (Scan place lower upper) = by_question schema (Span place lower upper)
+by_operation schema (Put place key row) = first (check_key schema place key) _ (by_key schema place key) (first (check_row schema place row) [] (by_row schema place row) refl)
+by_operation schema (Delete place key) = by_key schema place key
+by_operation schema (Add place key n) = first (check_key schema place key) _ (by_key schema place key) (first (check_number schema place) [] (by_number schema place) refl)
+
+by_operations : (schema : Schema) (operations : List Operation) → is_want (check_operations schema operations) ≡ false
+by_operations schema [] = refl
+by_operations schema (operation ∷ operations) =
+    first (check_operation schema operation) _ (by_operation schema operation)
+    (first (check_operations schema operations) [] (by_operations schema operations) refl)
+
+module _ (world : World) (session : ℕ) where
+  -- the guards that more than one event begins with
+  by_session : (tests : List (Option Fault)) → is_want (first_fault tests) ≡ false → is_want (first_fault (refusals.no_session world session ∷ tests)) ≡ false
+  by_session tests others = guard (not (has_session world session)) faults.NoSession tests refl others
+
+  by_held : (tests : List (Option Fault)) → is_want (first_fault tests) ≡ false → is_want (first_fault (refusals.no_session world session ∷ refusals.nothing_entered world session ∷ tests)) ≡ false
+  by_held tests others = by_session _ (guard (not (is_held world session)) faults.NothingEntered tests refl others)
+
+  by_turn : (number : ℕ) (tests : List (Option Fault)) → is_want (first_fault tests) ≡ false
+      → is_want (first_fault (refusals.no_session world session ∷ refusals.session_closed world session ∷ refusals.not_due world session number ∷ refusals.session_busy world session ∷ tests)) ≡ false
+  by_turn number tests others =
+      by_session _ (guard (has_mark world session) faults.SessionClosed _ refl
+      (guard (not (number == due world session)) faults.OutOfTurn _ refl
+      (guard (is_held world session) faults.SessionBusy tests refl others)))
+
+-- the guards that an entry ends with
+by_room : (world : World) → is_want (first_fault (refusals.log_full world ∷ refusals.counter_exhausted world ∷ [])) ≡ false
+by_room world = guard (nat_le MAX_LOG_ROWS (length world.log)) faults.LogFull _ refl (guard (nat_le MAX_COUNTER (world.counter + active_count world)) faults.CounterExhausted [] refl refl)
+
+by_store : (world : World) → is_want (refusals.store_busy world) ≡ false
+by_store world = by_test (list_any (λ row. is_active row.standing) world.log) faults.StoreBusy refl
+
+by_request : (world : World) (busy : Option Fault) (session number start : ℕ) (writes : List Write) → is_want busy ≡ false → is_want (refusal_of_request world busy session number start writes) ≡ false
+by_request world busy session number start writes other =
+    by_turn world session number _ (first busy _ other
+    (guard (nat_le MAX_NUMBER number) faults.NumbersExhausted _ refl
+    (first (wrong_start world session number start) _ (by_start world session number start)
+    (first (check_writes world.settings.schema writes) _ (by_writes world.settings.schema writes) (by_room world)))))
+
+by_close : (world : World) (session number : ℕ) → is_want (refusal_of_close world session number) ≡ false
+by_close world session number = by_turn world session number [] refl
+
+by_alone : (world : World) (session number : ℕ) (operations : List Operation) → is_want (refusal_of_alone world session number operations) ≡ false
+by_alone world session number operations =
+    by_turn world session number _ (guard (has_phase world session number) faults.ReadOpen _ refl
+    (first (refusals.store_busy world) _ (by_store world)
+    (guard (nat_le MAX_NUMBER number) faults.NumbersExhausted _ refl
+    (guard (nat_lt MAX_OPERATIONS (length operations)) faults.SetFull _ refl
+    (first (check_operations world.settings.schema operations) _ (by_operations world.settings.schema operations) (by_room world))))))
+
+by_read : (world : World) (session number start : ℕ) (question : Question) → is_want (refusal world (Read session number start question)) ≡ false
+by_read world session number start question =
+    by_session world session _ (guard (has_mark world session) faults.SessionClosed _ refl
+    (guard (nat_lt number (due world session) || nat_lt (due world session + READ_AHEAD) number) faults.OutOfTurn _ refl
+    (first (wrong_start world session number start) _ (by_start world session number start)
+    (first (check_question world.settings.schema question) _ (by_question world.settings.schema question)
+    (guard (nat_lt MAX_ANSWER_ROWS (answer_size (answer question world.table))) faults.RangeTooLarge _ refl
+    (guard (nat_le MAX_QUESTIONS (length (reads_under world session number))) faults.SetFull [] refl refl))))))
+
+pub refusal_other : (world : World) (event : Event) → is_want (refusal world event) ≡ false
+refusal_other world (Read session number start question) = by_read world session number start question
+refusal_other world (Forget session number) = by_test (not (has_session world session)) faults.NoSession refl
+refusal_other world (Enter session (Request number start writes)) = by_request world None session number start writes refl
+refusal_other world (Enter session (Alone number operations)) = by_alone world session number operations
+refusal_other world (Enter session (Close number)) = by_close world session number
+refusal_other world (Decide session) = by_held world session _ (guard (not (row_is_open world session)) faults.AlreadyDecided [] refl refl)
+refusal_other world (WriteOne session) =
+    by_held world session _ (guard (row_is_open world session) faults.NotDecided _ refl (guard (row_is_back world session) faults.AlreadyDecided [] refl refl))
+refusal_other world (Finish session) =
+    by_held world session _ (guard (row_is_open world session) faults.NotDecided _ refl
+    (guard (row_is_back world session) faults.AlreadyDecided _ refl (guard (has_writes_left world session) faults.WritesLeft [] refl refl)))
+refusal_other world (BackUp session) =
+    by_held world session _ (guard (row_is_open world session) faults.NotDecided _ refl (guard (not (row_is_back world session)) faults.AlreadyDecided [] refl refl))
+refusal_other world (SerialEnd session (Request number start writes)) = by_request world (refusals.store_busy world) session number start writes (by_store world)
+refusal_other world (SerialEnd session (Alone number operations)) = by_alone world session number operations
+refusal_other world (SerialEnd session (Close number)) = by_close world session number
+refusal_other world (RunAlone session number operations) = by_alone world session number operations
+refusal_other world Checkpoint = by_test (list_any (λ row. is_open row.standing) world.log) faults.StoreBusy refl
+
+-- of a client
+
+by_some : {X : Type 0} (o : Option X) (fault : Fault) → is_memory fault ≡ false → wants (ok_or o fault) ≡ false
+by_some None fault other = other
+by_some (Some x) fault other = refl
+
+by_unless : {X : Type 0} (fault : Option Fault) (x : X) → is_want fault ≡ false → wants (unless fault x) ≡ false
+by_unless None x other = refl
+by_unless (Some fault) x other = other
+
+by_both : {X Y : Type 0} (r : Result X Fault) (f : X → Result Y Fault) → wants r ≡ false → ((x : X) → wants (f x) ≡ false) → wants (and_then r f) ≡ false
+by_both (Ok x) f first next = next x
+by_both (Err fault) f first next = first
+
+pub client_other : (clients : List Client) (session : ℕ) → wants (client_of clients session) ≡ false
+client_other clients zero = refl
+client_other clients (suc place) = by_some (slice_get clients place) faults.NoSession refl
+
+pub copy_other : (client : Client) → wants (copy_of client) ≡ false
+copy_other client = by_some client.copy faults.NoReadOpen refl
+
+table_other : (schema : Schema) (name : List ℕ) → wants (table_named schema name) ≡ false
+table_other schema name = by_some (position (has_name name) schema) faults.NoTable refl
+
+pub object_other : (schema : Schema) (name : List ℕ) (key : Key) → wants (object_named schema name key) ≡ false
+object_other schema name key = by_both (table_named schema name) _ (table_other schema name) (λ place. by_unless (check_key schema place key) (place, key) (by_key schema place key))
+
+pub span_other : (schema : Schema) (name : List ℕ) (lower upper : Key) → wants (span_named schema name lower upper) ≡ false
+span_other schema name lower upper = by_both (table_named schema name) _ (table_other schema name)
+    (λ place. by_unless (check_question schema (Span place (Some lower) (Some upper))) (Span place (Some lower) (Some upper)) (by_question schema (Span place (Some lower) (Some upper))))
+
+pub number_other : (client : Client) → wants (next_number client) ≡ false
+number_other client = by_unless _ (client.pushed + 1) (guard (is_some client.copy) faults.ReadOpen _ refl (guard (nat_le MAX_NUMBER (client.pushed + 1)) faults.NumbersExhausted [] refl refl))
+
+pub submitted_other : (client : Client) → wants (submitted client) ≡ false
+submitted_other client = by_both (copy_of client) _ (copy_other client) (λ copy. by_unless _ copy (by_test (nat_le client.limit (length client.queue)) faults.QueueFull refl))
+
+pub write_other : (schema : Schema) (name : List ℕ) (key : Key) (row : Option Row) (copy : Copied) → wants (write_named schema name key row copy) ≡ false
+write_other schema name key row copy = by_both (object_named schema name key) _ (object_other schema name key)
+    (λ object. by_unless _ (object, row) (first (check_written schema object.0 row) _ (by_written schema object.0 row) (guard (is_full_for copy.writes object) faults.SetFull [] refl refl)))

@@ -1,0 +1,164 @@
+-- A step that is played as a want of memory is one that may want it.
+use Rattle.std.proofs.Common.{◌≡◌, ℕ, List, Option, Some, None, Result, Ok, Err, refl, sym, ap, subst, ◌∙◌, arith}
+use Rattle.std.proofs.lemmas.Bool.{lt-ltb}
+use Rattle.std.specs.Prelude.{Bool, true, false, is_some, IsSomeAnd, IsOk, IsOkAnd, nat_lt, length, MatchOption, [], ◌∷◌}
+use Rattle.occ_types.specs.Key.{Key}
+use Rattle.occ_types.specs.Question.{One}
+use Rattle.occ_types.specs.Row.{Row}
+use Rattle.occ_types.specs.Schema.{Schema}
+use Rattle.occ_types.specs.declared.fault.Fault.{Fault}
+use Rattle.occ_types.specs.declared.fault.Fault.TheVariants as faults
+use Rattle.occ_model.specs.Log.{LogRow, rest}
+use Rattle.occ_model.specs.Overlay.{own}
+use Rattle.occ_model.specs.State.{Write}
+use Rattle.occ_model.specs.State as states
+use Rattle.occ_model.specs.World.{World, latest}
+use Rattle.occ_model.specs.Event.{Event, Item, Reply}
+use Rattle.occ_model.specs.Event as events
+use Rattle.occ_model.specs.Refusal.{takes_memory, puts_next, has_writes_left}
+use Rattle.occ_model.specs.Step.{Step, refused, starved, taken}
+use Rattle.occ_model.proofs.Headlines.{not_told}
+use Rattle.occ_sets.specs.Sets.{Copied}
+use Rattle.occ_text.specs.Steps as steps
+use Rattle.occ_text.specs.declared.steps.Act.TheVariants as acts
+use Rattle.occ_cli.specs.Answers.{Answer}
+use Rattle.occ_cli.specs.Answers as says
+use Rattle.occ_cli.specs.Replaying.{Replayed, Client, Given, Wants, WantsGet, CopyWantsGet, WantsScan, Starved, Plays, Begins, Submits, Writes, Gets, Scans, Tells, next_item, still_waiting, kept_after, client_of, copy_of, object_named, span_named, next_number, submitted, write_named}
+use Rattle.occ_cli.proofs.OtherFaults.{is_want, wants, refusal_other, client_other, copy_other, object_other, span_other, number_other, submitted_other, write_other}
+
+-- the answer that tells of it
+abbrev hungry : Answer
+hungry = says.refused faults.Memory
+
+-- the store starves only where nothing else refuses an event, and it takes memory
+starved_store : (old new : World) (event : Event) (reply : Reply) → Step old event reply new → reply ≡ events.Refused faults.Memory → Wants old event × (new ≡ old)
+starved_store old new event reply (refused fault why told same) is =
+    let fault_is : fault ≡ faults.Memory = cc in
+    let want : is_want (Some fault) ≡ true = ap (λ f. is_want (Some f)) fault_is in
+    let other : is_want (Some fault) ≡ false = sym (ap is_want why) ∙ refusal_other old event in
+    cc
+starved_store old new event reply (starved none takes told same) is = ((none, takes), same)
+starved_store old new event reply (taken none does) is = absurd (not_told old new event faults.Memory (subst (λ r. Rattle.occ_model.specs.Step.Taken old event r new) is does))
+
+starved_told : (old new : World) (event : Event) → Tells old event hungry new → Wants old event × (new ≡ old)
+starved_told old new event tells =
+    let reply_is : tells.0 ≡ events.Refused faults.Memory = let said = tells.2 in cc in
+    starved_store old new event tells.0 tells.1 reply_is
+
+module _ {X : Type 0} where
+  -- what isn't refused for it is not refused
+  met : {Y : Type 0} (r : Result X Fault) (before after : Y) (P : X → Type 0) → wants r ≡ false → Given r before hungry after P → IsOkAnd r P
+  met (Ok x) before after P other given = given
+  met (Err fault) before after P other given =
+      let said = given.0 in
+      let fault_is : fault ≡ faults.Memory = cc in
+      let want : wants {X = X} (Err fault) ≡ true = ap (λ f. wants {X = X} (Err f)) fault_is in
+      cc
+
+  and_so : (r : Result X Fault) (P Q : X → Type 0) → ((x : X) → P x → Q x) → IsOkAnd r P → IsOkAnd r Q
+  and_so (Ok x) P Q so is = so x is
+  and_so (Err fault) P Q so is = absurd is
+
+  and_none : (r : Result X Fault) (P : X → Type 0) → ((x : X) → P x → ⊥) → IsOkAnd r P → ⊥
+  and_none (Ok x) P so is = so x is
+  and_none (Err fault) P so is = absurd is
+
+  is_there : (r : Result X Fault) (P : X → Type 0) → IsOkAnd r P → IsOk r
+  is_there (Ok x) P is = refl
+  is_there (Err fault) P is = absurd is
+
+-- nothing changed where neither the store nor the clients did
+unchanged : (old new : Replayed) → new.world ≡ old.world → new.clients ≡ old.clients → new ≡ old
+unchanged old new world clients = λ i. record { world = world i; clients = clients i }
+
+-- of the clients alone
+
+no_begin : (counter : ℕ) (old new : Client) → Begins counter old hungry new → ⊥
+no_begin counter old new begins = and_none (next_number old) _ (λ number said. let is = said.0 in cc is) (met (next_number old) old new _ (number_other old) begins)
+
+no_submit : (old new : Client) → Submits old hungry new → ⊥
+no_submit old new submits = and_none (submitted old) _ (λ copy said. let is = said.0 in cc is) (met (submitted old) old new _ (submitted_other old) submits)
+
+no_write : (schema : Schema) (name : List ℕ) (key : Key) (row : Option Row) (old new : Client) → Writes schema name key row old hungry new → ⊥
+no_write schema name key row old new writes = and_none (copy_of old) _
+    (λ copy m. and_none (write_named schema name key row copy) _ (λ write said. let is = said.0 in cc is)
+    (met (write_named schema name key row copy) copy m.0 _ (write_other schema name key row copy) m.1))
+    (met (copy_of old) old new _ (copy_other old) writes)
+
+-- of the store
+
+starves_item : (old new : World) (session : ℕ) (client next : Client) (item : Option Item)
+    → MatchOption item ((hungry ≡ says.Empty) × (next ≡ client) × (new ≡ old))
+    (λ i. (reply : Reply) × Step old (events.Enter session i) reply new × (hungry ≡ says.Replied reply) × (next ≡ record client { queue = still_waiting client; kept = kept_after i reply }))
+    → IsSomeAnd item (λ i. Wants old (events.Enter session i) × (next ≡ record client { queue = still_waiting client; kept = Some i })) × (new ≡ old)
+starves_item old new session client next None h = let is = h.0 in cc is
+starves_item old new session client next (Some i) h =
+    let said = h.2 in
+    let reply_is : h.0 ≡ events.Refused faults.Memory = cc in
+    let starves = starved_store old new (events.Enter session i) h.0 h.1 reply_is in
+    ((starves.0, h.3 ∙ ap (λ r. record client { queue = still_waiting client; kept = kept_after i r }) reply_is), starves.1)
+
+wants_get : (old new : World) (session : ℕ) (name : List ℕ) (key : Key) (client : Client) → Gets old session name key client hungry new → WantsGet old session name key client
+wants_get old new session name key client gets = and_so (copy_of client) _ (CopyWantsGet old session name key)
+    (λ copy g. and_so (object_named old.settings.schema name key) _ _ (λ object m. own_row copy (events.Read session copy.number copy.start (One object.0 object.1)) (own copy.writes object) m)
+    (met (object_named old.settings.schema name key) old new _ (object_other old.settings.schema name key) g))
+    (met (copy_of client) old new _ (copy_other client) gets)
+  where
+    own_row : (copy : Copied) (event : Event) (row : Option (Option Row))
+        → MatchOption row (Tells old event hungry new) (λ r. (hungry ≡ says.Replied (events.Answered (states.Found r))) × (new ≡ old))
+        → MatchOption row (Wants old event) (λ r. is_some r ≡ true)
+    own_row copy event None m = (starved_told old new event m).0
+    own_row copy event (Some r) m = let is = m.0 in cc is
+
+wants_scan : (old new : World) (session : ℕ) (name : List ℕ) (lower upper : Key) (client : Client) → Scans old session name lower upper client hungry new → WantsScan old name lower upper client
+wants_scan old new session name lower upper client scans = and_so (copy_of client) _ _
+    (λ copy g. is_there (span_named old.settings.schema name lower upper) _ (met (span_named old.settings.schema name lower upper) old new _ (span_other old.settings.schema name lower upper) g))
+    (met (copy_of client) old new _ (copy_other client) scans)
+
+-- a write that would put a row is left
+put_left : (world : World) (session : ℕ) → puts_next world session ≡ true → has_writes_left world session ≡ true
+put_left world session puts = go (latest session world.log) puts
+  where
+    of_rest : (writes : List Write) → (elim writes as (λ _. Bool) [ [] ↦ false | write ∷ others ↦ is_some write.1 ]) ≡ true → nat_lt 0 (length writes) ≡ true
+    of_rest [] is = cc
+    of_rest (write ∷ others) is = lt-ltb 0 (length (write ∷ others)) (omega arith)
+
+    go : (o : Option LogRow) → (elim o as (λ _. Bool) [ None ↦ false | Some row ↦ elim (rest row) as (λ _. Bool) [ [] ↦ false | write ∷ others ↦ is_some write.1 ] ]) ≡ true
+        → (elim o as (λ _. Bool) [ None ↦ false | Some row ↦ nat_lt 0 (length (rest row)) ]) ≡ true
+    go None is = cc
+    go (Some row) is = of_rest (rest row) is
+
+-- an event that takes no memory
+never : (old new : World) (event : Event) → takes_memory old event ≡ false → Tells old event hungry new → ⊥
+never old new event takes tells = let wants_it = (starved_told old new event tells).0.1 in cc
+
+-- whatever is played so is a step that may want memory
+pub plays_starved : (old : Replayed) (step : steps.Step) (new : Replayed) → new.world ≡ old.world → Plays old step (says.refused faults.Memory) new → Starved old step new
+plays_starved old (steps.Does acts.Begin session) new same h = and_none (client_of old.clients session) _ (λ client m. no_begin old.world.counter client m.0 m.1) (met (client_of old.clients session) old new _ (client_other old.clients session) h)
+plays_starved old (steps.Does acts.Submit session) new same h = and_none (client_of old.clients session) _ (λ client m. no_submit client m.0 m.1) (met (client_of old.clients session) old new _ (client_other old.clients session) h)
+plays_starved old (steps.Does acts.Enter session) new same h = and_so (client_of old.clients session) _ _
+    (λ client m. (m.0, (starves_item old.world new.world session client m.0 (next_item client) m.1).0, λ i. record { world = same i; clients = m.2 i }))
+    (met (client_of old.clients session) old new _ (client_other old.clients session) h)
+plays_starved old (steps.Does acts.Decide session) new same h = never old.world new.world (events.Decide session) refl h.0
+plays_starved old (steps.Does acts.Write session) new same h =
+    let starves = (starved_told old.world new.world (events.WriteOne session) h.0).0 in
+    ((starves.0, put_left old.world session starves.1), unchanged old new same h.1)
+plays_starved old (steps.Does acts.Finish session) new same h = never old.world new.world (events.Finish session) refl h.0
+plays_starved old (steps.Does acts.BackUp session) new same h = never old.world new.world (events.BackUp session) refl h.0
+plays_starved old (steps.Get session name key) new same h =
+    let asks = met (client_of old.clients session) old new _ (client_other old.clients session) h in
+    (and_so (client_of old.clients session) _ _ (λ client m. wants_get old.world new.world session name key client m.0) asks, unchanged old new same (kept (client_of old.clients session) asks))
+  where
+    kept : (r : Result Client Fault) → IsOkAnd r (λ client. Gets old.world session name key client hungry new.world × (new.clients ≡ old.clients)) → new.clients ≡ old.clients
+    kept (Ok client) is = is.1
+    kept (Err fault) is = absurd is
+plays_starved old (steps.Scan session name lower upper) new same h =
+    let asks = met (client_of old.clients session) old new _ (client_other old.clients session) h in
+    (and_so (client_of old.clients session) _ _ (λ client m. wants_scan old.world new.world session name lower upper client m.0) asks, unchanged old new same (kept (client_of old.clients session) asks))
+  where
+    kept : (r : Result Client Fault) → IsOkAnd r (λ client. Scans old.world session name lower upper client hungry new.world × (new.clients ≡ old.clients)) → new.clients ≡ old.clients
+    kept (Ok client) is = is.1
+    kept (Err fault) is = absurd is
+plays_starved old (steps.Put session name key row) new same h = absurd (and_none (client_of old.clients session) _ (λ client m. no_write old.world.settings.schema name key (Some row) client m.0 m.1) (met (client_of old.clients session) old new _ (client_other old.clients session) h))
+plays_starved old (steps.Delete session name key) new same h = absurd (and_none (client_of old.clients session) _ (λ client m. no_write old.world.settings.schema name key None client m.0 m.1) (met (client_of old.clients session) old new _ (client_other old.clients session) h))
+plays_starved old steps.Show new same h = let is = h.0 in cc is

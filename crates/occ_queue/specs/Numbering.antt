@@ -1,0 +1,69 @@
+-- The queue of one session: its items are numbered 1, 2, 3, .., and nothing follows its closing mark (our own choice).
+use Rattle.std.specs.Prelude.{◌≡◌, ℕ, suc, ◌+◌, ◌≤◌, ◌<◌, Bool, false, not, ◌||◌, ◌==◌, nat_le, List, [], ◌∷◌, ◌++◌, map, length, Option}
+use Rattle.occ_types.specs.declared.fault.Fault.{Fault}
+use Rattle.occ_types.specs.declared.fault.Fault.TheVariants as faults
+use Rattle.occ_types.specs.declared.limits.TheConstants.{MAX_NUMBER}
+use Rattle.occ_types.specs.Schema.{fault_if, first_fault}
+use Rattle.occ_model.specs.Event.{Item}
+use Rattle.occ_model.specs.Log.{Counts}
+use Rattle.occ_queue.specs.Items.{number_of, is_mark}
+
+-- The items that wait, the first one first, and how many there may be; how many were pushed so far, which is the number of the last one; and whether that one was the closing mark.
+pub record Numbered : Type 0 where
+  pub items : List Item
+  pub limit : ℕ
+  pub pushed : ℕ
+  pub closed : Bool
+
+-- a queue into which nothing was pushed
+abbrev pub unused : ℕ → Numbered
+unused limit = record { items = []; limit = limit; pushed = 0; closed = false }
+
+-- the number of the next item
+abbrev pub next : Numbered → ℕ
+next queue = queue.pushed + 1
+
+-- the queue with one more item at its end, which is the closing mark or not
+abbrev pub with_item : Numbered → Item → Numbered
+with_item queue item = record queue {
+  items = queue.items ++ item ∷ [];
+  pushed = next queue;
+  closed = is_mark item;
+}
+
+abbrev pub is_full : Numbered → Bool
+is_full queue = nat_le queue.limit (length queue.items)
+
+-- why an item can't be submitted even where there is room
+abbrev pub turn_fault : Numbered → Item → Option Fault
+turn_fault queue item = first_fault (
+    fault_if queue.closed faults.Closed
+    ∷ fault_if (nat_le MAX_NUMBER (next queue)) faults.NumbersExhausted
+    ∷ fault_if (is_mark item || not (number_of item == next queue)) faults.OutOfTurn
+    ∷ [])
+
+-- why an item can't be submitted, where there is a reason
+abbrev pub refusal_of_submit : Numbered → Item → Option Fault
+refusal_of_submit queue item = first_fault (turn_fault queue item ∷ fault_if (is_full queue) faults.QueueFull ∷ [])
+
+-- why a session can't be closed, where there is a reason
+abbrev pub refusal_of_close : Numbered → Option Fault
+refusal_of_close queue = first_fault (
+    fault_if queue.closed faults.Closed
+    ∷ fault_if (is_full queue) faults.QueueFull
+    ∷ [])
+
+-- of the items that wait, none but the last is a mark; and that one is where the session is closed
+abbrev pub EndsWithMark : Bool → List Item → Type 0
+EndsWithMark closed [] = Unit {0}
+EndsWithMark closed (item ∷ []) = is_mark item ≡ closed
+EndsWithMark closed (item ∷ next ∷ items) = (is_mark item ≡ false) × EndsWithMark closed (next ∷ items)
+
+-- What holds of the queue of a session.
+pub record IsInTurn (queue : Numbered) : Type 0 where
+  -- those that wait have the numbers after those that were taken, up to the last that was pushed, without a gap
+  pub numbered : (taken : ℕ) × (queue.pushed ≡ taken + length queue.items) × Counts (suc taken) (map number_of queue.items)
+  pub ended : EndsWithMark queue.closed queue.items
+  -- the last number is for the mark alone
+  pub within : queue.pushed ≤ MAX_NUMBER
+  pub spare : queue.closed ≡ false → queue.pushed < MAX_NUMBER

@@ -1,0 +1,139 @@
+//! The queue of one session, which keeps the law of its numbers.
+ghost use Rattle.std.specs.Prelude.{◌≡◌, ◌<◌, None, Some, drop, slice_get, option_map, IfOk, IfErr, IsSome, OnOk, OnErr, IsOkUnless, length};
+ghost use Rattle.std.specs.Result.{result_err};
+ghost use Rattle.occ_types.specs.declared.fault.Fault.TheVariants.{Memory, Closed};
+ghost use Rattle.occ_types.specs.Schema.{fault_if};
+ghost use Rattle.occ_model.specs.Event.{Close};
+ghost use Rattle.occ_queue.specs.Items.{item_of};
+ghost use Rattle.occ_queue.specs.Numbering.{IsInTurn, unused, next, with_item, is_full, turn_fault, refusal_of_submit, refusal_of_close};
+
+use crate::items::Item;
+use crate::queues::Queue;
+use occ_types::limits::MAX_NUMBER;
+use occ_types::{Fault, Refused};
+use std::alloc::Allocator;
+use std::marker::Model;
+
+/// The items of one session on their way to be entered, by one owner: what is pushed is numbered 1, 2, 3, .., and nothing follows the
+/// closing mark. An item that was taken has left it, and doesn't count for the room.
+#[derive(Drop)]
+pub struct SessionQueue<A: Allocator> {
+    queue: Queue<A>,
+    pushed: u64,
+    closed: bool,
+}
+
+impl<A: Allocator> Model for SessionQueue<A> {
+    ghost use Rattle.occ_queue.specs.Numbering.{Numbered, IsInTurn};
+
+    ghost Value = { Numbered };
+
+    ghost view = { λ q. record { items = q.queue.items; limit = q.queue.limit; pushed = q.pushed; closed = q.closed } };
+
+    ghost invariant = { λ q. IsInTurn (record { items = q.queue.items; limit = q.queue.limit; pushed = q.pushed; closed = q.closed }) };
+}
+
+impl<A: Allocator> SessionQueue<A> {
+    /// The queue of a session that has pushed nothing, with room for `limit` items. Refused with `Memory` where there is none for them.
+    pub fn new(alloc: A, limit: usize) -> Result<SessionQueue<A>, Fault>
+        ensures unused { IfOk result (λ queue. queue ≡ unused limit) }
+        ensures memory { IsOkUnless result Memory }
+    {
+        let queue = Queue::new(alloc, limit)?;
+        Ok(SessionQueue {
+            queue,
+            pushed: 0,
+            closed: false,
+        })
+    }
+
+    /// The number that the next item takes: 1 more than how many were pushed. Its clause has the law of every queue of a session, for a
+    /// caller to rest on.
+    pub fn next(&self) -> u64
+        ensures number { result ≡ next self.now }
+        ensures law { IsInTurn self.now }
+    {
+        self.pushed + 1
+    }
+
+    /// Whether the session is closed: its closing mark was pushed.
+    pub fn is_closed(&self) -> bool
+        ensures { result ≡ self.now.closed }
+    {
+        self.closed
+    }
+
+    /// Whether there is no room for another item.
+    pub fn is_full(&self) -> bool
+        ensures { result ≡ is_full self.now }
+    {
+        self.queue.is_full()
+    }
+
+    /// Pushes an item that has the next number, which takes no memory. Refused, the first of these that holds: with `Closed` where the
+    /// session is closed; with `NumbersExhausted` where only the number of the closing mark is left; with `OutOfTurn` where the item
+    /// has another number, or is a closing mark, which `close` pushes; and with `QueueFull`. The item is handed back then, and the next
+    /// number stays.
+    pub fn submit(&mut self, item: Item<A>) -> Result<(), Refused<Item<A>>>
+        ensures ok { OnOk result (self.new ≡ with_item self.old (item_of item)) }
+        ensures err { OnErr result (self.new ≡ self.old) }
+        ensures handed_back { IfErr result (λ refused. refused.value ≡ item) }
+        ensures fault { option_map (λ r. r.fault) (result_err result) ≡ refusal_of_submit self.old (item_of item) }
+    {
+        if let Err(fault) = self.check_turn(&item) {
+            return Err(Refused { value: item, fault });
+        }
+        self.queue.push(item)?;
+        self.pushed += 1;
+        Ok(())
+    }
+
+    /// Closes the session: its closing mark is pushed, which takes no memory, and the number of the mark is answered. Refused with
+    /// `Closed` where the session is closed, and then with `QueueFull`; nothing changes then.
+    pub fn close(&mut self) -> Result<u64, Fault>
+        ensures ok { OnOk result (self.new ≡ with_item self.old (Close (next self.old))) }
+        ensures err { OnErr result (self.new ≡ self.old) }
+        ensures number { IfOk result (λ number. number ≡ next self.old) }
+        ensures fault { result_err result ≡ refusal_of_close self.old }
+    {
+        self.check_open()?;
+        let number = self.next();
+        self.queue.push(Item::Close { number })?;
+        self.pushed = number;
+        self.closed = true;
+        Ok(number)
+    }
+
+    /// Takes the first item.
+    pub fn take(&mut self) -> Option<Item<A>>
+        ensures first { option_map item_of result ≡ slice_get self.old.items 0 }
+        ensures rest { self.new ≡ record self.old { items = drop 1 self.old.items } }
+    {
+        self.queue.take()
+    }
+
+    // Whether the session is not closed.
+    fn check_open(&self) -> Result<(), Fault>
+        ensures { result_err result ≡ fault_if self.now.closed Closed }
+    {
+        if self.closed {
+            return Err(Fault::Closed);
+        }
+        Ok(())
+    }
+
+    // Whether an item may be submitted, if there is room.
+    fn check_turn(&self, item: &Item<A>) -> Result<(), Fault>
+        ensures { result_err result ≡ turn_fault self.now (item_of item.now) }
+    {
+        self.check_open()?;
+        let next = self.next();
+        if next >= MAX_NUMBER {
+            return Err(Fault::NumbersExhausted);
+        }
+        if item.is_mark() || item.number() != next {
+            return Err(Fault::OutOfTurn);
+        }
+        Ok(())
+    }
+}
