@@ -2,11 +2,13 @@
 #![tactic(auto)]
 
 mod books;
+mod maps;
 mod marks;
 mod rows;
 mod tables;
 #[cfg(test)]
 mod tests;
+mod writes;
 
 pub use books::{Book, BookView};
 pub use marks::Marks;

@@ -1,9 +1,9 @@
 //! The tables of a store, with one map for each.
-ghost use Rattle.std.specs.Prelude.{◌≡◌, ◌<◌, ◌≤◌, ◌-◌, ◌^◌, min, map, length, IfOk, OnOk, OnErr, IsOk, MatchOption, IsOkUnless, Some, None};
+ghost use Rattle.std.specs.Prelude.{◌≡◌, ◌<◌, ◌≤◌, ◌-◌, ◌^◌, min, map, length, IfOk, OnOk, OnErr, IsOk, IsSome, MatchOption, IsOkUnless, Some, None};
 ghost use Rattle.std.specs.Option.{option_copied};
 ghost use Rattle.std.specs.Ordering.{on};
 ghost use Rattle.std.specs.Range.Bound.{bound_map};
-ghost use Rattle.std.specs.BTreeMap.{IsOrdered, IsUnchanged};
+ghost use Rattle.std.specs.BTreeMap.{IsOrdered};
 ghost use Rattle.std.specs.FinMap as finite;
 ghost use Rattle.occ_types.specs.declared.fault.Fault.TheVariants.{Memory};
 ghost use Rattle.occ_types.specs.Key.{key_cmp};
@@ -11,8 +11,9 @@ ghost use Rattle.occ_types.specs.Object as objects;
 ghost use Rattle.occ_types.specs.Question.{Span};
 ghost use Rattle.occ_types.specs.Seen.{key_of, end_of};
 ghost use Rattle.occ_model.specs.State.{put, answer, Rows, answer_size};
-ghost use Rattle.occ_book.specs.Kept.{seen, entries_within, is_backward, lower_bound, upper_bound, IsPut};
+ghost use Rattle.occ_book.specs.Kept.{seen, entries_within, is_backward, lower_bound, upper_bound};
 
+use crate::maps::{delete_row, exchange_row, put_row, set_back_row};
 use occ_types::{Fault, Key, Row};
 use std::alloc::{AllocError, Allocator};
 use std::collections::BTreeMap;
@@ -86,6 +87,22 @@ impl<A: Allocator + Clone> Tables<A> {
         }
     }
 
+    // Puts a row under a key of a table, and hands out the one that stood there. Refused with `Memory` at a new key alone, which leaves the tables as they were.
+    pub(crate) fn exchange(
+        &mut self,
+        table: usize,
+        key: &Key<A>,
+        row: Row<A>,
+    ) -> Result<Option<Row<A>>, Fault>
+        requires { table < self.old.tables }
+        ensures was { IfOk result (λ was. was ≡ finite.get self.old.state (table, key_of key.now)) }
+        ensures ok { OnOk result (self.new ≡ record { tables = self.old.tables; state = put self.old.state ((table, key_of key.now), Some row) }) }
+        ensures err { OnErr result (self.new ≡ self.old) }
+        ensures memory { IsOkUnless result Memory }
+    {
+        exchange_row(&mut self.maps[table], key, row)
+    }
+
     /// Copies of the rows of a table from the lower end on and below the upper one, with their keys and in the order of the keys. Either end may be missing, and a table that is not there has no rows.
     ///
     /// Refused with `Memory` where there is none for the copies.
@@ -126,7 +143,32 @@ impl<A: Allocator + Clone> Clone for Tables<A> {
     }
 }
 
+impl<A: Allocator + Copy> Tables<A> {
+    // What the tables take memory from.
+    pub(crate) fn allocator(&self) -> A {
+        *self.maps.allocator()
+    }
+}
+
 impl<A: Allocator> Tables<A> {
+    // Brings a row back under a key of a table at which one stands, or deletes that one where `row` is none.
+    pub(crate) fn set_back(&mut self, table: usize, key: &Key<A>, row: Option<Row<A>>)
+        ensures tables { self.new.tables ≡ self.old.tables }
+        ensures state { IsSome (finite.get self.old.state (table, key_of key.now)) → self.new.state ≡ put self.old.state ((table, key_of key.now), row) }
+    {
+        if table < self.maps.len() {
+            set_back_row(&mut self.maps[table], key, row);
+        }
+    }
+
+    // Deletes the row under a key of a table, where there is one.
+    pub(crate) fn delete(&mut self, table: usize, key: &Key<A>)
+        requires { table < self.old.tables }
+        ensures { self.new ≡ record { tables = self.old.tables; state = put self.old.state ((table, key_of key.now), None) } }
+    {
+        delete_row(&mut self.maps[table], key);
+    }
+
     /// How many rows stand in all tables, or the greatest `usize` where they are more. It takes no memory.
     pub fn len(&self) -> usize
         ensures { result ≡ min (finite.len self.now.state) (2 ^ 64 - 1) }
@@ -151,32 +193,6 @@ impl<A: Allocator> Tables<A> {
             None => None,
         }
     }
-}
-
-// Sets the row under a key to a copy of `row`. The key is copied only where it is new.
-fn put_row<A: Allocator + Clone>(
-    map: &mut BTreeMap<Key<A>, Row<A>, A>,
-    key: &Key<A>,
-    row: &Row<A>,
-) -> Result<(), Fault>
-    ensures ok { OnOk result (IsPut map.old key.now (Some row.now) map.new) }
-    ensures err { OnErr result (IsUnchanged map.old map.new) }
-    ensures memory { IsOkUnless result Memory }
-{
-    let copy = row.clone()?;
-    if let Some(place) = map.get_mut(key) {
-        *place = copy;
-        return Ok(());
-    }
-    map.insert(key.clone()?, copy)?;
-    Ok(())
-}
-
-// Deletes the row under a key, where there is one.
-fn delete_row<A: Allocator>(map: &mut BTreeMap<Key<A>, Row<A>, A>, key: &Key<A>)
-    ensures { IsPut map.old key.now None map.new }
-{
-    let _deleted = map.remove(key);
 }
 
 // Copies of the entries between two ends.

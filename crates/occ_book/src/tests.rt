@@ -1,4 +1,7 @@
 //! That calls succeed where there is memory, which no clause says.
+ghost use Rattle.std.specs.Prelude.{IfSome};
+ghost use Rattle.occ_book.specs.Undo.{ArePlaced};
+
 use crate::{Book, LogRow, Marks, Standing, Tables};
 use occ_case::Cause;
 use occ_sets::{ReadSet, WriteSet};
@@ -37,6 +40,79 @@ fn tables(rt: HostRuntime) -> Result<(), Fail> {
             .is_ok_and(|rows| rows.len() == 1)
     );
     assert!(rt; copy.table(0).is_some_and(|rows| rows.len() == 2));
+    Ok(())
+}
+
+// The writes with one more of the first table.
+#[tactic(auto, using(crate::proofs::Parted::placed_set))]
+fn with_write(
+    mut writes: WriteSet<Global>,
+    key: u64,
+    row: Option<Row<Global>>,
+) -> Option<WriteSet<Global>>
+    requires { ArePlaced 1 writes }
+    ensures { IfSome result (λ more. ArePlaced 1 more) }
+{
+    if writes.set(0, Key::Num(key), row).is_err() {
+        return None;
+    }
+    Some(writes)
+}
+
+// Writes of the first table: under each key a row of one number, or a deletion.
+fn writes(alloc: Global, rows: &[(u64, Option<i64>)]) -> Option<WriteSet<Global>>
+    ensures { IfSome result (λ writes. ArePlaced 1 writes) }
+{
+    let mut writes = WriteSet::new(alloc);
+    for (key, number) in rows {
+        let row = match number {
+            Some(number) => Some(row_of(alloc, *number)?),
+            None => None,
+        };
+        writes = with_write(writes, *key, row)?;
+    }
+    Some(writes)
+}
+
+// A row of one number.
+fn row_of(alloc: Global, number: i64) -> Option<Row<Global>> {
+    Some(Row::from_cells(vec![in alloc; Cell::Int(number)].ok()?))
+}
+
+// Whether the first table has exactly these rows of one number.
+fn has_rows(alloc: Global, tables: &Tables<Global>, rows: &[(u64, i64)]) -> bool {
+    for (key, number) in rows {
+        let Some(row) = row_of(alloc, *number) else {
+            return false;
+        };
+        if tables.row(0, &Key::Num(*key)) != Some(&row) {
+            return false;
+        }
+    }
+    tables.len() == rows.len()
+}
+
+#[test]
+fn all_writes(rt: HostRuntime) -> Result<(), Fail> {
+    let alloc = rt.alloc();
+    let (Some(first), Some(second), Some(none)) = (
+        writes(alloc, &[(7, Some(1)), (9, Some(2)), (11, Some(3))]),
+        writes(alloc, &[(9, None), (7, Some(4)), (8, Some(5)), (10, None)]),
+        writes(alloc, &[]),
+    ) else {
+        assert!(rt; false, "there is memory");
+        return Ok(());
+    };
+    let Ok(mut tables) = Tables::new(alloc, 1) else {
+        assert!(rt; false, "there is memory");
+        return Ok(());
+    };
+    assert!(rt; tables.put_all(&first).is_ok());
+    assert!(rt; has_rows(alloc, &tables, &[(7, 1), (9, 2), (11, 3)]));
+    assert!(rt; tables.put_all(&second).is_ok());
+    assert!(rt; has_rows(alloc, &tables, &[(7, 4), (8, 5), (11, 3)]));
+    assert!(rt; tables.put_all(&none).is_ok());
+    assert!(rt; has_rows(alloc, &tables, &[(7, 4), (8, 5), (11, 3)]));
     Ok(())
 }
 

@@ -16,3 +16,4 @@ pub mod EntriesAgain
 pub mod LineLengths
 pub mod BookLeads
 pub mod BookLaws
+pub mod CoreBooks

@@ -1,5 +1,5 @@
 -- Telling a verdict, and what an audit leaves.
-use Rattle.std.proofs.Common.{◌≡◌, ℕ, Bool, List, [], ◌++◌, Option, Some, None, Result, Ok, Err, refl, sym, ap, subst, ◌∙◌, append_assoc}
+use Rattle.std.proofs.Common.{◌≡◌, ℕ, Bool, List, [], ◌++◌, Option, Some, None, Result, Ok, Err, inl, inr, refl, sym, ap, subst, ◌∙◌, append_assoc}
 use Rattle.std.specs.Io.KnownBytes.{Appends, prepend_known}
 use Rattle.std.proofs.KnownBytes.{Appends-trans, Keeps-refl}
 use Rattle.std.specs.Result.{IsErrAnd}
@@ -58,10 +58,10 @@ refused (Err e) text after a is = subst (λ (t : Trouble). AuditGives (Err t) te
 
 -- the text is none of a book, or wasn't read, or memory was refused for it: nothing was written yet
 untouched : (fault : ReadFault) (text after a : Option (List ℕ)) (left : List ℕ) → (fault ≡ reads.Read → left ≡ []) → FailsFrom fault Version text (prepend_known left after) 0 → AuditGives (Err (read_trouble fault)) text after a a
-untouched (reads.Malformed n) text after a left emptied t = (Keeps-refl a, t)
+untouched (reads.Malformed n) text after a left emptied t = (Keeps-refl a, inl t)
 untouched reads.Read text after a left emptied t =
     (Keeps-refl a, subst (Unread Version text) (ap (λ (l : List ℕ). prepend_known l after) (emptied refl) ∙ known_nil after) t)
-untouched reads.TooManyLines text after a left emptied t = (Keeps-refl a, t)
+untouched reads.TooManyLines text after a left emptied t = (Keeps-refl a, inr (t, refl))
 untouched reads.Memory text after a left emptied t = Keeps-refl a
 
 pub stopped : (fault : ReadFault) (result : Result Bool Trouble) (unread : List ℕ) (n : ℕ) (text after a : Option (List ℕ)) (input : Source) → IsErrAnd result (λ e. e ≡ read_trouble fault) → unread ≡ [] → n ≡ 0

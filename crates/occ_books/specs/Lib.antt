@@ -6,3 +6,4 @@ pub mod Taking
 pub mod Places
 pub mod Printed
 pub mod Untold
+pub mod Cores

@@ -9,7 +9,7 @@ use Rattle.occ_model.specs.World.{empty_base}
 use Rattle.occ_text.specs.declared.faults.WriteFault.{WriteFault}
 use Rattle.occ_text.specs.declared.faults.WriteFault.TheVariants as faults
 use Rattle.occ_text.specs.declared.trouble.Trouble.{Trouble}
-use Rattle.occ_text.specs.declared.trouble.Trouble.TheVariants.{Read, TooManyLines, Write, Memory, Malformed}
+use Rattle.occ_text.specs.declared.trouble.Trouble.TheVariants.{Read, Write, Memory, Malformed}
 use Rattle.occ_text.specs.Line.{lines_text}
 use Rattle.occ_text.specs.Headers.{HeaderFits}
 use Rattle.occ_text.specs.HeaderTaking.{header_of}
@@ -80,12 +80,10 @@ pub record Judged (verdict : Bool) (text : Option (List ℕ)) : Type 0 where
 -- what the audit of a text leaves, by its outcome, where `after` is what the reader has left, and the writer's bytes were old and are new
 abbrev pub AuditGives : Result Bool Trouble → Option (List ℕ) → Option (List ℕ) → Option (List ℕ) → Option (List ℕ) → Type 0
 AuditGives (Ok verdict) text after old new = Judged verdict text × Appends old new (verdict_text verdict)
--- nothing was written, and the line is the first one that can't stand where it stands
-AuditGives (Err (Malformed line)) text after old new = Keeps old new × Stopped Version text 0 line
+-- nothing was written, and the line is the first one that can't stand where it stands, or the last one that has a number of 64 bits
+AuditGives (Err (Malformed line)) text after old new = Keeps old new × (Stopped Version text 0 line ⊎ (Uncounted Version text 0 × (line ≡ 2 ^ 64 - 1)))
 -- nothing was written, and a read failed: all that the reader gave is lines that lead on and a part of another
 AuditGives (Err Read) text after old new = Keeps old new × Unread Version text after
--- nothing was written, and the lines that lead on are more than can be counted
-AuditGives (Err TooManyLines) text after old new = Keeps old new × Uncounted Version text 0
 AuditGives (Err Memory) text after old new = Keeps old new
 -- what was written is a beginning of the line of the right verdict, and of no other
 AuditGives (Err Write) text after old new = (verdict : Bool) × Judged verdict text × ToldFront verdict old new

@@ -5,7 +5,7 @@ ghost use Rattle.std.specs.Bool.{Decides};
 ghost use Rattle.occ_model.specs.Log.{Audited};
 ghost use Rattle.occ_model.specs.World.{empty_base};
 ghost use Rattle.occ_text.specs.declared.trouble.Trouble.TheVariants.{Memory};
-ghost use Rattle.occ_books.specs.Printed.{AuditGives, TellGives, printed_book};
+ghost use Rattle.occ_books.specs.Printed.{AuditGives, TellGives, printed_book, verdict_text};
 
 use crate::printed::{PrintedBook, take_book};
 use occ_audit::audit_rows;
@@ -21,8 +21,9 @@ use std::io::{Read, Write};
 /// serial replay in the order of entry, and its state is what that leaves.
 ///
 /// An audit line behind the book may say anything. `Malformed` at the first line that can't stand where it stands, or that isn't
-/// there, `Read` where the reader fails, and `TooManyLines` after 2^64 - 1 lines: nothing was written then. `Write` where the writer fails, and `Memory` where memory
-/// was refused. The time is about linear in the book; the memory is linear in what the book tells, and no count is trusted.
+/// there, and at line 2^64 - 1 where that many lines were taken and the book goes on; `Read` where the reader fails: nothing was
+/// written then. `Write` where the writer fails, and `Memory` where memory was refused. The time is about linear in the book; the
+/// memory is linear in what the book tells, and no count is trusted.
 pub fn audit_text<R: Read, W: Write, A: Allocator + Copy>(
     alloc: A,
     reader: &mut R,
@@ -54,7 +55,14 @@ fn tell<W: Write, A: Allocator>(alloc: A, writer: &mut W, verdict: bool) -> Resu
     ensures { TellGives result verdict (W.contents writer.old) (W.contents writer.new) }
 {
     let mut output = Output::new(alloc);
-    output.push(writer, audit_line(verdict).as_bytes())?;
+    output.push(writer, verdict_line(verdict).as_bytes())?;
     output.flush(writer)?;
     Ok(())
+}
+
+// The line of a verdict, with its line feed.
+fn verdict_line(verdict: bool) -> &'static str
+    ensures { result.now ≡ verdict_text verdict }
+{
+    audit_line(verdict)
 }

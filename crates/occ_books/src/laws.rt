@@ -1,10 +1,15 @@
 //! The laws of books. Each function computes nothing: its contract is the law, and the check proves it.
 
-ghost use Rattle.std.specs.Prelude.{◌≡◌, ◌++◌, ℕ, List, Some};
+ghost use Rattle.std.specs.Prelude.{◌≡◌, ◌≤◌, ◌+◌, ◌++◌, ℕ, List, Some, length};
+ghost use Rattle.occ_types.specs.declared.limits.TheConstants.{MAX_COUNTER, MAX_LOG_ROWS};
+ghost use Rattle.occ_model.specs.Invariant.{Invariant};
+ghost use Rattle.occ_model.specs.World.{World, active_count, empty_base};
+ghost use Rattle.occ_text.specs.Headers.{Header};
 ghost use Rattle.occ_text.specs.Line.{lines_text};
 ghost use Rattle.occ_print.specs.Books.{Book, book_lines, book_text};
 ghost use Rattle.occ_books.specs.Places.{Place, Version, Audit, LeadOn, MayEnd, Stopped};
 ghost use Rattle.occ_books.specs.Printed.{BookFits, IsEnding};
+ghost use Rattle.occ_books.specs.Cores.{ContentFits, book_in};
 
 /// Lines lead from the beginning of a text to one place at most.
 pub fn lines_lead_to_one_place()
@@ -21,4 +26,12 @@ pub fn the_lines_of_a_book_lead_to_its_end()
 /// No text of a book that fits its header is malformed, at any line.
 pub fn no_text_of_a_book_is_malformed()
     ensures { (book : Book) → BookFits book → (lines : List (List ℕ)) → IsEnding lines → (number : ℕ) → Stopped Version (Some (book_text book ++ lines_text lines)) 0 number → ⊥ }
+{}
+
+/// The book of a core fits its header where its content does. The premises on the world are those that the law of a core ensures: its
+/// places, its numbers, its counts and its counter fit. What is left to show of a core is its content: that each row is of a session
+/// of the header, and that keys, rows and questions fit the tables.
+pub fn the_book_of_a_core_fits_where_its_content_does()
+    ensures { (header : Header) → (world : World) → Invariant world → world.base ≡ empty_base → world.counter + active_count world ≤ MAX_COUNTER → length world.log ≤ MAX_LOG_ROWS
+        → ContentFits header world → BookFits (book_in header world) }
 {}

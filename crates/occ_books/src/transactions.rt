@@ -86,7 +86,30 @@ fn note<A: Allocator + Copy>(reads: &mut ReadSet<A>, read: Observation<A>) -> Re
     }
 }
 
-/// Takes the reads of a row. Memory is asked for read by read, since the count may be any.
+// How many of the reads, and of the writes, of a row get their room at once. No count is trusted with more.
+const FIRST_ROOM: usize = 4;
+
+/// No reads, with room for the first of so many.
+fn no_reads<A: Allocator + Copy>(alloc: A, count: usize) -> Result<ReadSet<A>, AllocError>
+    ensures { IfOk result (λ reads. reads ≡ []) }
+{
+    match ReadSet::with_capacity(alloc, count.min(FIRST_ROOM)) {
+        Ok(reads) => Ok(reads),
+        Err(_fault) => Err(AllocError),
+    }
+}
+
+/// No writes, with room for the first of so many.
+fn no_writes<A: Allocator + Copy>(alloc: A, count: usize) -> Result<WriteSet<A>, AllocError>
+    ensures { IfOk result (λ writes. writes ≡ []) }
+{
+    match WriteSet::with_capacity(alloc, count.min(FIRST_ROOM)) {
+        Ok(writes) => Ok(writes),
+        Err(_fault) => Err(AllocError),
+    }
+}
+
+/// Takes the reads of a row. Memory for all but the first few is asked for read by read, since the count may be any.
 fn take_reads<R: Read, A: Allocator + Copy>(
     alloc: A,
     input: &mut Input<A>,
@@ -98,7 +121,7 @@ fn take_reads<R: Read, A: Allocator + Copy>(
     ensures led { (row : InRow) → row.frame.schema ≡ schema.now → TakesFrom result (reads_to_come row count) (λ _. writes_to_come row row.head.writes []) (prepend_known input.old.unread (R.remaining reader.old)) (prepend_known input.new.unread (R.remaining reader.new)) input.old.number input.new.number }
     ensures cause { IfErr result (λ fault. fault ≡ read_faults.Read → HasFailed input.new) }
 {
-    let mut reads = ReadSet::new(alloc);
+    let mut reads = no_reads(alloc, count)?;
     for _ in 0..count {
         let read = take_read(alloc, input, reader, schema)?;
         note(&mut reads, read)?;
@@ -126,7 +149,7 @@ fn add_write<A: Allocator + Copy>(
     }
 }
 
-/// Takes the writes of a row, no object twice. Memory is asked for write by write, since the count may be any.
+/// Takes the writes of a row, no object twice. Memory for all but the first few is asked for write by write, since the count may be any.
 fn take_writes<R: Read, A: Allocator + Copy>(
     alloc: A,
     input: &mut Input<A>,
@@ -140,7 +163,7 @@ fn take_writes<R: Read, A: Allocator + Copy>(
 {
     // its tables make a schema, so no other write has the line of one
     let _tables = schema.tables();
-    let mut writes = WriteSet::new(alloc);
+    let mut writes = no_writes(alloc, count)?;
     for _ in 0..count {
         let (object, row) = take_write(alloc, input, reader, schema)?;
         read_at_line(add_write(&mut writes, object, row), input.number())?;

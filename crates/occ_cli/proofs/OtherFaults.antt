@@ -21,8 +21,10 @@ use Rattle.occ_model.specs.World.{World, ReadPhase, due, reads_under, active_cou
 use Rattle.occ_model.specs.Event.{Request, Alone, Close, Event, Read, Forget, Enter, Decide, WriteOne, Finish, BackUp, SerialEnd, RunAlone, Checkpoint}
 use Rattle.occ_model.specs.Refusal as refusals
 use Rattle.occ_model.specs.Refusal.{refusal, row_is_open, row_is_back, has_writes_left, wrong_start, check_writes, check_number, check_operation, check_operations, refusal_of_request, refusal_of_close, refusal_of_alone}
+use Rattle.occ_queue.specs.Numbering as queues
+use Rattle.occ_queue.specs.Numbering.{Numbered, next, is_full}
 use Rattle.occ_sets.specs.Sets.{Copied, is_full_for}
-use Rattle.occ_cli.specs.Replaying.{Client, and_then, unless, client_of, copy_of, table_named, object_named, span_named, next_number, submitted, check_written, write_named}
+use Rattle.occ_cli.specs.Replaying.{Client, and_then, unless, client_of, copy_of, table_named, object_named, span_named, next_number, submitted, mark_of, check_written, write_named}
 
 -- whether a fault is the want of memory
 abbrev is_memory : Fault → Bool
@@ -246,10 +248,28 @@ span_other schema name lower upper = by_both (table_named schema name) _ (table_
     (λ place. by_unless (check_question schema (Span place (Some lower) (Some upper))) (Span place (Some lower) (Some upper)) (by_question schema (Span place (Some lower) (Some upper))))
 
 pub number_other : (client : Client) → wants (next_number client) ≡ false
-number_other client = by_unless _ (client.pushed + 1) (guard (is_some client.copy) faults.ReadOpen _ refl (guard (nat_le MAX_NUMBER (client.pushed + 1)) faults.NumbersExhausted [] refl refl))
+number_other client = by_unless _ (next client.queue)
+    (guard client.queue.closed faults.Closed _ refl
+    (guard (is_some client.copy) faults.ReadOpen _ refl
+    (guard (nat_le MAX_NUMBER (next client.queue)) faults.NumbersExhausted [] refl refl)))
+
+-- of its queue
+by_queue : (queue : Numbered) (number : ℕ) → is_want (queues.refusal_of_request queue number) ≡ false
+by_queue queue number =
+    guard queue.closed faults.Closed _ refl
+    (guard (nat_le MAX_NUMBER (next queue)) faults.NumbersExhausted _ refl
+    (guard (not (number == next queue)) faults.OutOfTurn _ refl
+    (guard (is_full queue) faults.QueueFull [] refl refl)))
 
 pub submitted_other : (client : Client) → wants (submitted client) ≡ false
-submitted_other client = by_both (copy_of client) _ (copy_other client) (λ copy. by_unless _ copy (by_test (nat_le client.limit (length client.queue)) faults.QueueFull refl))
+submitted_other client = by_both (unless (fault_if client.queue.closed faults.Closed) client) _ (by_unless _ client (by_test client.queue.closed faults.Closed refl))
+    (λ c. by_both (copy_of c) _ (copy_other c) (λ copy. by_unless _ copy (by_queue client.queue copy.number)))
+
+pub mark_other : (client : Client) → wants (mark_of client) ≡ false
+mark_other client = by_unless _ (next client.queue)
+    (guard client.queue.closed faults.Closed _ refl
+    (guard (is_some client.copy) faults.ReadOpen _ refl
+    (guard (is_full client.queue) faults.QueueFull [] refl refl)))
 
 pub write_other : (schema : Schema) (name : List ℕ) (key : Key) (row : Option Row) (copy : Copied) → wants (write_named schema name key row copy) ≡ false
 write_other schema name key row copy = by_both (object_named schema name key) _ (object_other schema name key)

@@ -34,7 +34,7 @@ use Rattle.occ_cli.specs.declared.answers.Answer.TheVariants as answers
 use Rattle.occ_cli.specs.Answers.{Answer, answer_of}
 use Rattle.occ_cli.specs.Answers as says
 use Rattle.occ_cli.proofs.Starving.{plays_starved}
-use Rattle.occ_cli.specs.Replaying.{AtMostOneStep, Played, PlayedIn, PutOff, Starved, CopyWantsScan, Plays, Begins, Submits, Writes, Gets, GetsIn, Scans, next_item, still_waiting, kept_after, copy_of, object_named, Client, Replayed, Given, client_of, span_named, Tells, ScansIn, ByStore, ByClient, ByAsking, Enters, overlaid, replied, played}
+use Rattle.occ_cli.specs.Replaying.{AtMostOneStep, Played, PlayedIn, PutOff, Starved, CopyWantsScan, Plays, Begins, Abandons, Submits, Closes, Writes, Gets, GetsIn, Scans, next_item, still_waiting, kept_after, copy_of, open_after, object_named, place_named, Client, Replayed, Given, client_of, span_named, Tells, ScansIn, ByStore, ByClient, ByBoth, ByAsking, Enters, overlaid, replied, played}
 
 -- What is played of the store.
 
@@ -98,6 +98,18 @@ module _ {C : Type 0} (old new : Replayed) (answer : Answer) (stays : new.world 
   item_by session client next None h = stays h.2
   item_by session client next (Some i) h = does (events.Enter session i) h.0 h.1 (told_said h.0 answer h.2)
 
+  opened_by : (session : ℕ) (client next : Client) (copy : Option Copied)
+      → MatchOption copy ((answer ≡ says.refused faults.NoReadOpen) × (next ≡ client) × (new.world ≡ old.world))
+      (λ c. (reply : Reply) × Step old.world (events.Forget session c.number) reply new.world × (answer ≡ says.Replied reply) × (next ≡ record client { copy = open_after c reply }))
+      → C
+  opened_by session client next None h = stays h.2
+  opened_by session client next (Some c) h = does (events.Forget session c.number) h.0 h.1 (told_said h.0 answer h.2)
+
+  both_by : (session : ℕ) (Moves : Client → Client → Type 0) → ((client next : Client) → Moves client next → C) → ByBoth old session answer new Moves → C
+  both_by session Moves by h =
+      given_by (client_of old.clients session) old new (λ client. (next : Client) × Moves client next × (new.clients ≡ slice_set old.clients (session - 1) next))
+      (ap (λ (r : Replayed). r.world)) (λ client m. by client m.0 m.1) h
+
   client_by : (session : ℕ) (Moves : Client → Client → Type 0) → ByClient old session answer new Moves → C
   client_by session Moves h =
       given_by (client_of old.clients session) old new (λ client. (next : Client) × Moves client next × (new ≡ record old { clients = slice_set old.clients (session - 1) next }))
@@ -109,11 +121,12 @@ module _ {C : Type 0} (old new : Replayed) (answer : Answer) (stays : new.world 
 
   pub plays_by : (step : steps.Step) → Plays old step answer new → C
   plays_by (steps.Does acts.Begin session) h = client_by session (λ client next. Begins old.world.counter client answer next) h
+  plays_by (steps.Does acts.Abandon session) h =
+      both_by session (λ client next. Abandons old.world session client answer next new.world) (λ client next m. opened_by session client next client.copy m) h
   plays_by (steps.Does acts.Submit session) h = client_by session (λ client next. Submits client answer next) h
+  plays_by (steps.Does acts.Close session) h = client_by session (λ client next. Closes client answer next) h
   plays_by (steps.Does acts.Enter session) h =
-      given_by (client_of old.clients session) old new
-      (λ client. (next : Client) × Enters old.world session client answer next new.world × (new.clients ≡ slice_set old.clients (session - 1) next)) (ap (λ (r : Replayed). r.world))
-      (λ client m. item_by session client m.0 (next_item client) m.1) h
+      both_by session (λ client next. Enters old.world session client answer next new.world) (λ client next m. item_by session client next (next_item client) m) h
   plays_by (steps.Does acts.Decide session) h = tells_by (events.Decide session) h.0
   plays_by (steps.Does acts.Write session) h = tells_by (events.WriteOne session) h.0
   plays_by (steps.Does acts.Finish session) h = tells_by (events.Finish session) h.0
@@ -124,6 +137,8 @@ module _ {C : Type 0} (old new : Replayed) (answer : Answer) (stays : new.world 
       asking_by session (λ client. Scans old.world session name lower upper client answer new.world) (λ client g. scans_by session name lower upper client g) h
   plays_by (steps.Put session name key row) h = client_by session (λ client next. Writes old.world.settings.schema name key (Some row) client answer next) h
   plays_by (steps.Delete session name key) h = client_by session (λ client next. Writes old.world.settings.schema name key None client answer next) h
+  plays_by (steps.Forge session number start) h = tells_by (events.Enter session (events.Request number start [])) h.0
+  plays_by (steps.RawRead session number start name key) h = tells_by (events.Read session number start (One (place_named old.world.settings.schema name) key)) h.0
   plays_by steps.Show h = stays (ap (λ (r : Replayed). r.world) h.1)
 
 -- whatever is played, the store does at most one step
@@ -242,6 +257,20 @@ module _ {Z : Type 0} where
       subst (λ (f : Fault). Enters old.world session client (says.Replied (events.Refused f)) next new.world) (sym told_as)
       (entered_so old session client item (replies.RefusedItem refused) next new is answered left)
 
+-- a step of the store that is never put off
+pub never_off : {M P : Type 0} → (M × ⊥) ⊎ P → P
+never_off (inl off) = absurd off.1
+never_off (inr so) = so
+
+-- the store refused to forget what a transaction read, which stays open
+pub abandon_refused : (old : World) (session : ℕ) (client : Client) (copy : Copied) (fault : Fault) (new : World) → client.copy ≡ Some copy → Step old (events.Forget session copy.number) (events.Refused fault) new
+    → Abandons old session client (says.refused fault) client new
+abandon_refused old session client copy fault new is step =
+    subst
+    (λ (o : Option Copied). MatchOption o ((says.refused fault ≡ says.refused faults.NoReadOpen) × (client ≡ client) × (new ≡ old))
+    (λ c. (reply : Reply) × Step old (events.Forget session c.number) reply new × (says.refused fault ≡ says.Replied reply) × (client ≡ record client { copy = open_after c reply })))
+    (sym is) (events.Refused fault, step, refl, ap (λ (o : Option Copied). record client { copy = o }) is)
+
 -- no element stands behind the end
 pub none_at : {X : Type 0} (xs : List X) (place : ℕ) → length xs ≤ place → slice_get xs place ≡ None
 none_at [] place le = refl
@@ -339,12 +368,11 @@ module _ {Z : Type 0} (world : World) (clients : List Client) (self : Replayed) 
   no_mover shown session e f Moves showing is same none =
       no_seat shown session e f (λ answer c. (n : Client) × Moves answer c n × (self ≡ record self { clients = slice_set self.clients (session - 1) n })) showing is same none
 
-  -- a client that enters the store isn't there
-  pub no_enterer : (shown : List Client) (session : ℕ) (e f : Fault) → shown ≡ clients → r ≡ Err e → e ≡ f → client_of shown session ≡ Err f
-      → Given (client_of self.clients session) self (played r) self
-      (λ c. (n : Client) × Enters self.world session c (played r) n self.world × (self.clients ≡ slice_set self.clients (session - 1) n))
-  no_enterer shown session e f showing is same none =
-      no_seat shown session e f (λ answer c. (n : Client) × Enters self.world session c answer n self.world × (self.clients ≡ slice_set self.clients (session - 1) n)) showing is same none
+  -- a client that moves with the store isn't there
+  pub no_partner : (shown : List Client) (session : ℕ) (e f : Fault) (Moves : Answer → Client → Client → Type 0) → shown ≡ clients → r ≡ Err e → e ≡ f → client_of shown session ≡ Err f
+      → ByBoth self session (played r) self (Moves (played r))
+  no_partner shown session e f Moves showing is same none =
+      no_seat shown session e f (λ answer c. (n : Client) × Moves answer c n × (self.clients ≡ slice_set self.clients (session - 1) n)) showing is same none
 
   module _ (shown : List Client) (showing : shown ≡ clients) (session place : ℕ) (there : (session ≡ suc place) × (place < length shown)) (client : Client) (at : client ≡ get_or clients place client) where
     is_seated : client_of clients session ≡ Ok client
@@ -385,11 +413,10 @@ module _ {Z : Type 0} (world : World) (clients : List Client) (self : Replayed) 
     by_asking next Wanting Asks (inl memory) = inl (memory.0, (seated_so Wanting memory.1.0, ap (λ (w : World). record { world = w; clients = clients }) memory.1.1 ∙ view))
     by_asking next Wanting Asks (inr does) = inr (seated (record { world = next; clients = clients }) (λ old answer c. Asks old.world answer c × (clients ≡ old.clients)) (does, refl))
 
-    -- a step of a client that enters the store
-    pub by_entering : (next : Client) (later : World) → Enters world session client (played r) next later
-        → Given (client_of self.clients session) self (played r) (record { world = later; clients = slice_set clients place next })
-        (λ c. (n : Client) × Enters self.world session c (played r) n later × (slice_set clients place next ≡ slice_set self.clients (session - 1) n))
-    by_entering next later does =
+    -- a step of a client with the store
+    pub by_both : (next : Client) (later : World) (Moves : World → Answer → Client → Client → Type 0) → Moves world (played r) client next
+        → ByBoth self session (played r) (record { world = later; clients = slice_set clients place next }) (Moves self.world (played r))
+    by_both next later Moves does =
         let moved : slice_set clients place next ≡ slice_set clients (session - 1) next = ap (λ (k : ℕ). slice_set clients k next) is_place in
         seated (record { world = later; clients = slice_set clients place next })
-        (λ old answer c. (n : Client) × Enters old.world session c answer n later × (slice_set clients place next ≡ slice_set old.clients (session - 1) n)) (next, does, moved)
+        (λ old answer c. (n : Client) × Moves old.world answer c n × (slice_set clients place next ≡ slice_set old.clients (session - 1) n)) (next, does, moved)

@@ -9,21 +9,23 @@ use Rattle.occ_types.specs.Schema.{Schema}
 use Rattle.occ_types.specs.declared.fault.Fault.TheVariants as faults
 use Rattle.occ_text.specs.declared.tokens.Unread.{Unread}
 use Rattle.occ_text.specs.declared.tokens.Unread.TheVariants as unread
+use Rattle.occ_text.specs.declared.faults.LineFault.{LineFault}
+use Rattle.occ_text.specs.declared.faults.LineFault.TheVariants as lines
 use Rattle.occ_text.specs.declared.faults.ReadFault.{ReadFault}
 use Rattle.occ_text.specs.declared.faults.ReadFault.TheVariants as read_faults
 use Rattle.occ_text.specs.Escapes.{Gives}
-use Rattle.occ_text.specs.Faults.{read_trouble, told}
+use Rattle.occ_text.specs.Faults.{read_fault, read_trouble, told}
 use Rattle.occ_text.specs.declared.faults.WriteFault.{WriteFault}
 use Rattle.occ_text.specs.declared.faults.WriteFault.TheVariants as write_faults
 use Rattle.occ_text.specs.declared.trouble.Trouble.{Trouble}
 use Rattle.occ_text.specs.declared.trouble.Trouble.TheVariants as troubles
 use Rattle.occ_cli.specs.Answers as says
 use Rattle.occ_cli.specs.Answers.{Answer, answer_text}
-use Rattle.occ_text.specs.Line.{IsLine, lines_text}
+use Rattle.occ_text.specs.Line.{Source, IsLine, LineGives, lines_text}
 use Rattle.occ_text.specs.Printing.{Pushed, PushedFront, PrintGives}
 use Rattle.occ_model.specs.World.{Settings}
 use Rattle.occ_cli.specs.Replaying.{Replayed, Plays}
-use Rattle.occ_cli.specs.Schedules.{Turn, PlaysAll, step_lines, answer_lines, LineOfNoStep}
+use Rattle.occ_cli.specs.Schedules.{Turn, PlaysAll, step_lines, answer_lines, NoLineThere, LineOfNoStep, IsNoTurn}
 use Rattle.occ_text.specs.Steps.{Step, StepFits, step_text}
 use Rattle.occ_cli.specs.Turns.{IsTurn, IsHalfTurn, AreTurns, AreHalfSaid, AnswerGives, TurnGives, TurnsGive}
 use Rattle.occ_cli.proofs.Settings.{plays_keep, plays_all_keep}
@@ -104,6 +106,17 @@ spoken {T} result quiet schema step answer old new a b held holds loud is plays 
     by (Err write_faults.Write) k = record { answer = answer; turn = record { plays = plays; fed = fed }; wrote = k }
     by (Err write_faults.Memory) k = inr (record { answer = answer; turn = record { plays = plays; fed = fed }; wrote = k })
 
+-- no line was taken
+pub turn_stopped : (fault : LineFault) (result : Result Bool Trouble) (quiet : Bool) (schema : Schema) (a b w : Option (List ℕ)) (held : List ℕ) (old new : Source) (now : Replayed) → IsErrAnd result (λ e. e ≡ read_trouble (read_fault fault)) → LineGives (Err fault) a b old new
+    → TurnGives quiet schema (Pushed w w held held) (PushedFront w w held held) result a b old.number new.number now now
+turn_stopped fault (Ok more) quiet schema a b w held old new now is h = absurd is
+turn_stopped (lines.Malformed n) (Err e) quiet schema a b w held old new now is h =
+    subst (λ (t : Trouble). TurnGives quiet schema (Pushed w w held held) (PushedFront w w held held) (Err t) a b old.number new.number now now) (sym is) (inl (NoLineThere h.0, h.1), Pushed-nothing w held)
+turn_stopped lines.Read (Err e) quiet schema a b w held old new now is h =
+    subst (λ (t : Trouble). TurnGives quiet schema (Pushed w w held held) (PushedFront w w held held) (Err t) a b old.number new.number now now) (sym is) (h.0, h.1, h.2, Pushed-nothing w held)
+turn_stopped lines.TooManyLines (Err e) quiet schema a b w held old new now is h =
+    subst (λ (t : Trouble). TurnGives quiet schema (Pushed w w held held) (PushedFront w w held held) (Err t) a b old.number new.number now now) (sym is) (inr (h.1, refl), Pushed-nothing w held)
+
 -- the line is that of no step, or memory was refused for it
 pub turn_unread : {X : Type 0} (view : X → Step) (read : Result X Unread) (fault : ReadFault) (result : Result Bool Trouble) (quiet : Bool) (schema : Schema) (a b w : Option (List ℕ)) (held shown line : List ℕ) (n first last : ℕ) (now : Replayed) → IsErrAnd result (λ e. e ≡ read_trouble fault)
     → Consumes a b (line ++ 10 ∷ []) × IsLine line × (last ≡ first + 1) → shown ≡ line → n ≡ last → ((step : Step) → StepFits step → shown ≡ step_text step → Gives view read (Some step)) → Err fault ≡ told read n
@@ -113,7 +126,7 @@ turn_unread view (Ok x) fault (Err e) quiet schema a b w held shown line n first
 turn_unread view (Err unread.Malformed) fault (Err e) quiet schema a b w held shown line n first last now is taken shows here again why =
     let malformed : fault ≡ read_faults.Malformed n = cc why in
     subst (λ (t : Trouble). TurnGives quiet schema (Pushed w w held held) (PushedFront w w held held) (Err t) a b first last now now) (sym (is ∙ ap read_trouble malformed))
-    (LineOfNoStep line b taken.0 taken.1 (λ step fits e. let none = again step fits (shows ∙ e) in cc none), here ∙ taken.2, Pushed-nothing w held)
+    (inl (LineOfNoStep line b taken.0 taken.1 (λ step fits e. let none = again step fits (shows ∙ e) in cc none), here ∙ taken.2), Pushed-nothing w held)
 turn_unread view (Err unread.Memory) fault (Err e) quiet schema a b w held shown line n first last now is taken shows here again why =
     let memory : fault ≡ read_faults.Memory = cc why in
     subst (λ (t : Trouble). TurnGives quiet schema (Pushed w w held held) (PushedFront w w held held) (Err t) a b first last now now) (sym (is ∙ ap read_trouble memory)) (inl (front_none w held []))
@@ -192,13 +205,10 @@ pub so_far_stopped : {T : Type 0} (result : Result T Trouble) (trouble : Trouble
     → TurnsGive quiet schema (Pushed wa wc held keeps) (PushedFront wa wc held keeps) result a c first old next
 so_far_stopped result (troubles.Malformed n) quiet schema a b c old now next wa wb wc held holds keeps first mid last is s t =
     subst (λ (r : Result _ Trouble). TurnsGive quiet schema (Pushed wa wc held keeps) (PushedFront wa wc held keeps) r a c first old next) (sym is)
-    (s.turns, b, now, s.are, t.0, t.1 ∙ ap (λ (k : ℕ). k + 1) s.number, pushed_no_more wa wb wc held holds keeps (lines_text (answer_lines quiet schema s.turns)) s.said t.2)
+    (s.turns, b, now, s.are, subst (λ (k : ℕ). IsNoTurn b k n) s.number t.0, pushed_no_more wa wb wc held holds keeps (lines_text (answer_lines quiet schema s.turns)) s.said t.1)
 so_far_stopped result troubles.Read quiet schema a b c old now next wa wb wc held holds keeps first mid last is s t =
     subst (λ (r : Result _ Trouble). TurnsGive quiet schema (Pushed wa wc held keeps) (PushedFront wa wc held keeps) r a c first old next) (sym is)
     (s.turns, t.0, b, now, s.are, t.1, t.2, pushed_no_more wa wb wc held holds keeps (lines_text (answer_lines quiet schema s.turns)) s.said t.3)
-so_far_stopped result troubles.TooManyLines quiet schema a b c old now next wa wb wc held holds keeps first mid last is s t =
-    subst (λ (r : Result _ Trouble). TurnsGive quiet schema (Pushed wa wc held keeps) (PushedFront wa wc held keeps) r a c first old next) (sym is)
-    (s.turns, b, now, s.are, sym s.number ∙ t.0, pushed_no_more wa wb wc held holds keeps (lines_text (answer_lines quiet schema s.turns)) s.said t.1)
 so_far_stopped result troubles.Write quiet schema a b c old now next wa wb wc held holds keeps first mid last is s t =
     subst (λ (r : Result _ Trouble). TurnsGive quiet schema (Pushed wa wc held keeps) (PushedFront wa wc held keeps) r a c first old next) (sym is)
     (half_more quiet schema a b c old now next wa wb wc held holds keeps first mid s t)

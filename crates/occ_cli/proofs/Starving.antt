@@ -23,8 +23,8 @@ use Rattle.occ_text.specs.Steps as steps
 use Rattle.occ_text.specs.declared.steps.Act.TheVariants as acts
 use Rattle.occ_cli.specs.Answers.{Answer}
 use Rattle.occ_cli.specs.Answers as says
-use Rattle.occ_cli.specs.Replaying.{Replayed, Client, Given, Wants, WantsGet, CopyWantsGet, WantsScan, Starved, Plays, Begins, Submits, Writes, Gets, Scans, Tells, next_item, still_waiting, kept_after, client_of, copy_of, object_named, span_named, next_number, submitted, write_named}
-use Rattle.occ_cli.proofs.OtherFaults.{is_want, wants, refusal_other, client_other, copy_other, object_other, span_other, number_other, submitted_other, write_other}
+use Rattle.occ_cli.specs.Replaying.{Replayed, Client, Given, Wants, WantsGet, CopyWantsGet, WantsScan, Starved, Plays, Begins, Submits, Closes, Writes, Gets, Scans, Tells, next_item, still_waiting, kept_after, client_of, copy_of, open_after, object_named, place_named, span_named, next_number, submitted, mark_of, write_named}
+use Rattle.occ_cli.proofs.OtherFaults.{is_want, wants, refusal_other, client_other, copy_other, object_other, span_other, number_other, submitted_other, mark_other, write_other}
 
 -- the answer that tells of it
 abbrev hungry : Answer
@@ -79,6 +79,9 @@ no_begin counter old new begins = and_none (next_number old) _ (λ number said. 
 no_submit : (old new : Client) → Submits old hungry new → ⊥
 no_submit old new submits = and_none (submitted old) _ (λ copy said. let is = said.0 in cc is) (met (submitted old) old new _ (submitted_other old) submits)
 
+no_close : (old new : Client) → Closes old hungry new → ⊥
+no_close old new closes = and_none (mark_of old) _ (λ number said. let is = said.0 in cc is) (met (mark_of old) old new _ (mark_other old) closes)
+
 no_write : (schema : Schema) (name : List ℕ) (key : Key) (row : Option Row) (old new : Client) → Writes schema name key row old hungry new → ⊥
 no_write schema name key row old new writes = and_none (copy_of old) _
     (λ copy m. and_none (write_named schema name key row copy) _ (λ write said. let is = said.0 in cc is)
@@ -132,10 +135,19 @@ put_left world session puts = go (latest session world.log) puts
 never : (old new : World) (event : Event) → takes_memory old event ≡ false → Tells old event hungry new → ⊥
 never old new event takes tells = let wants_it = (starved_told old new event tells).0.1 in cc
 
+no_abandon : (old new : World) (session : ℕ) (client next : Client) (copy : Option Copied)
+    → MatchOption copy ((hungry ≡ says.refused faults.NoReadOpen) × (next ≡ client) × (new ≡ old))
+    (λ c. (reply : Reply) × Step old (events.Forget session c.number) reply new × (hungry ≡ says.Replied reply) × (next ≡ record client { copy = open_after c reply }))
+    → ⊥
+no_abandon old new session client next None h = let is = h.0 in cc is
+no_abandon old new session client next (Some c) h = never old new (events.Forget session c.number) refl (h.0, h.1, h.2)
+
 -- whatever is played so is a step that may want memory
 pub plays_starved : (old : Replayed) (step : steps.Step) (new : Replayed) → new.world ≡ old.world → Plays old step (says.refused faults.Memory) new → Starved old step new
 plays_starved old (steps.Does acts.Begin session) new same h = and_none (client_of old.clients session) _ (λ client m. no_begin old.world.counter client m.0 m.1) (met (client_of old.clients session) old new _ (client_other old.clients session) h)
+plays_starved old (steps.Does acts.Abandon session) new same h = and_none (client_of old.clients session) _ (λ client m. no_abandon old.world new.world session client m.0 client.copy m.1) (met (client_of old.clients session) old new _ (client_other old.clients session) h)
 plays_starved old (steps.Does acts.Submit session) new same h = and_none (client_of old.clients session) _ (λ client m. no_submit client m.0 m.1) (met (client_of old.clients session) old new _ (client_other old.clients session) h)
+plays_starved old (steps.Does acts.Close session) new same h = and_none (client_of old.clients session) _ (λ client m. no_close client m.0 m.1) (met (client_of old.clients session) old new _ (client_other old.clients session) h)
 plays_starved old (steps.Does acts.Enter session) new same h = and_so (client_of old.clients session) _ _
     (λ client m. (m.0, (starves_item old.world new.world session client m.0 (next_item client) m.1).0, λ i. record { world = same i; clients = m.2 i }))
     (met (client_of old.clients session) old new _ (client_other old.clients session) h)
@@ -161,4 +173,8 @@ plays_starved old (steps.Scan session name lower upper) new same h =
     kept (Err fault) is = absurd is
 plays_starved old (steps.Put session name key row) new same h = absurd (and_none (client_of old.clients session) _ (λ client m. no_write old.world.settings.schema name key (Some row) client m.0 m.1) (met (client_of old.clients session) old new _ (client_other old.clients session) h))
 plays_starved old (steps.Delete session name key) new same h = absurd (and_none (client_of old.clients session) _ (λ client m. no_write old.world.settings.schema name key None client m.0 m.1) (met (client_of old.clients session) old new _ (client_other old.clients session) h))
+plays_starved old (steps.Forge session number start) new same h =
+    ((starved_told old.world new.world (events.Enter session (events.Request number start [])) h.0).0, unchanged old new same h.1)
+plays_starved old (steps.RawRead session number start name key) new same h =
+    ((starved_told old.world new.world (events.Read session number start (One (place_named old.world.settings.schema name) key)) h.0).0, unchanged old new same h.1)
 plays_starved old steps.Show new same h = let is = h.0 in cc is

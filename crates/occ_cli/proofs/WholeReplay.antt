@@ -1,5 +1,5 @@
 -- A whole replay, put together from its parts.
-use Rattle.std.proofs.Common.{◌≡◌, ℕ, ◌+◌, ◌-◌, ◌^◌, ◌≤◌, arith, refl, Bool, true, List, [], ◌∷◌, ◌++◌, length, Option, None, Some, Result, Ok, Err, sym, ap, subst, ◌∙◌, ◌⊎◌, inl, inr, append_assoc, append-nil, length-append}
+use Rattle.std.proofs.Common.{◌≡◌, ℕ, ◌+◌, arith, refl, Bool, true, List, [], ◌∷◌, ◌++◌, length, Option, None, Some, Result, Ok, Err, sym, ap, subst, ◌∙◌, inl, inr, append_assoc, append-nil, length-append}
 use Rattle.std.specs.Prelude.{IfErr}
 use Rattle.std.specs.Result.{IsErrAnd}
 use Rattle.std.specs.Io.KnownBytes.{Consumes, Appends, Keeps, IsAtEnd, prepend_known}
@@ -14,13 +14,12 @@ use Rattle.occ_text.specs.declared.faults.WriteFault.TheVariants as write_faults
 use Rattle.occ_text.specs.Faults.{read_trouble, write_trouble}
 use Rattle.occ_text.specs.declared.trouble.Trouble.{Trouble}
 use Rattle.occ_text.specs.declared.trouble.Trouble.TheVariants as troubles
-use Rattle.occ_print.specs.Books.{book_lines}
 use Rattle.occ_text.specs.Headers.{Header, HeaderFits, header_text}
 use Rattle.occ_text.specs.HeaderTaking.{BeginsHeader, HeaderTaken}
 use Rattle.occ_text.specs.Line.{Source, HasFailed, NoneTaken, lines_text}
 use Rattle.occ_text.specs.Printing.{Pushed, PushedFront}
 use Rattle.occ_cli.specs.Replaying.{Replayed}
-use Rattle.occ_cli.specs.Schedules.{Turn, Schedule, IsReplayed, opened_by, step_lines, schedule_lines, answer_lines, book_at, book_after, IsAudited, closing_lines, replay_lines, IsMalformedAt, MalformedHeader, MalformedStep, IsUnreadable, UnreadHeader, UnreadStep, IsUncounted, IsCutShort, CutBefore, CutAmid, CutAtEnd, ReplayGives, AppendsFront}
+use Rattle.occ_cli.specs.Schedules.{Turn, Schedule, IsReplayed, opened_by, step_lines, schedule_lines, answer_lines, book_at, book_after, IsAudited, closing_lines, replay_lines, IsNoTurn, IsMalformedAt, MalformedHeader, MalformedStep, MalformedUncounted, IsUnreadable, UnreadHeader, UnreadStep, IsUncounted, IsCutShort, CutBefore, CutAmid, CutAtEnd, ReplayGives, AppendsFront}
 use Rattle.occ_text.specs.Sending.{Sends}
 use Rattle.occ_text.specs.Steps.{step_text}
 use Rattle.occ_cli.specs.Turns.{AreTurns, TurnsGive, ClosingGives, is_cut_short}
@@ -62,6 +61,12 @@ stops trouble = Err trouble
 count : (front : List (List ℕ)) (turns : List Turn) → length (front ++ step_lines turns) ≡ length front + length turns
 count front turns = length-append front (step_lines turns) ∙ ap (λ (k : ℕ). length front + k) (length-map turns (λ (turn : Turn). step_text turn.0))
 
+-- the line behind some turns is malformed
+malformed_behind : (quiet : Bool) (a rest : Option (List ℕ)) (Wrote WroteFront : List ℕ → Type 0) (s : Schedule) (n : ℕ) → IsReplayed s → Consumes a rest (lines_text (schedule_lines s)) → IsNoTurn rest (length (schedule_lines s)) n
+    → Wrote (lines_text (answer_lines quiet s.header.tables s.turns)) → IsMalformedAt quiet a Wrote WroteFront n
+malformed_behind quiet a rest Wrote WroteFront s n is taken (inl h) said = MalformedStep s rest is taken h.0 h.1 said
+malformed_behind quiet a rest Wrote WroteFront s n is taken (inr h) said = MalformedUncounted (record { schedule = s; rest = rest; replayed = is; taken = taken; number = h.0; wrote = said }) h.1
+
 -- the steps ended with trouble
 stopped_with : {T : Type 0} (result : Result T Trouble) (trouble : Trouble) (quiet : Bool) (header : Header) (a b c : Option (List ℕ)) (w v : Option (List ℕ)) (held keeps : List ℕ) (first : ℕ) (new : Replayed) → result ≡ Err trouble
     → Consumes a b (lines_text (header_text header)) → HeaderFits header → first ≡ length (header_text header)
@@ -69,20 +74,11 @@ stopped_with : {T : Type 0} (result : Result T Trouble) (trouble : Trouble) (qui
     → ReplayGives quiet a (Pushed w v held keeps) (PushedFront w v held keeps) result c
 stopped_with result (troubles.Malformed n) quiet header a b c w v held keeps first new is taken fits number t =
     subst (λ (r : Result _ Trouble). ReplayGives quiet a (Pushed w v held keeps) (PushedFront w v held keeps) r c) (sym is)
-    (MalformedStep (of_turns header t.0 t.2) t.1 (is_replayed header t.0 t.2 b t.1 fits t.3) (lines_taken a b t.1 (header_text header) (step_lines t.0) taken t.3.taken) t.4
-    (t.5 ∙ ap (λ (k : ℕ). k + length t.0 + 1) number ∙ ap (λ (k : ℕ). k + 1) (sym (count (header_text header) t.0))) t.6)
+    (malformed_behind quiet a t.1 (Pushed w v held keeps) (PushedFront w v held keeps) (of_turns header t.0 t.2) n (is_replayed header t.0 t.2 b t.1 fits t.3) (lines_taken a b t.1 (header_text header) (step_lines t.0) taken t.3.taken)
+    (subst (λ (k : ℕ). IsNoTurn t.1 k n) (ap (λ (k : ℕ). k + length t.0) number ∙ sym (count (header_text header) t.0)) t.4) t.5)
 stopped_with result troubles.Read quiet header a b c w v held keeps first new is taken fits number t =
     subst (λ (r : Result _ Trouble). ReplayGives quiet a (Pushed w v held keeps) (PushedFront w v held keeps) r c) (sym is)
     (UnreadStep (of_turns header t.0 t.3) t.1 (is_replayed header t.0 t.3 b t.2 fits t.4) (part_taken a b t.2 c (header_text header) (step_lines t.0) t.1 taken t.4.taken t.6) t.5 t.7)
-stopped_with result troubles.TooManyLines quiet header a b c w v held keeps first new is taken fits number t =
-    subst (λ (r : Result _ Trouble). ReplayGives quiet a (Pushed w v held keeps) (PushedFront w v held keeps) r c) (sym is) (record {
-      schedule = of_turns header t.0 t.2;
-      rest = t.1;
-      replayed = is_replayed header t.0 t.2 b t.1 fits t.3;
-      taken = lines_taken a b t.1 (header_text header) (step_lines t.0) taken t.3.taken;
-      number = count (header_text header) t.0 ∙ ap (λ (k : ℕ). k + length t.0) (sym number) ∙ t.4;
-      wrote = t.5;
-    })
 stopped_with result troubles.Write quiet header a b c w v held keeps first new is taken fits number t =
     subst (λ (r : Result _ Trouble). ReplayGives quiet a (Pushed w v held keeps) (PushedFront w v held keeps) r c) (sym is)
     (CutAmid (of_turns header t.turns t.new) t.rest (is_replayed header t.turns t.new b t.rest fits t.are) (lines_taken a b t.rest (header_text header) (step_lines t.turns) taken t.are.taken) t.wrote)
@@ -214,14 +210,6 @@ cut_so quiet before Wrote WroteFront Writes WritesFront front (CutAmid s rest is
 cut_so quiet before Wrote WroteFront Writes WritesFront front (CutAtEnd s rest is taken end audited said) = CutAtEnd s rest is taken end audited (front (lines_text (replay_lines quiet s)) said)
 
 module _ (quiet : Bool) (before : Option (List ℕ)) (Wrote WroteFront Writes WritesFront : List ℕ → Type 0) (whole : (text : List ℕ) → Wrote text → Writes text) (front : (text : List ℕ) → WroteFront text → WritesFront text) where
-  malformed_so : (n : ℕ) → IsMalformedAt quiet before Wrote WroteFront n → IsMalformedAt quiet before Writes WritesFront n
-  malformed_so n (MalformedHeader lines rest taken begins cannot number said) = MalformedHeader lines rest taken begins cannot number (whole [] said)
-  malformed_so n (MalformedStep s rest is taken cannot number said) = MalformedStep s rest is taken cannot number (whole (lines_text (answer_lines quiet s.header.tables s.turns)) said)
-
-  unreadable_so : (known : Option (List ℕ)) → IsUnreadable quiet before Wrote WroteFront known → IsUnreadable quiet before Writes WritesFront known
-  unreadable_so known (UnreadHeader lines part taken begins line said) = UnreadHeader lines part taken begins line (whole [] said)
-  unreadable_so known (UnreadStep s part is taken line said) = UnreadStep s part is taken line (whole (lines_text (answer_lines quiet s.header.tables s.turns)) said)
-
   uncounted_so : IsUncounted quiet before Wrote WroteFront → IsUncounted quiet before Writes WritesFront
   uncounted_so h = record {
     schedule = h.schedule;
@@ -232,13 +220,21 @@ module _ (quiet : Bool) (before : Option (List ℕ)) (Wrote WroteFront Writes Wr
     wrote = whole (lines_text (answer_lines quiet h.schedule.header.tables h.schedule.turns)) h.wrote;
   }
 
+  malformed_so : (n : ℕ) → IsMalformedAt quiet before Wrote WroteFront n → IsMalformedAt quiet before Writes WritesFront n
+  malformed_so n (MalformedHeader lines rest taken begins cannot number said) = MalformedHeader lines rest taken begins cannot number (whole [] said)
+  malformed_so n (MalformedStep s rest is taken cannot number said) = MalformedStep s rest is taken cannot number (whole (lines_text (answer_lines quiet s.header.tables s.turns)) said)
+  malformed_so n (MalformedUncounted h number) = MalformedUncounted (uncounted_so h) number
+
+  unreadable_so : (known : Option (List ℕ)) → IsUnreadable quiet before Wrote WroteFront known → IsUnreadable quiet before Writes WritesFront known
+  unreadable_so known (UnreadHeader lines part taken begins line said) = UnreadHeader lines part taken begins line (whole [] said)
+  unreadable_so known (UnreadStep s part is taken line said) = UnreadStep s part is taken line (whole (lines_text (answer_lines quiet s.header.tables s.turns)) said)
+
   gives_so : {T : Type 0} (result : Result T Trouble) (known : Option (List ℕ)) (unread : List ℕ) → IfErr result (λ e. e ≡ troubles.Read → unread ≡ []) → ReplayGives quiet before Wrote WroteFront result (prepend_known unread known) → ReplayGives quiet before Writes WritesFront result known
   gives_so (Ok done) known unread emptied h =
       (h.0, h.1, h.2, h.3, h.4, end_of_reader h.1 known unread h.4 h.5, h.6, whole (lines_text (replay_lines quiet h.0)) h.7)
   gives_so (Err (troubles.Malformed n)) known unread emptied h = malformed_so n h
   gives_so (Err troubles.Read) known unread emptied h =
       unreadable_so known (subst (IsUnreadable quiet before Wrote WroteFront) (ap (λ (u : List ℕ). prepend_known u known) (emptied refl) ∙ prepend_known-nil known) h)
-  gives_so (Err troubles.TooManyLines) known unread emptied h = uncounted_so h
   gives_so (Err troubles.Write) known unread emptied h = cut_so quiet before Wrote WroteFront Writes WritesFront front h
   gives_so (Err troubles.Memory) known unread emptied h = cut_so quiet before Wrote WroteFront Writes WritesFront front h
 
@@ -266,12 +262,12 @@ flush_failed (Ok done) quiet before after a b c held holds sent h =
 flush_failed (Err (troubles.Malformed n)) quiet before after a b c held holds sent (MalformedHeader lines rest taken begins cannot number said) = CutBefore (part_of_all a b c held holds [] said sent)
 flush_failed (Err (troubles.Malformed n)) quiet before after a b c held holds sent (MalformedStep s rest is taken cannot number said) =
     CutAmid s rest is taken (part_of_all a b c held holds (lines_text (answer_lines quiet s.header.tables s.turns)) said sent)
+flush_failed (Err (troubles.Malformed n)) quiet before after a b c held holds sent (MalformedUncounted h number) =
+    CutAmid h.schedule h.rest h.replayed h.taken (part_of_all a b c held holds (lines_text (answer_lines quiet h.schedule.header.tables h.schedule.turns)) h.wrote sent)
 flush_failed (Err troubles.Read) quiet before after a b c held holds sent (UnreadHeader lines part taken begins line said) = CutBefore (part_of_all a b c held holds [] said sent)
 flush_failed (Err troubles.Read) quiet before after a b c held holds sent (UnreadStep s part is taken line said) =
     let front = before_part before after (lines_text (schedule_lines s)) part taken in
     CutAmid s front.0 is front.1 (part_of_all a b c held holds (lines_text (answer_lines quiet s.header.tables s.turns)) said sent)
-flush_failed (Err troubles.TooManyLines) quiet before after a b c held holds sent h =
-    CutAmid h.schedule h.rest h.replayed h.taken (part_of_all a b c held holds (lines_text (answer_lines quiet h.schedule.header.tables h.schedule.turns)) h.wrote sent)
 flush_failed (Err troubles.Write) quiet before after a b c held holds sent h =
     cut_so quiet before (Pushed a b [] held) (PushedFront a b [] held) (Appends a c) (AppendsFront a c) (λ text said. part_written a b c held holds text said sent) h
 flush_failed (Err troubles.Memory) quiet before after a b c held holds sent h =
@@ -293,7 +289,6 @@ pub ended_unflushed : {T : Type 0} (result : Result T Trouble) (quiet : Bool) (k
 ended_unflushed (Ok done) quiet known mid after unread old a b held is nothing none h = cc
 ended_unflushed (Err (troubles.Malformed n)) quiet known mid after unread old a b held is nothing none h = cc
 ended_unflushed (Err troubles.Read) quiet known mid after unread old a b held is nothing none h = cc
-ended_unflushed (Err troubles.TooManyLines) quiet known mid after unread old a b held is nothing none h = cc
 ended_unflushed (Err troubles.Write) quiet known mid after unread old a b held is nothing none h = unflushed quiet known unread old a b held nothing none h
 ended_unflushed (Err troubles.Memory) quiet known mid after unread old a b held is nothing none h = unflushed quiet known unread old a b held nothing none h
 

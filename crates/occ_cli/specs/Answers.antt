@@ -27,6 +27,8 @@ pub data Answer : Type 0 where
   Done : Answer
   -- the number of the transaction
   Queued : ℕ → Answer
+  -- the number of the closing mark
+  Closing : ℕ → Answer
   Empty : Answer
   Counted : Counts → Answer
   -- what the store replied, or a client in its place
@@ -42,6 +44,7 @@ module _ {Z : Type 0} where
   answer_of (answers.Begun number start) = Begun number start
   answer_of answers.Done = Done
   answer_of (answers.Queued number) = Queued number
+  answer_of (answers.Closing number) = Closing number
   answer_of answers.Empty = Empty
   answer_of (answers.Counted counts) = Counted counts
   answer_of (answers.Refused refusal) = refused refusal.fault
@@ -143,6 +146,7 @@ abbrev pub answer_text : Schema → Answer → List ℕ
 answer_text schema (Begun number start) = codes "begun " ++ (decimal number ++ (codes " " ++ decimal start))
 answer_text schema Done = codes "ok"
 answer_text schema (Queued number) = codes "queued " ++ decimal number
+answer_text schema (Closing number) = codes "closing " ++ decimal number
 answer_text schema Empty = codes "empty"
 answer_text schema (Counted counts) = counts_text counts
 answer_text schema (Replied reply) = reply_text schema reply

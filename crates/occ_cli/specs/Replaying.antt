@@ -1,5 +1,5 @@
 -- What a replay does with one step of a schedule (our own choice).
-use Rattle.std.specs.Prelude.{◌≡◌, ℕ, true, false, zero, suc, ◌+◌, ◌-◌, ◌^◌, ◌≤◌, ◌⊎◌, min, nat_le, List, [], ◌∷◌, ◌++◌, length, replicate, drop, Option, None, Some, is_some, IsSomeAnd, Result, Ok, Err, IsOk, IsOkAnd, MatchOption, slice_get, slice_set}
+use Rattle.std.specs.Prelude.{◌≡◌, ℕ, true, false, zero, suc, ◌-◌, ◌^◌, ◌≤◌, ◌⊎◌, min, List, [], ◌∷◌, length, replicate, drop, Option, None, Some, is_some, IsSomeAnd, Result, Ok, Err, IsOk, IsOkAnd, MatchOption, slice_get, slice_set}
 use Rattle.std.specs.List.{position}
 use Rattle.std.specs.Option.{ok_or}
 use Rattle.std.specs.FinMap as finite
@@ -20,6 +20,7 @@ use Rattle.occ_model.specs.Refusal.{numbers_exhausted, refusal, takes_memory, ha
 use Rattle.occ_model.specs.Event.{Event, Item, Reply}
 use Rattle.occ_model.specs.Event as events
 use Rattle.occ_model.specs.Step as model
+use Rattle.occ_queue.specs.Numbering.{Numbered, unused, next, with_item, is_full, refusal_of_request}
 use Rattle.occ_sets.specs.Sets.{Copied, is_full_for}
 use Rattle.occ_sets.specs.Seen as sets
 use Rattle.occ_sets.specs.declared.reads.Answer as code_seen
@@ -27,17 +28,15 @@ use Rattle.occ_text.specs.declared.steps.Act.TheVariants as acts
 use Rattle.occ_core.specs.declared.steps.Step as code_step
 use Rattle.occ_core.specs.declared.steps.Step.TheVariants as calls
 use Rattle.occ_cli.specs.declared.answers.Answer as code_answer
-use Rattle.occ_text.specs.Steps.{Step, Does, Get, Scan, Put, Delete, Show}
+use Rattle.occ_text.specs.Steps.{Step, Does, Get, Scan, Put, Delete, Forge, RawRead, Show}
 use Rattle.occ_cli.specs.Answers.{Answer, answer_of}
 use Rattle.occ_cli.specs.Answers as says
 use Rattle.occ_cli.specs.declared.answers.Counts.{Counts}
 
--- One client: its open transaction, the number of the last item that it pushed, the items that wait to be entered (the first one first, and at most `limit` of them), and an item that was taken to be entered and refused.
+-- One client: its open transaction, the queue of its session, and an item that was taken from it to be entered and refused.
 pub record Client : Type 0 where
   pub copy : Option Copied
-  pub pushed : ℕ
-  pub queue : List Item
-  pub limit : ℕ
+  pub queue : Numbered
   pub kept : Option Item
 
 -- the store, and its clients by session
@@ -47,7 +46,7 @@ pub record Replayed : Type 0 where
 
 -- a client that did nothing yet
 abbrev pub fresh : ℕ → Client
-fresh limit = record { copy = None; pushed = 0; queue = []; limit = limit; kept = None }
+fresh limit = record { copy = None; queue = unused limit; kept = None }
 
 -- a replay that begins
 abbrev pub started : Settings → ℕ → Replayed
@@ -81,6 +80,10 @@ copy_of client = ok_or client.copy faults.NoReadOpen
 abbrev pub table_named : Schema → List ℕ → Result ℕ Fault
 table_named schema name = ok_or (position (has_name name) schema) faults.NoTable
 
+-- the same, or the place behind the last table where none has the name
+abbrev pub place_named : Schema → List ℕ → ℕ
+place_named schema name = elim (position (has_name name) schema) [ None ↦ length schema | Some place ↦ place ]
+
 -- a key of the table with a name
 abbrev pub object_named : Schema → List ℕ → Key → Result Object Fault
 object_named schema name key = and_then (table_named schema name) (λ place. unless (check_key schema place key) (place, key))
@@ -94,9 +97,10 @@ span_named schema name lower upper = and_then (table_named schema name) (λ plac
 -- `begin`: the number of the next transaction
 abbrev pub next_number : Client → Result ℕ Fault
 next_number client = unless (first_fault (
-    fault_if (is_some client.copy) faults.ReadOpen
-    ∷ numbers_exhausted (client.pushed + 1)
-    ∷ [])) (client.pushed + 1)
+    fault_if client.queue.closed faults.Closed
+    ∷ fault_if (is_some client.copy) faults.ReadOpen
+    ∷ numbers_exhausted (next client.queue)
+    ∷ [])) (next client.queue)
 
 abbrev pub Begins : ℕ → Client → Answer → Client → Type 0
 Begins counter old answer new = Given (next_number old) old answer new (λ number.
@@ -123,18 +127,45 @@ abbrev pub Writes : Schema → List ℕ → Key → Option Row → Client → An
 Writes schema name key row old answer new = Given (copy_of old) old answer new (λ copy.
     (next : Copied) × WritesCopy schema name key row copy answer next × (new ≡ record old { copy = Some next }))
 
+-- the open transaction, by what the store replied when it was told to forget its reads
+abbrev pub open_after : Copied → Reply → Option Copied
+open_after copy (events.Refused fault) = Some copy
+open_after copy reply = None
+
+-- `abandon`: the store forgets what the open transaction read; its number is that of the next one too
+abbrev pub Abandons : World → ℕ → Client → Answer → Client → World → Type 0
+Abandons old session client answer next new = MatchOption client.copy
+    ((answer ≡ says.refused faults.NoReadOpen) × (next ≡ client) × (new ≡ old))
+    (λ copy. (reply : Reply) × model.Step old (events.Forget session copy.number) reply new
+    × (answer ≡ says.Replied reply)
+    × (next ≡ record client { copy = open_after copy reply }))
+
 -- what a transaction is handed in as
 abbrev pub request : Copied → Item
 request copy = events.Request copy.number copy.start copy.writes
 
 -- `submit`: the transaction to wait
 abbrev pub submitted : Client → Result Copied Fault
-submitted client = and_then (copy_of client) (λ copy. unless (fault_if (nat_le client.limit (length client.queue)) faults.QueueFull) copy)
+submitted client = and_then (unless (fault_if client.queue.closed faults.Closed) client) (λ c.
+    and_then (copy_of c) (λ copy. unless (refusal_of_request client.queue copy.number) copy))
 
 abbrev pub Submits : Client → Answer → Client → Type 0
 Submits old answer new = Given (submitted old) old answer new (λ copy.
     (answer ≡ says.Queued copy.number)
-    × (new ≡ record old { copy = None; pushed = copy.number; queue = old.queue ++ request copy ∷ [] }))
+    × (new ≡ record old { copy = None; queue = with_item old.queue (request copy) }))
+
+-- `close`: the number of the closing mark
+abbrev pub mark_of : Client → Result ℕ Fault
+mark_of client = unless (first_fault (
+    fault_if client.queue.closed faults.Closed
+    ∷ fault_if (is_some client.copy) faults.ReadOpen
+    ∷ fault_if (is_full client.queue) faults.QueueFull
+    ∷ [])) (next client.queue)
+
+abbrev pub Closes : Client → Answer → Client → Type 0
+Closes old answer new = Given (mark_of old) old answer new (λ number.
+    (answer ≡ says.Closing number)
+    × (new ≡ record old { queue = with_item old.queue (events.Close number) }))
 
 -- the answer is what the store replies to an event
 abbrev pub Tells : World → Event → Answer → World → Type 0
@@ -178,11 +209,11 @@ Scans old session name lower upper client answer new =
 
 -- the item to be entered next: the one that was refused, or else the first one that waits
 abbrev pub next_item : Client → Option Item
-next_item client = elim client.kept [ None ↦ slice_get client.queue 0 | Some item ↦ Some item ]
+next_item client = elim client.kept [ None ↦ slice_get client.queue.items 0 | Some item ↦ Some item ]
 
--- the items that wait when it is taken
-abbrev pub still_waiting : Client → List Item
-still_waiting client = elim client.kept [ None ↦ drop 1 client.queue | Some item ↦ client.queue ]
+-- the queue when it is taken
+abbrev pub still_waiting : Client → Numbered
+still_waiting client = elim client.kept [ None ↦ record client.queue { items = drop 1 client.queue.items } | Some item ↦ client.queue ]
 
 -- a refused item is kept
 abbrev pub kept_after : Item → Reply → Option Item
@@ -201,6 +232,11 @@ Enters old session client answer next new = MatchOption (next_item client)
 abbrev pub ByClient : Replayed → ℕ → Answer → Replayed → (Client → Client → Type 0) → Type 0
 ByClient old session answer new Moves = Given (client_of old.clients session) old answer new (λ client.
     (next : Client) × Moves client next × (new ≡ record old { clients = slice_set old.clients (session - 1) next }))
+
+-- a step of one client with the store
+abbrev pub ByBoth : Replayed → ℕ → Answer → Replayed → (Client → Client → Type 0) → Type 0
+ByBoth old session answer new Moves = Given (client_of old.clients session) old answer new (λ client.
+    (next : Client) × Moves client next × (new.clients ≡ slice_set old.clients (session - 1) next))
 
 -- a step of the store alone
 abbrev pub ByStore : Replayed → Event → Answer → Replayed → Type 0
@@ -228,10 +264,10 @@ AtMostOneStep old new = (new ≡ old) ⊎ ((event : Event) × (reply : Reply) ×
 -- what a replay answers to a step, and what it then is
 abbrev pub Plays : Replayed → Step → Answer → Replayed → Type 0
 Plays old (Does acts.Begin session) answer new = ByClient old session answer new (λ client next. Begins old.world.counter client answer next)
+Plays old (Does acts.Abandon session) answer new = ByBoth old session answer new (λ client next. Abandons old.world session client answer next new.world)
 Plays old (Does acts.Submit session) answer new = ByClient old session answer new (λ client next. Submits client answer next)
-Plays old (Does acts.Enter session) answer new = Given (client_of old.clients session) old answer new (λ client.
-    (next : Client) × Enters old.world session client answer next new.world
-    × (new.clients ≡ slice_set old.clients (session - 1) next))
+Plays old (Does acts.Close session) answer new = ByClient old session answer new (λ client next. Closes client answer next)
+Plays old (Does acts.Enter session) answer new = ByBoth old session answer new (λ client next. Enters old.world session client answer next new.world)
 Plays old (Does acts.Decide session) answer new = ByStore old (events.Decide session) answer new
 Plays old (Does acts.Write session) answer new = ByStore old (events.WriteOne session) answer new
 Plays old (Does acts.Finish session) answer new = ByStore old (events.Finish session) answer new
@@ -244,6 +280,8 @@ Plays old (Put session name key row) answer new =
     ByClient old session answer new (λ client next. Writes old.world.settings.schema name key (Some row) client answer next)
 Plays old (Delete session name key) answer new =
     ByClient old session answer new (λ client next. Writes old.world.settings.schema name key None client answer next)
+Plays old (Forge session number start) answer new = ByStore old (events.Enter session (events.Request number start [])) answer new
+Plays old (RawRead session number start name key) answer new = ByStore old (events.Read session number start (One (place_named old.world.settings.schema name) key)) answer new
 Plays old Show answer new = (answer ≡ says.Counted (counts_of old.world)) × (new ≡ old)
 
 -- an event that nothing refuses and that takes memory
@@ -299,6 +337,9 @@ Starved old (Put session name key row) new =
     IsOkAnd (client_of old.clients session) (WantsWrite old.world.settings.schema name key (Some row)) × (new ≡ old)
 Starved old (Delete session name key) new =
     IsOkAnd (client_of old.clients session) (WantsWrite old.world.settings.schema name key None) × (new ≡ old)
+Starved old (Forge session number start) new = Wants old.world (events.Enter session (events.Request number start [])) × (new ≡ old)
+Starved old (RawRead session number start name key) new =
+    Wants old.world (events.Read session number start (One (place_named old.world.settings.schema name) key)) × (new ≡ old)
 Starved old step new = ⊥
 
 module _ {Z : Type 0} where

@@ -1,12 +1,12 @@
 -- A schedule from its first line to its last, and the text that its replay writes (our own choice).
-use Rattle.std.specs.Prelude.{◌≡◌, ◌≢◌, ◌+◌, ◌-◌, ◌^◌, ℕ, Bool, true, false, List, [], ◌∷◌, ◌++◌, map, length, Option, Result, Ok, Err, IfSome, All}
+use Rattle.std.specs.Prelude.{◌≡◌, ◌≢◌, ◌+◌, ◌-◌, ◌^◌, ◌⊎◌, ℕ, Bool, true, false, List, [], ◌∷◌, ◌++◌, map, length, Option, Result, Ok, Err, IfSome, All}
 use Rattle.std.specs.Io.KnownBytes.{Consumes, Keeps, Appends, IsAtEnd}
 use Rattle.occ_types.specs.Schema.{Schema}
 use Rattle.occ_types.specs.declared.fault.Fault.TheVariants as faults
 use Rattle.occ_model.specs.Log.{Audited}
 use Rattle.occ_model.specs.World.{World, empty_base, low}
 use Rattle.occ_text.specs.declared.trouble.Trouble.{Trouble}
-use Rattle.occ_text.specs.declared.trouble.Trouble.TheVariants.{Read, TooManyLines, Write, Memory, Malformed}
+use Rattle.occ_text.specs.declared.trouble.Trouble.TheVariants.{Read, Write, Memory, Malformed}
 use Rattle.occ_cli.specs.Answers.{Answer, answer_text}
 use Rattle.occ_cli.specs.Answers as says
 use Rattle.occ_print.specs.Books.{Book, book_lines, audit_line}
@@ -83,20 +83,12 @@ pub data IsNoStep (rest : Option (List ℕ)) : Type 0 where
   NoLineThere : IfSome rest BeginsNoLine → IsNoStep rest
   LineOfNoStep : (line : List ℕ) (after : Option (List ℕ)) → Consumes rest after (line ++ 10 ∷ []) → IsLine line → ((step : Step) → StepFits step → line ≢ step_text step) → IsNoStep rest
 
+-- the line of this number is malformed behind so many lines: the next one is no line of a step, or those are all that have a number of 64 bits, and it is the last of them
+abbrev pub IsNoTurn : Option (List ℕ) → ℕ → ℕ → Type 0
+IsNoTurn rest taken number = (IsNoStep rest × (number ≡ taken + 1)) ⊎ ((taken ≡ 2 ^ 64 - 1) × (number ≡ 2 ^ 64 - 1))
+
 -- The text of a reader, by where its replay ended. `Wrote` tells what was written, `WroteFront` of what text a beginning was.
 module _ (quiet : Bool) (before : Option (List ℕ)) (Wrote WroteFront : List ℕ → Type 0) where
-  -- the line of this number is malformed, and all before it were taken and answered
-  pub data IsMalformedAt (number : ℕ) : Type 0 where
-    MalformedHeader : (lines : List (List ℕ)) (rest : Option (List ℕ)) → Consumes before rest (lines_text lines) → BeginsHeader lines → CannotStand (λ line. BeginsHeader (lines ++ line ∷ [])) rest → number ≡ length lines + 1 → Wrote [] → IsMalformedAt number
-    MalformedStep : (schedule : Schedule) (rest : Option (List ℕ)) → IsReplayed schedule → Consumes before rest (lines_text (schedule_lines schedule)) → IsNoStep rest → number ≡ length (schedule_lines schedule) + 1
-        → Wrote (lines_text (answer_lines quiet schedule.header.tables schedule.turns)) → IsMalformedAt number
-
-  -- A read failed: all that the reader gave is the lines that were taken and answered, and a part of another. `after` is what it has left.
-  pub data IsUnreadable (after : Option (List ℕ)) : Type 0 where
-    UnreadHeader : (lines : List (List ℕ)) (part : List ℕ) → Consumes before after (lines_text lines ++ part) → BeginsHeader lines → IsLine part → Wrote [] → IsUnreadable after
-    UnreadStep : (schedule : Schedule) (part : List ℕ) → IsReplayed schedule → Consumes before after (lines_text (schedule_lines schedule) ++ part) → IsLine part
-        → Wrote (lines_text (answer_lines quiet schedule.header.tables schedule.turns)) → IsUnreadable after
-
   -- all lines that have a number of 64 bits were taken and answered
   pub record IsUncounted : Type 0 where
     pub schedule : Schedule
@@ -105,6 +97,19 @@ module _ (quiet : Bool) (before : Option (List ℕ)) (Wrote WroteFront : List �
     pub taken : Consumes before rest (lines_text (schedule_lines schedule))
     pub number : length (schedule_lines schedule) ≡ 2 ^ 64 - 1
     pub wrote : Wrote (lines_text (answer_lines quiet schedule.header.tables schedule.turns))
+
+  -- The line of this number is malformed, and all before it were taken and answered. Where all lines that have a number were taken and answered, it is the last of them.
+  pub data IsMalformedAt (number : ℕ) : Type 0 where
+    MalformedHeader : (lines : List (List ℕ)) (rest : Option (List ℕ)) → Consumes before rest (lines_text lines) → BeginsHeader lines → CannotStand (λ line. BeginsHeader (lines ++ line ∷ [])) rest → number ≡ length lines + 1 → Wrote [] → IsMalformedAt number
+    MalformedStep : (schedule : Schedule) (rest : Option (List ℕ)) → IsReplayed schedule → Consumes before rest (lines_text (schedule_lines schedule)) → IsNoStep rest → number ≡ length (schedule_lines schedule) + 1
+        → Wrote (lines_text (answer_lines quiet schedule.header.tables schedule.turns)) → IsMalformedAt number
+    MalformedUncounted : IsUncounted → number ≡ 2 ^ 64 - 1 → IsMalformedAt number
+
+  -- A read failed: all that the reader gave is the lines that were taken and answered, and a part of another. `after` is what it has left.
+  pub data IsUnreadable (after : Option (List ℕ)) : Type 0 where
+    UnreadHeader : (lines : List (List ℕ)) (part : List ℕ) → Consumes before after (lines_text lines ++ part) → BeginsHeader lines → IsLine part → Wrote [] → IsUnreadable after
+    UnreadStep : (schedule : Schedule) (part : List ℕ) → IsReplayed schedule → Consumes before after (lines_text (schedule_lines schedule) ++ part) → IsLine part
+        → Wrote (lines_text (answer_lines quiet schedule.header.tables schedule.turns)) → IsUnreadable after
 
   -- a beginning of the text was written: of nothing yet, of the answers to the lines that were taken, or at their end of the whole
   pub data IsCutShort : Type 0 where
@@ -120,7 +125,6 @@ module _ (quiet : Bool) (before : Option (List ℕ)) (Wrote WroteFront : List �
       × IsAudited (book_after schedule) × Wrote (lines_text (replay_lines quiet schedule))
   ReplayGives (Err (Malformed number)) after = IsMalformedAt number
   ReplayGives (Err Read) after = IsUnreadable after
-  ReplayGives (Err TooManyLines) after = IsUncounted
   ReplayGives (Err Write) after = IsCutShort
   ReplayGives (Err Memory) after = IsCutShort
 

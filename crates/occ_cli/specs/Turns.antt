@@ -1,5 +1,5 @@
 -- What the parts of a replay leave, by their outcomes.
-use Rattle.std.specs.Prelude.{◌≡◌, ◌≢◌, ◌+◌, ◌-◌, ◌^◌, ◌⊎◌, ℕ, Bool, true, false, List, [], ◌∷◌, ◌++◌, length, Option, Result, Ok, Err, All}
+use Rattle.std.specs.Prelude.{◌≡◌, ◌≢◌, ◌+◌, ◌⊎◌, ℕ, Bool, true, false, List, [], ◌∷◌, ◌++◌, length, Option, Result, Ok, Err, All}
 use Rattle.std.specs.Bool.{Decides}
 use Rattle.std.specs.Io.KnownBytes.{Consumes, Keeps, IsAtEnd}
 use Rattle.occ_types.specs.Schema.{Schema}
@@ -7,13 +7,13 @@ use Rattle.occ_types.specs.declared.fault.Fault.TheVariants as faults
 use Rattle.occ_text.specs.declared.faults.WriteFault.{WriteFault}
 use Rattle.occ_text.specs.declared.faults.WriteFault.TheVariants as write_faults
 use Rattle.occ_text.specs.declared.trouble.Trouble.{Trouble}
-use Rattle.occ_text.specs.declared.trouble.Trouble.TheVariants.{Read, TooManyLines, Write, Memory, Malformed}
+use Rattle.occ_text.specs.declared.trouble.Trouble.TheVariants.{Read, Write, Memory, Malformed}
 use Rattle.occ_cli.specs.Answers.{Answer}
 use Rattle.occ_cli.specs.Answers as says
 use Rattle.occ_print.specs.Books.{Book, audit_line}
 use Rattle.occ_text.specs.Line.{IsLine, lines_text}
 use Rattle.occ_cli.specs.Replaying.{Replayed, Plays}
-use Rattle.occ_cli.specs.Schedules.{Turn, PlaysAll, step_lines, answer_lines, IsAudited, closing_lines, IsNoStep}
+use Rattle.occ_cli.specs.Schedules.{Turn, PlaysAll, step_lines, answer_lines, IsAudited, closing_lines, IsNoTurn}
 use Rattle.occ_text.specs.Steps.{Step, StepFits, step_text}
 
 -- whether no more is written: the writer failed, or memory was refused
@@ -21,7 +21,6 @@ abbrev pub is_cut_short : {T : Type 0} → Result T Trouble → Bool
 is_cut_short (Ok done) = false
 is_cut_short (Err (Malformed number)) = false
 is_cut_short (Err Read) = false
-is_cut_short (Err TooManyLines) = false
 is_cut_short (Err Write) = true
 is_cut_short (Err Memory) = true
 
@@ -55,9 +54,8 @@ module _ (quiet : Bool) (schema : Schema) (Wrote WroteFront : List ℕ → Type 
   TurnGives (Ok true) before after first last old new =
       (turn : Turn) × StepFits turn.0 × Consumes before after (step_text turn.0 ++ 10 ∷ []) × IsTurn old turn.0 turn.1 new × Wrote (lines_text (answer_lines quiet schema (turn ∷ []))) × (last ≡ first + 1)
   TurnGives (Ok false) before after first last old new = IsAtEnd before × Keeps before after × (new ≡ old) × Wrote []
-  TurnGives (Err (Malformed number)) before after first last old new = IsNoStep before × (number ≡ first + 1) × Wrote []
+  TurnGives (Err (Malformed number)) before after first last old new = IsNoTurn before first number × Wrote []
   TurnGives (Err Read) before after first last old new = (part : List ℕ) × IsLine part × Consumes before after part × Wrote []
-  TurnGives (Err TooManyLines) before after first last old new = (first ≡ 2 ^ 64 - 1) × Wrote []
   TurnGives (Err Write) before after first last old new = IsHalfTurn before after old new
   TurnGives (Err Memory) before after first last old new = WroteFront [] ⊎ IsHalfTurn before after old new
 
@@ -80,11 +78,9 @@ module _ (quiet : Bool) (schema : Schema) (Wrote WroteFront : List ℕ → Type 
   abbrev pub TurnsGive : {T : Type 0} → Result T Trouble → Option (List ℕ) → Option (List ℕ) → ℕ → Replayed → Replayed → Type 0
   TurnsGive (Ok done) before after first old new = (turns : List Turn) × (rest : Option (List ℕ)) × AreTurns before rest old turns new × IsAtEnd rest × Keeps rest after × Wrote (lines_text (answer_lines quiet schema turns))
   TurnsGive (Err (Malformed number)) before after first old new =
-      (turns : List Turn) × (rest : Option (List ℕ)) × (last : Replayed) × AreTurns before rest old turns last × IsNoStep rest × (number ≡ first + length turns + 1) × Wrote (lines_text (answer_lines quiet schema turns))
+      (turns : List Turn) × (rest : Option (List ℕ)) × (last : Replayed) × AreTurns before rest old turns last × IsNoTurn rest (first + length turns) number × Wrote (lines_text (answer_lines quiet schema turns))
   TurnsGive (Err Read) before after first old new =
       (turns : List Turn) × (part : List ℕ) × (rest : Option (List ℕ)) × (last : Replayed) × AreTurns before rest old turns last × IsLine part × Consumes rest after part × Wrote (lines_text (answer_lines quiet schema turns))
-  TurnsGive (Err TooManyLines) before after first old new =
-      (turns : List Turn) × (rest : Option (List ℕ)) × (last : Replayed) × AreTurns before rest old turns last × (first + length turns ≡ 2 ^ 64 - 1) × Wrote (lines_text (answer_lines quiet schema turns))
   TurnsGive (Err Write) before after first old new = AreHalfSaid before old
   TurnsGive (Err Memory) before after first old new = AreHalfSaid before old
 

@@ -1,12 +1,13 @@
 //! What a replay answers to a step, and the writer of its line.
 
 ghost use Rattle.std.specs.Fmt.{decimal};
-ghost use Rattle.std.specs.Prelude.{◌≡◌, ◌++◌, OnOk, codes, string_bytes};
+ghost use Rattle.std.specs.Prelude.{◌≡◌, ◌≢◌, ◌++◌, OnOk, MatchResult, codes, string_bytes};
 ghost use Rattle.std.specs.List.{flat_map};
 ghost use Rattle.occ_sets.specs.Seen.{rows_of};
-ghost use Rattle.occ_types.specs.Seen.{key_of};
-ghost use Rattle.occ_types.specs.Seen.{object_of};
+ghost use Rattle.occ_types.specs.Seen.{key_of, object_of};
+ghost use Rattle.occ_types.specs.declared.fault.Fault.TheVariants as faults;
 ghost use Rattle.occ_core.specs.Runs.{reply_of};
+ghost use Rattle.occ_cli.specs.Answers as says;
 ghost use Rattle.occ_cli.specs.Answers.{answer_of, answer_text, reply_text, object_text, name_at, fault_number, verdict_text, found_text, pair_text, rows_text, counts_text};
 
 use crate::refusals::Refusal;
@@ -45,6 +46,8 @@ pub enum Answer<A: Allocator> {
     Done,
     /// `queued N`: the transaction of this number waits to be entered.
     Queued(u64),
+    /// `closing N`: the closing mark, which has this number, waits to be entered.
+    Closing(u64),
     /// `empty`: nothing waits to be entered.
     Empty,
     /// `counter T low L log K state R active A`: what there is.
@@ -53,6 +56,43 @@ pub enum Answer<A: Allocator> {
     Refused(Refusal),
     /// What the store replied. To `get` and `scan` it is told here with the own writes over it.
     Replied(Reply<A>),
+}
+
+/// An answer, unless it is a want of memory.
+pub(crate) fn answered<A: Allocator>(answer: Answer<A>) -> Result<Answer<A>, AllocError>
+    ensures { MatchResult result
+        (λ same. (answer_of answer ≢ says.refused faults.Memory) × (answer_of same ≡ answer_of answer))
+        (λ _. answer_of answer ≡ says.refused faults.Memory) }
+{
+    match answer {
+        Answer::Replied(reply) => replied(reply),
+        answer => Ok(answer),
+    }
+}
+
+// What a reply is answered by: itself, and a refusal as one of the step.
+fn replied<A: Allocator>(reply: Reply<A>) -> Result<Answer<A>, AllocError>
+    ensures { MatchResult result
+        (λ same. (says.Replied (reply_of reply) ≢ says.refused faults.Memory) × (answer_of same ≡ says.Replied (reply_of reply)))
+        (λ _. says.Replied (reply_of reply) ≡ says.refused faults.Memory) }
+{
+    match reply {
+        Reply::Refused(fault) => refused(fault),
+        Reply::RefusedItem(refusal) => refused(refusal.fault),
+        reply => Ok(Answer::Replied(reply)),
+    }
+}
+
+/// What a fault is answered by: a refusal, but for a want of memory.
+pub(crate) fn refused<A: Allocator>(fault: Fault) -> Result<Answer<A>, AllocError>
+    ensures { MatchResult result
+        (λ answer. (says.refused fault ≢ says.refused faults.Memory) × (answer_of answer ≡ says.refused fault))
+        (λ _. says.refused fault ≡ says.refused faults.Memory) }
+{
+    match fault {
+        Fault::Memory => Err(AllocError),
+        fault => Ok(Answer::Refused(Refusal { fault })),
+    }
 }
 
 /// Appends the line of an answer, without a line feed. Where memory is refused, a beginning of it may stand.
@@ -67,6 +107,7 @@ pub fn write_answer<A: Allocator>(
         Answer::Begun { number, start } => write!(line, "begun {number} {start}"),
         Answer::Done => line.push_str("ok"),
         Answer::Queued(number) => write!(line, "queued {number}"),
+        Answer::Closing(number) => write!(line, "closing {number}"),
         Answer::Empty => line.push_str("empty"),
         Answer::Counted(counts) => write_counts(line, counts),
         Answer::Refused(refusal) => write_refused(line, refusal.fault),

@@ -1,5 +1,5 @@
 //! The clients of a replay, one for each session.
-ghost use Rattle.std.specs.Prelude.{◌≡◌, None, Some, IfOk, IsOkUnless};
+ghost use Rattle.std.specs.Prelude.{◌≡◌, ◌<◌, suc, None, Some, Err, length, IfOk, IsOkUnless, MatchResult};
 ghost use Rattle.std.specs.Option.{option_map};
 ghost use Rattle.std.specs.Result.{result_err};
 ghost use Rattle.occ_types.specs.Schema.{fault_if};
@@ -9,25 +9,24 @@ ghost use Rattle.occ_model.specs.Overlay.{set};
 ghost use Rattle.occ_queue.specs.Items.{item_of};
 ghost use Rattle.occ_sets.specs.Sets.{is_full_for};
 ghost use Rattle.occ_cli.specs.Answers.{Done};
-ghost use Rattle.occ_cli.specs.Replaying.{fresh, Begins, Writes, WritesCopy, Submits, Gets, Scans, Enters, next_item, still_waiting, Given, unless, check_written, WantsGet, WantsScan, WantsWrite, CopyWantsWrite, WantsRoom, played, PlayedIn};
+ghost use Rattle.occ_cli.specs.Replaying.{client_of, fresh, Begins, Abandons, Writes, WritesCopy, Submits, Closes, Gets, Scans, Enters, next_item, still_waiting, Given, unless, check_written, WantsGet, WantsScan, WantsWrite, CopyWantsWrite, WantsRoom, played, PlayedIn};
 
 use crate::answers::Answer;
 use crate::asking;
 use crate::named::object_named;
 use occ_core::{Core, Reply, Step};
-use occ_queue::{Item, Queue};
+use occ_queue::{Item, SessionQueue};
 use occ_sets::PrivateCopy;
 use occ_types::limits::MAX_NUMBER;
 use occ_types::{Fault, Key, Object, Refused, Row, Schema};
 use std::alloc::Allocator;
 use std::marker::Model;
 
-/// The client of one session: its open transaction, the number of the last item that it pushed, the items that wait to be entered, and one that was taken to be entered and refused.
+/// The client of one session: its open transaction, the queue of its session, and an item that was taken from it to be entered and refused.
 #[derive(Drop)]
 pub(crate) struct Client<A: Allocator> {
     copy: Option<PrivateCopy<A>>,
-    pushed: u64,
-    queue: Queue<A>,
+    queue: SessionQueue<A>,
     kept: Option<Item<A>>,
 }
 
@@ -38,7 +37,7 @@ impl<A: Allocator> Model for Client<A> {
 
     ghost Value = { Plain };
 
-    ghost view = { λ c. record { copy = c.copy; pushed = c.pushed; queue = c.queue.items; limit = c.queue.limit; kept = option_map item_of c.kept } };
+    ghost view = { λ c. record { copy = c.copy; queue = c.queue; kept = option_map item_of c.kept } };
 }
 
 impl<A: Allocator> Client<A> {
@@ -47,35 +46,49 @@ impl<A: Allocator> Client<A> {
         ensures fresh { IfOk result (λ client. client ≡ fresh limit) }
         ensures memory { IsOkUnless result faults.Memory }
     {
-        let queue = Queue::new(alloc, limit)?;
+        let queue = SessionQueue::new(alloc, limit)?;
         Ok(Client {
             copy: None,
-            pushed: 0,
             queue,
             kept: None,
         })
     }
 
-    /// `submit`: the open transaction waits from now on, which takes no memory. Refused with `NoReadOpen` or `QueueFull`.
+    /// `submit`: the open transaction waits from now on, which takes no memory. Refused with `Closed`, with `NoReadOpen`, and then as the queue refuses it: with `QueueFull`.
     pub(crate) fn submit(&mut self) -> Result<Answer<A>, Fault>
         ensures { Submits self.old (played result) self.new }
     {
-        let full = self.queue.is_full();
+        if self.queue.is_closed() {
+            return Err(Fault::Closed);
+        }
         let Some(copy) = self.copy.take() else {
             return Err(Fault::NoReadOpen);
         };
-        if full {
+        if let Err(fault) = self.queue.check_request(copy.number()) {
             self.copy = Some(copy);
-            return Err(Fault::QueueFull);
+            return Err(fault);
         }
         let (number, start, writes) = copy.into_request();
-        self.queue.push(Item::Request {
+        self.queue.submit(Item::Request {
             number,
             start,
             writes,
         })?;
-        self.pushed = number;
         Ok(Answer::Queued(number))
+    }
+
+    /// `close`: the closing mark waits from now on, and nothing is begun or submitted behind it. It takes no memory. Refused with `Closed`, `ReadOpen` or `QueueFull`.
+    pub(crate) fn close(&mut self) -> Result<Answer<A>, Fault>
+        ensures { Closes self.old (played result) self.new }
+    {
+        if self.queue.is_closed() {
+            return Err(Fault::Closed);
+        }
+        if self.copy.is_some() {
+            return Err(Fault::ReadOpen);
+        }
+        let number = self.queue.close()?;
+        Ok(Answer::Closing(number))
     }
 
     /// `put`, and `delete` where `row` is none. Refused with `NoReadOpen`, then with `NoTable`, `WrongKind`, `TooLong` or `WrongColumns` where the key or the row doesn't fit, with `SetFull`, and with `Memory`.
@@ -117,17 +130,20 @@ impl<A: Allocator> Client<A> {
 }
 
 impl<A: Allocator + Copy> Client<A> {
-    /// `begin`: opens a transaction with the next number, which starts at this counter. Refused with `ReadOpen`, and with `NumbersExhausted` where only the number of the closing mark is left.
+    /// `begin`: opens a transaction with the next number, which starts at this counter. Refused with `Closed`, with `ReadOpen`, and with `NumbersExhausted` where only the number of the closing mark is left.
     pub(crate) fn begin(&mut self, alloc: A, counter: u64) -> Result<Answer<A>, Fault>
         ensures { Begins counter self.old (played result) self.new }
     {
+        if self.queue.is_closed() {
+            return Err(Fault::Closed);
+        }
         if self.copy.is_some() {
             return Err(Fault::ReadOpen);
         }
-        if self.pushed >= MAX_NUMBER - 1 {
+        let number = self.queue.next();
+        if number >= MAX_NUMBER {
             return Err(Fault::NumbersExhausted);
         }
-        let number = self.pushed + 1;
         self.copy = Some(PrivateCopy::new(alloc, number, counter));
         Ok(Answer::Begun {
             number,
@@ -165,6 +181,22 @@ impl<A: Allocator + Copy> Client<A> {
         match &self.copy {
             None => Err(Fault::NoReadOpen),
             Some(copy) => asking::scan(copy, core, session, table, lower, upper),
+        }
+    }
+
+    /// `abandon`: the store forgets what the open transaction read, and none is open then. Its number is that of the next one too. Refused with `NoReadOpen`. It takes no memory.
+    pub(crate) fn abandon(&mut self, core: &mut Core<A>, session: usize) -> Result<Answer<A>, Fault>
+        ensures { Abandons core.old.world session self.old (played result) self.new core.new.world }
+    {
+        let Some(copy) = &self.copy else {
+            return Err(Fault::NoReadOpen);
+        };
+        match core.forget(session, copy.number()) {
+            Err(fault) => Err(fault),
+            Ok(known) => {
+                self.copy = None;
+                Ok(Answer::Replied(Reply::Forgotten(known)))
+            }
         }
     }
 
@@ -226,4 +258,16 @@ fn put_or_delete<A: Allocator>(
         None => copy.delete(table, key)?,
     }
     Ok(Answer::Done)
+}
+
+/// The place of the client of a session. Refused with `NoSession`.
+pub(crate) fn place_of<A: Allocator>(clients: &[Client<A>], session: usize) -> Result<usize, Fault>
+    ensures { MatchResult result
+        (λ place. (session ≡ suc place) × (place < length clients.now))
+        (λ fault. client_of clients.now session ≡ Err fault) }
+{
+    if session == 0 || session > clients.len() {
+        return Err(Fault::NoSession);
+    }
+    Ok(session - 1)
 }

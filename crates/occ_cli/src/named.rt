@@ -2,7 +2,7 @@
 ghost use Rattle.std.specs.Prelude.{◌≡◌};
 ghost use Rattle.std.specs.Result.{result_map_both};
 ghost use Rattle.occ_types.specs.Seen.{key_of, object_of, question_of};
-ghost use Rattle.occ_cli.specs.Replaying.{object_named, span_named};
+ghost use Rattle.occ_cli.specs.Replaying.{object_named, place_named, span_named};
 
 use occ_types::{Fault, Key, Object, Question, Schema};
 use std::alloc::Allocator;
@@ -18,6 +18,16 @@ pub(crate) fn object_named<A: Allocator>(
     let table = schema.table_named(table).ok_or(Fault::NoTable)?;
     schema.check_key(table, &key)?;
     Ok(Object { table, key })
+}
+
+/// The place of the table with this name, or the one behind the last table where none has it.
+pub(crate) fn place_named<A: Allocator>(schema: &Schema<A>, table: &str) -> usize
+    ensures { result ≡ place_named schema.now table.now }
+{
+    match schema.table_named(table) {
+        None => schema.tables().len(),
+        Some(place) => place,
+    }
 }
 
 /// The question for a range of the table with this name. Refused with `NoTable`, `WrongKind`, `TooLong` or `EmptyRange`.

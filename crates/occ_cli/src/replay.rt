@@ -4,7 +4,7 @@ ghost use Rattle.std.specs.Prelude.{◌≡◌, ◌<◌, ◌^◌, ◌∷◌, [], 
 ghost use Rattle.std.specs.Io.KnownBytes.{Appends, prepend_known};
 ghost use Rattle.occ_model.specs.Log.{Audited};
 ghost use Rattle.occ_model.specs.World.{empty_base};
-ghost use Rattle.occ_core.specs.Rows.{log_of};
+ghost use Rattle.occ_log.specs.Rows.{log_of};
 ghost use Rattle.occ_cli.specs.Answers.{answer_of, answer_text};
 ghost use Rattle.occ_text.specs.Line.{lines_text, HasFailed};
 ghost use Rattle.occ_text.specs.Printing.{Pushed, PushedFront, PrintGives};
@@ -25,7 +25,8 @@ use occ_text::faults::{WriteFault, read_at_line};
 use occ_text::headers::{Limits, read_header};
 use occ_text::input::{Input, Next};
 use occ_text::output::Output;
-use occ_text::steps::{Step, read_step};
+use occ_text::step_reading::read_step;
+use occ_text::steps::Step;
 use occ_text::trouble::Trouble;
 use occ_types::Schema;
 use std::alloc::Allocator;
@@ -34,8 +35,8 @@ use std::io::{Read, Write};
 /// Replays a schedule: reads its header, does each step and answers it by a line, and then writes the book of what came of it and
 /// that its audit holds. Without answers where `quiet` is true.
 ///
-/// `Malformed` at the first line that is none of the grammar, `Read` where the reader fails, and `TooManyLines` after 2^64 - 1
-/// lines: the answers to all whole lines before were written then, and nothing else. At `Read` these are all whole lines that the
+/// `Malformed` at the first line that is none of the grammar, and at line 2^64 - 1 where that many lines were taken; `Read` where the
+/// reader fails: the answers to all whole lines before were written then, and nothing else. At `Read` these are all whole lines that the
 /// reader gave. `Write` where the writer fails, and `Memory` where memory was refused: a beginning
 /// of the text was written then. Its memory is bounded by what the store holds, and not by the text. At `Ok` the reader is at its
 /// end; at an error it may have given more than the lines that were taken.

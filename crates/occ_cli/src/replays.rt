@@ -1,19 +1,21 @@
 //! A replay of a schedule, step by step.
 
-ghost use Rattle.std.specs.Prelude.{◌≡◌, ◌≢◌, ◌<◌, suc, Some, None, Ok, Err, length, replicate, IfOk, IfErr, OnErr, IsOkAnd, IsOkUnless, MatchResult};
+ghost use Rattle.std.specs.Prelude.{◌≡◌, ◌≢◌, replicate, IfOk, IfErr, OnErr, IsOkAnd, IsOkUnless};
 ghost use Rattle.occ_types.specs.Seen.{key_of};
 ghost use Rattle.occ_text.specs.declared.steps.Act.TheVariants as acts;
 ghost use Rattle.occ_types.specs.declared.fault.Fault.TheVariants as faults;
-ghost use Rattle.occ_core.specs.Runs.{event_of, reply_of};
+ghost use Rattle.occ_core.specs.Runs.{event_of};
 ghost use Rattle.occ_cli.specs.Answers.{answer_of};
 ghost use Rattle.occ_cli.specs.Answers as says;
-ghost use Rattle.occ_text.specs.Steps.{step_of, Does, Get, Scan, Show};
+ghost use Rattle.occ_text.specs.Steps.{step_of, Does, Get, Scan, Forge, RawRead, Show};
 ghost use Rattle.occ_cli.specs.Replaying.{started, fresh, client_of, counts_of, ByClient, ByStore, Writes, Plays, Played, PlayedIn, PutOff, Starved, WantsWrite, played};
 
-use crate::answers::{Answer, Counts};
-use crate::clients::Client;
-use crate::refusals::Refusal;
+use crate::answers::{Answer, Counts, answered, refused};
+use crate::clients::{Client, place_of};
+use crate::named::place_named;
 use occ_core::{Core, Reply, Step as Call};
+use occ_queue::Item;
+use occ_sets::WriteSet;
 use occ_text::headers::Limits;
 use occ_text::steps::{Act, Step};
 use occ_types::{Fault, Key, Refused, Row, Schema};
@@ -67,7 +69,7 @@ impl<A: Allocator + Copy> Replay<A> {
         })
     }
 
-    /// Does a step, and answers it. It is an error where memory is refused, which comes only where no other refusal applies that is tried before, and where the step takes memory: as it can be for `enter`, `write`, `get`, `scan`, `put` and `delete` alone. Nothing has changed then, but that what was to enter is kept for the next time, as after any refusal.
+    /// Does a step, and answers it. It is an error where memory is refused, which comes only where no other refusal applies that is tried before, and where the step takes memory: as it can be for `enter`, `write`, `get`, `scan`, `put`, `delete`, `forge` and `rawread` alone. Nothing has changed then, but that what was to enter is kept for the next time, as after any refusal.
     pub(crate) fn answer(&mut self, step: Step<'_, A>) -> Result<Answer<A>, AllocError>
         ensures ok { IfOk result (λ answer. Plays self.old (step_of step.entry) (answer_of answer) self.new) }
         ensures fed { IfOk result (λ answer. answer_of answer ≢ says.refused faults.Memory) }
@@ -107,6 +109,18 @@ impl<A: Allocator + Copy> Replay<A> {
                 table,
                 key,
             } => self.write(session, table, key, None),
+            Step::Forge {
+                session,
+                number,
+                start,
+            } => self.forge(session, number, start),
+            Step::RawRead {
+                session,
+                number,
+                start,
+                table,
+                key,
+            } => self.read_raw(session, number, start, table, key),
             Step::Show => Ok(Answer::Counted(self.counts())),
         }
     }
@@ -117,7 +131,9 @@ impl<A: Allocator + Copy> Replay<A> {
     {
         match act {
             Act::Begin => self.begin(session),
+            Act::Abandon => self.abandon(session),
             Act::Submit => self.submit(session),
+            Act::Close => self.close(session),
             Act::Enter => self.enter(session),
             Act::Decide => self.call(Call::Decide(session)),
             Act::Write => self.call(Call::WriteOne(session)),
@@ -135,12 +151,28 @@ impl<A: Allocator + Copy> Replay<A> {
         client.begin(self.alloc, counter)
     }
 
+    fn abandon(&mut self, session: usize) -> Result<Answer<A>, Fault>
+        ensures { Plays self.old (Does acts.Abandon session) (played result) self.new }
+    {
+        let place = place_of(self.clients.as_slice(), session)?;
+        let client = &mut self.clients[place];
+        client.abandon(&mut self.core, session)
+    }
+
     fn submit(&mut self, session: usize) -> Result<Answer<A>, Fault>
         ensures { Plays self.old (Does acts.Submit session) (played result) self.new }
     {
         let place = place_of(self.clients.as_slice(), session)?;
         let client = &mut self.clients[place];
         client.submit()
+    }
+
+    fn close(&mut self, session: usize) -> Result<Answer<A>, Fault>
+        ensures { Plays self.old (Does acts.Close session) (played result) self.new }
+    {
+        let place = place_of(self.clients.as_slice(), session)?;
+        let client = &mut self.clients[place];
+        client.close()
     }
 
     fn enter(&mut self, session: usize) -> Result<Answer<A>, Fault>
@@ -188,6 +220,38 @@ impl<A: Allocator + Copy> Replay<A> {
         client.write(self.core.schema(), table, key, row)
     }
 
+    fn forge(&mut self, session: usize, number: u64, start: u64) -> Result<Answer<A>, Fault>
+        ensures { Plays self.old (Forge session number start) (played result) self.new }
+    {
+        let writes = WriteSet::new(self.alloc);
+        let item = Item::Request {
+            number,
+            start,
+            writes,
+        };
+        self.call(Call::Enter { session, item })
+    }
+
+    fn read_raw(
+        &mut self,
+        session: usize,
+        number: u64,
+        start: u64,
+        table: &str,
+        key: Key<A>,
+    ) -> Result<Answer<A>, Fault>
+        ensures { Plays self.old (RawRead session number start table.now (key_of key)) (played result) self.new }
+    {
+        let table = place_named(self.core.schema(), table);
+        self.call(Call::Read {
+            session,
+            number,
+            start,
+            table,
+            key,
+        })
+    }
+
     // A step of the store alone.
     fn call(&mut self, call: Call<A>) -> Result<Answer<A>, Fault>
         ensures { Played result (PutOff call self.old self.new) (λ answer. ByStore self.old (event_of call) answer self.new) }
@@ -218,43 +282,6 @@ impl<A: Allocator> Replay<A> {
     }
 }
 
-// An answer, unless it is a want of memory.
-fn answered<A: Allocator>(answer: Answer<A>) -> Result<Answer<A>, AllocError>
-    ensures { MatchResult result
-        (λ same. (answer_of answer ≢ says.refused faults.Memory) × (answer_of same ≡ answer_of answer))
-        (λ _. answer_of answer ≡ says.refused faults.Memory) }
-{
-    match answer {
-        Answer::Replied(reply) => replied(reply),
-        answer => Ok(answer),
-    }
-}
-
-// What a reply is answered by: itself, and a refusal as one of the step.
-fn replied<A: Allocator>(reply: Reply<A>) -> Result<Answer<A>, AllocError>
-    ensures { MatchResult result
-        (λ same. (says.Replied (reply_of reply) ≢ says.refused faults.Memory) × (answer_of same ≡ says.Replied (reply_of reply)))
-        (λ _. says.Replied (reply_of reply) ≡ says.refused faults.Memory) }
-{
-    match reply {
-        Reply::Refused(fault) => refused(fault),
-        Reply::RefusedItem(refusal) => refused(refusal.fault),
-        reply => Ok(Answer::Replied(reply)),
-    }
-}
-
-// What a fault is answered by: a refusal, but for a want of memory.
-fn refused<A: Allocator>(fault: Fault) -> Result<Answer<A>, AllocError>
-    ensures { MatchResult result
-        (λ answer. (says.refused fault ≢ says.refused faults.Memory) × (answer_of answer ≡ says.refused fault))
-        (λ _. says.refused fault ≡ says.refused faults.Memory) }
-{
-    match fault {
-        Fault::Memory => Err(AllocError),
-        fault => Ok(Answer::Refused(Refusal { fault })),
-    }
-}
-
 // Clients that did nothing yet. Refused with `Memory` where there is none for them.
 fn fresh_clients<A: Allocator + Copy>(
     alloc: A,
@@ -269,16 +296,4 @@ fn fresh_clients<A: Allocator + Copy>(
         clients.push(Client::new(alloc, queue)?)?;
     }
     Ok(clients)
-}
-
-// The place of the client of a session.
-fn place_of<A: Allocator>(clients: &[Client<A>], session: usize) -> Result<usize, Fault>
-    ensures { MatchResult result
-        (λ place. (session ≡ suc place) × (place < length clients.now))
-        (λ fault. client_of clients.now session ≡ Err fault) }
-{
-    if session == 0 || session > clients.len() {
-        return Err(Fault::NoSession);
-    }
-    Ok(session - 1)
 }

@@ -15,11 +15,11 @@ use Rattle.occ_model.specs.Step.{Step, refused, decided}
 use Rattle.occ_model.specs.declared.verdict.Verdict.{Verdict}
 use Rattle.occ_model.proofs.Tests as tests
 use Rattle.occ_core.specs.Replies.{decision, backing}
-use Rattle.occ_core.specs.Slots.{Slot, Hold, IsHeldAt, row_under_way, last_of, back_fault}
+use Rattle.occ_log.specs.Slots.{Slot, Hold, IsHeldAt, row_under_way, last_of, back_fault}
 use Rattle.occ_core.specs.Parts.{Parts, world_of, AreSound}
-use Rattle.occ_core.proofs.Held.{is_held_at, contains-held}
-use Rattle.occ_core.proofs.Opponents.{held-get}
-use Rattle.occ_core.proofs.Places.{held_latest, slice_get-below, length-set}
+use Rattle.occ_log.proofs.Holding.{is_held_at, contains-held}
+use Rattle.occ_log.proofs.Opponents.{held-get}
+use Rattle.occ_log.proofs.Places.{held_latest, slice_get-below, length-set}
 use Rattle.occ_core.proofs.Moves as moves
 
 -- the row that a session has under way

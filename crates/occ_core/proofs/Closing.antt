@@ -18,7 +18,7 @@ use Rattle.occ_model.proofs.Phases.{not_refused}
 use Rattle.occ_model.proofs.Steps.{passed, keeps}
 use Rattle.occ_core.specs.Reads.{session_fault, closed_fault}
 use Rattle.occ_core.specs.Entries.{due_fault, busy_fault, turn_to_close}
-use Rattle.occ_core.specs.Slots.{last_of}
+use Rattle.occ_log.specs.Slots.{last_of}
 use Rattle.occ_core.specs.Parts.{Parts, world_of, AreSound}
 use Rattle.occ_core.proofs.Entering.{busy_is}
 use Rattle.occ_core.proofs.Moves.{slot_same}
@@ -26,7 +26,7 @@ use Rattle.occ_core.proofs.Reading.{session_is, last_is}
 
 -- When it is refused.
 
-close_refusal : (parts : Parts) (session number : ℕ) → AreSound parts → refusal (world_of parts) (Enter session (Close number)) ≡ turn_to_close parts.slots parts.marks session number
+pub close_refusal : (parts : Parts) (session number : ℕ) → AreSound parts → refusal (world_of parts) (Enter session (Close number)) ≡ turn_to_close parts.slots parts.marks session number
 close_refusal parts session number sound =
     ap (λ o. first_fault (o ∷ refusals.session_closed w session ∷ refusals.not_due w session number ∷ refusals.session_busy w session ∷ [])) (session_is parts session sound)
     ∙ at (session_fault parts.slots session) refl

@@ -9,12 +9,12 @@ use Rattle.occ_model.specs.Log.{LogRow, is_active}
 use Rattle.occ_model.specs.World.{latest, active_count}
 use Rattle.occ_model.specs.Invariant.{OneUnderWay, ActiveAreHeld}
 use Rattle.occ_model.proofs.Tests as tests
-use Rattle.occ_core.specs.Slots.{Slot, Hold, held_from, active_of, active_from}
+use Rattle.occ_log.specs.Slots.{Slot, Hold, held_from, active_of, active_from}
 use Rattle.occ_core.specs.Entries.{active_at}
 use Rattle.occ_core.specs.Parts.{Parts, world_of, AreSound}
-use Rattle.occ_core.proofs.Held.{is_held_at, contains-held, held_place}
-use Rattle.occ_core.proofs.Opponents.{held-get, held-latest}
-use Rattle.occ_core.proofs.Places.{slice_get-below}
+use Rattle.occ_log.proofs.Holding.{is_held_at, contains-held, held_place}
+use Rattle.occ_log.proofs.Opponents.{held-get, held-latest}
+use Rattle.occ_log.proofs.Places.{slice_get-below}
 
 -- Through the sessions, one by one.
 

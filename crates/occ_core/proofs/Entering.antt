@@ -21,19 +21,20 @@ use Rattle.occ_model.proofs.Tests as tests
 use Rattle.occ_model.proofs.Phases.{not_refused}
 use Rattle.occ_model.proofs.Steps.{passed}
 use Rattle.std.specs.List.{list_any}
-use Rattle.occ_core.specs.Phases.{reads_of}
+use Rattle.occ_log.specs.Phases.{reads_of}
 use Rattle.occ_core.specs.Reads.{session_fault, closed_fault, start_fault}
 use Rattle.occ_core.specs.Entries.{due_fault, busy_fault, spare_fault, turn_to_enter, write_fault, log_fault, counter_fault, room_to_enter}
-use Rattle.occ_core.specs.Slots.{Slot, Hold, last_of, active_from, ArePlaced, HoldsArePlaced}
+use Rattle.occ_log.specs.Slots.{Slot, Hold, last_of, active_from, HoldsArePlaced}
+use Rattle.occ_book.specs.Undo.{ArePlaced}
 use Rattle.occ_core.specs.declared.core_entries.Entry.{Entry}
 use Rattle.occ_core.specs.Replies.{entry}
 use Rattle.occ_core.specs.Parts.{Parts, world_of, low_of, AreSound}
 use Rattle.occ_core.proofs.Calls.{held_world}
-use Rattle.occ_core.proofs.Changes.{placed-set}
+use Rattle.occ_log.proofs.Changes.{placed-set}
 use Rattle.occ_core.proofs.Counting.{active_counted}
 use Rattle.occ_core.proofs.Moves as moves
-use Rattle.occ_core.proofs.Opponents.{active_same}
-use Rattle.occ_core.proofs.Places.{length-set, slice_get-below}
+use Rattle.occ_log.proofs.Opponents.{active_same}
+use Rattle.occ_log.proofs.Places.{length-set, slice_get-below}
 use Rattle.occ_core.proofs.Reading.{session_is, last_is, there, reads_are}
 
 -- The guards on the writes.
@@ -85,12 +86,12 @@ checks_placed schema (w ∷ ws) e =
 
 -- The guards of an entry.
 
-nest : (xs ys : List (Option Fault)) → first_fault (first_fault xs ∷ ys) ≡ first_fault (xs ++ ys)
+pub nest : (xs ys : List (Option Fault)) → first_fault (first_fault xs ∷ ys) ≡ first_fault (xs ++ ys)
 nest [] ys = refl
 nest (None ∷ xs) ys = nest xs ys
 nest (Some f ∷ xs) ys = refl
 
-nest_last : (xs ys : List (Option Fault)) → first_fault (xs ++ first_fault ys ∷ []) ≡ first_fault (xs ++ ys)
+pub nest_last : (xs ys : List (Option Fault)) → first_fault (xs ++ first_fault ys ∷ []) ≡ first_fault (xs ++ ys)
 nest_last [] ys = alone (first_fault ys)
   where
     alone : (o : Option Fault) → first_fault (o ∷ []) ≡ o
@@ -115,7 +116,7 @@ busy_is parts session sound free =
     ap (λ s. fault_if (is_held (world_of parts) s) faults.SessionBusy) same
     ∙ ap (λ b. fault_if b faults.SessionBusy) (held_world parts (session - 1) found.0 found.1) ∙ sym (ap busy_fault found.1)
 
-counter_is : (parts : Parts) → AreSound parts → refusals.counter_exhausted (world_of parts) ≡ counter_fault parts.counter (length (active_from (slice_get parts.log) parts.slots))
+pub counter_is : (parts : Parts) → AreSound parts → refusals.counter_exhausted (world_of parts) ≡ counter_fault parts.counter (length (active_from (slice_get parts.log) parts.slots))
 counter_is parts sound =
     ap (λ b. fault_if b faults.CounterExhausted) (
     upto MAX_COUNTER parts.counter (active_count (world_of parts)))

@@ -15,14 +15,15 @@ use Rattle.occ_model.specs.Refusal.{refusal, takes_memory, puts_next}
 use Rattle.occ_model.specs.Step.{Step, refused, starved}
 use Rattle.occ_model.proofs.Logs.{standing_at}
 use Rattle.occ_core.specs.Replies.{single, finishing}
-use Rattle.occ_core.specs.Slots.{Slot, Hold, row_under_way, last_of, written_in, writes_done, finish_fault, ArePlaced, HoldsArePlaced}
-use Rattle.occ_core.specs.Window.{Window, advanced}
+use Rattle.occ_log.specs.Slots.{Slot, Hold, row_under_way, last_of, written_in, writes_done, finish_fault, HoldsArePlaced}
+use Rattle.occ_book.specs.Undo.{ArePlaced}
+use Rattle.occ_log.specs.Window.{Window, advanced}
 use Rattle.occ_core.specs.Parts.{Parts, world_of, AreSound}
-use Rattle.occ_core.specs.declared.core_state.SingleWrite.{SingleWrite}
-use Rattle.occ_core.specs.declared.core_state.SingleWrite.TheVariants as code_write
-use Rattle.occ_core.proofs.Opponents.{held-get}
-use Rattle.occ_core.proofs.Places.{held_latest, length-set, slice_get-set}
-use Rattle.occ_core.proofs.WindowMoves.{advanced-moved}
+use Rattle.occ_core.specs.declared.core_turns.SingleWrite.{SingleWrite}
+use Rattle.occ_core.specs.declared.core_turns.SingleWrite.TheVariants as code_write
+use Rattle.occ_log.proofs.Opponents.{held-get}
+use Rattle.occ_log.proofs.Places.{held_latest, length-set, slice_get-set}
+use Rattle.occ_log.proofs.WindowMoves.{advanced-moved}
 use Rattle.occ_core.proofs.Calls.{UnderWay, found_row, held_world, told, let_through, latest_reads}
 use Rattle.occ_core.proofs.Moves as moves
 

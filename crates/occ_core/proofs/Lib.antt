@@ -1,11 +1,4 @@
-pub mod Held
-pub mod Places
-pub mod Opponents
-pub mod Windows
 pub mod Moves
-pub mod Changes
-pub mod PhaseViews
-pub mod WindowMoves
 pub mod Calls
 pub mod Openings
 pub mod Finishes
@@ -16,7 +9,8 @@ pub mod Nexts
 pub mod SingleWrites
 pub mod Replied
 pub mod Standing
-pub mod Listed
-pub mod Numbered
 pub mod Closing
-pub mod Dropping
+pub mod AtOnce
+pub mod Staying
+pub mod SerialEnding
+pub mod RunsAlone

@@ -23,12 +23,12 @@ use Rattle.occ_model.proofs.Logs.{standing_at}
 use Rattle.occ_model.proofs.Turns.{latest-push}
 use Rattle.occ_model.proofs.Phases.{not_refused}
 use Rattle.occ_model.proofs.Steps.{keeps, passed}
-use Rattle.occ_core.specs.Slots.{Slot, Hold, held_from, IsHeldAt}
+use Rattle.occ_log.specs.Slots.{Slot, Hold, held_from, IsHeldAt}
 use Rattle.occ_core.specs.Parts.{Parts, world_of, low_of, AreSound, SlotIsTrue}
-use Rattle.occ_core.proofs.Held.{held-hold, held-free}
-use Rattle.occ_core.proofs.Opponents.{some_finished, finished-push, finished-turn, held-get}
-use Rattle.occ_core.proofs.Windows.{moved_window, window_moved, moved_size}
-use Rattle.occ_core.proofs.Places.{slice_get-other, slice_get-below, held_latest, turn-at, held-set-own, held-set-other, held-push-other, held-push-own, held-session, split-at, latest_number_or, number-set, count-push, count-set, length-set}
+use Rattle.occ_log.proofs.Holding.{held-hold, held-free}
+use Rattle.occ_log.proofs.Opponents.{some_finished, finished-push, finished-turn, held-get}
+use Rattle.occ_log.proofs.Windows.{moved_window, window_moved, moved_size}
+use Rattle.occ_log.proofs.Places.{slice_get-other, slice_get-below, held_latest, turn-at, held-set-own, held-set-other, held-push-other, held-push-own, held-session, split-at, latest_number_or, number-set, count-push, count-set, length-set}
 
 -- what a slot says stands where the log and the base stand
 pub slot_same : (old new : Parts) → new.log ≡ old.log → (place : ℕ) (slot : Slot) → SlotIsTrue old place slot → SlotIsTrue new place slot
@@ -52,7 +52,7 @@ read_moves old session number start question sound none = record {
 }
 
 -- a slot of a session, replaced: what is said of each holds of the new one and of the others
-each_slot : (parts : Parts) (slots : List Slot) (place : ℕ) (slot : Slot) → place < length slots
+pub each_slot : (parts : Parts) (slots : List Slot) (place : ℕ) (slot : Slot) → place < length slots
     → SlotIsTrue parts place slot
     → ((q : ℕ) (other : Slot) → (q ≡ place → ⊥) → slice_get slots q ≡ Some other → SlotIsTrue parts q other)
     → (q : ℕ) (other : Slot) → slice_get (slice_set slots place slot) q ≡ Some other → SlotIsTrue parts q other

@@ -10,12 +10,12 @@ use Rattle.occ_model.specs.Log.{LogRow, Standing, Open, Writing, Done, Back, is_
 use Rattle.occ_model.specs.World.{World, latest}
 use Rattle.occ_model.specs.Event.{WriteOne}
 use Rattle.occ_model.specs.Refusal.{refusal}
-use Rattle.occ_core.specs.Slots.{Slot, Hold, held_from, row_under_way, writes_done}
+use Rattle.occ_log.specs.Slots.{Slot, Hold, held_from, row_under_way, writes_done}
 use Rattle.occ_core.specs.Parts.{Parts, world_of, AreSound}
 use Rattle.occ_core.specs.Replies.{first_object, next_object, IsNextWrite}
-use Rattle.occ_core.proofs.Held.{is_held_at, contains-held, below_first}
+use Rattle.occ_log.proofs.Holding.{is_held_at, contains-held, below_first}
 use Rattle.occ_core.proofs.Counting.{act, idle}
-use Rattle.occ_core.proofs.Places.{held_latest, slice_get-below}
+use Rattle.occ_log.proofs.Places.{held_latest, slice_get-below}
 use Rattle.occ_core.proofs.Calls.{found_row}
 use Rattle.occ_core.proofs.Finishes.{found_is, writing_is, may_write}
 

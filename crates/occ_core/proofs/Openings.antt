@@ -9,10 +9,10 @@ use Rattle.std.specs.FinMap.{FinMap}
 use Rattle.occ_model.specs.Log.{LogRow}
 use Rattle.occ_model.specs.World.{ReadPhase, phase_cmp, opened}
 use Rattle.occ_book.specs.Kept.{Content}
-use Rattle.occ_core.specs.Window.{Window}
+use Rattle.occ_log.specs.Window.{Window}
 use Rattle.occ_model.specs.Invariant.{Invariant}
 use Rattle.occ_model.proofs.Steps.{invariant_resumed}
-use Rattle.occ_core.specs.Slots.{Slot, held_from, idle_slots}
+use Rattle.occ_log.specs.Slots.{Slot, held_from, idle_slots}
 use Rattle.occ_core.specs.Parts.{Parts, world_of, AreSound, SlotIsTrue}
 
 none_held : (n count : ℕ) → held_from n (idle_slots count) ≡ sets.empty

@@ -22,10 +22,10 @@ use Rattle.occ_model.specs.Step.{Step, refused, starved, taken, read_more}
 use Rattle.occ_model.proofs.Tests as tests
 use Rattle.occ_model.proofs.Phases.{not_refused}
 use Rattle.occ_model.proofs.Steps.{keeps}
-use Rattle.occ_core.specs.Phases.{reads_of}
+use Rattle.occ_log.specs.Phases.{reads_of}
 use Rattle.occ_core.specs.Reads.{session_fault, closed_fault, number_fault, start_fault, turn_fault, size_fault, room_fault, noted}
 use Rattle.occ_core.specs.Replies.{reading, scanning, forgetting}
-use Rattle.occ_core.specs.Slots.{last_of}
+use Rattle.occ_log.specs.Slots.{last_of}
 use Rattle.occ_core.specs.Parts.{Parts, world_of, AreSound}
 use Rattle.occ_core.proofs.Moves.{slot_same, read_moves}
 
@@ -74,7 +74,7 @@ last_is parts session sound free =
     ap (λ o. elim o as (λ _. ℕ) [ None ↦ 0 | Some slot ↦ slot.last ]) found.1
     ∙ (sound.slots_true (session - 1) found.0 found.1).last_is ∙ ap (last_entered (world_of parts)) same
 
-nested : (a b c d : Option Fault) (others : List (Option Fault)) → first_fault (first_fault (a ∷ b ∷ c ∷ d ∷ []) ∷ others) ≡ first_fault (a ∷ b ∷ c ∷ d ∷ others)
+pub nested : (a b c d : Option Fault) (others : List (Option Fault)) → first_fault (first_fault (a ∷ b ∷ c ∷ d ∷ []) ∷ others) ≡ first_fault (a ∷ b ∷ c ∷ d ∷ others)
 nested (Some f) b c d others = refl
 nested None (Some f) c d others = refl
 nested None None (Some f) d others = refl

@@ -8,10 +8,10 @@ use Rattle.occ_model.specs.Log.{remaining, rest}
 use Rattle.occ_model.specs.World.{World}
 use Rattle.occ_model.specs.Event.{Reply, WriteOne, Refused, Wrote, NoMore}
 use Rattle.occ_model.specs.Step.{Step, refused, starved, taken}
-use Rattle.occ_core.specs.Slots.{written_in}
+use Rattle.occ_log.specs.Slots.{written_in}
 use Rattle.occ_core.specs.Replies.{single, first_object, next_object, writing}
-use Rattle.occ_core.specs.declared.core_state.SingleWrite.{SingleWrite}
-use Rattle.occ_core.specs.declared.core_state.SingleWrite.TheVariants as writes
+use Rattle.occ_core.specs.declared.core_turns.SingleWrite.{SingleWrite}
+use Rattle.occ_core.specs.declared.core_turns.SingleWrite.TheVariants as writes
 use Rattle.occ_core.proofs.Nexts.{first_dropped}
 
 -- what is said of a write that may be there

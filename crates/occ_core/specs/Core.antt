@@ -3,8 +3,8 @@ use Rattle.std.specs.Prelude.{◌≡◌, length}
 use Rattle.occ_model.specs.World.{World}
 use Rattle.occ_model.specs.Event.{Event, Reply}
 use Rattle.occ_model.specs.Step.{Step}
-use Rattle.occ_core.specs.Slots.{HoldsArePlaced}
-use Rattle.occ_core.specs.Logs.{IsLogOf}
+use Rattle.occ_log.specs.Slots.{HoldsArePlaced}
+use Rattle.occ_log.specs.Logs.{IsLogOf}
 use Rattle.occ_core.specs.Parts.{Parts, world_of, AreSound}
 use Rattle.occ_core.specs.declared.core_state.Core.TheInside.{Inside}
 

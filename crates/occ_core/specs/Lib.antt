@@ -1,11 +1,8 @@
-pub mod Slots
 pub mod Parts
-pub mod Rows
-pub mod Logs
-pub mod Phases
-pub mod Window
 pub mod Core
 pub mod Replies
 pub mod Reads
 pub mod Entries
+pub mod AtOnce
+pub mod RunningAlone
 pub mod Runs

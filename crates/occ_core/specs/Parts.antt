@@ -8,7 +8,7 @@ use Rattle.occ_model.specs.Log.{LogRow}
 use Rattle.occ_model.specs.Validity.{AreSame, finished_opponents}
 use Rattle.occ_model.specs.World.{Settings, World, ReadPhase, phase_cmp, empty_base, low, last_entered, active_count}
 use Rattle.occ_model.specs.Invariant.{Invariant}
-use Rattle.occ_core.specs.Slots.{Slot, Hold, held_from, IsHeldAt}
+use Rattle.occ_log.specs.Slots.{Slot, Hold, held_from, IsHeldAt}
 
 pub record Parts : Type 0 where
   pub settings : Settings

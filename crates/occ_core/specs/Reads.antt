@@ -10,8 +10,8 @@ use Rattle.occ_types.specs.Schema.{fault_if, first_fault}
 use Rattle.occ_types.specs.Question.{Question}
 use Rattle.occ_model.specs.State.{State, Observation, answer, answer_size}
 use Rattle.occ_model.specs.World.{ReadPhase, phase_cmp}
-use Rattle.occ_core.specs.Phases.{reads_of}
-use Rattle.occ_core.specs.Slots.{Slot, last_of}
+use Rattle.occ_log.specs.Phases.{reads_of}
+use Rattle.occ_log.specs.Slots.{Slot, last_of}
 
 -- there is no such session
 abbrev pub session_fault : List Slot → ℕ → Option Fault

@@ -10,13 +10,13 @@ use Rattle.occ_model.specs.World.{World, latest}
 use Rattle.occ_model.specs.Event.{Reply, Refused, Answered, Forgotten, Entered, Closed, Decided, Wrote, NoMore, Finished, BackedUp}
 use Rattle.occ_model.specs.declared.verdict.Verdict.{Verdict}
 use Rattle.occ_sets.specs.Seen.{rows_of}
-use Rattle.occ_core.specs.Slots.{written_in}
+use Rattle.occ_log.specs.Slots.{written_in}
 use Rattle.occ_core.specs.declared.core_entries.Entry.{Entry}
 use Rattle.occ_core.specs.declared.core_entries.Entry.TheVariants as entries
 use Rattle.occ_queue.specs.declared.items.Item as items
 use Rattle.occ_types.specs.declared.fault.Refused as refused
-use Rattle.occ_core.specs.declared.core_state.SingleWrite.{SingleWrite}
-use Rattle.occ_core.specs.declared.core_state.SingleWrite.TheVariants as writes
+use Rattle.occ_core.specs.declared.core_turns.SingleWrite.{SingleWrite}
+use Rattle.occ_core.specs.declared.core_turns.SingleWrite.TheVariants as writes
 
 abbrev pub decision : Result Verdict Fault → Reply
 decision (Ok verdict) = Decided verdict

@@ -2,7 +2,7 @@
 ghost use Rattle.std.specs.Prelude.{◌≡◌, length, IfOk, IsOkUnless};
 ghost use Rattle.occ_types.specs.declared.fault.Fault.TheVariants.{Memory};
 ghost use Rattle.occ_model.specs.World.{low};
-ghost use Rattle.occ_core.specs.Rows.{log_of};
+ghost use Rattle.occ_log.specs.Rows.{log_of};
 
 use crate::core_state::Core;
 use occ_book::{Book, BookView};

@@ -7,11 +7,12 @@ ghost use Rattle.occ_core.specs.Core.{Transition};
 ghost use Rattle.occ_core.specs.Entries.{turn_to_close};
 ghost use Rattle.occ_core.specs.Replies.{entry};
 
-use crate::core_entries::{Entry, check_due, check_idle};
+use crate::core_entries::Entry;
 use crate::core_reads::{check_session, check_unclosed};
 use crate::core_state::Core;
-use crate::sessions::Sessions;
+use crate::entry_checks::{check_due, check_idle};
 use occ_book::Marks;
+use occ_log::Sessions;
 use occ_types::Fault;
 use std::alloc::Allocator;
 
@@ -35,7 +36,7 @@ impl<A: Allocator> Core<A> {
 }
 
 // Whether a session may close under a number.
-fn check_turn_to_close<A: Allocator>(
+pub(crate) fn check_turn_to_close<A: Allocator>(
     sessions: &Sessions<A>,
     marks: &Marks<A>,
     session: usize,

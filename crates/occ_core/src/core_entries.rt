@@ -1,30 +1,25 @@
 //! The entry of what a session hands in.
-ghost use Rattle.std.specs.Prelude.{◌≡◌, ◌++◌, ◌∷◌, [], length, slice_get, IfOk, IfErr, option_map};
+ghost use Rattle.std.specs.Prelude.{◌≡◌, length, IfOk, IfErr};
 ghost use Rattle.std.specs.Result.{result_err};
-ghost use Rattle.occ_model.specs.Log.{Case as PlainCase, Open, is_active};
-ghost use Rattle.occ_model.specs.World.{active_count, reads_under};
+ghost use Rattle.occ_model.specs.Log.{Case as PlainCase, Open};
+ghost use Rattle.occ_model.specs.World.{reads_under};
 ghost use Rattle.occ_model.specs.Event.{Enter, Request};
-ghost use Rattle.occ_model.specs.Refusal.{refusal, check_writes};
+ghost use Rattle.occ_model.specs.Refusal.{refusal};
 ghost use Rattle.occ_model.specs.Step.{IsCaseOf, entering as entering_row};
+ghost use Rattle.occ_log.specs.Rows.{log_row_of};
 ghost use Rattle.occ_core.specs.Core.{Transition};
-ghost use Rattle.occ_core.specs.Logs.{row_at};
-ghost use Rattle.occ_core.specs.Slots.{active_from};
-ghost use Rattle.occ_core.specs.Rows.{log_row_of, standing_of, slot_of};
-ghost use Rattle.occ_core.specs.Entries.{due_fault, busy_fault, spare_fault, turn_to_enter, write_fault, log_fault, counter_fault, room_to_enter, active_at};
 ghost use Rattle.occ_core.specs.Replies.{entering, entry};
 ghost use Rattle.occ_queue.specs.Items.{item_of};
 
-use crate::core_reads::{check_session, check_start, check_unclosed};
+use crate::actives::active_writes;
 use crate::core_state::Core;
-use crate::log::Log;
-use crate::phases::{ReadPhases, Transaction};
-use crate::sessions::{Held, SessionState, Sessions};
-use occ_book::{LogRow, Marks, Standing};
+use crate::entry_checks::{check_room, check_turn};
+use occ_book::{LogRow, Standing};
 use occ_case::{Case, OpenCase};
+use occ_log::{Held, Transaction};
 use occ_queue::Item;
 use occ_sets::{ReadSet, WriteSet};
-use occ_types::limits::{MAX_COUNTER, MAX_LOG_ROWS, MAX_NUMBER};
-use occ_types::{Fault, Refused, Schema};
+use occ_types::{Fault, Refused};
 use std::alloc::{AllocError, Allocator};
 
 /// What came of an entry.
@@ -39,15 +34,6 @@ pub enum Entry {
     },
     /// The closing mark entered: the session is closed.
     MarkedClosed,
-}
-
-impl<A: Allocator> Core<A> {
-    /// How many transactions are active: entered, and neither finished nor decided to be backed up.
-    pub fn active(&self) -> usize
-        ensures { result ≡ active_count self.now.world }
-    {
-        count_active(&self.sessions, &self.log)
-    }
 }
 
 impl<A: Allocator + Copy> Core<A> {
@@ -185,176 +171,4 @@ impl<A: Allocator + Copy> Core<A> {
             standing: Standing::Open(open_case),
         })
     }
-}
-
-// Whether a session may enter a transaction.
-fn check_turn<A: Allocator>(
-    sessions: &Sessions<A>,
-    marks: &Marks<A>,
-    phases: &ReadPhases<A>,
-    counter: u64,
-    transaction: Transaction,
-) -> Result<(), Fault>
-    ensures { result_err result ≡ turn_to_enter sessions.now marks.now.marks phases.now counter transaction.session transaction.number transaction.start }
-{
-    let session = transaction.session;
-    check_session(sessions, session)?;
-    check_unclosed(marks, session)?;
-    check_due(sessions.last(session - 1), transaction.number)?;
-    check_idle(sessions.get(session - 1))?;
-    check_spare(transaction.number)?;
-    check_start(phases, counter, transaction)
-}
-
-// Whether a number is the one after that of the session's last transaction.
-pub(crate) fn check_due(last: u64, number: u64) -> Result<(), Fault>
-    ensures { result_err result ≡ due_fault last number }
-{
-    if number <= last || number - last != 1 {
-        return Err(Fault::OutOfTurn);
-    }
-    Ok(())
-}
-
-// Whether a session has no row under way.
-pub(crate) fn check_idle<A: Allocator>(state: Option<&SessionState<A>>) -> Result<(), Fault>
-    ensures { result_err result ≡ busy_fault (option_map (λ s. slot_of s.now) state.entry) }
-{
-    match state {
-        Some(state) if state.held.is_some() => Err(Fault::SessionBusy),
-        _ => Ok(()),
-    }
-}
-
-// Whether a number after this one is left for the closing mark.
-fn check_spare(number: u64) -> Result<(), Fault>
-    ensures { result_err result ≡ spare_fault number }
-{
-    if number >= MAX_NUMBER {
-        return Err(Fault::NumbersExhausted);
-    }
-    Ok(())
-}
-
-// Whether writes fit the schema, and there is room for one more transaction.
-fn check_room<A: Allocator>(
-    schema: &Schema<A>,
-    sessions: &Sessions<A>,
-    log: &Log<A>,
-    counter: u64,
-    writes: &WriteSet<A>,
-) -> Result<(), Fault>
-    ensures { result_err result ≡ room_to_enter schema.now sessions.now (length log.now.rows) (row_at log.now) counter writes.now }
-{
-    check_writes(schema, writes)?;
-    check_log(log.len())?;
-    check_counter(counter, count_active(sessions, log))
-}
-
-// Whether each write fits the schema, in their order.
-fn check_writes<A: Allocator>(schema: &Schema<A>, writes: &WriteSet<A>) -> Result<(), Fault>
-    ensures { result_err result ≡ check_writes schema.now writes.now }
-{
-    for place in 0..writes.len() {
-        check_write(schema, writes, place)?;
-    }
-    Ok(())
-}
-
-// Whether the write at a place fits the schema: its key, and then its row.
-fn check_write<A: Allocator>(
-    schema: &Schema<A>,
-    writes: &WriteSet<A>,
-    place: usize,
-) -> Result<(), Fault>
-    ensures { result_err result ≡ write_fault schema.now (slice_get writes.now place) }
-{
-    let Some((object, row)) = writes.write_at(place) else {
-        return Ok(());
-    };
-    schema.check_key(object.table, &object.key)?;
-    match row {
-        None => Ok(()),
-        Some(row) => schema.check_row(object.table, row),
-    }
-}
-
-// Whether the log has room for one more row.
-fn check_log(rows: usize) -> Result<(), Fault>
-    ensures { result_err result ≡ log_fault rows }
-{
-    if rows >= MAX_LOG_ROWS {
-        return Err(Fault::LogFull);
-    }
-    Ok(())
-}
-
-// Whether the counter has room for the active transactions and one more.
-fn check_counter(counter: u64, active: usize) -> Result<(), Fault>
-    ensures { result_err result ≡ counter_fault counter active }
-{
-    if active as u64 >= MAX_COUNTER.saturating_sub(counter) {
-        return Err(Fault::CounterExhausted);
-    }
-    Ok(())
-}
-
-// The writes of the row of the session at a place, where it is active.
-fn active_at<'a, A: Allocator>(
-    sessions: &Sessions<A>,
-    log: &'a Log<A>,
-    place: usize,
-) -> Option<&'a WriteSet<A>>
-    ensures { option_map (λ w. w.now) result ≡ active_at (row_at log.now) (slice_get sessions.now place) }
-{
-    let state = sessions.get(place)?;
-    let held = state.held.as_ref()?;
-    let row = log.row(held.place)?;
-    if is_active(&row.standing) {
-        Some(&row.writes)
-    } else {
-        None
-    }
-}
-
-// Whether a row that stands so is active.
-fn is_active<A: Allocator>(standing: &Standing<OpenCase<A>>) -> bool
-    ensures { result ≡ is_active (standing_of standing.now) }
-{
-    match standing {
-        Standing::Open(_) => true,
-        Standing::Writing(_) => true,
-        Standing::Done(_) => false,
-        Standing::Back(_) => false,
-    }
-}
-
-// How many transactions are active, found through the sessions.
-fn count_active<A: Allocator>(sessions: &Sessions<A>, log: &Log<A>) -> usize
-    ensures { result ≡ length (active_from (row_at log.now) sessions.now) }
-{
-    let mut count = 0;
-    for place in 0..sessions.len() {
-        if active_at(sessions, log, place).is_some() {
-            count += 1;
-        }
-    }
-    count
-}
-
-// A clone of the writes of each active transaction, found through the sessions.
-fn active_writes<A: Allocator + Clone>(
-    alloc: A,
-    sessions: &Sessions<A>,
-    log: &Log<A>,
-) -> Result<Vec<WriteSet<A>, A>, AllocError>
-    ensures { IfOk result (λ active. active.items ≡ active_from (row_at log.now) sessions.now) }
-{
-    let mut active = Vec::new(alloc);
-    for place in 0..sessions.len() {
-        if let Some(writes) = active_at(sessions, log, place) {
-            active.push(writes.clone()?)?;
-        }
-    }
-    Ok(active)
 }

@@ -13,9 +13,8 @@ ghost use Rattle.occ_core.specs.Core.{Transition};
 ghost use Rattle.occ_core.specs.Replies.{reading, scanning, forgetting};
 
 use crate::core_state::Core;
-use crate::phases::{ReadPhases, Transaction};
-use crate::sessions::Sessions;
 use occ_book::{Marks, Tables};
+use occ_log::{ReadPhases, Sessions, Transaction};
 use occ_sets::{Answer, Observation};
 use occ_types::limits::{MAX_ANSWER_ROWS, MAX_QUESTIONS, READ_AHEAD};
 use occ_types::{Fault, Key, Object, Question, Row, Schema};
@@ -258,7 +257,7 @@ fn check_turn<A: Allocator>(
 }
 
 // Whether the answer to a range has no more rows than an answer may have. They are counted, and none is copied.
-pub(crate) fn check_size<A: Allocator + Clone>(
+fn check_size<A: Allocator + Clone>(
     tables: &Tables<A>,
     table: usize,
     lower: &Option<Key<A>>,

@@ -7,7 +7,7 @@ ghost use Rattle.occ_core.specs.Runs.{reply_of, handed_back};
 ghost use Rattle.occ_queue.specs.Items.{item_of};
 
 use crate::core_entries::Entry;
-use crate::core_state::SingleWrite;
+use crate::core_turns::SingleWrite;
 use occ_case::Verdict;
 use occ_queue::Item;
 use occ_types::{Fault, Key, Object, Refused, Row};

@@ -3,4 +3,6 @@
 #![tactic(auto)]
 
 #[cfg(test)]
+mod at_once_tests;
+#[cfg(test)]
 mod tests;

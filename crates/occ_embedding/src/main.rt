@@ -1,11 +1,9 @@
 //! The store in a program of one's own: two sessions pay into one account at the same time, and one of them has to try again.
 #![tactic(auto)]
 
-use occ_case::Verdict;
-use occ_core::{Core, SingleWrite};
+use occ_core::{Core, Ended};
 use occ_queue::Item;
-use occ_sets::PrivateCopy;
-use occ_types::limits::MAX_WRITES;
+use occ_sets::{Op, PrivateCopy};
 use occ_types::{Cell, Fault, Key, KeyKind, Kind, Row, Schema, TableDef, Text};
 use std::alloc::Global;
 use std::process::ExitCode;
@@ -26,7 +24,7 @@ fn main(rt: HostRuntime) -> ExitCode {
     }
 }
 
-/// Two payments that overlap, the second one tried again, and the balance.
+/// Two payments that overlap, the second one tried again, then one in a single step, and the balance.
 fn pay(alloc: Global) -> Result<String, Fault> {
     let mut lines = String::new(alloc);
     let mut store = open(alloc)?;
@@ -36,7 +34,8 @@ fn pay(alloc: Global) -> Result<String, Fault> {
     tell(&mut lines, 2, commit(&mut store, 2, second)?)?;
     let again = begin(alloc, &mut store, 2, 2, 12)?;
     tell(&mut lines, 2, commit(&mut store, 2, again)?)?;
-    let balance = balance(&mut store, 1, 2)?;
+    tell(&mut lines, 1, Some(pay_alone(&mut store, 1, 2, 8)?))?;
+    let balance = balance(&mut store, 1, 3)?;
     writeln!(lines, "the account has {balance}").or(Err(Fault::Memory))?;
     Ok(lines)
 }
@@ -80,7 +79,7 @@ fn begin(
     Ok(copy)
 }
 
-/// Validation and write phase. The answer is the number of the commit, or none where it has to be tried again.
+/// Validation and write phase, in one step. The answer is the number of the commit, or none where it has to be tried again.
 fn commit(
     store: &mut Core<Global>,
     session: usize,
@@ -92,18 +91,26 @@ fn commit(
         start,
         writes,
     };
-    store.enter(session, request)?;
-    if store.decide(session)? != Verdict::Commit {
-        store.back_up(session)?;
-        return Ok(None);
+    match store.serial_end(session, request)? {
+        Ended::Committed(number) => Ok(Some(number)),
+        Ended::BackedUp(_) | Ended::MarkedClosed => Ok(None),
     }
-    for _ in 0..=MAX_WRITES {
-        if store.write_one(session)? == SingleWrite::NoMore {
-            break;
-        }
-    }
-    let number = store.finish(session)?;
-    Ok(Some(number))
+}
+
+/// A whole payment in one step, which is never backed up. The answer is the number of its commit.
+fn pay_alone(
+    store: &mut Core<Global>,
+    session: usize,
+    number: u64,
+    amount: i64,
+) -> Result<u64, Fault> {
+    let payment = [Op::Add {
+        table: ACCOUNTS,
+        key: ACCOUNT,
+        amount,
+    }];
+    let (number, _answers) = store.run_alone(session, number, &payment)?;
+    Ok(number)
 }
 
 fn tell(lines: &mut String, session: usize, committed: Option<u64>) -> Result<(), Fault> {

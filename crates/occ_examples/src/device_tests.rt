@@ -13,6 +13,14 @@ const SCHEDULE: &str =
 const TEXT: &str =
     "begun 1 0\nok\nqueued 1\nentered 0\ncommit\nwrote t 7\nfinished 1\ncounter 1 low 0 log 1 state 1 active 0\nocc 1\nsessions 2\nqueue 4\nkeep 8\ntable t num int\nlog 1\nrow 0 1 1 0 0 0 1 done 1\nput t 7 100\nmarks 0\nstate 1\nat t 7 100\ncounter 1 low 0\naudit yes\n";
 
+/// Two transactions, of which the one that enters first finishes last.
+const ORDERED: &str =
+    "occ 1\nsessions 2\nqueue 4\nkeep 8\ntable t num int\nsteps\nbegin 1\nget 1 t 1\nput 1 t 2 5\nsubmit 1\nbegin 2\nput 2 t 1 9\nsubmit 2\nenter 1\nenter 2\ndecide 2\nwrite 2\nfinish 2\ndecide 1\nwrite 1\nfinish 1\n";
+
+/// Its fifteen answers, the book, and whether its audit holds.
+const ORDERED_TEXT: &str =
+    "begun 1 0\nnone\nok\nqueued 1\nbegun 1 0\nok\nqueued 1\nentered 0\nentered 1\ncommit\nwrote t 1\nfinished 1\ncommit\nwrote t 2\nfinished 2\nocc 1\nsessions 2\nqueue 4\nkeep 8\ntable t num int\nlog 2\nrow 0 1 1 0 0 1 1 done 2\none t 1 none\nput t 2 5\nrow 1 2 1 0 0 0 1 done 1\nput t 1 9\nmarks 0\nstate 2\nat t 1 9\nat t 2 5\ncounter 2 low 0\naudit yes\n";
+
 /// A header of six lines, and no step.
 const HEADER: &str = "occ 1\nsessions 2\nqueue 4\nkeep 8\ntable t num int\nsteps\n";
 
@@ -33,26 +41,28 @@ fn reader_of(alloc: Global, text: &str, fails: usize) -> Result<Device, AllocErr
 
 #[test]
 fn a_failed_read_leaves_the_answers_before(rt: HostRuntime) -> Result<(), Fail> {
-    // the text is 25 pieces and an end, so it takes 38 calls, twelve of them interrupted
-    for fails in 0..45 {
-        let mut reader = reader_of(rt.alloc(), SCHEDULE, fails)?;
-        let mut written = Vec::new(rt.alloc());
-        let ended = replay_text(rt.alloc(), &mut reader, &mut written, false);
-        assert!(rt; TEXT.as_bytes().starts_with(written.as_slice()), "{fails}");
-        if fails < 38 {
-            assert!(rt; ended == Err(Trouble::Read), "{fails}");
-            assert_eq!(rt;
-                lines_in(written.as_slice()),
-                steps_read(&reader),
-                "{fails}"
-            );
-            assert!(rt;
-                written.is_empty() || written.as_slice().ends_with(b"\n"),
-                "{fails}"
-            );
-        } else {
-            assert!(rt; ended == Ok(()), "{fails}");
-            assert_eq!(rt; written.len(), TEXT.len(), "{fails}");
+    // the texts are 25 and 38 pieces and an end, so they take 38 and 58 calls, each third of them interrupted
+    for (schedule, text, calls) in [(SCHEDULE, TEXT, 38), (ORDERED, ORDERED_TEXT, 58)] {
+        for fails in 0usize..65 {
+            let mut reader = reader_of(rt.alloc(), schedule, fails)?;
+            let mut written = Vec::new(rt.alloc());
+            let ended = replay_text(rt.alloc(), &mut reader, &mut written, false);
+            assert!(rt; text.as_bytes().starts_with(written.as_slice()), "{fails}");
+            if fails < calls {
+                assert!(rt; ended == Err(Trouble::Read), "{fails}");
+                assert_eq!(rt;
+                    lines_in(written.as_slice()),
+                    steps_read(&reader),
+                    "{fails}"
+                );
+                assert!(rt;
+                    written.is_empty() || written.as_slice().ends_with(b"\n"),
+                    "{fails}"
+                );
+            } else {
+                assert!(rt; ended == Ok(()), "{fails}");
+                assert_eq!(rt; written.len(), text.len(), "{fails}");
+            }
         }
     }
     Ok(())
@@ -60,23 +70,25 @@ fn a_failed_read_leaves_the_answers_before(rt: HostRuntime) -> Result<(), Fail> 
 
 #[test]
 fn a_failed_write_leaves_a_beginning_of_the_text(rt: HostRuntime) -> Result<(), Fail> {
-    // the text is seven pieces of 40 bytes; the tenth call takes the last one, and the eleventh is the flush
-    for fails in 0usize..15 {
-        let mut reader = SCHEDULE.as_bytes();
-        let mut writer = Device::new(Vec::new(rt.alloc()), 40, fails);
-        let ended = replay_text(rt.alloc(), &mut reader, &mut writer, false);
-        assert!(rt;
-            TEXT.as_bytes().starts_with(writer.bytes.as_slice()),
-            "{fails}"
-        );
-        let taken = fails.saturating_sub(fails / 3).saturating_mul(40);
-        assert_eq!(rt; writer.bytes.len(), taken.min(TEXT.len()), "{fails}");
-        let wanted = if fails < 11 {
-            Err(Trouble::Write)
-        } else {
-            Ok(())
-        };
-        assert!(rt; ended == wanted, "{fails}");
+    // the texts are seven and nine pieces of 40 bytes; the tenth and the thirteenth call take the last one, and the next is the flush
+    for (schedule, text, calls) in [(SCHEDULE, TEXT, 11), (ORDERED, ORDERED_TEXT, 14)] {
+        for fails in 0usize..18 {
+            let mut reader = schedule.as_bytes();
+            let mut writer = Device::new(Vec::new(rt.alloc()), 40, fails);
+            let ended = replay_text(rt.alloc(), &mut reader, &mut writer, false);
+            assert!(rt;
+                text.as_bytes().starts_with(writer.bytes.as_slice()),
+                "{fails}"
+            );
+            let taken = fails.saturating_sub(fails / 3).saturating_mul(40);
+            assert_eq!(rt; writer.bytes.len(), taken.min(text.len()), "{fails}");
+            let wanted = if fails < calls {
+                Err(Trouble::Write)
+            } else {
+                Ok(())
+            };
+            assert!(rt; ended == wanted, "{fails}");
+        }
     }
     Ok(())
 }

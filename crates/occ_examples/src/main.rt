@@ -2,9 +2,13 @@
 #![tactic(auto)]
 
 #[cfg(test)]
+mod attack_tests;
+#[cfg(test)]
 mod device_tests;
 #[cfg(test)]
 mod limit_tests;
+#[cfg(test)]
+mod step_tests;
 #[cfg(test)]
 mod text_tests;
 
@@ -13,12 +17,15 @@ use std::process::ExitCode;
 use std::{fs, io};
 
 /// The schedules, each in a file `NAME.occ` with its text in `NAME.out`.
-const EXAMPLES: [&str; 24] = [
+const EXAMPLES: [&str; 27] = [
+    "abandoned-and-begun-anew",
     "blind-writes",
+    "closed-sessions",
     "deletion-of-an-absent-key",
     "entry-between-two-writes",
     "entry-order",
     "first-commit",
+    "forged-and-refused",
     "full-queue",
     "full-read-set",
     "full-write-set",

@@ -1,10 +1,11 @@
 //! Books that the first version of the format has lines for: those whose ranges have both ends.
 
-ghost use Rattle.std.specs.Prelude.{◌≡◌, ℕ};
+ghost use Rattle.std.specs.Prelude.{◌≡◌, ℕ, true, IfErr};
 ghost use Rattle.std.specs.List.{list_all};
 ghost use Rattle.occ_types.specs.Seen.{question_of};
 ghost use Rattle.occ_model.specs.Log.{Case};
 ghost use Rattle.occ_book.specs.Rows.{log_of};
+ghost use Rattle.occ_print.specs.declared.ends.BookFault.TheVariants as book_faults;
 ghost use Rattle.occ_print.specs.Books.{book_of};
 ghost use Rattle.occ_print.specs.Ends.{has_both_ends, reads_have_ends, ranges_have_ends, book_fault, BookGives};
 
@@ -51,7 +52,8 @@ pub fn write_readable_book<W: Write, A: Allocator + Clone, O>(
     schema: &Schema<A>,
     book: &BookView<'_, A, O>,
 ) -> Result<(), BookFault>
-    ensures { (opened : O → ℕ × Case) → BookGives result (book_of opened limits schema.now book.now) (W.contents writer.old) (W.contents writer.new) output.old.held output.new.held }
+    ensures gives { (opened : O → ℕ × Case) → BookGives result (book_of opened limits schema.now book.now) (W.contents writer.old) (W.contents writer.new) output.old.held output.new.held }
+    ensures cause { IfErr result (λ fault. fault ≡ book_faults.Write → output.new.failed ≡ true) }
 {
     if !ranges_have_ends(book.log) {
         return Err(BookFault::MissingEnd);

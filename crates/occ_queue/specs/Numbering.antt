@@ -42,6 +42,15 @@ turn_fault queue item = first_fault (
     ∷ fault_if (is_mark item || not (number_of item == next queue)) faults.OutOfTurn
     ∷ [])
 
+-- why a request with this number can't be submitted, where there is a reason
+abbrev pub refusal_of_request : Numbered → ℕ → Option Fault
+refusal_of_request queue number = first_fault (
+    fault_if queue.closed faults.Closed
+    ∷ fault_if (nat_le MAX_NUMBER (next queue)) faults.NumbersExhausted
+    ∷ fault_if (not (number == next queue)) faults.OutOfTurn
+    ∷ fault_if (is_full queue) faults.QueueFull
+    ∷ [])
+
 -- why an item can't be submitted, where there is a reason
 abbrev pub refusal_of_submit : Numbered → Item → Option Fault
 refusal_of_submit queue item = first_fault (turn_fault queue item ∷ fault_if (is_full queue) faults.QueueFull ∷ [])

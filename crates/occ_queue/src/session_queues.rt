@@ -4,8 +4,9 @@ ghost use Rattle.std.specs.Result.{result_err};
 ghost use Rattle.occ_types.specs.declared.fault.Fault.TheVariants.{Memory, Closed};
 ghost use Rattle.occ_types.specs.Schema.{fault_if};
 ghost use Rattle.occ_model.specs.Event.{Close};
+ghost use Rattle.occ_model.specs.Refusal.{numbers_exhausted};
 ghost use Rattle.occ_queue.specs.Items.{item_of};
-ghost use Rattle.occ_queue.specs.Numbering.{IsInTurn, unused, next, with_item, is_full, turn_fault, refusal_of_submit, refusal_of_close};
+ghost use Rattle.occ_queue.specs.Numbering.{IsInTurn, unused, next, with_item, is_full, turn_fault, refusal_of_request, refusal_of_submit, refusal_of_close};
 
 use crate::items::Item;
 use crate::queues::Queue;
@@ -70,6 +71,21 @@ impl<A: Allocator> SessionQueue<A> {
         self.queue.is_full()
     }
 
+    /// Whether a request with this number could be submitted. Refused as `submit` refuses it.
+    pub fn check_request(&self, number: u64) -> Result<(), Fault>
+        ensures { result_err result ≡ refusal_of_request self.now number }
+    {
+        self.check_open()?;
+        self.check_spare()?;
+        if number != self.next() {
+            return Err(Fault::OutOfTurn);
+        }
+        if self.queue.is_full() {
+            return Err(Fault::QueueFull);
+        }
+        Ok(())
+    }
+
     /// Pushes an item that has the next number, which takes no memory. Refused, the first of these that holds: with `Closed` where the
     /// session is closed; with `NumbersExhausted` where only the number of the closing mark is left; with `OutOfTurn` where the item
     /// has another number, or is a closing mark, which `close` pushes; and with `QueueFull`. The item is handed back then, and the next
@@ -122,15 +138,24 @@ impl<A: Allocator> SessionQueue<A> {
         Ok(())
     }
 
+    // Whether a number is left beside that of the closing mark.
+    fn check_spare(&self) -> Result<(), Fault>
+        ensures { result_err result ≡ numbers_exhausted (next self.now) }
+    {
+        let next = self.next();
+        if next >= MAX_NUMBER {
+            return Err(Fault::NumbersExhausted);
+        }
+        Ok(())
+    }
+
     // Whether an item may be submitted, if there is room.
     fn check_turn(&self, item: &Item<A>) -> Result<(), Fault>
         ensures { result_err result ≡ turn_fault self.now (item_of item.now) }
     {
         self.check_open()?;
+        self.check_spare()?;
         let next = self.next();
-        if next >= MAX_NUMBER {
-            return Err(Fault::NumbersExhausted);
-        }
         if item.is_mark() || item.number() != next {
             return Err(Fault::OutOfTurn);
         }

@@ -183,3 +183,8 @@ module _ {Z : Type 0} where
       let both : Some here ≡ Some there = e ∙ f in
       let same : here ≡ there = cc in
       subst (LedFurther question old new) same leads
+
+  -- rows that no write goes over are as they are
+  pub merged_none : (rows : List (code_key.Key Z × Row)) → merged (on key_of key_cmp) rows [] ≡ rows
+  merged_none [] = refl
+  merged_none (row ∷ rows) = ap (λ rest. row ∷ rest) (merged_none rows)

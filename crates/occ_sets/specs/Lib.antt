@@ -1,4 +1,5 @@
 pub mod Merging
+pub mod Operations
 pub mod Overlays
 pub mod Seen
 pub mod Sets

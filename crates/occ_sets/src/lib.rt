@@ -4,6 +4,9 @@
 mod copies;
 mod maps;
 mod meets;
+#[cfg(test)]
+mod operation_tests;
+mod operations;
 mod overlays;
 mod prepared;
 mod reads;
@@ -15,6 +18,7 @@ mod writes;
 pub use copies::PrivateCopy;
 pub use maps::Write;
 pub use meets::{meets_reads, meets_writes};
+pub use operations::{Op, check_operations};
 pub use prepared::Prepared;
 pub use reads::{Answer, Observation, ReadSet};
 pub use writes::WriteSet;

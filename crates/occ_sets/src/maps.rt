@@ -1,5 +1,5 @@
 //! The writes of one transaction, by their objects.
-ghost use Rattle.std.specs.Prelude.{◌≡◌, ◌<◌, ◌≤◌, ◌^◌, [], false, cond, length, slice_get, is_some, None, IfErr, IfSome, OnOk, OnErr, MatchResult};
+ghost use Rattle.std.specs.Prelude.{◌≡◌, ◌<◌, ◌≤◌, ◌^◌, [], false, cond, length, slice_get, is_some, None, IfOk, IfErr, IfSome, OnOk, OnErr, MatchResult};
 ghost use Rattle.std.specs.Option.{option_copied, option_map};
 ghost use Rattle.occ_types.specs.declared.fault.Fault.TheVariants.{SetFull, Memory};
 ghost use Rattle.occ_types.specs.declared.limits.TheConstants as limit;
@@ -44,6 +44,15 @@ impl<A: Allocator + Copy> WriteMap<A> {
         WriteMap {
             entries: IndexMap::new(alloc),
         }
+    }
+
+    /// No writes, with room for `count` of them. An error where there is no memory for it.
+    pub(crate) fn with_capacity(alloc: A, count: usize) -> Result<WriteMap<A>, AllocError>
+        ensures { IfOk result (λ writes. writes ≡ []) }
+    {
+        Ok(WriteMap {
+            entries: IndexMap::with_capacity(alloc, count)?,
+        })
     }
 }
 

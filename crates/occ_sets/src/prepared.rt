@@ -1,6 +1,8 @@
 //! What a private copy takes before a range is asked for, so that its own writes go over the answer without memory.
-ghost use Rattle.std.specs.Prelude.{◌≡◌, ◌+◌, ◌≤◌, ◌<◌, ◌++◌, Some, slice_get, length, vec_len, vec_capacity, IfOk, OnOk, IsOkUnless};
+ghost use Rattle.std.specs.Prelude.{◌≡◌, ◌+◌, ◌≤◌, ◌<◌, ◌++◌, [], Some, slice_get, length, vec_len, vec_capacity, IfOk, OnOk, IsOkUnless};
 ghost use Rattle.std.specs.BTreeMap.{btree_map_len};
+ghost use Rattle.std.specs.List.Sorted.{IsStrictlySortedBy};
+ghost use Rattle.std.specs.Map.{keys_of};
 ghost use Rattle.std.specs.Option.{option_copied};
 ghost use Rattle.std.specs.Ordering.{on};
 ghost use Rattle.occ_types.specs.declared.fault.Fault.TheVariants.{Memory};
@@ -9,7 +11,7 @@ ghost use Rattle.occ_types.specs.Key.{key_cmp};
 ghost use Rattle.occ_types.specs.Seen.{key_of, question_of};
 ghost use Rattle.occ_model.specs.State.{State, Write, Rows, answer, apply};
 ghost use Rattle.occ_sets.specs.Overlays.{rows_over};
-ghost use Rattle.occ_sets.specs.Merging.{LaysFirst, LaysRow, Led, LedFurther, first_to, rows_put};
+ghost use Rattle.occ_sets.specs.Merging.{LaysFirst, LaysRow, Led, LedFurther, first_to, merged, rows_put};
 ghost use Rattle.occ_sets.specs.Seen.{rows_of};
 
 use crate::copies::PrivateCopy;
@@ -74,19 +76,29 @@ impl<'a, A: Allocator> Prepared<'a, A> {
         requires few { length rows.items ≤ limit.MAX_ANSWER_ROWS }
         ensures { rows_of result.items ≡ rows_over self.entry.question self.entry.writes (rows_of rows.items) }
     {
-        let Prepared {
-            mut own,
-            mut room,
-            ..
-        } = self;
-        // Its clause says that the keys are in order.
-        let _len = own.len();
-        for (key, row) in rows {
-            lay_row(&mut own, &mut room, key, row);
-        }
-        lay_rest(&mut own, &mut room);
-        room
+        let Prepared { own, room, .. } = self;
+        merge(own, room, rows)
     }
+}
+
+// Lays rows, with the own writes over them, into a room that is large enough.
+pub(crate) fn merge<A: Allocator>(
+    mut own: BTreeMap<Key<A>, Option<Row<A>>, A>,
+    mut room: Vec<(Key<A>, Row<A>), A>,
+    rows: Vec<(Key<A>, Row<A>), A>,
+) -> Vec<(Key<A>, Row<A>), A>
+    requires empty { (room.items ≡ []) × (vec_len room ≡ 0) }
+    requires enough { length rows.items + btree_map_len own ≤ vec_capacity room }
+    ensures rows { result.items ≡ merged (on key_of key_cmp) rows.items own.entries }
+    ensures ordered { IsStrictlySortedBy (on key_of key_cmp) (keys_of own.entries) }
+{
+    // Its clause says that the keys are in order.
+    let _len = own.len();
+    for (key, row) in rows {
+        lay_row(&mut own, &mut room, key, row);
+    }
+    lay_rest(&mut own, &mut room);
+    room
 }
 
 // Lays the own writes up to a row, and then the row, where it has no own write.
@@ -152,7 +164,7 @@ fn first_to<A: Allocator>(own: &BTreeMap<Key<A>, Option<Row<A>>, A>, key: &Key<A
 }
 
 // The own writes that are asked for, the last one of each key.
-fn own_asked<A: Allocator + Copy>(
+pub(crate) fn own_asked<A: Allocator + Copy>(
     alloc: A,
     question: &Question<A>,
     writes: &WriteMap<A>,

@@ -84,6 +84,16 @@ impl<A: Allocator> ReadSet<A> {
         }
     }
 
+    /// A set without an observation, with room for `count` of them. Refused with `Memory` where there is none for it.
+    pub fn with_capacity(alloc: A, count: usize) -> Result<ReadSet<A>, Fault>
+        ensures empty { IfOk result (λ reads. reads ≡ []) }
+        ensures memory { IsOkUnless result Memory }
+    {
+        Ok(ReadSet {
+            content: Shareable::Plain(Vec::with_capacity(alloc, count)?),
+        })
+    }
+
     /// How many questions were asked.
     pub fn len(&self) -> usize
         ensures value { result ≡ length self.now }

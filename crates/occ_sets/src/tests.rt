@@ -304,3 +304,11 @@ fn what_a_text_tells_has_no_limit(rt: HostRuntime) -> Result<(), Fail> {
     assert!(rt; refused.err().map(|refused| refused.fault) == Some(Fault::SetFull));
     Ok(())
 }
+
+#[test]
+fn sets_with_room_are_empty(rt: HostRuntime) -> Result<(), Fail> {
+    let alloc = rt.alloc();
+    assert!(rt; ReadSet::with_capacity(alloc, 4).is_ok_and(|reads| reads.is_empty()));
+    assert!(rt; WriteSet::with_capacity(alloc, 4).is_ok_and(|writes| writes.is_empty()));
+    Ok(())
+}

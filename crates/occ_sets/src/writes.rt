@@ -3,12 +3,15 @@ ghost use Rattle.std.specs.Prelude.{◌≡◌, ◌==◌, ◌<◌, ◌^◌, [], f
 ghost use Rattle.std.specs.Option.{option_copied, option_map};
 ghost use Rattle.occ_types.specs.declared.fault.Fault.TheVariants.{SetFull, Memory};
 ghost use Rattle.occ_types.specs.Seen.{object_of, key_of, question_of};
-ghost use Rattle.occ_model.specs.State.{meets_question};
+ghost use Rattle.occ_model.specs.State.{State, Rows, answer, meets_question};
 ghost use Rattle.occ_model.specs.Overlay.{set, own};
+ghost use Rattle.occ_sets.specs.Overlays.{rows_over};
+ghost use Rattle.occ_sets.specs.Seen.{rows_of};
 ghost use Rattle.occ_sets.specs.Sets.{WritesOnce, is_full_for};
 ghost use Rattle.occ_sets.specs.Shareable.{held};
 
 use crate::maps::{Write, WriteMap};
+use crate::prepared::{merge, own_asked};
 use crate::shareable::Shareable;
 use occ_types::{Fault, Key, Object, Question, Refused, Row};
 use std::alloc::{AllocError, Allocator};
@@ -39,6 +42,15 @@ impl<A: Allocator + Copy> WriteSet<A> {
         ensures { result ≡ [] }
     {
         WriteSet::from_map(WriteMap::new(alloc))
+    }
+
+    /// A set without a write, with room for `count` of them. Refused with `Memory` where there is none for it.
+    pub fn with_capacity(alloc: A, count: usize) -> Result<WriteSet<A>, Fault>
+        ensures empty { IfOk result (λ writes. writes ≡ []) }
+        ensures memory { IsOkUnless result Memory }
+    {
+        let map = WriteMap::with_capacity(alloc, count)?;
+        Ok(WriteSet::from_map(map))
     }
 }
 
@@ -105,6 +117,25 @@ impl<A: Allocator> WriteSet<A> {
 }
 
 impl<A: Allocator + Copy> WriteSet<A> {
+    /// The rows that a table answers to a question, with the writes of the set over them, in the order of the keys: what a transaction with these writes sees. There may be any number of rows. It takes no memory where none of the writes is asked for, and is refused with `Memory` where there is none for the others.
+    pub fn over(
+        &self,
+        question: &Question<A>,
+        rows: Vec<(Key<A>, Row<A>), A>,
+    ) -> Result<Vec<(Key<A>, Row<A>), A>, Fault>
+        requires answered { (state : State) × (answer (question_of question.now) state ≡ Rows (rows_of rows.items)) }
+        ensures seen { IfOk result (λ seen. rows_of seen.items ≡ rows_over (question_of question.now) self.now (rows_of rows.items)) }
+        ensures memory { IsOkUnless result Memory }
+    {
+        let alloc = *self.map().entries.allocator();
+        let own = own_asked(alloc, question, self.map())?;
+        if own.len() == 0 {
+            return Ok(rows);
+        }
+        let room = Vec::with_capacity(alloc, rows.len() + own.len())?;
+        Ok(merge(own, room, rows))
+    }
+
     /// From now on a clone of the set is one more owner of it, and copies nothing. Refused with `Memory` where there is none for the handle. The set has its writes either way.
     pub fn share(&mut self) -> Result<(), Fault>
         ensures kept { self.new ≡ self.old }

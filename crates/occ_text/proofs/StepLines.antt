@@ -1,5 +1,5 @@
 -- The lines of steps: what is read is spelled so, and what is spelled so is read again.
-use Rattle.std.proofs.Common.{◌≡◌, ℕ, ◌^◌, ◌<◌, ◌≤◌, Bool, true, false, cond, List, [], ◌∷◌, Option, Some, None, IfSome, ◌⊎◌, inl, inr, lit<, refl, sym, ap, subst, ◌∙◌, arith}
+use Rattle.std.proofs.Common.{◌≡◌, ℕ, ◌^◌, ◌-◌, ◌<◌, ◌≤◌, Bool, true, false, cond, List, [], ◌∷◌, Option, Some, None, IfSome, ◌⊎◌, inl, inr, lit<, refl, sym, ap, subst, ◌∙◌, arith}
 use Rattle.std.specs.Prelude.{option_and_then, codes}
 use Rattle.std.specs.List.{find}
 use Rattle.std.specs.Str.{bytes_eq}
@@ -13,8 +13,8 @@ use Rattle.occ_text.specs.declared.steps.Act.TheVariants as acts
 use Rattle.occ_text.specs.Spelling.{line_text, key_text, row_text, IsToken, AreTokens, IsName, KeyFits, RowFits}
 use Rattle.occ_text.specs.Reading.{Reads, is_token, tokens_of, number_of, name_of}
 use Rattle.occ_text.specs.Escapes.{read_key, read_row}
-use Rattle.occ_text.specs.Steps.{Step, Does, Get, Scan, Put, Delete, Show, act_word, step_tokens, step_text, StepFits}
-use Rattle.occ_text.specs.StepReading.{act_of, bare_step, act_step, get_step, delete_step, scan_step, put_step, key_step, last_step, step_of_tokens, step_of_line}
+use Rattle.occ_text.specs.Steps.{Step, Does, Get, Scan, Put, Delete, Forge, RawRead, Show, act_word, step_tokens, step_text, StepFits}
+use Rattle.occ_text.specs.StepReading.{act_of, bare_step, act_step, get_step, delete_step, transaction_of, start_of, forge_step, scan_step, put_step, raw_step, short_step, last_step, long_step, step_of_tokens, step_of_line}
 use Rattle.occ_text.proofs.Numbers.{some_or_none, number_takes, number_again}
 use Rattle.occ_text.proofs.Escapes.{some_is, bind_value}
 use Rattle.occ_text.proofs.Words.{IsToken-from_test, tokens_takes, tokens_again, name_reads}
@@ -59,12 +59,14 @@ word_is token word h = (bytes_eq-Decides token word).0 h
 act_takes : (word : List ℕ) (act : Act) → act_of word ≡ Some act → word ≡ act_word act
 unfolding act_of
 act_takes word act h =
-    word_is word (act_word act) (find_passes (λ a. bytes_eq word (act_word a)) (acts.Begin ∷ acts.Submit ∷ acts.Enter ∷ acts.Decide ∷ acts.Write ∷ acts.Finish ∷ acts.BackUp ∷ []) act h)
+    word_is word (act_word act) (find_passes (λ a. bytes_eq word (act_word a)) (acts.Begin ∷ acts.Abandon ∷ acts.Submit ∷ acts.Close ∷ acts.Enter ∷ acts.Decide ∷ acts.Write ∷ acts.Finish ∷ acts.BackUp ∷ []) act h)
 
 act_again : (act : Act) → act_of (act_word act) ≡ Some act
 unfolding act_of
 act_again acts.Begin = refl
+act_again acts.Abandon = refl
 act_again acts.Submit = refl
+act_again acts.Close = refl
 act_again acts.Enter = refl
 act_again acts.Decide = refl
 act_again acts.Write = refl
@@ -119,6 +121,38 @@ delete_takes session table key step h =
       fits = (n.1, name.1, one.1);
     })
 
+forge_takes : (session number start : List ℕ) (step : Step) → forge_step session number start ≡ Some step → Read (codes "forge" ∷ session ∷ number ∷ start ∷ []) step
+unfolding forge_step
+forge_takes session number start step h =
+    let s = bind_value (number_of 255 session) _ step h in
+    let n = bind_value (transaction_of number) _ step s.2 in
+    let b = bind_value (start_of start) _ step n.2 in
+    let one = number_takes 255 session s.0 s.1 in
+    let two = number_takes (2 ^ 32 - 1) number n.0 n.1 in
+    let three = number_takes (2 ^ 64 - 1) start b.0 b.1 in
+    subst (Read (codes "forge" ∷ session ∷ number ∷ start ∷ [])) (some_is (Forge s.0 n.0 b.0) step b.2) (record {
+      spelled = λ i. codes "forge" ∷ one.0 i ∷ two.0 i ∷ three.0 i ∷ [];
+      fits = (one.1, two.1, three.1);
+    })
+
+raw_takes : (session number start table key : List ℕ) (step : Step) → raw_step session number start table key ≡ Some step → Read (codes "rawread" ∷ session ∷ number ∷ start ∷ table ∷ key ∷ []) step
+unfolding raw_step
+raw_takes session number start table key step h =
+    let s = bind_value (number_of 255 session) _ step h in
+    let n = bind_value (transaction_of number) _ step s.2 in
+    let b = bind_value (start_of start) _ step n.2 in
+    let t = bind_value (name_of table) _ step b.2 in
+    let k = bind_value (read_key key) _ step t.2 in
+    let one = number_takes 255 session s.0 s.1 in
+    let two = number_takes (2 ^ 32 - 1) number n.0 n.1 in
+    let three = number_takes (2 ^ 64 - 1) start b.0 b.1 in
+    let name = takes (name_reads table) t.0 t.1 in
+    let four = takes (key_reads key) k.0 k.1 in
+    subst (Read (codes "rawread" ∷ session ∷ number ∷ start ∷ table ∷ key ∷ [])) (some_is (RawRead s.0 n.0 b.0 t.0 k.0) step k.2) (record {
+      spelled = λ i. codes "rawread" ∷ one.0 i ∷ two.0 i ∷ three.0 i ∷ name.0 i ∷ four.0 i ∷ [];
+      fits = (one.1, two.1, three.1, name.1, four.1);
+    })
+
 scan_takes : (session table lower upper : List ℕ) (step : Step) → scan_step session table lower upper ≡ Some step → Read (codes "scan" ∷ session ∷ table ∷ lower ∷ upper ∷ []) step
 unfolding scan_step
 scan_takes session table lower upper step h =
@@ -151,24 +185,35 @@ put_takes session table key row step h =
       fits = (n.1, name.1, one.1, cells.1);
     })
 
--- a word is one of two, and what stands behind it is read by its own form
-two_words : (first second word : List ℕ) (rest : List (List ℕ)) (a b : Option Step) (step : Step) (p q : Bool) → bytes_eq word first ≡ p → bytes_eq word second ≡ q
-    → (a ≡ Some step → Read (first ∷ rest) step) → (b ≡ Some step → Read (second ∷ rest) step) → cond p a (cond q b None) ≡ Some step → Read (word ∷ rest) step
-two_words first second word rest a b step true q is other f g h = subst (λ (w : List ℕ). Read (w ∷ rest) step) (sym (word_is word first is)) (f h)
-two_words first second word rest a b step false true other is f g h = subst (λ (w : List ℕ). Read (w ∷ rest) step) (sym (word_is word second is)) (g h)
-two_words first second word rest a b step false false other another f g h = absurd cc
+-- a word is this one, and what stands behind it is read by its own form; or it is another one
+this_word : (this word : List ℕ) (rest : List (List ℕ)) (a b : Option Step) (step : Step) (p : Bool) → bytes_eq word this ≡ p
+    → (a ≡ Some step → Read (this ∷ rest) step) → (b ≡ Some step → Read (word ∷ rest) step) → cond p a b ≡ Some step → Read (word ∷ rest) step
+this_word this word rest a b step true is f g h = subst (λ (w : List ℕ). Read (w ∷ rest) step) (sym (word_is word this is)) (f h)
+this_word this word rest a b step false other f g h = g h
 
-key_step_takes : (word session table key : List ℕ) (step : Step) → key_step word session table key ≡ Some step → Read (word ∷ session ∷ table ∷ key ∷ []) step
-unfolding key_step
-key_step_takes word session table key step h =
-    two_words (codes "get") (codes "delete") word (session ∷ table ∷ key ∷ []) (get_step session table key) (delete_step session table key) step _ _ refl refl
-    (get_takes session table key step) (delete_takes session table key step) h
+no_word : (tokens : List (List ℕ)) (step : Step) → None ≡ Some step → Read tokens step
+no_word tokens step h = absurd cc
 
-last_step_takes : (word session table key last : List ℕ) (step : Step) → last_step word session table key last ≡ Some step → Read (word ∷ session ∷ table ∷ key ∷ last ∷ []) step
+short_takes : (word session second third : List ℕ) (step : Step) → short_step word session second third ≡ Some step → Read (word ∷ session ∷ second ∷ third ∷ []) step
+unfolding short_step
+short_takes word session second third step h =
+    let rest = session ∷ second ∷ third ∷ [] in
+    this_word (codes "get") word rest (get_step session second third) _ step _ refl (get_takes session second third step)
+    (this_word (codes "delete") word rest (delete_step session second third) _ step _ refl (delete_takes session second third step)
+    (this_word (codes "forge") word rest (forge_step session second third) None step _ refl (forge_takes session second third step) (no_word (word ∷ rest) step))) h
+
+last_takes : (word session table key last : List ℕ) (step : Step) → last_step word session table key last ≡ Some step → Read (word ∷ session ∷ table ∷ key ∷ last ∷ []) step
 unfolding last_step
-last_step_takes word session table key last step h =
-    two_words (codes "scan") (codes "put") word (session ∷ table ∷ key ∷ last ∷ []) (scan_step session table key last) (put_step session table key last) step _ _ refl refl
-    (scan_takes session table key last step) (put_takes session table key last step) h
+last_takes word session table key last step h =
+    let rest = session ∷ table ∷ key ∷ last ∷ [] in
+    this_word (codes "scan") word rest (scan_step session table key last) _ step _ refl (scan_takes session table key last step)
+    (this_word (codes "put") word rest (put_step session table key last) None step _ refl (put_takes session table key last step) (no_word (word ∷ rest) step)) h
+
+long_takes : (word session number start table key : List ℕ) (step : Step) → long_step word session number start table key ≡ Some step → Read (word ∷ session ∷ number ∷ start ∷ table ∷ key ∷ []) step
+unfolding long_step
+long_takes word session number start table key step h =
+    let rest = session ∷ number ∷ start ∷ table ∷ key ∷ [] in
+    this_word (codes "rawread") word rest (raw_step session number start table key) None step _ refl (raw_takes session number start table key step) (no_word (word ∷ rest) step) h
 
 bare_step_takes : (word : List ℕ) (step : Step) → bare_step word ≡ Some step → Read (word ∷ []) step
 unfolding bare_step
@@ -180,9 +225,10 @@ tokens_take [] step h = absurd cc
 tokens_take (word ∷ []) step h = bare_step_takes word step h
 tokens_take (word ∷ s ∷ []) step h = does_takes word s step h
 tokens_take (word ∷ s ∷ t ∷ []) step h = absurd cc
-tokens_take (word ∷ s ∷ t ∷ k ∷ []) step h = key_step_takes word s t k step h
-tokens_take (word ∷ s ∷ t ∷ k ∷ l ∷ []) step h = last_step_takes word s t k l step h
-tokens_take (word ∷ s ∷ t ∷ k ∷ l ∷ m ∷ more) step h = absurd cc
+tokens_take (word ∷ s ∷ t ∷ k ∷ []) step h = short_takes word s t k step h
+tokens_take (word ∷ s ∷ t ∷ k ∷ l ∷ []) step h = last_takes word s t k l step h
+tokens_take (word ∷ s ∷ n ∷ b ∷ t ∷ k ∷ []) step h = long_takes word s n b t k step h
+tokens_take (word ∷ s ∷ t ∷ k ∷ l ∷ m ∷ more ∷ others) step h = absurd cc
 
 line_takes : (line : List ℕ) (step : Step) → step_of_line line ≡ Some step → (line ≡ step_text step) × StepFits step
 unfolding step_of_line
@@ -197,7 +243,7 @@ session_small : (session : ℕ) → session ≤ 255 → session < 2 ^ 64
 session_small session le = omega arith
 
 tokens_again_of : (step : Step) → StepFits step → step_of_tokens (step_tokens step) ≡ Some step
-unfolding step_of_tokens bare_step act_step key_step last_step get_step delete_step scan_step put_step
+unfolding step_of_tokens bare_step act_step short_step last_step long_step get_step delete_step forge_step scan_step put_step raw_step
 tokens_again_of (Does act session) fits = rw (act_again act, number_again 255 session (lit< tt) fits) refl
 tokens_again_of (Get session table key) fits = rw (number_again 255 session (lit< tt) fits.0, name_again table fits.1, key_again key fits.2) refl
 tokens_again_of (Scan session table lower upper) fits =
@@ -205,12 +251,18 @@ tokens_again_of (Scan session table lower upper) fits =
 tokens_again_of (Put session table key row) fits =
     rw (number_again 255 session (lit< tt) fits.0, name_again table fits.1, key_again key fits.2, row_again row fits.3) refl
 tokens_again_of (Delete session table key) fits = rw (number_again 255 session (lit< tt) fits.0, name_again table fits.1, key_again key fits.2) refl
+tokens_again_of (Forge session number start) fits =
+    rw (number_again 255 session (lit< tt) fits.0, number_again (2 ^ 32 - 1) number (lit< tt) fits.1, number_again (2 ^ 64 - 1) start (lit< tt) fits.2) refl
+tokens_again_of (RawRead session number start table key) fits =
+    rw (number_again 255 session (lit< tt) fits.0, number_again (2 ^ 32 - 1) number (lit< tt) fits.1, number_again (2 ^ 64 - 1) start (lit< tt) fits.2, name_again table fits.3, key_again key fits.4) refl
 tokens_again_of Show fits = refl
 
 IsToken-act : (act : Act) → IsToken (act_word act)
 unfolding is_token
 IsToken-act acts.Begin = IsToken-from_test _ refl
+IsToken-act acts.Abandon = IsToken-from_test _ refl
 IsToken-act acts.Submit = IsToken-from_test _ refl
+IsToken-act acts.Close = IsToken-from_test _ refl
 IsToken-act acts.Enter = IsToken-from_test _ refl
 IsToken-act acts.Decide = IsToken-from_test _ refl
 IsToken-act acts.Write = IsToken-from_test _ refl
@@ -219,6 +271,12 @@ IsToken-act acts.BackUp = IsToken-from_test _ refl
 
 IsToken-session : (session : ℕ) → session ≤ 255 → IsToken (decimal session)
 IsToken-session session le = IsToken-decimal session (session_small session le)
+
+IsToken-transaction : (number : ℕ) → number ≤ 2 ^ 32 - 1 → IsToken (decimal number)
+IsToken-transaction number le = IsToken-decimal number (omega arith)
+
+IsToken-start : (start : ℕ) → start ≤ 2 ^ 64 - 1 → IsToken (decimal start)
+IsToken-start start le = IsToken-decimal start (omega arith)
 
 pub one_token : {a : List ℕ} → IsToken a → AreTokens (a ∷ [])
 one_token {a = a} p = record { some = omega arith; each = All-cons IsToken a [] p (All-nil IsToken) }
@@ -236,6 +294,9 @@ four_tokens {a = a} {b = b} {c = c} {d = d} p q r s = more_tokens a (b ∷ c ∷
 five_tokens : {a b c d e : List ℕ} → IsToken a → IsToken b → IsToken c → IsToken d → IsToken e → AreTokens (a ∷ b ∷ c ∷ d ∷ e ∷ [])
 five_tokens {a = a} {b = b} {c = c} {d = d} {e = e} p q r s t = more_tokens a (b ∷ c ∷ d ∷ e ∷ []) p (four_tokens q r s t)
 
+six_tokens : {a b c d e f : List ℕ} → IsToken a → IsToken b → IsToken c → IsToken d → IsToken e → IsToken f → AreTokens (a ∷ b ∷ c ∷ d ∷ e ∷ f ∷ [])
+six_tokens {a = a} {b = b} {c = c} {d = d} {e = e} {f = f} p q r s t u = more_tokens a (b ∷ c ∷ d ∷ e ∷ f ∷ []) p (five_tokens q r s t u)
+
 step_AreTokens : (step : Step) → StepFits step → AreTokens (step_tokens step)
 unfolding is_token
 step_AreTokens (Does act session) fits = two_tokens (IsToken-act act) (IsToken-session session fits)
@@ -247,6 +308,10 @@ step_AreTokens (Put session table key row) fits =
     five_tokens (IsToken-from_test (codes "put") refl) (IsToken-session session fits.0) (IsToken-name table fits.1) (IsToken-key key fits.2) (IsToken-row row fits.3)
 step_AreTokens (Delete session table key) fits =
     four_tokens (IsToken-from_test (codes "delete") refl) (IsToken-session session fits.0) (IsToken-name table fits.1) (IsToken-key key fits.2)
+step_AreTokens (Forge session number start) fits =
+    four_tokens (IsToken-from_test (codes "forge") refl) (IsToken-session session fits.0) (IsToken-transaction number fits.1) (IsToken-start start fits.2)
+step_AreTokens (RawRead session number start table key) fits =
+    six_tokens (IsToken-from_test (codes "rawread") refl) (IsToken-session session fits.0) (IsToken-transaction number fits.1) (IsToken-start start fits.2) (IsToken-name table fits.3) (IsToken-key key fits.4)
 step_AreTokens Show fits = one_token (IsToken-from_test (codes "show") refl)
 
 line_again : (step : Step) → StepFits step → step_of_line (step_text step) ≡ Some step

@@ -1,5 +1,5 @@
 -- What can go wrong, said by a wider type.
-use Rattle.std.specs.Prelude.{ℕ, Result, Ok, Err}
+use Rattle.std.specs.Prelude.{◌^◌, ◌-◌, ℕ, Result, Ok, Err}
 use Rattle.occ_text.specs.declared.tokens.Unread.{Unread}
 use Rattle.occ_text.specs.declared.tokens.Unread.TheVariants as unread
 use Rattle.occ_text.specs.declared.faults.LineFault.{LineFault}
@@ -16,9 +16,10 @@ read_fault lines.Read = reads.Read
 read_fault lines.TooManyLines = reads.TooManyLines
 read_fault (lines.Malformed number) = reads.Malformed number
 
+-- where no further line has a number, the last one that has is told
 abbrev pub read_trouble : ReadFault → Trouble
 read_trouble reads.Read = troubles.Read
-read_trouble reads.TooManyLines = troubles.TooManyLines
+read_trouble reads.TooManyLines = troubles.Malformed (2 ^ 64 - 1)
 read_trouble (reads.Malformed number) = troubles.Malformed number
 read_trouble reads.Memory = troubles.Memory
 

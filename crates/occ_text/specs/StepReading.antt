@@ -1,12 +1,12 @@
 -- Reading the lines of steps, by the number of their tokens and then by their words.
-use Rattle.std.specs.Prelude.{ℕ, List, [], ◌∷◌, Option, Some, None, if◌then◌else◌, option_and_then, codes}
+use Rattle.std.specs.Prelude.{◌-◌, ◌^◌, ℕ, List, [], ◌∷◌, Option, Some, None, if◌then◌else◌, option_and_then, codes}
 use Rattle.std.specs.List.{find}
 use Rattle.std.specs.Str.{bytes_eq}
 use Rattle.occ_text.specs.declared.steps.Act.{Act}
-use Rattle.occ_text.specs.declared.steps.Act.TheVariants.{Begin, Submit, Enter, Decide, Write, Finish, BackUp}
+use Rattle.occ_text.specs.declared.steps.Act.TheVariants.{Begin, Abandon, Submit, Close, Enter, Decide, Write, Finish, BackUp}
 use Rattle.occ_text.specs.Reading.{tokens_of, number_of, name_of}
 use Rattle.occ_text.specs.Escapes.{read_key, read_row}
-use Rattle.occ_text.specs.Steps.{Step, Does, Get, Scan, Put, Delete, Show, act_word}
+use Rattle.occ_text.specs.Steps.{Step, Does, Get, Scan, Put, Delete, Forge, RawRead, Show, act_word}
 
 -- what is read first, and then the rest
 infixl 10 ◌>>=◌
@@ -15,7 +15,7 @@ read >>= rest = option_and_then rest read
 
 -- the act of a word
 unfoldable pub act_of : List ℕ → Option Act
-act_of word = find (λ act. bytes_eq word (act_word act)) (Begin ∷ Submit ∷ Enter ∷ Decide ∷ Write ∷ Finish ∷ BackUp ∷ [])
+act_of word = find (λ act. bytes_eq word (act_word act)) (Begin ∷ Abandon ∷ Submit ∷ Close ∷ Enter ∷ Decide ∷ Write ∷ Finish ∷ BackUp ∷ [])
 
 -- WORD
 unfoldable pub bare_step : List ℕ → Option Step
@@ -44,6 +44,32 @@ delete_step session table key = do
   k ← read_key key
   Some (Delete s t k)
 
+-- the number of a transaction
+abbrev pub transaction_of : List ℕ → Option ℕ
+transaction_of = number_of (2 ^ 32 - 1)
+
+-- the start of a transaction
+abbrev pub start_of : List ℕ → Option ℕ
+start_of = number_of (2 ^ 64 - 1)
+
+-- forge S N START
+unfoldable pub forge_step : List ℕ → List ℕ → List ℕ → Option Step
+forge_step session number start = do
+  s ← number_of 255 session
+  n ← transaction_of number
+  from ← start_of start
+  Some (Forge s n from)
+
+-- rawread S N START NAME KEY
+unfoldable pub raw_step : List ℕ → List ℕ → List ℕ → List ℕ → List ℕ → Option Step
+raw_step session number start table key = do
+  s ← number_of 255 session
+  n ← transaction_of number
+  from ← start_of start
+  t ← name_of table
+  k ← read_key key
+  Some (RawRead s n from t k)
+
 -- scan S NAME KEY KEY
 unfoldable pub scan_step : List ℕ → List ℕ → List ℕ → List ℕ → Option Step
 scan_step session table lower upper = do
@@ -62,15 +88,20 @@ put_step session table key row = do
   r ← read_row row
   Some (Put s t k r)
 
--- WORD S NAME KEY
-unfoldable pub key_step : List ℕ → List ℕ → List ℕ → List ℕ → Option Step
-key_step word session table key = if bytes_eq word (codes "get") then get_step session table key
-    else (if bytes_eq word (codes "delete") then delete_step session table key else None)
+-- WORD S NAME KEY, or WORD S N START
+unfoldable pub short_step : List ℕ → List ℕ → List ℕ → List ℕ → Option Step
+short_step word session second third = if bytes_eq word (codes "get") then get_step session second third
+    else (if bytes_eq word (codes "delete") then delete_step session second third
+    else (if bytes_eq word (codes "forge") then forge_step session second third else None))
 
 -- WORD S NAME KEY LAST
 unfoldable pub last_step : List ℕ → List ℕ → List ℕ → List ℕ → List ℕ → Option Step
 last_step word session table key last = if bytes_eq word (codes "scan") then scan_step session table key last
     else (if bytes_eq word (codes "put") then put_step session table key last else None)
+
+-- WORD S N START NAME KEY
+unfoldable pub long_step : List ℕ → List ℕ → List ℕ → List ℕ → List ℕ → List ℕ → Option Step
+long_step word session number start table key = if bytes_eq word (codes "rawread") then raw_step session number start table key else None
 
 -- the step of some tokens
 unfoldable pub step_of_tokens : List (List ℕ) → Option Step
@@ -78,9 +109,10 @@ step_of_tokens [] = None
 step_of_tokens (word ∷ []) = bare_step word
 step_of_tokens (word ∷ s ∷ []) = act_step word s
 step_of_tokens (word ∷ s ∷ t ∷ []) = None
-step_of_tokens (word ∷ s ∷ t ∷ k ∷ []) = key_step word s t k
+step_of_tokens (word ∷ s ∷ t ∷ k ∷ []) = short_step word s t k
 step_of_tokens (word ∷ s ∷ t ∷ k ∷ l ∷ []) = last_step word s t k l
-step_of_tokens (word ∷ s ∷ t ∷ k ∷ l ∷ m ∷ more) = None
+step_of_tokens (word ∷ s ∷ n ∷ from ∷ t ∷ k ∷ []) = long_step word s n from t k
+step_of_tokens (word ∷ s ∷ t ∷ k ∷ l ∷ m ∷ more ∷ others) = None
 
 -- the step of a line
 unfoldable pub step_of_line : List ℕ → Option Step

@@ -1,5 +1,5 @@
 -- The steps of a schedule, as plain data, and the one spelling of each (our own choice).
-use Rattle.std.specs.Prelude.{◌≤◌, ℕ, List, [], ◌∷◌, codes}
+use Rattle.std.specs.Prelude.{◌≤◌, ◌-◌, ◌^◌, ℕ, List, [], ◌∷◌, codes}
 use Rattle.std.specs.Fmt.{decimal}
 use Rattle.occ_types.specs.Key.{Key}
 use Rattle.occ_types.specs.Row.{Row}
@@ -17,6 +17,9 @@ pub data Step : Type 0 where
   Scan : ℕ → List ℕ → Key → Key → Step
   Put : ℕ → List ℕ → Key → Row → Step
   Delete : ℕ → List ℕ → Key → Step
+  -- the number and the start of the transaction stand before the name
+  Forge : ℕ → ℕ → ℕ → Step
+  RawRead : ℕ → ℕ → ℕ → List ℕ → Key → Step
   Show : Step
 
 module _ {Z : Type 0} where
@@ -27,12 +30,16 @@ module _ {Z : Type 0} where
   step_of (steps.Scan session table lower upper) = Scan session table.now (key_of lower) (key_of upper)
   step_of (steps.Put session table key row) = Put session table.now (key_of key) row
   step_of (steps.Delete session table key) = Delete session table.now (key_of key)
+  step_of (steps.Forge session number start) = Forge session number start
+  step_of (steps.RawRead session number start table key) = RawRead session number start table.now (key_of key)
   step_of steps.Show = Show
 
 -- the word of what names a session and nothing else
 abbrev pub act_word : Act → List ℕ
 act_word acts.Begin = codes "begin"
+act_word acts.Abandon = codes "abandon"
 act_word acts.Submit = codes "submit"
+act_word acts.Close = codes "close"
 act_word acts.Enter = codes "enter"
 act_word acts.Decide = codes "decide"
 act_word acts.Write = codes "write"
@@ -46,17 +53,21 @@ step_tokens (Get session table key) = codes "get" ∷ decimal session ∷ table 
 step_tokens (Scan session table lower upper) = codes "scan" ∷ decimal session ∷ table ∷ key_text lower ∷ key_text upper ∷ []
 step_tokens (Put session table key row) = codes "put" ∷ decimal session ∷ table ∷ key_text key ∷ row_text row ∷ []
 step_tokens (Delete session table key) = codes "delete" ∷ decimal session ∷ table ∷ key_text key ∷ []
+step_tokens (Forge session number start) = codes "forge" ∷ decimal session ∷ decimal number ∷ decimal start ∷ []
+step_tokens (RawRead session number start table key) = codes "rawread" ∷ decimal session ∷ decimal number ∷ decimal start ∷ table ∷ key_text key ∷ []
 step_tokens Show = codes "show" ∷ []
 
 -- the line of a step, without its line feed
 abbrev pub step_text : Step → List ℕ
 step_text step = line_text (step_tokens step)
 
--- what has a line: sessions up to 255, and what its tokens may spell
+-- what has a line: sessions up to 255, numbers of 32 bits and starts of 64, and what its tokens may spell
 abbrev pub StepFits : Step → Type 0
 StepFits (Does act session) = session ≤ 255
 StepFits (Get session table key) = (session ≤ 255) × IsName table × KeyFits key
 StepFits (Scan session table lower upper) = (session ≤ 255) × IsName table × KeyFits lower × KeyFits upper
 StepFits (Put session table key row) = (session ≤ 255) × IsName table × KeyFits key × RowFits row
 StepFits (Delete session table key) = (session ≤ 255) × IsName table × KeyFits key
+StepFits (Forge session number start) = (session ≤ 255) × (number ≤ 2 ^ 32 - 1) × (start ≤ 2 ^ 64 - 1)
+StepFits (RawRead session number start table key) = (session ≤ 255) × (number ≤ 2 ^ 32 - 1) × (start ≤ 2 ^ 64 - 1) × IsName table × KeyFits key
 StepFits Show = Unit {0}

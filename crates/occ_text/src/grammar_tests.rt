@@ -3,7 +3,8 @@
 use crate::faults::ReadFault;
 use crate::headers::{Header, Limits, read_header};
 use crate::input::Input;
-use crate::steps::{Act, Step, read_step};
+use crate::step_reading::read_step;
+use crate::steps::{Act, Step};
 use crate::tokens::Unread;
 use occ_types::{Key, KeyKind, Kind};
 use std::alloc::Global;
@@ -13,7 +14,9 @@ use std::test::Fail;
 fn lines_of_a_word_and_a_session(rt: HostRuntime) -> Result<(), Fail> {
     for (line, wanted, number) in [
         ("begin 0", Act::Begin, 0),
+        ("abandon 2", Act::Abandon, 2),
         ("submit 1", Act::Submit, 1),
+        ("close 12", Act::Close, 12),
         ("enter 9", Act::Enter, 9),
         ("decide 10", Act::Decide, 10),
         ("write 99", Act::Write, 99),
@@ -52,7 +55,38 @@ fn lines_with_a_table(rt: HostRuntime) -> Result<(), Fail> {
         matches!(&step, Ok(Step::Put { session: 3, table, key, row })
         if *table == "stock" && *key == Key::Num(7) && row.len() == 2)
     );
+    let step = read_step(alloc, b"rawread 3 4294967295 18446744073709551615 stock 7");
+    assert!(rt;
+        matches!(&step, Ok(Step::RawRead { session: 3, number: 4294967295, start: u64::MAX, table, key })
+        if *table == "stock" && *key == Key::Num(7))
+    );
     assert!(rt; matches!(read_step(alloc, b"show"), Ok(Step::Show)));
+    Ok(())
+}
+
+#[test]
+fn forged_requests(rt: HostRuntime) -> Result<(), Fail> {
+    let alloc = rt.alloc();
+    assert!(rt;
+        matches!(
+            read_step(alloc, b"forge 0 1 0"),
+            Ok(Step::Forge {
+                session: 0,
+                number: 1,
+                start: 0
+            })
+        )
+    );
+    assert!(rt;
+        matches!(
+            read_step(alloc, b"forge 255 4294967295 18446744073709551615"),
+            Ok(Step::Forge {
+                session: 255,
+                number: 4294967295,
+                start: u64::MAX
+            })
+        )
+    );
     Ok(())
 }
 
@@ -82,6 +116,26 @@ fn lines_that_are_no_step(rt: HostRuntime) -> Result<(), Fail> {
         "delete 1 t 7 7",
         "delete 1 abcdefghijklmnopq 7",
         "show\r",
+        "close",
+        "close 1 2",
+        "abandon",
+        "abandon 1 2",
+        "forge 1 1",
+        "forge 1 1 0 0",
+        "forge 256 1 0",
+        "forge 1 01 0",
+        "forge 1 4294967296 0",
+        "forge 1 1 18446744073709551616",
+        "forge 1 1 -1",
+        "forge 1 1 t",
+        "rawread 1 1 0 t",
+        "rawread 1 1 0 t 1 1",
+        "rawread 256 1 0 t 1",
+        "rawread 1 4294967296 0 t 1",
+        "rawread 1 1 18446744073709551616 t 1",
+        "rawread 1 1 0 T 1",
+        "rawread 1 1 0 t 01",
+        "get 1 1 0 t 1",
     ] {
         let step = read_step(rt.alloc(), line.as_bytes());
         assert!(rt; matches!(step, Err(Unread::Malformed)), "{line:?}");

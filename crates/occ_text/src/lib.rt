@@ -8,6 +8,7 @@ pub mod headers;
 pub mod input;
 pub mod output;
 pub mod parts;
+pub mod step_reading;
 pub mod steps;
 #[cfg(test)]
 mod tests;

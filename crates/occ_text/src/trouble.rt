@@ -15,16 +15,14 @@ pub enum Trouble {
     /// The reader failed.
     #[error("cannot read")]
     Read,
-    /// 2^64 - 1 lines were taken, and no further one has a number.
-    #[error("too many lines")]
-    TooManyLines,
     /// The writer failed, or took nothing.
     #[error("cannot write")]
     Write,
     /// Memory was refused.
     #[error("no memory")]
     Memory,
-    /// The line of this number, counted from 1, is none of the grammar.
+    /// The line of this number, counted from 1, is none of the grammar. The number is 2^64 - 1 too where that many lines were taken:
+    /// it is the last one, and no further line has a number.
     #[error("line {0}: malformed")]
     Malformed(u64),
 }
@@ -51,7 +49,7 @@ impl From<LineFault> for Trouble {
     fn from(fault: LineFault) -> Trouble {
         match fault {
             LineFault::Read => Trouble::Read,
-            LineFault::TooManyLines => Trouble::TooManyLines,
+            LineFault::TooManyLines => Trouble::Malformed(u64::MAX),
             LineFault::Malformed(line) => Trouble::Malformed(line),
         }
     }
@@ -63,7 +61,7 @@ impl From<ReadFault> for Trouble {
     fn from(fault: ReadFault) -> Trouble {
         match fault {
             ReadFault::Read => Trouble::Read,
-            ReadFault::TooManyLines => Trouble::TooManyLines,
+            ReadFault::TooManyLines => Trouble::Malformed(u64::MAX),
             ReadFault::Malformed(line) => Trouble::Malformed(line),
             ReadFault::Memory => Trouble::Memory,
         }
@@ -89,8 +87,7 @@ impl From<WriteFault> for Trouble {
     }
 }
 
-/// The exit status of an engine: 0 for a yes, 3 for a no, 1 where a device or memory failed or the lines can't be counted, 2 at a
-/// malformed line.
+/// The exit status of an engine: 0 for a yes, 3 for a no, 1 where a device or memory failed, 2 at a malformed line.
 pub fn status_of(outcome: &Result<bool, Trouble>) -> u8
     ensures { result ≡ status outcome.now }
 {
@@ -98,6 +95,6 @@ pub fn status_of(outcome: &Result<bool, Trouble>) -> u8
         Ok(true) => 0,
         Ok(false) => 3,
         Err(Trouble::Malformed(_)) => 2,
-        Err(Trouble::Read | Trouble::TooManyLines | Trouble::Write | Trouble::Memory) => 1,
+        Err(Trouble::Read | Trouble::Write | Trouble::Memory) => 1,
     }
 }

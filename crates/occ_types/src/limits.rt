@@ -17,7 +17,7 @@ pub const MAX_NAME_LETTERS: usize = 16;
 pub const MAX_KEY_BYTES: usize = 64;
 /// Bytes of a text cell.
 pub const MAX_CELL_BYTES: usize = 256;
-/// Keys of a write set.
+/// Keys that a transaction writes.
 pub const MAX_WRITES: usize = 256;
 /// Questions of a read set; a repeated one counts again.
 pub const MAX_QUESTIONS: usize = 256;

@@ -12,8 +12,8 @@ use Rattle.occ_books.proofs.transactions.take_reads.Goals as goal
 
 pub loop-init : goal.loop-init
 loop-init g c = record {
-  taken = nothing_yet (read_lines c.args.schema.now) (ReadFits c.args.schema.now) c.new-reads.result _ c.new-reads.ensures;
-  count = ap length c.new-reads.ensures;
+  taken = nothing_yet (read_lines c.args.schema.now) (ReadFits c.args.schema.now) c.in_ok-reads.reads _ c.in_ok-reads.ensures;
+  count = ap length c.in_ok-reads.ensures;
   led = λ row same. begun (reads_to_come row) _ c.args.input.now.number c.args.count;
 }
 
@@ -28,7 +28,7 @@ loop-preserved g c = record {
 
 pub returns-in_err-read-clause-led : goal.returns-in_err-read-clause-led
 returns-in_err-read-clause-led g c = λ row same.
-    failed c.in_err-read.field-0.0 c.from_residual.result (reads_to_come row c.args.count) (λ _. writes_to_come row row.head.writes []) _ _ _ _ c.from_residual.ensures.1
+    failed c.in_err-read.field-0.0 c.from_residual-in_err-read.result (reads_to_come row c.args.count) (λ _. writes_to_come row row.head.writes []) _ _ _ _ c.from_residual-in_err-read.ensures.1
     (turn_fails (reads_to_come row) c.in_err-read.field-0.0 (reads_to_come row c.args.count) _ _ _ _ _ c.args.count c.loop.counter c.loop-test.true (c.loop.invariant.led row same) (c.in_err-read.ensures.led row same (c.args.count - (c.loop.counter + 1))))
 
 pub returns-clause-led : goal.returns-clause-led
@@ -39,4 +39,4 @@ returns-in_err-note-clause-led g c = λ row same.
     failed Memory c.from_residual-in_err-note.result (reads_to_come row c.args.count) (λ _. writes_to_come row row.head.writes []) _ _ _ _ c.from_residual-in_err-note.ensures.1 tt
 
 pub returns-in_err-read-clause-cause : goal.returns-in_err-read-clause-cause
-returns-in_err-read-clause-cause g c = caused c.in_err-read.field-0.0 read_faults.Read c.from_residual.result _ c.from_residual.ensures.1 c.in_err-read.ensures.cause
+returns-in_err-read-clause-cause g c = caused c.in_err-read.field-0.0 read_faults.Read c.from_residual-in_err-read.result _ c.from_residual-in_err-read.ensures.1 c.in_err-read.ensures.cause

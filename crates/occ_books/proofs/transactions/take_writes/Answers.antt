@@ -12,10 +12,10 @@ use Rattle.occ_books.proofs.transactions.take_writes.Goals as goal
 
 pub loop-init : goal.loop-init
 loop-init g c = record {
-  taken = nothing_yet (λ write. write_line c.args.schema.now write ∷ []) (WriteFits c.args.schema.now) c.new-writes.result _ c.new-writes.ensures;
-  count = ap length c.new-writes.ensures;
-  distinct = subst IsDistinctWrites (sym c.new-writes.ensures) tt;
-  led = λ row same. writes_begun c.new-writes.result row c.args.count _ c.args.input.now.number c.new-writes.ensures;
+  taken = nothing_yet (λ write. write_line c.args.schema.now write ∷ []) (WriteFits c.args.schema.now) c.in_ok-writes.writes _ c.in_ok-writes.ensures;
+  count = ap length c.in_ok-writes.ensures;
+  distinct = subst IsDistinctWrites (sym c.in_ok-writes.ensures) tt;
+  led = λ row same. writes_begun c.in_ok-writes.writes row c.args.count _ c.args.input.now.number c.in_ok-writes.ensures;
 }
 
 pub loop-preserved : goal.loop-preserved
@@ -33,7 +33,7 @@ loop-preserved g c =
 
 pub returns-in_err-object-clause-led : goal.returns-in_err-object-clause-led
 returns-in_err-object-clause-led g c = λ row same.
-    failed c.in_err-object.field-0.0 c.from_residual.result (writes_to_come row c.args.count []) (λ _. rows_to_come row.frame row.rows) _ _ _ _ c.from_residual.ensures.1
+    failed c.in_err-object.field-0.0 c.from_residual-in_err-object.result (writes_to_come row c.args.count []) (λ _. rows_to_come row.frame row.rows) _ _ _ _ c.from_residual-in_err-object.ensures.1
     (write_fails c.in_err-object.field-0.0 row c.args.schema.now c.args.count c.loop.counter (map (λ write. write.0) c.loop.writes) (writes_to_come row c.args.count []) _ _ _ _ _ same c.loop-test.true (c.loop.invariant.led row same) c.in_err-object.ensures.led)
 
 pub returns-in_err-read_at_line-clause-led : goal.returns-in_err-read_at_line-clause-led

@@ -1,7 +1,7 @@
 use Rattle.std.proofs.Common.{◌∙◌, ap, subst}
 use Rattle.occ_model.specs.World.{World, empty_base, low}
 use Rattle.occ_model.specs.Log.{Audited}
-use Rattle.occ_core.specs.Rows.{opened}
+use Rattle.occ_log.specs.Rows.{opened}
 use Rattle.occ_cli.proofs.Closing.{closing, cut_in_book, same_book}
 use Rattle.occ_cli.proofs.replay.close.Goals as goal
 

@@ -1,5 +1,5 @@
 use Rattle.std.proofs.Common.{◌∙◌}
-use Rattle.occ_core.specs.Rows.{opened}
+use Rattle.occ_log.specs.Rows.{opened}
 use Rattle.occ_cli.proofs.Closing.{audit_said}
 use Rattle.occ_cli.proofs.replay.write_audit.Goals as goal
 

@@ -1,15 +1,19 @@
 use Rattle.std.proofs.lemmas.Result.{err_from_is_err_and}
-use Rattle.occ_cli.proofs.Replaying.{by_entering, no_enterer}
+use Rattle.occ_cli.specs.Replaying.{Enters}
+use Rattle.occ_cli.proofs.Replaying.{by_both, no_partner}
 use Rattle.occ_cli.proofs.replays.Replay.enter.Goals as goal
 
 pub returns-in_err-place : goal.returns-in_err-place
 returns-in_err-place g c =
     let p = err_from_is_err_and c.from_residual.result c.from_residual.ensures.1 in
-    no_enterer c.self.inside.core.world c.self.inside.clients.items c.args.self.now c.self.view_is c.from_residual.result
-    c.as_slice.result.now c.args.session p.0 c.in_err-place.field-0.0 c.as_slice.ensures.value p.1 p.2 c.in_err-place.ensures
+    no_partner c.self.inside.core.world c.self.inside.clients.items c.args.self.now c.self.view_is c.from_residual.result
+    c.as_slice.result.now c.args.session p.0 c.in_err-place.field-0.0
+    (λ answer client next. Enters c.args.self.now.world c.args.session client answer next c.args.self.now.world)
+    c.as_slice.ensures.value p.1 p.2 c.in_err-place.ensures
 
 pub returns : goal.returns
 returns g c =
-    by_entering c.self.inside.core.world c.self.inside.clients.items c.args.self.now c.self.view_is c.enter.result
+    by_both c.self.inside.core.world c.self.inside.clients.items c.args.self.now c.self.view_is c.enter.result
     c.as_slice.result.now c.as_slice.ensures.value c.args.session c.in_ok-place.place c.in_ok-place.ensures c.index_mut-client.result.now c.index_mut-client.ensures.value c.enter.new.self
-    c.enter.new.core.world c.enter.ensures
+    c.enter.new.core.world
+    (λ world answer client next. Enters world c.args.session client answer next c.enter.new.core.world) c.enter.ensures

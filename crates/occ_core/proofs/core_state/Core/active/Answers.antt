@@ -1,9 +1,9 @@
 use Rattle.std.proofs.Common.{ap, ◌∙◌, length}
 use Rattle.occ_model.specs.World.{active_count}
-use Rattle.occ_core.specs.Slots.{active_from}
+use Rattle.occ_log.specs.Slots.{active_from}
 use Rattle.occ_core.specs.Core.{parts_of}
 use Rattle.occ_core.proofs.Counting.{active_counted}
-use Rattle.occ_core.proofs.Listed.{rows_found}
+use Rattle.occ_log.proofs.Listed.{rows_found}
 use Rattle.occ_core.proofs.core_state.Core.active.Goals as goal
 
 pub returns : goal.returns

@@ -1,13 +1,13 @@
 use Rattle.std.proofs.Common.{ap, sym, subst, ◌∙◌, ◌-◌, length, Err}
 use Rattle.std.specs.Prelude.{is_some}
-use Rattle.occ_core.specs.Slots.{HoldsArePlaced, last_of}
-use Rattle.occ_core.proofs.Changes.{placed-free}
+use Rattle.occ_log.specs.Slots.{HoldsArePlaced, last_of}
+use Rattle.occ_log.proofs.Changes.{placed-free}
 use Rattle.std.proofs.lemmas.Result.{err_from_is_err_and}
 use Rattle.occ_core.specs.Core.{parts_of}
-use Rattle.occ_core.specs.Rows.{log_row_of}
+use Rattle.occ_log.specs.Rows.{log_row_of}
 use Rattle.occ_core.proofs.Calls.{back_exit, back_kept, back_whole, stands_there, slot_below}
-use Rattle.occ_core.proofs.Places.{length-set}
-use Rattle.occ_core.proofs.Listed.{found_in, in_log}
+use Rattle.occ_log.proofs.Places.{length-set}
+use Rattle.occ_log.proofs.Listed.{found_in, in_log}
 use Rattle.occ_core.proofs.core_state.Core.back_up.Goals as goal
 
 pub under_way-requires : goal.under_way-requires

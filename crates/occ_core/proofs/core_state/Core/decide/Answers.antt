@@ -3,10 +3,10 @@ use Rattle.std.specs.Prelude.{is_some, slice_set}
 use Rattle.std.proofs.lemmas.Result.{err_from_is_err_and}
 use Rattle.occ_model.specs.Validity.{verdict}
 use Rattle.occ_core.specs.Core.{parts_of}
-use Rattle.occ_core.specs.Rows.{log_row_of, standing_of}
+use Rattle.occ_log.specs.Rows.{log_row_of, standing_of}
 use Rattle.occ_core.proofs.Calls.{decide_exit, decide_exit_late, stands_there, decide_whole}
-use Rattle.occ_core.proofs.Changes.{not_open}
-use Rattle.occ_core.proofs.Listed.{found_in, in_log, stood_in}
+use Rattle.occ_log.proofs.Changes.{not_open}
+use Rattle.occ_log.proofs.Listed.{found_in, in_log, stood_in}
 use Rattle.occ_core.proofs.core_state.Core.decide.Goals as goal
 
 pub under_way-requires : goal.under_way-requires

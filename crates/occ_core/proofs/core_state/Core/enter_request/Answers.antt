@@ -8,11 +8,11 @@ use Rattle.occ_model.specs.World.{reads_under}
 use Rattle.occ_model.specs.Step.{Step, refused}
 use Rattle.occ_core.specs.Core.{parts_of}
 use Rattle.occ_core.specs.Parts.{world_of}
-use Rattle.occ_core.specs.Logs.{HasRoom}
-use Rattle.occ_core.specs.Rows.{log_row_of}
-use Rattle.occ_core.proofs.Places.{length-set}
+use Rattle.occ_log.specs.Logs.{HasRoom}
+use Rattle.occ_log.specs.Rows.{log_row_of}
+use Rattle.occ_log.proofs.Places.{length-set}
 use Rattle.occ_core.proofs.Entering.{entry_err, entry_starved, entry_roomless, sound_kept, entering_place, open_row_kept, enter_from, enter_below, enter_whole, enter_placed, held_placed}
-use Rattle.occ_core.proofs.Listed.{next_kept}
+use Rattle.occ_log.proofs.Listed.{next_kept}
 use Rattle.occ_core.proofs.core_state.Core.enter_request.Goals as goal
 
 pub returns-in_err-check_entry-clause-step : goal.returns-in_err-check_entry-clause-step

@@ -2,13 +2,13 @@ use Rattle.std.proofs.Common.{ap, sym, subst, ◌∙◌, ◌-◌, length, Some, 
 use Rattle.std.specs.Prelude.{is_some, option_map}
 use Rattle.std.proofs.lemmas.Result.{err_from_is_err_and}
 use Rattle.occ_core.specs.Core.{parts_of}
-use Rattle.occ_core.specs.Slots.{HoldsArePlaced, last_of, finish_fault}
-use Rattle.occ_core.specs.Rows.{log_row_of, standing_of, hold_of}
+use Rattle.occ_log.specs.Slots.{HoldsArePlaced, last_of, finish_fault}
+use Rattle.occ_log.specs.Rows.{log_row_of, standing_of, hold_of}
 use Rattle.occ_core.proofs.Calls.{stands_there, slot_below}
-use Rattle.occ_core.proofs.Changes.{placed-free}
-use Rattle.occ_core.proofs.Places.{length-set}
+use Rattle.occ_log.proofs.Changes.{placed-free}
+use Rattle.occ_log.proofs.Places.{length-set}
 use Rattle.occ_core.proofs.Finishes.{finish_exit, finish_kept, finish_whole}
-use Rattle.occ_core.proofs.Listed.{found_in, in_log, stood_in}
+use Rattle.occ_log.proofs.Listed.{found_in, in_log, stood_in}
 use Rattle.occ_core.proofs.core_state.Core.finish.Goals as goal
 
 pub under_way-requires : goal.under_way-requires

@@ -1,10 +1,10 @@
 use Rattle.std.proofs.Common.{ap, sym, ◌∙◌}
 use Rattle.std.specs.Prelude.{is_some, option_map}
 use Rattle.occ_core.specs.Core.{parts_of}
-use Rattle.occ_core.specs.Rows.{log_row_of}
+use Rattle.occ_log.specs.Rows.{log_row_of}
 use Rattle.occ_core.proofs.Calls.{stands_there}
 use Rattle.occ_core.proofs.Nexts.{next_none, next_idle, next_at, next_free}
-use Rattle.occ_core.proofs.Listed.{found_in, in_log}
+use Rattle.occ_log.proofs.Listed.{found_in, in_log}
 use Rattle.occ_core.proofs.core_state.Core.next_write.Goals as goal
 
 pub under_way-requires : goal.under_way-requires

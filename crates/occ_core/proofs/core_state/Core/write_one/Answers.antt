@@ -6,14 +6,14 @@ use Rattle.occ_types.specs.Seen.{object_of}
 use Rattle.occ_model.specs.State.{Write}
 use Rattle.occ_core.specs.Core.{parts_of}
 use Rattle.occ_core.specs.Parts.{AreSound}
-use Rattle.occ_core.specs.Slots.{written_in, HoldsArePlaced}
+use Rattle.occ_log.specs.Slots.{written_in, HoldsArePlaced}
 use Rattle.occ_model.specs.Log.{Writing}
-use Rattle.occ_core.proofs.Changes.{puts_some}
+use Rattle.occ_log.proofs.Changes.{puts_some}
 use Rattle.occ_core.specs.Replies.{IsNextWrite}
-use Rattle.occ_core.specs.Rows.{log_row_of}
+use Rattle.occ_log.specs.Rows.{log_row_of}
 use Rattle.occ_core.proofs.Calls.{stands_there}
 use Rattle.occ_core.proofs.Finishes.{write_exit, write_kept, write_none, write_starved, write_placed, write_named, write_whole, write_err}
-use Rattle.occ_core.proofs.Listed.{found_in, in_log, stood_in}
+use Rattle.occ_log.proofs.Listed.{found_in, in_log, stood_in}
 use Rattle.occ_core.proofs.Nexts.{next_placed}
 use Rattle.occ_core.proofs.core_state.Core.write_one.Goals as goal
 

@@ -1,6 +1,6 @@
 use Rattle.std.proofs.Common.{ap, ◌∙◌}
-use Rattle.occ_core.specs.Slots.{written_at, written_in}
-use Rattle.occ_core.proofs.Listed.{rows_found}
+use Rattle.occ_log.specs.Slots.{written_at, written_in}
+use Rattle.occ_log.proofs.Listed.{rows_found}
 use Rattle.occ_core.proofs.core_state.Core.written.Goals as goal
 
 pub returns : goal.returns

@@ -1,0 +1,12 @@
+use Rattle.std.proofs.Common.{◌≡◌, drop}
+use Rattle.occ_model.specs.State.{apply}
+use Rattle.occ_book.specs.Undo.{puts, KeepsReplaced, kept_writes}
+use Rattle.occ_book.proofs.tables.Tables.put_rows.Given as goal
+
+-- the rows that are left lead to the same state
+abbrev pub invariant-loop-place : goal.invariant-loop-place
+invariant-loop-place g l = record {
+  tables : l.self.tables ≡ l.fn.self.tables;
+  replaced : KeepsReplaced (kept_writes l.fn.kept.items) l.fn.self.state (kept_writes l.kept.items) l.self.state;
+  left : apply l.self.state (puts (drop l.place l.writes)) ≡ apply l.fn.self.state (puts l.writes);
+}

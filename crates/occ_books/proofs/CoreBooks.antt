@@ -1,0 +1,97 @@
+-- The numbers of a core's book fit.
+use Rattle.std.proofs.Common.{◌≡◌, ℕ, suc, ◌+◌, ◌-◌, ◌^◌, ◌≤◌, Bool, true, false, cond, List, [], ◌∷◌, map, length, refl, ap, subst, ◌∙◌, arith}
+use Rattle.std.specs.Prelude.{◌==◌, filter, unwrap_or}
+use Rattle.std.specs.List.{AllByRecursion}
+use Rattle.std.proofs.lemmas.Bool.Decides.{nat_tests}
+use Rattle.std.specs.FinMap.{get-empty}
+use Rattle.std.specs.Ordering.{nat_cmp}
+use Rattle.occ_types.specs.declared.limits.TheConstants.{MAX_COUNTER, MAX_LOG_ROWS}
+use Rattle.occ_types.specs.Schema.{Schema}
+use Rattle.occ_model.specs.Log.{LogRow, Standing, Open, Writing, Done, Back, Counts, numbers, last_folded}
+use Rattle.occ_model.specs.Invariant.{Invariant, NumberIsBelow, NumbersAreBelow}
+use Rattle.occ_model.specs.World.{World, active_count, empty_base}
+use Rattle.occ_text.specs.Headers.{Header}
+use Rattle.occ_books.specs.Taking.{StandingFits, LogRowFits}
+use Rattle.occ_books.specs.Printed.{BookFits}
+use Rattle.occ_books.specs.Cores.{book_in, RowContentFits, ContentFits}
+
+-- the places of a log in order lie below the next one
+places_below : (n bound : ℕ) (log : List LogRow) → Counts n (map (λ row. row.place) log) → n + length log ≤ bound → AllByRecursion (λ row. row.place ≤ bound) log
+places_below n bound [] counts up = tt
+places_below n bound (row ∷ rows) counts up =
+    let is = counts.0 in
+    (omega arith, places_below (suc n) bound rows counts.1 (omega arith))
+
+-- the numbers of a session's rows are at most as many as there are rows
+session_below : (session n bound : ℕ) (log : List LogRow) → Counts (suc n) (numbers session log) → n + length log ≤ bound → AllByRecursion (λ row. row.session ≡ session → row.number ≤ bound) log
+session_below session n bound [] counts up = tt
+session_below session n bound (row ∷ rows) counts up = go (row.session == session) refl (λ c. session_below session (suc n) bound rows c (omega arith)) (λ c. session_below session n bound rows c (omega arith)) counts
+  where
+    Below : Type 0
+    Below = AllByRecursion (λ r. r.session ≡ session → r.number ≤ bound) rows
+
+    go : (b : Bool) → (row.session == session) ≡ b → (Counts (suc (suc n)) (numbers session rows) → Below) → (Counts (suc n) (numbers session rows) → Below) → Counts (suc n) (map (λ r. r.number) (cond b (row ∷ filter (λ r. r.session == session) rows) (filter (λ r. r.session == session) rows)))
+        → AllByRecursion (λ r. r.session ≡ session → r.number ≤ bound) (row ∷ rows)
+    go true e own other c = let is = c.0 in ((λ same. omega arith), own c.1)
+    go false e own other c = ((λ same. absurd (grind (arith, nat_tests))), other c)
+
+own_below : (bound : ℕ) (log : List LogRow) → ((session : ℕ) → AllByRecursion (λ row. row.session ≡ session → row.number ≤ bound) log) → AllByRecursion (λ row. row.number ≤ bound) log
+own_below bound [] h = tt
+own_below bound (row ∷ rows) h = (let own = h row.session in own.0 refl, own_below bound rows (λ session. let own = h session in own.1))
+
+standing_fits : (counter writes : ℕ) (standing : Standing) → counter ≤ 2 ^ 64 - 1 → NumberIsBelow counter standing → ((done : ℕ) → standing ≡ Writing done → done ≤ writes) → StandingFits writes standing
+standing_fits counter writes (Open index case) up below done = tt
+standing_fits counter writes (Writing n) up below done = done n refl
+standing_fits counter writes (Done n) up below done = omega arith
+standing_fits counter writes (Back cause) up below done = tt
+
+rows_fit : (schema : Schema) (sessions counter bound : ℕ) (log : List LogRow) → counter ≤ 2 ^ 64 - 1 → bound ≤ 2 ^ 64 - 1 → AllByRecursion (λ row. row.place ≤ bound) log → AllByRecursion (λ row. row.number ≤ bound) log → NumbersAreBelow counter log
+    → AllByRecursion (RowContentFits schema sessions) log → AllByRecursion (LogRowFits schema sessions) log
+rows_fit schema sessions counter bound [] few up places numbered below content = tt
+rows_fit schema sessions counter bound (row ∷ rows) few up places numbered below content =
+    let place = places.0 in
+    let number = numbered.0 in
+    let fits = content.0 in (
+      record {
+        place = omega arith;
+        session = fits.session;
+        number = omega arith;
+        start = fits.start;
+        finish = fits.finish;
+        count_reads = fits.count_reads;
+        count_writes = fits.count_writes;
+        done = standing_fits counter (length row.writes) row.standing few below.0 fits.done;
+        reads = fits.reads;
+        writes = fits.writes;
+        distinct = fits.distinct;
+      },
+      rows_fit schema sessions counter bound rows few up places.1 numbered.1 below.1 content.1,
+    )
+
+few_counted : (counter active : ℕ) → counter + active ≤ MAX_COUNTER → counter ≤ 2 ^ 64 - 1
+few_counted counter active h = omega arith
+
+few_rows : (rows : ℕ) → rows ≤ MAX_LOG_ROWS → rows ≤ 2 ^ 64 - 1
+few_rows rows h = omega arith
+
+few_below : (counter keep : ℕ) → counter ≤ 2 ^ 64 - 1 → counter - keep ≤ 2 ^ 64 - 1
+few_below counter keep h = omega arith
+
+pub core_book_fits : (header : Header) (world : World) → Invariant world → world.base ≡ empty_base → world.counter + active_count world ≤ MAX_COUNTER → length world.log ≤ MAX_LOG_ROWS → ContentFits header world → BookFits (book_in header world)
+core_book_fits header world law base counter rows content =
+    let few = few_counted world.counter (active_count world) counter in
+    let up = few_rows (length world.log) rows in
+    let order = law.in_order in
+    let places = subst (λ b. Counts b.place (map (λ row. row.place) world.log)) base order.places in
+    let counted : (session : ℕ) → Counts 1 (numbers session world.log) = λ session.
+    subst (λ n. Counts (suc n) (numbers session world.log)) (ap (λ b. last_folded b session) base ∙ ap (λ o. unwrap_or o 0) (get-empty nat_cmp session)) (order.numbered session) in
+    record {
+      header = content.opening;
+      rows = up;
+      log = rows_fit header.tables header.sessions world.counter (length world.log) world.log few up (places_below 0 (length world.log) world.log places (omega arith))
+          (own_below (length world.log) world.log (λ session. session_below session 0 (length world.log) world.log (counted session) (omega arith))) law.below content.log;
+      marks = content.marks;
+      objects = content.objects;
+      state = content.state;
+      counts = record { counter = few; low = few_below world.counter world.settings.keep few };
+    }

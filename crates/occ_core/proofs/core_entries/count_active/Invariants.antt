@@ -1,8 +1,0 @@
-use Rattle.std.proofs.Common.{◌≡◌, ◌≤◌, ◌+◌, drop, length}
-use Rattle.occ_core.specs.Logs.{row_at}
-use Rattle.occ_core.specs.Slots.{active_from}
-use Rattle.occ_core.proofs.core_entries.count_active.Given as goal
-
--- what was counted, before the sessions that are left
-abbrev pub invariant-loop-place : goal.invariant-loop-place
-invariant-loop-place g l = (l.count + length (active_from (row_at l.log) (drop l.place l.sessions)) ≡ length (active_from (row_at l.log) l.sessions)) × (l.count ≤ l.place)

@@ -1,0 +1,28 @@
+use Rattle.std.proofs.Common.{ap, ◌∙◌, ◌∷◌, [], ◌++◌}
+use Rattle.occ_model.specs.Log.{Back}
+use Rattle.occ_model.specs.Step.{entering}
+use Rattle.occ_core.specs.Core.{parts_of}
+use Rattle.occ_log.specs.Rows.{log_row_of}
+use Rattle.occ_core.proofs.AtOnce.{back_whole}
+use Rattle.occ_core.proofs.Staying.{session_passed, marks_kept, log_kept, still_placed}
+use Rattle.occ_core.proofs.core_state.Core.back_up_at_once.Goals as goal
+
+pub invariant_of-self-2 : goal.invariant_of-self-2
+invariant_of-self-2 g c =
+    let row = c.row_at_once-row.ensures ∙ ap (λ ws. entering c.args.self.now.world c.args.transaction.session c.args.transaction.number c.args.transaction.start c.args.reads ws (Back c.args.cause)) c.in_ok-kept.ensures.cases in
+    let slots = session_passed c.self.inside.sessions c.settle.new.sessions (log_row_of c.row_at_once-row.result) _ row c.settle.ensures.passed in
+    record {
+      sound = (back_whole (parts_of c.self.inside) c.args.self.now.world (ap (λ s. s.world) c.self.view_is) c.self.invariant.sound c.args.transaction.session c.args.transaction.number c.args.transaction.start c.args.reads c.args.writes.now c.args.cause c.requires.room c.requires.lawful
+          (log_row_of c.row_at_once-row.result) row c.settle.new.log.rows (c.settle.ensures.rows ∙ ap (λ log. log ++ log_row_of c.row_at_once-row.result ∷ []) c.in_ok-reserve.ensures.rows) c.discard.new.self c.discard.ensures c.settle.new.sessions slots).1;
+      tables_match = c.self.invariant.tables_match;
+      marks_match = marks_kept c.self.inside.sessions c.settle.new.sessions _ _ _ slots c.self.invariant.marks_match;
+      log_match = log_kept c.self.inside.log c.settle.new.log c.self.inside.sessions c.settle.new.sessions _ _ _ (c.settle.ensures.first ∙ c.in_ok-reserve.ensures.first) (c.settle.ensures.sessions ∙ c.in_ok-reserve.ensures.sessions) slots c.self.invariant.log_match;
+      placed = still_placed c.self.inside.tables.tables c.self.inside.sessions c.settle.new.sessions _ _ slots c.self.invariant.placed;
+    }
+
+pub returns-clause-ok : goal.returns-clause-ok
+returns-clause-ok g c =
+    let row = c.row_at_once-row.ensures ∙ ap (λ ws. entering c.args.self.now.world c.args.transaction.session c.args.transaction.number c.args.transaction.start c.args.reads ws (Back c.args.cause)) c.in_ok-kept.ensures.cases in
+    (back_whole (parts_of c.self.inside) c.args.self.now.world (ap (λ s. s.world) c.self.view_is) c.self.invariant.sound c.args.transaction.session c.args.transaction.number c.args.transaction.start c.args.reads c.args.writes.now c.args.cause c.requires.room c.requires.lawful
+    (log_row_of c.row_at_once-row.result) row c.settle.new.log.rows (c.settle.ensures.rows ∙ ap (λ log. log ++ log_row_of c.row_at_once-row.result ∷ []) c.in_ok-reserve.ensures.rows) c.discard.new.self c.discard.ensures c.settle.new.sessions
+    (session_passed c.self.inside.sessions c.settle.new.sessions (log_row_of c.row_at_once-row.result) _ row c.settle.ensures.passed)).0

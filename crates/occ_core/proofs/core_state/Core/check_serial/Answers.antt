@@ -1,0 +1,25 @@
+use Rattle.std.proofs.Common.{ap, sym, ◌∙◌, Some, length}
+use Rattle.std.specs.Result.{result_err}
+use Rattle.std.proofs.lemmas.Result.{err_from_is_err_and}
+use Rattle.occ_core.specs.AtOnce.{turn_to_end}
+use Rattle.occ_core.specs.Entries.{room_to_enter}
+use Rattle.occ_core.specs.Core.{parts_of}
+use Rattle.occ_log.proofs.Listed.{rows_found}
+use Rattle.occ_core.proofs.SerialEnding.{serial_turned, serial_roomed}
+use Rattle.occ_core.proofs.core_state.Core.check_serial.Goals as goal
+
+pub returns-in_err-check_turn_to_end : goal.returns-in_err-check_turn_to_end
+returns-in_err-check_turn_to_end g c =
+    let p = err_from_is_err_and c.from_residual.result c.from_residual.ensures.1 in
+    let t = c.args.transaction in
+    let found = rows_found c.self.inside.log c.self.invariant.log_match.begins in
+    ap result_err p.1 ∙ sym (serial_turned (parts_of c.self.inside) c.args.self.now.world (ap (λ s. s.world) c.self.view_is) t.session t.number t.start c.args.writes.now c.self.invariant.sound p.0
+    (sym (ap (λ at. turn_to_end c.self.inside.sessions c.self.inside.marks.marks at c.self.inside.phases c.self.inside.counter t.session t.number t.start) found) ∙ sym c.in_err-check_turn_to_end.ensures ∙ ap Some (sym p.2)))
+
+pub returns : goal.returns
+returns g c =
+    let t = c.args.transaction in
+    let found = rows_found c.self.inside.log c.self.invariant.log_match.begins in
+    c.check_room.ensures ∙ ap (λ at. room_to_enter c.self.inside.schema c.self.inside.sessions (length c.self.inside.log.rows) at c.self.inside.counter c.args.writes.now) found
+    ∙ sym (serial_roomed (parts_of c.self.inside) c.args.self.now.world (ap (λ s. s.world) c.self.view_is) t.session t.number t.start c.args.writes.now c.self.invariant.sound
+    (sym (ap (λ at. turn_to_end c.self.inside.sessions c.self.inside.marks.marks at c.self.inside.phases c.self.inside.counter t.session t.number t.start) found) ∙ sym c.in_ok-check_turn_to_end.ensures))

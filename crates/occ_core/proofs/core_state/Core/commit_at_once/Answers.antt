@@ -1,0 +1,67 @@
+use Rattle.std.proofs.Common.{ap, sym, subst, ◌∙◌, ◌+◌, ◌∷◌, [], ◌++◌, length}
+use Rattle.occ_model.specs.Log.{Done}
+use Rattle.occ_model.specs.Step.{entering}
+use Rattle.occ_core.specs.Core.{parts_of}
+use Rattle.occ_core.specs.Parts.{AreSound, world_of}
+use Rattle.occ_book.specs.Undo.{ArePlaced}
+use Rattle.occ_log.specs.Rows.{log_row_of}
+use Rattle.occ_log.specs.Slots.{HoldsArePlaced}
+use Rattle.occ_log.specs.Window.{advanced}
+use Rattle.occ_core.proofs.AtOnce.{commit_whole}
+use Rattle.occ_core.proofs.Staying.{session_passed, marks_kept, log_kept, still_placed, at_err, unmoved, same_log, placed_all}
+use Rattle.occ_core.proofs.core_state.Core.commit_at_once.Goals as goal
+
+pub take_room-requires-clause-placed : goal.take_room-requires-clause-placed
+take_room-requires-clause-placed g c =
+    placed_all c.self.inside.tables.tables (length c.self.inside.schema) c.args.writes.now c.self.invariant.tables_match
+    (subst (λ w. ArePlaced (length w.settings.schema) c.args.writes.now) (sym (ap (λ s. s.world) c.self.view_is)) c.requires.placed)
+
+pub invariant_of-self : goal.invariant_of-self
+invariant_of-self g c =
+    let still = c.in_err-take_room.ensures.rows in
+    let kept = c.in_err-take_room.ensures.err in
+    record {
+      sound = subst AreSound (unmoved (parts_of c.self.inside) c.take_room.new.log.rows c.take_room.new.tables.state still (ap (λ t. t.state) kept)) c.self.invariant.sound;
+      tables_match = ap (λ t. t.tables) kept ∙ c.self.invariant.tables_match;
+      marks_match = c.self.invariant.marks_match;
+      log_match = same_log c.self.inside.log c.take_room.new.log _ _ c.in_err-take_room.ensures.first c.in_err-take_room.ensures.sessions c.self.invariant.log_match;
+      placed = subst (λ n. HoldsArePlaced n c.self.inside.sessions) (sym (ap (λ t. t.tables) kept)) c.self.invariant.placed;
+    }
+
+pub returns-in_err-take_room-clause-err : goal.returns-in_err-take_room-clause-err
+returns-in_err-take_room-clause-err g c =
+    at_err c.from_residual-in_err-take_room.result
+    (sym (ap (λ p. record { world = world_of p }) (unmoved (parts_of c.self.inside) c.take_room.new.log.rows c.take_room.new.tables.state c.in_err-take_room.ensures.rows (ap (λ t. t.state) c.in_err-take_room.ensures.err))) ∙ c.self.view_is)
+
+pub invariant_of-self-2 : goal.invariant_of-self-2
+invariant_of-self-2 g c =
+    let parts = parts_of c.self.inside in
+    let seen = ap (λ s. s.world) c.self.view_is in
+    let t = c.args.transaction in
+    let row = c.row_at_once-row.ensures ∙ ap (λ ws. entering c.args.self.now.world t.session t.number t.start c.args.reads ws (Done (c.self.inside.counter + 1))) c.in_ok-kept.ensures.cases in
+    let slots = session_passed c.self.inside.sessions c.settle.new.sessions (log_row_of c.row_at_once-row.result) _ row c.settle.ensures.passed in
+    let done = c.in_ok-take_room.ensures.ok in
+    let whole = commit_whole parts c.args.self.now.world seen c.self.invariant.sound t.session t.number t.start c.args.reads c.args.writes.now c.requires.room c.requires.lawful
+    (log_row_of c.row_at_once-row.result) row c.settle.new.log.rows (c.settle.ensures.rows ∙ ap (λ log. log ++ log_row_of c.row_at_once-row.result ∷ []) c.in_ok-take_room.ensures.rows)
+    c.take_room.new.tables.state (ap (λ t. t.state) done) c.discard.new.self c.discard.ensures c.settle.new.sessions slots
+    c.advance.new.self (c.advance.ensures ∙ ap (advanced c.self.inside.window) c.in_ok-shared.ensures.cases) in
+    record {
+      sound = whole.1;
+      tables_match = ap (λ t. t.tables) done ∙ c.self.invariant.tables_match;
+      marks_match = marks_kept c.self.inside.sessions c.settle.new.sessions _ _ _ slots c.self.invariant.marks_match;
+      log_match = log_kept c.self.inside.log c.settle.new.log c.self.inside.sessions c.settle.new.sessions _ _ _ (c.settle.ensures.first ∙ c.in_ok-take_room.ensures.first) (c.settle.ensures.sessions ∙ c.in_ok-take_room.ensures.sessions) slots c.self.invariant.log_match;
+      placed = subst (λ n. HoldsArePlaced n c.settle.new.sessions) (sym (ap (λ t. t.tables) done)) (still_placed c.self.inside.tables.tables c.self.inside.sessions c.settle.new.sessions _ _ slots c.self.invariant.placed);
+    }
+
+pub returns-clause-ok : goal.returns-clause-ok
+returns-clause-ok g c =
+    let parts = parts_of c.self.inside in
+    let seen = ap (λ s. s.world) c.self.view_is in
+    let t = c.args.transaction in
+    let row = c.row_at_once-row.ensures ∙ ap (λ ws. entering c.args.self.now.world t.session t.number t.start c.args.reads ws (Done (c.self.inside.counter + 1))) c.in_ok-kept.ensures.cases in
+    let slots = session_passed c.self.inside.sessions c.settle.new.sessions (log_row_of c.row_at_once-row.result) _ row c.settle.ensures.passed in
+    let whole = commit_whole parts c.args.self.now.world seen c.self.invariant.sound t.session t.number t.start c.args.reads c.args.writes.now c.requires.room c.requires.lawful
+    (log_row_of c.row_at_once-row.result) row c.settle.new.log.rows (c.settle.ensures.rows ∙ ap (λ log. log ++ log_row_of c.row_at_once-row.result ∷ []) c.in_ok-take_room.ensures.rows)
+    c.take_room.new.tables.state (ap (λ t. t.state) c.in_ok-take_room.ensures.ok) c.discard.new.self c.discard.ensures c.settle.new.sessions slots
+    c.advance.new.self (c.advance.ensures ∙ ap (advanced c.self.inside.window) c.in_ok-shared.ensures.cases) in
+    whole.0

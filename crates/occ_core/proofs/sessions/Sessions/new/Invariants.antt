@@ -1,7 +1,0 @@
-use Rattle.std.proofs.Common.{◌≡◌}
-use Rattle.occ_core.specs.Slots.{idle_slots}
-use Rattle.occ_core.specs.Rows.{slots_of}
-use Rattle.occ_core.proofs.sessions.Sessions.new.Given as goal
-
-abbrev pub invariant-loop : goal.invariant-loop
-invariant-loop g l = slots_of l.states.items ≡ idle_slots l.counter

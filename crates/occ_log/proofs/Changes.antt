@@ -1,0 +1,100 @@
+-- What a change of a vector is, to those who see it as plain data.
+use Rattle.std.proofs.Common.{◌≡◌, ℕ, zero, suc, ◌+◌, ◌<◌, false, List, [], ◌∷◌, ◌++◌, get_or, length, map, Option, None, Some, refl, eqb-true, eq-eqb, sym, ap, subst, ◌∙◌, arith}
+use Rattle.std.specs.Prelude.{slice_get, slice_set, ◌==◌, is_some, true}
+use Rattle.std.specs.Borrow.{Bor}
+use Rattle.std.specs.Option.{option_map, option_copied}
+use Rattle.std.specs.Slice.{IsItemAt}
+use Rattle.std.proofs.lemmas.Option.{slice_get-map}
+use Rattle.occ_book.proofs.Views.{table-at}
+use Rattle.occ_model.specs.Log.{LogRow, is_open}
+use Rattle.occ_log.specs.Slots.{Slot, Hold, idle_slots, last_of, HoldsArePlaced}
+use Rattle.occ_book.specs.Undo.{ArePlaced}
+use Rattle.occ_log.proofs.Places.{slice_get-other}
+use Rattle.occ_model.proofs.Tests as tests
+use Rattle.occ_log.specs.Rows.{standing_of, log_row_of, log_of, slot_of, slots_of}
+use Rattle.occ_book.specs.declared.rows.Standing as code_standing
+use Rattle.occ_book.specs.declared.rows.Standing.TheVariants as standings
+use Rattle.occ_case.specs.declared.cases.OpenCase as code_open
+use Rattle.occ_book.specs.declared.rows.LogRow as code_row
+use Rattle.occ_log.specs.declared.sessions.SessionState as code_session
+
+-- what a look-up by place in a vector answers
+pub seen_at : {X Y : Type 0} (f : X → Y) (xs items : List X) (plain : List Y) (k : ℕ) (r : Option (Bor X)) → items ≡ xs → map f xs ≡ plain → IsItemAt items k r → option_map (λ x. f x.now) r ≡ slice_get plain k
+seen_at {X} f xs items plain k r same view is =
+    copied r ∙ ap (option_map f) (sym (table-at xs items k r r same is refl)) ∙ sym (slice_get-map f xs k) ∙ ap (λ ys. slice_get ys k) view
+  where
+    copied : (r : Option (Bor X)) → option_map (λ x. f x.now) r ≡ option_map f (option_copied r)
+    copied None = refl
+    copied (Some x) = refl
+
+-- a row takes another standing
+pub stood : {Z : Type 0} (rows : List (code_row.LogRow Z (code_open.OpenCase Z))) (place : ℕ) (old : code_row.LogRow Z (code_open.OpenCase Z)) (standing : code_standing.Standing (code_open.OpenCase Z)) (log : List LogRow) → log_of rows ≡ log → old ≡ get_or rows place old
+    → (row : LogRow) → slice_get log place ≡ Some row → log_of (slice_set rows place (record old { standing = standing })) ≡ slice_set log place (record row { standing = standing_of standing })
+stood {Z} rows place old standing log view is row there =
+    go rows place is (ap (λ l. slice_get l place) view ∙ there) ∙ ap (λ l. slice_set l place (record row { standing = standing_of standing })) view
+  where
+    go : (rows : List (code_row.LogRow Z (code_open.OpenCase Z))) (place : ℕ) → old ≡ get_or rows place old → slice_get (log_of rows) place ≡ Some row
+        → log_of (slice_set rows place (record old { standing = standing })) ≡ slice_set (log_of rows) place (record row { standing = standing_of standing })
+    go [] place is there = cc
+    go (x ∷ xs) zero is there =
+        let e : log_row_of x ≡ row = cc in
+        ap (λ r. r ∷ log_of xs) (ap (λ (r : code_row.LogRow Z (code_open.OpenCase Z)). record (log_row_of r) { standing = standing_of standing }) is ∙ ap (λ (r : LogRow). record r { standing = standing_of standing }) e)
+    go (x ∷ xs) (suc place) is there = ap (λ l. log_row_of x ∷ l) (go xs place is there)
+
+-- a session is let go
+pub let_go : {Z : Type 0} (states : List (code_session.SessionState Z)) (place : ℕ) (old : code_session.SessionState Z) (slots : List Slot) → slots_of states ≡ slots → place < length slots → old ≡ get_or states place old
+    → slots_of (slice_set states place (record { last = old.last; held = None })) ≡ slice_set slots place (record { last = last_of slots place; hold = None })
+let_go {Z} states place old slots view less is =
+    go states place (subst (λ l. place < length l) (sym view) less) is ∙ ap (λ l. slice_set l place (record { last = last_of l place; hold = None })) view
+  where
+    go : (states : List (code_session.SessionState Z)) (place : ℕ) → place < length (slots_of states) → old ≡ get_or states place old
+        → slots_of (slice_set states place (record { last = old.last; held = None })) ≡ slice_set (slots_of states) place (record { last = last_of (slots_of states) place; hold = None })
+    go [] place less is = absurd (omega arith)
+    go (x ∷ xs) zero less is = ap (λ (s : code_session.SessionState Z). record { last = s.last; hold = None } ∷ slots_of xs) is
+    go (x ∷ xs) (suc place) less is = ap (λ l. slot_of x ∷ l) (go xs place (omega arith) is)
+
+-- one idle session more
+pub idle-push : (count : ℕ) → idle_slots count ++ record { last = 0; hold = None } ∷ [] ≡ idle_slots (count + 1)
+idle-push zero = refl
+idle-push (suc count) = ap (λ l. record { last = 0; hold = None } ∷ l) (idle-push count) ∙ ap idle_slots (sym (let e : suc count + 1 ≡ suc (count + 1) = omega arith in e))
+
+-- a standing that no case opens
+pub not_open : {Z : Type 0} (s : code_standing.Standing (code_open.OpenCase Z)) → ((open_case : code_open.OpenCase Z) → s ≡ standings.Open open_case → ⊥) → is_open (standing_of s) ≡ false
+not_open (standings.Open open_case) not = absurd (not open_case refl)
+not_open (standings.Writing done) not = refl
+not_open (standings.Done number) not = refl
+not_open (standings.Back cause) not = refl
+
+pub length-map : {X Y : Type 0} (f : X → Y) (xs : List X) → length (map f xs) ≡ length xs
+length-map f [] = refl
+length-map f (x ∷ xs) = ap suc (length-map f xs)
+
+-- no session is held where none has entered
+pub idle-placed : (tables count : ℕ) → HoldsArePlaced tables (idle_slots count)
+idle-placed tables zero k slot hold at holds = cc
+idle-placed tables (suc count) zero slot hold at holds =
+    let e : record { last = 0; hold = None } ≡ slot = cc in
+    let n : None ≡ Some hold = ap (λ (s : Slot). s.hold) e ∙ holds in
+    cc
+idle-placed tables (suc count) (suc k) slot hold at holds = idle-placed tables count k slot hold at holds
+
+-- a session that is let go, or takes a row whose writes are placed, leaves the writes of all placed
+pub placed-set : (tables : ℕ) (slots : List Slot) (place : ℕ) (next : Slot) → HoldsArePlaced tables slots → ((hold : Hold) → next.hold ≡ Some hold → ArePlaced tables hold.writes) → HoldsArePlaced tables (slice_set slots place next)
+placed-set tables slots place next placed own k slot hold at holds = tests.decided (k == place)
+    (λ e. let same : k ≡ place = eqb-true k place e in
+    let is = at_own slots place slot (ap (slice_get (slice_set slots place next)) (sym same) ∙ at) in
+    own hold (ap (λ (s : Slot). s.hold) is ∙ holds))
+    (λ e. placed k slot hold (sym (slice_get-other slots place k next (λ is. tests.clash (k == place) (eq-eqb k place is) e)) ∙ at) holds)
+  where
+    at_own : (xs : List Slot) (p : ℕ) (s : Slot) → slice_get (slice_set xs p next) p ≡ Some s → next ≡ s
+    at_own [] p s e = cc
+    at_own (x ∷ xs) zero s e = cc
+    at_own (x ∷ xs) (suc p) s e = at_own xs p s e
+
+pub placed-free : (tables : ℕ) (slots : List Slot) (place last : ℕ) → HoldsArePlaced tables slots → HoldsArePlaced tables (slice_set slots place (record { last = last; hold = None }))
+placed-free tables slots place last placed = placed-set tables slots place (record { last = last; hold = None }) placed (λ hold is. cc)
+
+-- a write that finds no memory puts a row
+pub puts_some : {X : Type 0} (row : Option X) → (row ≡ None → false ≡ true) → is_some row ≡ true
+puts_some None deletes = let clash : false ≡ true = deletes refl in cc
+puts_some (Some x) deletes = refl

@@ -1,0 +1,5 @@
+pub mod Slots
+pub mod Rows
+pub mod Logs
+pub mod Phases
+pub mod Window

@@ -1,0 +1,38 @@
+-- What clauses see of the log's rows and of the sessions: the plain data of the model.
+use Rattle.std.specs.Prelude.{ℕ, List, map}
+use Rattle.std.specs.Option.{option_map}
+use Rattle.occ_model.specs.Log.{Case, LogRow, Standing}
+use Rattle.occ_case.specs.declared.cases.OpenCase as code_open
+use Rattle.occ_book.specs.Rows as books
+use Rattle.occ_book.specs.declared.rows.Standing as code_standing
+use Rattle.occ_book.specs.declared.rows.LogRow as code_row
+use Rattle.occ_log.specs.Slots.{Slot, Hold}
+use Rattle.occ_log.specs.declared.sessions.Held as code_held
+use Rattle.occ_log.specs.declared.sessions.SessionState as code_session
+
+module _ {Z : Type 0} where
+  -- what is held of an open row: its case, and the index of that
+  abbrev pub opened : code_open.OpenCase Z → ℕ × Case
+  opened open_case = (open_case.index, open_case.case)
+
+  -- the plain standing
+  abbrev pub standing_of : code_standing.Standing (code_open.OpenCase Z) → Standing
+  standing_of = books.standing_of opened
+
+  -- the plain row
+  abbrev pub log_row_of : code_row.LogRow Z (code_open.OpenCase Z) → LogRow
+  log_row_of = books.log_row_of opened
+
+  abbrev pub log_of : List (code_row.LogRow Z (code_open.OpenCase Z)) → List LogRow
+  log_of = books.log_of opened
+
+  -- the plain hold
+  abbrev pub hold_of : code_held.Held Z → Hold
+  hold_of h = record { place = h.place; writes = h.writes }
+
+  -- the plain slot
+  abbrev pub slot_of : code_session.SessionState Z → Slot
+  slot_of s = record { last = s.last; hold = option_map hold_of s.held }
+
+  abbrev pub slots_of : List (code_session.SessionState Z) → List Slot
+  slots_of = map slot_of

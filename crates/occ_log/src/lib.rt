@@ -1,0 +1,15 @@
+//! The decision log, and what a core keeps beside it: the row that each session holds, the read phases and the window of write sets.
+//! Each part is seen as plain data of the model.
+#![tactic(auto)]
+
+mod log;
+mod phases;
+mod sessions;
+#[cfg(test)]
+mod tests;
+mod window;
+
+pub use log::Log;
+pub use phases::{Phase, ReadPhases, Transaction};
+pub use sessions::{Held, SessionState, Sessions};
+pub use window::Window;

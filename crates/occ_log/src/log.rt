@@ -1,0 +1,187 @@
+//! The decision log.
+ghost use Rattle.std.specs.Prelude.{◌≡◌, ◌<◌, ◌≤◌, ◌+◌, ◌-◌, ◌^◌, [], ◌∷◌, ◌++◌, length, is_some, true, IfOk, OnOk, slice_get, slice_set, Some};
+ghost use Rattle.std.specs.Option.{option_map};
+ghost use Rattle.occ_types.specs.Seen.{object_of};
+ghost use Rattle.occ_log.specs.Logs.{row_at, HasRoom, IsBegun, HaveNoGap, rows_of, places_in};
+ghost use Rattle.occ_log.specs.Rows.{log_row_of, log_of, standing_of};
+ghost use Rattle.occ_log.specs.Slots.{written_at};
+ghost use Rattle.occ_model.specs.Log.{LogRow as PlainRow};
+ghost use Rattle.occ_model.specs.Poll.{row_numbered};
+
+use occ_book::{LogRow, Standing};
+use occ_case::OpenCase;
+use occ_types::Object;
+use std::alloc::{AllocError, Allocator};
+use std::marker::Model;
+
+/// The rows that entered, in the order of their entry. They are counted from a first place on, and each is found by its place, or by
+/// its session and number. Its sessions are numbered from 1.
+///
+/// Clauses see the first place, the list of the plain rows, how many sessions there are, and of each whether one more row takes
+/// memory (`Kept`).
+#[derive(Drop)]
+pub struct Log<A: Allocator> {
+    first: usize,
+    rows: Vec<LogRow<A, OpenCase<A>>, A>,
+    // Of each session, in order, the places of its rows.
+    places: Vec<Vec<usize, A>, A>,
+}
+
+impl<A: Allocator> Model for Log<A> {
+    ghost use Rattle.occ_log.specs.Logs.{Kept, AreListed, kept_of, lists_of};
+    ghost use Rattle.occ_log.specs.Rows.{log_of};
+
+    ghost Value = { Kept };
+
+    ghost view = { λ l. kept_of l.first l.rows l.places };
+
+    ghost invariant = { λ l. AreListed l.first (log_of l.rows.items) (lists_of l.places.items) };
+}
+
+impl<A: Allocator + Copy> Log<A> {
+    /// A log without a row, which begins at the place 0 and is for the rows of so many sessions. Refused with `AllocError` where there
+    /// is no memory for it.
+    pub fn new(alloc: A, sessions: usize) -> Result<Log<A>, AllocError>
+        ensures { IfOk result (λ log. IsBegun sessions log) }
+    {
+        let mut places = Vec::with_capacity(alloc, sessions)?;
+        for _ in 0..sessions {
+            places.push(Vec::new(alloc))?;
+        }
+        Ok(Log {
+            first: 0,
+            rows: Vec::new(alloc),
+            places,
+        })
+    }
+}
+
+impl<A: Allocator> Log<A> {
+    /// How many rows stand in the log. It sets no limit; the core takes no more than `MAX_LOG_ROWS`.
+    pub fn len(&self) -> usize
+        ensures { result ≡ length self.now.rows }
+    {
+        self.rows.len()
+    }
+
+    /// The place of the next row to enter: that of the first row, and as many more as rows stand in the log.
+    pub fn next_place(&self) -> usize
+        requires { self.now.first + length self.now.rows < 2 ^ 64 }
+        ensures { result ≡ self.now.first + length self.now.rows }
+    {
+        self.first + self.rows.len()
+    }
+
+    /// The row at a place, or none where it does not stand in the log.
+    pub fn row(&self, place: usize) -> Option<&LogRow<A, OpenCase<A>>>
+        ensures { option_map (λ r. log_row_of r.now) result ≡ row_at self.now place }
+    {
+        if place < self.first {
+            return None;
+        }
+        self.rows.get(place - self.first)
+    }
+
+    /// The row of a session with a number, or none where it does not stand in the log. The numbers of each session have to stand
+    /// without a gap. So the row is found without a search, by how far its number lies above that of the session's first row.
+    pub fn numbered(&self, session: usize, number: u64) -> Option<&LogRow<A, OpenCase<A>>>
+        requires { HaveNoGap self.now.rows }
+        ensures { option_map (λ r. log_row_of r.now) result ≡ row_numbered session number self.now.rows }
+    {
+        let oldest = self.row_of(session, 0)?;
+        if number < oldest.number {
+            return None;
+        }
+        self.row_of(session, (number - oldest.number) as usize)
+    }
+
+    // The row of a session that has so many rows of the session before it.
+    fn row_of(&self, session: usize, before: usize) -> Option<&LogRow<A, OpenCase<A>>>
+        ensures { option_map (λ r. log_row_of r.now) result ≡ slice_get (rows_of session self.now.rows) before }
+    {
+        let place = self.place_of(session, before)?;
+        self.row(place)
+    }
+
+    // The place of that row.
+    fn place_of(&self, session: usize, before: usize) -> Option<usize>
+        ensures { result ≡ slice_get (places_in session self.now.first self.now.rows) before }
+    {
+        let lists = &self.places;
+        if session == 0 {
+            return None;
+        }
+        let places = lists.get(session - 1)?;
+        places.get(before).copied()
+    }
+
+    /// The rows, in the order of entry.
+    pub fn rows(&self) -> &[LogRow<A, OpenCase<A>>]
+        ensures { log_of result.now ≡ self.now.rows }
+    {
+        self.rows.as_slice()
+    }
+
+    /// The object of a write of the row at a place, by its own place in the order of the first writes, which begins with 0. None where
+    /// no row stands there, or it has no such write.
+    pub fn written(&self, place: usize, write: usize) -> Option<&Object<A>>
+        ensures { option_map (λ o. object_of o.now) result ≡ written_at (row_at self.now) place write }
+    {
+        let row = self.row(place)?;
+        let (object, _row) = row.writes.write_at(write)?;
+        Some(object)
+    }
+
+    /// Takes room for one more row of a session, so that it can come in without memory. Refused with `AllocError` where there is none.
+    /// The rows stay as they are.
+    pub fn reserve(&mut self, session: usize) -> Result<(), AllocError>
+        requires from { 1 ≤ session }
+        requires below { session ≤ self.old.sessions }
+        ensures room { OnOk result (HasRoom self.new session) }
+        ensures rows { self.new.rows ≡ self.old.rows }
+        ensures first { self.new.first ≡ self.old.first }
+        ensures sessions { self.new.sessions ≡ self.old.sessions }
+    {
+        self.rows.reserve(1)?;
+        let places = &mut self.places[session - 1];
+        places.reserve(1)?;
+        Ok(())
+    }
+
+    /// A row comes in at the end, in the room that was taken for one of its session (`reserve`). It has the place of the next row. It
+    /// takes no memory.
+    pub fn push(&mut self, row: LogRow<A, OpenCase<A>>)
+        requires from { 1 ≤ row.session }
+        requires room { HasRoom self.old row.session }
+        requires place { row.place ≡ self.old.first + length self.old.rows }
+        ensures rows { self.new.rows ≡ self.old.rows ++ log_row_of row ∷ [] }
+        ensures first { self.new.first ≡ self.old.first }
+        ensures sessions { self.new.sessions ≡ self.old.sessions }
+    {
+        let places = &mut self.places[row.session - 1];
+        places.push_reserved(row.place);
+        self.rows.push_reserved(row);
+    }
+
+    /// The row at a place, where one has to stand, takes another standing. It takes no memory.
+    pub fn stand(&mut self, place: usize, standing: Standing<OpenCase<A>>)
+        requires { is_some (row_at self.old place) ≡ true }
+        ensures rows { (row : PlainRow) → row_at self.old place ≡ Some row → self.new.rows ≡ slice_set self.old.rows (place - self.old.first) (record row { standing = standing_of standing }) }
+        ensures first { self.new.first ≡ self.old.first }
+        ensures sessions { self.new.sessions ≡ self.old.sessions }
+    {
+        let row = &mut self.rows[place - self.first];
+        row.standing = standing;
+    }
+}
+
+impl<A: Allocator + Clone> Log<A> {
+    /// A clone of each row, in their order. Its write set and read set are shared with the log. Refused with `AllocError` where there is
+    /// no memory for them, or a set has too many owners to be counted.
+    pub fn share_rows(&self) -> Result<Vec<LogRow<A, OpenCase<A>>, A>, AllocError>
+        ensures { IfOk result (λ shared. log_of shared.items ≡ self.now.rows) }
+    {
+        let shared = self.rows.clone()?;
+        Ok(shared)
+    }
+}

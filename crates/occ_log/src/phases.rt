@@ -1,0 +1,189 @@
+//! The read phases under way.
+ghost use Rattle.std.specs.Prelude.{◌≡◌, ◌==◌, ◌<◌, ◌++◌, ℕ, [], ◌∷◌, not, true, length, None, OnOk, OnErr, IfOk, IfSome, IfNone, IsOkUnless};
+ghost use Rattle.std.specs.Option.{option_map};
+ghost use Rattle.std.specs.FinMap as finite;
+ghost use Rattle.occ_types.specs.declared.fault.Fault.TheVariants.{Memory};
+ghost use Rattle.occ_types.specs.declared.limits.TheConstants as limit;
+ghost use Rattle.occ_types.specs.Seen.{question_of};
+ghost use Rattle.occ_sets.specs.Seen.{answer_of};
+ghost use Rattle.occ_log.specs.Phases.{phase_of, reads_of};
+
+use occ_sets::{Answer, ReadSet};
+use occ_types::{Fault, Question};
+use std::alloc::Allocator;
+use std::collections::BTreeMap;
+use std::marker::Model;
+
+/// A transaction as its session names it, before it enters.
+#[derive(Clone, Copy)]
+pub struct Transaction {
+    /// The session, numbered from 1.
+    pub session: usize,
+    /// The number that the session gives it.
+    pub number: u64,
+    /// What the transaction counter was when its read phase began.
+    pub start: u64,
+}
+
+/// A read phase under way.
+#[derive(Drop)]
+pub struct Phase<A: Allocator> {
+    /// What the transaction counter was when the phase began.
+    pub start: u64,
+    /// What was read so far.
+    pub reads: ReadSet<A>,
+}
+
+impl<A: Allocator + Copy> Phase<A> {
+    // A phase with its first read.
+    fn first(
+        alloc: A,
+        start: u64,
+        question: Question<A>,
+        answer: Answer<A>,
+    ) -> Result<Phase<A>, Fault>
+        ensures noted { IfOk result (λ phase. (phase.start ≡ start) × (phase.reads ≡ (question_of question, answer_of answer) ∷ [])) }
+        ensures memory { IsOkUnless result Memory }
+    {
+        let mut reads = ReadSet::new(alloc);
+        reads.note(question, answer)?;
+        Ok(Phase { start, reads })
+    }
+}
+
+/// The read phases under way, by session and then by the number of their transaction. Clauses see them as a finite map.
+#[derive(Drop)]
+pub struct ReadPhases<A: Allocator> {
+    phases: BTreeMap<(usize, u64), Phase<A>, A>,
+}
+
+impl<A: Allocator> Model for ReadPhases<A> {
+    ghost use Rattle.std.specs.FinMap.{FinMap};
+    ghost use Rattle.occ_model.specs.World.{ReadPhase, phase_cmp};
+    ghost use Rattle.occ_log.specs.Phases.{read_phases_code, phases_of};
+
+    ghost Value = { FinMap phase_cmp ReadPhase };
+
+    ghost coded = { read_phases_code };
+
+    ghost view = { λ phases. phases_of phases.phases };
+}
+
+impl<A: Allocator> ReadPhases<A> {
+    /// No phases, which take no memory.
+    pub fn new(alloc: A) -> ReadPhases<A>
+        ensures { result ≡ finite.empty }
+    {
+        ReadPhases {
+            phases: BTreeMap::new(alloc),
+        }
+    }
+
+    /// The start of a phase, or none where it is not under way.
+    pub fn start(&self, session: usize, number: u64) -> Option<u64>
+        ensures { result ≡ option_map (λ phase. phase.start) (finite.get self.now (session, number)) }
+    {
+        match self.phases.get(&(session, number)) {
+            Some(phase) => Some(phase.start),
+            None => None,
+        }
+    }
+
+    /// How many questions were asked in a phase, or 0 where it is not under way.
+    pub fn questions(&self, session: usize, number: u64) -> usize
+        ensures { result ≡ length (reads_of (finite.get self.now (session, number))) }
+    {
+        match self.phases.get(&(session, number)) {
+            Some(phase) => phase.reads.len(),
+            None => 0,
+        }
+    }
+
+    /// Ends a phase and hands it out, or none where it is not under way. It takes no memory.
+    pub fn take(&mut self, session: usize, number: u64) -> Option<Phase<A>>
+        ensures phase { option_map phase_of result ≡ finite.get self.old (session, number) }
+        ensures gone { self.new ≡ finite.remove self.old (session, number) }
+    {
+        self.phases.remove(&(session, number))
+    }
+
+    /// Ends all phases of a session. It looks at no phase of another one, and takes no memory.
+    pub fn drop_session(&mut self, session: usize)
+        ensures { self.new ≡ finite.retain_keys self.old (λ key. not (key.0 == session)) }
+    {
+        while let Some(number) = self.first_number(session) {
+            self.discard(session, number);
+        }
+    }
+
+    /// Ends a phase, of which nothing is left. It takes no memory.
+    pub fn discard(&mut self, session: usize, number: u64)
+        ensures { self.new ≡ finite.remove self.old (session, number) }
+    {
+        let _phase = self.take(session, number);
+    }
+
+    // The first number under which a session reads.
+    fn first_number(&self, session: usize) -> Option<u64>
+        ensures some { IfSome result (λ number. finite.contains_key self.now (session, number) ≡ true) }
+        ensures none { IfNone result ((number : ℕ) → finite.get self.now (session, number) ≡ None) }
+    {
+        let (key, _phase) = self.phases.range((session, 0)..).next()?;
+        if is_of(session, *key) {
+            Some(key.1)
+        } else {
+            None
+        }
+    }
+}
+
+impl<A: Allocator + Copy> ReadPhases<A> {
+    /// One more owner of what was read in a phase, which is nothing where it is not under way. The phase goes on as it was. Refused
+    /// with `Memory` where there is none, or it has too many owners to be counted, which leaves it too.
+    pub fn share(&mut self, alloc: A, session: usize, number: u64) -> Result<ReadSet<A>, Fault>
+        ensures shared { IfOk result (λ shared. shared ≡ reads_of (finite.get self.old (session, number))) }
+        ensures kept { self.new ≡ self.old }
+        ensures memory { IsOkUnless result Memory }
+    {
+        let Some(phase) = self.phases.get_mut(&(session, number)) else {
+            return Ok(ReadSet::new(alloc));
+        };
+        phase.reads.share()?;
+        let shared = phase.reads.clone()?;
+        Ok(shared)
+    }
+
+    /// Notes a question and the tables' answer after the others of a transaction's phase, which has less than `MAX_QUESTIONS` of them. It
+    /// begins with this question where it is not under way, and has the transaction's start from now on.
+    ///
+    /// Refused with `Memory` where there is none, which leaves the phases as they were.
+    pub fn note(
+        &mut self,
+        alloc: A,
+        transaction: Transaction,
+        question: Question<A>,
+        answer: Answer<A>,
+    ) -> Result<(), Fault>
+        requires few { length (reads_of (finite.get self.old (transaction.session, transaction.number))) < limit.MAX_QUESTIONS }
+        ensures ok { OnOk result (self.new ≡ finite.insert self.old (transaction.session, transaction.number) (record { start = transaction.start; reads = reads_of (finite.get self.old (transaction.session, transaction.number)) ++ (question_of question, answer_of answer) ∷ [] })) }
+        ensures err { OnErr result (self.new ≡ self.old) }
+        ensures memory { IsOkUnless result Memory }
+    {
+        let key = (transaction.session, transaction.number);
+        if let Some(phase) = self.phases.get_mut(&key) {
+            phase.reads.note(question, answer)?;
+            phase.start = transaction.start;
+            return Ok(());
+        }
+        let phase = Phase::first(alloc, transaction.start, question, answer)?;
+        self.phases.insert(key, phase)?;
+        Ok(())
+    }
+}
+
+// Whether a phase, named by its session and its number, is of this session.
+fn is_of(session: usize, phase: (usize, u64)) -> bool
+    ensures { result ≡ (phase.0 == session) }
+{
+    phase.0 == session
+}

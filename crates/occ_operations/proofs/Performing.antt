@@ -1,0 +1,40 @@
+-- What one operation adds to what the earlier ones did.
+use Rattle.std.proofs.Common.{◌≡◌, ℕ, ℤ, List, [], ◌∷◌, Option, Some, ap, ◌∙◌}
+use Rattle.occ_types.specs.Key.{Key}
+use Rattle.occ_types.specs.Question.{Question, One, Span}
+use Rattle.occ_types.specs.Row.{Row, Int}
+use Rattle.occ_model.specs.State.{State, Write, Answer, Rows, Observation, answer}
+use Rattle.occ_model.specs.Overlay.{set, overlay}
+use Rattle.occ_model.specs.Operations.{Add, Progress, asked, seen, number_in, held_sum, perform}
+use Rattle.occ_sets.specs.Overlays.{rows_over}
+use Rattle.occ_sets.proofs.Agreement.{overlay-Span}
+use Rattle.occ_operations.specs.Performed.{so_far}
+
+-- an addition, from what it asked, saw and wrote
+pub added : (state : State) (before : Progress) (table : ℕ) (key copy other : Key) (amount number : ℤ) (row : Row) (given : Answer) (reads : List Observation) (writes : List Write)
+    → copy ≡ key
+    → other ≡ key
+    → reads ≡ asked state (One table copy) (so_far before.reads before.writes)
+    → given ≡ seen state (One table copy) (so_far before.reads before.writes)
+    → number ≡ number_in given
+    → row ≡ Int (held_sum number amount) ∷ []
+    → writes ≡ set before.writes (table, other) (Some row)
+    → (record { reads = reads; writes = writes; answers = before.answers }) ≡ perform state (Add table key amount) before
+added state before table key copy other amount number row given reads writes k l r g n w s =
+    let sees = λ (k : Key). seen state (One table k) (so_far before.reads before.writes) in
+    let same_reads = r ∙ ap (λ k. asked state (One table k) (so_far before.reads before.writes)) k in
+    let same_number : number ≡ number_in (sees key) = n ∙ ap number_in (g ∙ ap sees k) in
+    let same_row : row ≡ Int (held_sum (number_in (sees key)) amount) ∷ [] = w ∙ ap (λ m. Int (held_sum m amount) ∷ []) same_number in
+    let same_writes : writes ≡ set before.writes (table, key) (Some (Int (held_sum (number_in (sees key)) amount) ∷ [])) = s ∙ (λ i. set before.writes (table, l i) (Some (same_row i))) in
+    λ i. record { reads = same_reads i; writes = same_writes i; answers = before.answers }
+
+-- what is seen of a range, from the rows that the table answers
+pub ranged : (state : State) (before : Progress) (table : ℕ) (lower upper : Option Key) (question : Question) (given laid : List (Key × Row))
+    → question ≡ Span table lower upper
+    → Rows given ≡ answer (Span table lower upper) state
+    → laid ≡ rows_over question before.writes given
+    → Rows laid ≡ seen state (Span table lower upper) before
+ranged state before table lower upper question given laid q g l =
+    ap Rows (l ∙ ap (λ q. rows_over q before.writes given) q)
+    ∙ overlay-Span table lower upper before.writes given
+    ∙ ap (overlay (Span table lower upper) before.writes) g
