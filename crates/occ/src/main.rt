@@ -10,6 +10,9 @@ use std::io::ErrorKind as IoErrorKind;
 use std::process::ExitCode;
 use thiserror::Error;
 
+#[cfg(test)]
+mod tests;
+
 /// What ends the program with another status than 0. Its text is the line that stands on standard error.
 #[derive(Clone, Copy, Debug, Error)]
 enum Stop {
@@ -60,21 +63,52 @@ fn status(stop: Stop) -> u8 {
     }
 }
 
+/// What the words of a command ask for. Where no file is named, standard input is read.
+#[derive(Debug, Drop)]
+enum Task {
+    /// `occ replay`: the file, and whether the answers are left out.
+    Replay { file: Option<String>, quiet: bool },
+    /// `occ audit`: the file.
+    Audit { file: Option<String> },
+}
+
 /// Reads the words of the command line, and runs what they ask for. False is the answer of an audit that doesn't hold.
 fn run(rt: &HostRuntime) -> Result<bool, Stop> {
     let words = words(rt)?;
-    let matches = command(rt.alloc())?.try_get_matches_from(words.as_slice())?;
+    match task_of(rt.alloc(), words.as_slice())? {
+        Task::Replay { file, quiet } => {
+            replay(rt, file.as_deref(), quiet)?;
+            Ok(true)
+        }
+        Task::Audit { file } => {
+            let right = audit(rt, file.as_deref())?;
+            Ok(right)
+        }
+    }
+}
+
+/// What words ask for, of which the first is the name of the program.
+fn task_of(alloc: Global, words: &[String]) -> Result<Task, Stop> {
+    let matches = command(alloc)?.try_get_matches_from(words)?;
     if let Some(found) = matches.subcommand_matches("replay") {
+        let file = named(alloc, found.get_str("file"))?;
         let quiet = found.get_flag("quiet");
-        replay(rt, found.get_str("file"), quiet)?;
-        return Ok(true);
+        return Ok(Task::Replay { file, quiet });
     }
     match matches.subcommand_matches("audit") {
         Some(found) => {
-            let right = audit(rt, found.get_str("file"))?;
-            Ok(right)
+            let file = named(alloc, found.get_str("file"))?;
+            Ok(Task::Audit { file })
         }
         None => Err(Stop::Usage),
+    }
+}
+
+/// A copy of the name of a file, where one is named.
+fn named(alloc: Global, file: Option<&str>) -> Result<Option<String>, AllocError> {
+    match file {
+        Some(name) => Ok(Some(String::from_str(alloc, name)?)),
+        None => Ok(None),
     }
 }
 
@@ -104,7 +138,7 @@ fn command<'a>(alloc: Global) -> Result<Command<'a>, AllocError> {
         .subcommand(audit)
 }
 
-/// A command without help and version: a wish for them is one more unknown word.
+/// A command without help and version: asking for them is one more unknown word.
 fn plain<'a>(command: Command<'a>) -> Command<'a> {
     command
         .disable_help_flag(true)

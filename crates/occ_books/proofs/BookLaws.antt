@@ -21,7 +21,7 @@ use Rattle.occ_text.specs.HeaderReading.{table_of_tokens, table_of_line}
 use Rattle.occ_text.specs.HeaderTaking.{TablesSoFar}
 use Rattle.occ_text.proofs.Escapes.{some_is, bind_value}
 use Rattle.occ_text.proofs.Words.{IsToken-from_test, tokens_takes}
-use Rattle.occ_text.proofs.StepLines.{two_tokens}
+use Rattle.occ_text.proofs.TokenLists.{two_tokens}
 use Rattle.occ_text.proofs.HeaderLines.{count_reads, table_reads}
 use Rattle.occ_text.proofs.SchemaLines.{each_fits}
 use Rattle.occ_print.specs.Books.{Book, book_lines, book_text}

@@ -1,19 +1,24 @@
--- The numbers of a core's book fit.
-use Rattle.std.proofs.Common.{◌≡◌, ℕ, suc, ◌+◌, ◌-◌, ◌^◌, ◌≤◌, Bool, true, false, cond, List, [], ◌∷◌, map, length, refl, ap, subst, ◌∙◌, arith}
+-- The book of a core fits its header.
+use Rattle.std.proofs.Common.{◌≡◌, ℕ, suc, ◌+◌, ◌-◌, ◌^◌, ◌≤◌, Bool, true, false, cond, List, [], ◌∷◌, map, length, refl, sym, ap, subst, ◌∙◌, arith}
 use Rattle.std.specs.Prelude.{◌==◌, filter, unwrap_or}
 use Rattle.std.specs.List.{AllByRecursion}
 use Rattle.std.proofs.lemmas.Bool.Decides.{nat_tests}
-use Rattle.std.specs.FinMap.{get-empty}
+use Rattle.std.specs.FinMap.{entries, get-empty, nat_cmp-IsAntisymmetric}
+use Rattle.std.specs.Cmp.{nat_cmp_total}
 use Rattle.std.specs.Ordering.{nat_cmp}
-use Rattle.occ_types.specs.declared.limits.TheConstants.{MAX_COUNTER, MAX_LOG_ROWS}
+use Rattle.occ_types.specs.declared.limits.TheConstants.{MAX_COUNTER, MAX_LOG_ROWS, MAX_QUESTIONS}
 use Rattle.occ_types.specs.Schema.{Schema}
 use Rattle.occ_model.specs.Log.{LogRow, Standing, Open, Writing, Done, Back, Counts, numbers, last_folded}
 use Rattle.occ_model.specs.Invariant.{Invariant, NumberIsBelow, NumbersAreBelow}
 use Rattle.occ_model.specs.World.{World, active_count, empty_base}
 use Rattle.occ_text.specs.Headers.{Header}
-use Rattle.occ_books.specs.Taking.{StandingFits, LogRowFits}
-use Rattle.occ_books.specs.Printed.{BookFits}
-use Rattle.occ_books.specs.Cores.{book_in, RowContentFits, ContentFits}
+use Rattle.occ_model.specs.Content.{WriteIs, ReadIs, RowIs, QuestionFits, IsInSchema}
+use Rattle.occ_model.specs.Content as content
+use Rattle.occ_books.specs.Entries.{WriteFits, AtFits}
+use Rattle.occ_books.specs.Taking.{StandingFits, LogRowFits, ReadFits}
+use Rattle.occ_books.specs.Printed.{EntryFits, BookFits}
+use Rattle.occ_books.specs.Cores.{book_in, IsHeaderOf, ReadHasWords, WriteHasWords, RowHasWords, HasWords}
+use Rattle.occ_books.proofs.CoreContent.{all_entries, all_both, write_fits, read_fits, table_fits}
 
 -- the places of a log in order lie below the next one
 places_below : (n bound : ℕ) (log : List LogRow) → Counts n (map (λ row. row.place) log) → n + length log ≤ bound → AllByRecursion (λ row. row.place ≤ bound) log
@@ -45,28 +50,56 @@ standing_fits counter writes (Writing n) up below done = done n refl
 standing_fits counter writes (Done n) up below done = omega arith
 standing_fits counter writes (Back cause) up below done = tt
 
+-- the rows of a log
 rows_fit : (schema : Schema) (sessions counter bound : ℕ) (log : List LogRow) → counter ≤ 2 ^ 64 - 1 → bound ≤ 2 ^ 64 - 1 → AllByRecursion (λ row. row.place ≤ bound) log → AllByRecursion (λ row. row.number ≤ bound) log → NumbersAreBelow counter log
-    → AllByRecursion (RowContentFits schema sessions) log → AllByRecursion (LogRowFits schema sessions) log
-rows_fit schema sessions counter bound [] few up places numbered below content = tt
-rows_fit schema sessions counter bound (row ∷ rows) few up places numbered below content =
+    → AllByRecursion (RowIs (QuestionFits schema) (content.RowFits schema) sessions counter) log → AllByRecursion RowHasWords log → AllByRecursion (LogRowFits schema sessions) log
+rows_fit schema sessions counter bound [] few up places numbered below fit words = tt
+rows_fit schema sessions counter bound (row ∷ rows) few up places numbered below fit words =
     let place = places.0 in
     let number = numbered.0 in
-    let fits = content.0 in (
+    let fits = fit.0 in
+    let has = words.0 in
+    let start = fits.start in
+    let finish = fits.finish in
+    let session = fits.session in
+    let reads = fits.few in (
       record {
         place = omega arith;
-        session = fits.session;
+        session = record { first = session.first; last = session.last };
         number = omega arith;
-        start = fits.start;
-        finish = fits.finish;
-        count_reads = fits.count_reads;
-        count_writes = fits.count_writes;
+        start = omega arith;
+        finish = omega arith;
+        count_reads = few_reads (length row.reads) reads;
+        count_writes = has.count_writes;
         done = standing_fits counter (length row.writes) row.standing few below.0 fits.done;
-        reads = fits.reads;
-        writes = fits.writes;
-        distinct = fits.distinct;
+        reads = all_both (ReadIs (QuestionFits schema) (content.RowFits schema)) ReadHasWords (ReadFits schema) (read_fits schema) row.reads fits.reads has.reads;
+        writes = all_both (WriteIs (QuestionFits schema) (content.RowFits schema)) WriteHasWords (WriteFits schema) (write_fits schema) row.writes fits.writes has.writes;
+        distinct = has.distinct;
       },
-      rows_fit schema sessions counter bound rows few up places.1 numbered.1 below.1 content.1,
+      rows_fit schema sessions counter bound rows few up places.1 numbered.1 below.1 fit.1 words.1,
     )
+  where
+    few_reads : (reads : ℕ) → reads ≤ MAX_QUESTIONS → reads ≤ 2 ^ 64 - 1
+    few_reads reads h = omega arith
+
+one_more : (a b : ℕ) → a ≤ b → suc a ≤ suc b
+one_more a b h = omega arith
+
+no_more : (a b : ℕ) → a ≤ b → a ≤ suc b
+no_more a b h = omega arith
+
+-- a session has no more numbers than the log has rows
+numbers_within : (session : ℕ) (log : List LogRow) → length (numbers session log) ≤ length log
+numbers_within session [] = omega arith
+numbers_within session (row ∷ rows) = go (row.session == session) (numbers_within session rows)
+  where
+    go : (b : Bool) → length (numbers session rows) ≤ length rows
+        → length (map (λ (r : LogRow). r.number) (cond b (row ∷ filter (λ r. r.session == session) rows) (filter (λ r. r.session == session) rows))) ≤ suc (length rows)
+    go true h = one_more _ _ h
+    go false h = no_more _ _ h
+
+few_marks : (mark folded count rows : ℕ) → mark ≡ folded + count + 1 → folded ≡ 0 → count ≤ rows → rows ≤ MAX_LOG_ROWS → mark ≤ 2 ^ 64 - 1
+few_marks mark folded count rows is none within few = omega arith
 
 few_counted : (counter active : ℕ) → counter + active ≤ MAX_COUNTER → counter ≤ 2 ^ 64 - 1
 few_counted counter active h = omega arith
@@ -77,21 +110,29 @@ few_rows rows h = omega arith
 few_below : (counter keep : ℕ) → counter ≤ 2 ^ 64 - 1 → counter - keep ≤ 2 ^ 64 - 1
 few_below counter keep h = omega arith
 
-pub core_book_fits : (header : Header) (world : World) → Invariant world → world.base ≡ empty_base → world.counter + active_count world ≤ MAX_COUNTER → length world.log ≤ MAX_LOG_ROWS → ContentFits header world → BookFits (book_in header world)
-core_book_fits header world law base counter rows content =
+pub core_book_fits : (header : Header) (world : World) → Invariant world → world.base ≡ empty_base → world.counter + active_count world ≤ MAX_COUNTER → length world.log ≤ MAX_LOG_ROWS → IsInSchema world → IsHeaderOf header world → HasWords world → BookFits (book_in header world)
+core_book_fits header world law base counter rows within own words =
     let few = few_counted world.counter (active_count world) counter in
     let up = few_rows (length world.log) rows in
     let order = law.in_order in
     let places = subst (λ b. Counts b.place (map (λ row. row.place) world.log)) base order.places in
+    let unfolded : (session : ℕ) → last_folded world.base session ≡ 0 = λ session. ap (λ b. last_folded b session) base ∙ ap (λ o. unwrap_or o 0) (get-empty nat_cmp session) in
     let counted : (session : ℕ) → Counts 1 (numbers session world.log) = λ session.
-    subst (λ n. Counts (suc n) (numbers session world.log)) (ap (λ b. last_folded b session) base ∙ ap (λ o. unwrap_or o 0) (get-empty nat_cmp session)) (order.numbered session) in
+    subst (λ n. Counts (suc n) (numbers session world.log)) (unfolded session) (order.numbered session) in
     record {
-      header = content.opening;
+      header = own.fits;
       rows = up;
-      log = rows_fit header.tables header.sessions world.counter (length world.log) world.log few up (places_below 0 (length world.log) world.log places (omega arith))
-          (own_below (length world.log) world.log (λ session. session_below session 0 (length world.log) world.log (counted session) (omega arith))) law.below content.log;
-      marks = content.marks;
-      objects = content.objects;
-      state = content.state;
+      log = subst (λ sessions. AllByRecursion (LogRowFits header.tables sessions) world.log) (sym own.sessions)
+          (subst (λ schema. AllByRecursion (LogRowFits schema world.settings.sessions) world.log) (sym own.tables)
+          (rows_fit world.settings.schema world.settings.sessions world.counter (length world.log) world.log few up (places_below 0 (length world.log) world.log places (omega arith))
+          (own_below (length world.log) world.log (λ session. session_below session 0 (length world.log) world.log (counted session) (omega arith))) law.below within.log words.log));
+      marks = subst (λ sessions. AllByRecursion (EntryFits sessions) (entries world.marks)) (sym own.sessions)
+          (all_entries nat_cmp nat_cmp_total nat_cmp-IsAntisymmetric (EntryFits world.settings.sessions) world.marks (λ session mark is.
+          let there = within.marks session mark is in (
+            record { first = there.first; last = there.last },
+            few_marks mark (last_folded world.base session) (length (numbers session world.log)) (length world.log) (order.closed session mark is) (unfolded session) (numbers_within session world.log) rows,
+          )));
+      objects = words.objects;
+      state = subst (λ schema. AllByRecursion (AtFits schema) (entries world.table)) (sym own.tables) (table_fits world.settings.schema world.table within.table words.state);
       counts = record { counter = few; low = few_below world.counter world.settings.keep few };
     }

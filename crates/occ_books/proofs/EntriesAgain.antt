@@ -26,7 +26,8 @@ use Rattle.occ_text.proofs.Escapes.{some_is}
 use Rattle.occ_text.proofs.Words.{both, IsToken-from_test, tokens_again}
 use Rattle.occ_text.proofs.Values.{key_reads, row_reads}
 use Rattle.occ_text.proofs.Spelled.{IsToken-name, IsToken-key, IsToken-row}
-use Rattle.occ_text.proofs.StepLines.{name_again, one_token, more_tokens}
+use Rattle.occ_text.proofs.Readers.{name_again}
+use Rattle.occ_text.proofs.TokenLists.{one_token, more_tokens}
 use Rattle.occ_text.proofs.SchemaLines.{each_fits, IsSchema-from_check}
 use Rattle.occ_print.specs.Books.{table_name, pair_line, write_line, at_line}
 use Rattle.occ_books.specs.Cursors.{Tokens, before, next_word}

@@ -16,7 +16,7 @@ use Rattle.occ_print.specs.Books.{table_name, answer_text, pair_line, write_line
 use Rattle.occ_text.proofs.Escapes.{some_is, bind_value, map_value}
 use Rattle.occ_text.proofs.Words.{tokens_takes}
 use Rattle.occ_text.proofs.Values.{key_reads}
-use Rattle.occ_text.proofs.StepLines.{takes, word_is}
+use Rattle.occ_text.proofs.Readers.{takes, word_is}
 use Rattle.occ_books.specs.Cursors.{Tokens, next_token, next_word, next_number, at_end}
 use Rattle.occ_books.specs.Named.{row_in, next_table, next_key, next_row, next_object}
 use Rattle.occ_books.specs.Entries.{Asked, AskedOne, AskedSpan, asked_text, FoundFits, SpanFits, AskedFits, PairFits, WriteFits, AtFits, found_in, next_found, one_behind, next_span, span_behind, asked_behind, asked_in, asked_of_line, pair_in, pair_of_line, put_behind, del_behind, write_behind, write_in, write_of_line, at_in, at_of_line}

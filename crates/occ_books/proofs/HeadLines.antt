@@ -9,7 +9,7 @@ use Rattle.occ_text.specs.Reading.{tokens_of, number_of}
 use Rattle.occ_text.proofs.Numbers.{number_takes}
 use Rattle.occ_text.proofs.Escapes.{some_is, bind_value, map_value}
 use Rattle.occ_text.proofs.Words.{tokens_takes}
-use Rattle.occ_text.proofs.StepLines.{word_is}
+use Rattle.occ_text.proofs.Readers.{word_is}
 use Rattle.occ_book.specs.declared.rows.Standing.TheVariants.{Open, Writing, Done, Back}
 use Rattle.occ_books.specs.declared.heads.Head.{Head}
 use Rattle.occ_books.specs.declared.heads.Mark.{Mark}

@@ -16,4 +16,5 @@ pub mod EntriesAgain
 pub mod LineLengths
 pub mod BookLeads
 pub mod BookLaws
+pub mod CoreContent
 pub mod CoreBooks

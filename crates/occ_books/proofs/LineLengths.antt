@@ -28,7 +28,7 @@ use Rattle.occ_model.specs.State.{Write}
 use Rattle.occ_model.specs.declared.verdict.Cause.TheVariants.{Conflict, TooOld}
 use Rattle.occ_text.specs.Headers.{Within, count_text}
 use Rattle.occ_text.proofs.Spelled.{IsToken-decimal}
-use Rattle.occ_text.proofs.StepLines.{two_tokens}
+use Rattle.occ_text.proofs.TokenLists.{two_tokens}
 use Rattle.occ_text.proofs.SchemaLines.{each_fits, IsSchema-from_check}
 use Rattle.occ_print.specs.Books.{table_name, pair_line, write_line, at_line}
 use Rattle.occ_books.specs.Cursors.{Tokens}

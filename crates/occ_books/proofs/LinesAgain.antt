@@ -8,7 +8,7 @@ use Rattle.occ_text.specs.Reading.{Reads, is_token}
 use Rattle.occ_text.proofs.Numbers.{some_or_none, number_again}
 use Rattle.occ_text.proofs.Words.{IsToken-from_test, tokens_again}
 use Rattle.occ_text.proofs.Spelled.{IsToken-decimal}
-use Rattle.occ_text.proofs.StepLines.{one_token, more_tokens}
+use Rattle.occ_text.proofs.TokenLists.{one_token, more_tokens}
 use Rattle.occ_model.specs.declared.verdict.Cause.TheVariants.{Conflict, TooOld}
 use Rattle.occ_book.specs.declared.rows.Standing.TheVariants.{Open, Writing, Done, Back}
 use Rattle.occ_books.specs.declared.heads.Head.{Head}

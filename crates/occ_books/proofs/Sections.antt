@@ -28,7 +28,7 @@ use Rattle.occ_text.specs.HeaderTaking.{TablesSoFar, table_behind}
 use Rattle.occ_text.specs.Line.{lines_text}
 use Rattle.occ_print.specs.Books.{row_lines, mark_line, mark_lines, at_line, row_count, state_lines}
 use Rattle.occ_text.proofs.SchemaLines.{table_next}
-use Rattle.occ_text.proofs.StepLines.{word_is}
+use Rattle.occ_text.proofs.Readers.{word_is}
 use Rattle.occ_books.specs.declared.heads.Mark.{Mark}
 use Rattle.occ_books.specs.Heads.{mark_text, counts_text, MarkFits, CountsFit}
 use Rattle.occ_books.specs.Entries.{AtFits}

@@ -1,17 +1,16 @@
--- The book of a core, and what its content has to be so that it fits its header.
-use Rattle.std.specs.Prelude.{◌≡◌, ◌≤◌, ◌^◌, ◌-◌, ℕ, length}
+-- The book of a core, and what its keys, rows and write sets have to be so that a book has words for them.
+use Rattle.std.specs.Prelude.{◌≡◌, ◌≤◌, ◌^◌, ◌-◌, ℕ, length, IfSome}
 use Rattle.std.specs.List.{AllByRecursion}
 use Rattle.std.specs.FinMap.{entries, len}
-use Rattle.occ_types.specs.Schema.{Schema}
+use Rattle.occ_types.specs.Question.{One, Span}
 use Rattle.occ_model.specs.RangeLaws.{IsDistinctWrites}
-use Rattle.occ_model.specs.Log.{LogRow, Writing}
+use Rattle.occ_model.specs.State.{Observation, Write, Found, Rows}
+use Rattle.occ_model.specs.Log.{LogRow}
 use Rattle.occ_model.specs.World.{World, low}
 use Rattle.occ_text.specs.Headers.{Header, HeaderFits}
+use Rattle.occ_text.specs.Spelling.{KeyFits, RowFits}
 use Rattle.occ_print.specs.Books.{Book}
-use Rattle.occ_books.specs.Heads.{IsSession}
-use Rattle.occ_books.specs.Entries.{WriteFits, AtFits}
-use Rattle.occ_books.specs.Taking.{ReadFits}
-use Rattle.occ_books.specs.Printed.{EntryFits}
+use Rattle.occ_books.specs.Entries.{EndsFit}
 
 -- the book of a world under a header
 abbrev pub book_in : Header → World → Book
@@ -24,22 +23,31 @@ book_in header world = record {
   low = low world;
 }
 
--- What a row of the log has to be, beside its place, its number and the number of its commit: of a session of the header, with a start and an end of 64 bits, and with reads and writes that fit the tables.
-pub record RowContentFits (schema : Schema) (sessions : ℕ) (row : LogRow) : Type 0 where
-  pub session : IsSession sessions row.session
-  pub start : row.start ≤ 2 ^ 64 - 1
-  pub finish : row.finish ≤ 2 ^ 64 - 1
-  pub count_reads : length row.reads ≤ 2 ^ 64 - 1
+-- a header of a world: within its limits, and with the world's sessions and tables
+pub record IsHeaderOf (header : Header) (world : World) : Type 0 where
+  pub fits : HeaderFits header
+  pub sessions : header.sessions ≡ world.settings.sessions
+  pub tables : header.tables ≡ world.settings.schema
+
+-- Words are there for numbers of 64 bits, for texts of UTF-8, and for ranges with both ends. Of a read a book has no more rows than such a number counts.
+abbrev pub ReadHasWords : Observation → Type 0
+ReadHasWords (One table key, Found row) = KeyFits key × IfSome row RowFits
+ReadHasWords (One table key, Rows rows) = Unit {0}
+ReadHasWords (Span table lower upper, Found row) = Unit {0}
+ReadHasWords (Span table lower upper, Rows rows) = EndsFit (Span table lower upper) × AllByRecursion (λ pair. KeyFits pair.0 × RowFits pair.1) rows × (length rows ≤ 2 ^ 64 - 1)
+
+abbrev pub WriteHasWords : Write → Type 0
+WriteHasWords write = KeyFits write.0.1 × IfSome write.1 RowFits
+
+-- a row of the log has words, and writes no object twice
+pub record RowHasWords (row : LogRow) : Type 0 where
+  pub reads : AllByRecursion ReadHasWords row.reads
+  pub writes : AllByRecursion WriteHasWords row.writes
   pub count_writes : length row.writes ≤ 2 ^ 64 - 1
-  pub done : (done : ℕ) → row.standing ≡ Writing done → done ≤ length row.writes
-  pub reads : AllByRecursion (ReadFits schema) row.reads
-  pub writes : AllByRecursion (WriteFits schema) row.writes
   pub distinct : IsDistinctWrites row.writes
 
--- what a world has to hold, beside what its numbers are, so that its book fits a header
-pub record ContentFits (header : Header) (world : World) : Type 0 where
-  pub opening : HeaderFits header
-  pub log : AllByRecursion (RowContentFits header.tables header.sessions) world.log
-  pub marks : AllByRecursion (EntryFits header.sessions) (entries world.marks)
+-- all that a book tells of a world has words
+pub record HasWords (world : World) : Type 0 where
+  pub log : AllByRecursion RowHasWords world.log
   pub objects : len world.table ≤ 2 ^ 64 - 1
-  pub state : AllByRecursion (AtFits header.tables) (entries world.table)
+  pub state : AllByRecursion (λ entry. KeyFits entry.0.1 × RowFits entry.1) (entries world.table)

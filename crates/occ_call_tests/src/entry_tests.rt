@@ -5,6 +5,7 @@ use occ_core::{Core, Entry, SingleWrite};
 use occ_queue::Item;
 use occ_sets::WriteSet;
 use occ_types::Fault;
+use occ_types::limits::MAX_LOG_ROWS;
 use std::alloc::Global;
 use std::test::Fail;
 
@@ -13,7 +14,7 @@ fn commits(rt: HostRuntime) -> Result<(), Fail> {
     let alloc = rt.alloc();
     let mut core = stock(alloc)?;
     let entered = core.enter(1, request(alloc, 7, 100)?);
-    assert!(rt; entered.is_ok_and(|entry| entry == Entry::Entered { place: 0, index: 0 }));
+    assert!(rt; entered.is_ok_and(|entry| matches!(&entry, Entry::Entered { place: 0, index: 0 })));
     assert_eq!(rt; core.active(), 1);
     assert!(rt; core.decide(1) == Ok(Verdict::Commit));
     assert!(rt; core.finish(1) == Err(Fault::WritesLeft));
@@ -73,10 +74,10 @@ fn turned_away(
     }
 }
 
-// What comes of the closing mark of a session; where it is refused, why.
-fn close(core: &mut Core<Global>, session: usize, number: u64) -> Result<Entry, Fault> {
+// Whether the closing mark of a session closes it; where it is refused, why.
+fn close(core: &mut Core<Global>, session: usize, number: u64) -> Result<bool, Fault> {
     match core.enter(session, Item::Close { number }) {
-        Ok(entry) => Ok(entry),
+        Ok(entry) => Ok(matches!(&entry, Entry::MarkedClosed)),
         Err(refused) => Err(refused.fault),
     }
 }
@@ -102,7 +103,7 @@ fn closes(rt: HostRuntime) -> Result<(), Fail> {
     assert!(rt; refused(&mut core, 2, 1, 0) == None);
     assert!(rt; close(&mut core, 3, 1) == Err(Fault::NoSession));
     assert!(rt; close(&mut core, 1, 2) == Err(Fault::OutOfTurn));
-    assert!(rt; close(&mut core, 1, 1) == Ok(Entry::MarkedClosed));
+    assert!(rt; close(&mut core, 1, 1) == Ok(true));
     assert!(rt; core.marks().get(1) == Some(1));
     for number in 1..3 {
         assert!(rt; core.forget(1, number) == Ok(false));
@@ -139,5 +140,18 @@ fn shows(rt: HostRuntime) -> Result<(), Fail> {
     assert_eq!(rt; core.view().log.len(), 1);
     assert_eq!(rt; core.view().tnc, 0);
     assert_eq!(rt; book.marks.len(), 0);
+    Ok(())
+}
+
+#[test]
+fn a_full_log_takes_no_more(rt: HostRuntime) -> Result<(), Fail> {
+    let mut core = stock(rt.alloc())?;
+    let rows = MAX_LOG_ROWS as u64;
+    for number in 1..=rows {
+        assert!(rt; core.run_alone(1, number, &[]).is_ok());
+    }
+    assert!(rt; core.run_alone(1, rows + 1, &[]).err() == Some(Fault::LogFull));
+    assert!(rt; close(&mut core, 1, rows + 1) == Ok(true));
+    assert_eq!(rt; core.log().len(), MAX_LOG_ROWS);
     Ok(())
 }

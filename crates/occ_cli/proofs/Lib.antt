@@ -1,5 +1,6 @@
 pub mod Closing
 pub mod OtherFaults
+pub mod HandingIn
 pub mod Replaying
 pub mod Scanning
 pub mod Schedules

@@ -24,7 +24,7 @@ use Rattle.occ_model.specs.Refusal.{refusal, row_is_open, row_is_back, has_write
 use Rattle.occ_queue.specs.Numbering as queues
 use Rattle.occ_queue.specs.Numbering.{Numbered, next, is_full}
 use Rattle.occ_sets.specs.Sets.{Copied, is_full_for}
-use Rattle.occ_cli.specs.Replaying.{Client, and_then, unless, client_of, copy_of, table_named, object_named, span_named, next_number, submitted, mark_of, check_written, write_named}
+use Rattle.occ_cli.specs.Replaying.{Client, and_then, unless, client_of, copy_of, table_named, object_named, span_named, next_number, submitted, mark_of, unfit, handed_in, check_written, write_named}
 
 -- whether a fault is the want of memory
 abbrev is_memory : Fault → Bool
@@ -270,6 +270,16 @@ mark_other client = by_unless _ (next client.queue)
     (guard client.queue.closed faults.Closed _ refl
     (guard (is_some client.copy) faults.ReadOpen _ refl
     (guard (is_full client.queue) faults.QueueFull [] refl refl)))
+
+pub handed_in_other : (schema : Schema) (list : List Operation) (client : Client) → wants (handed_in schema list client) ≡ false
+handed_in_other schema list client = by_both (unless (unfit schema list client) client) _
+    (by_unless _ client
+    (guard client.queue.closed faults.Closed _ refl
+    (guard (is_some client.copy) faults.ReadOpen _ refl
+    (guard (nat_le MAX_NUMBER (next client.queue)) faults.NumbersExhausted _ refl
+    (guard (nat_lt MAX_OPERATIONS (length list)) faults.SetFull _ refl
+    (first (check_operations schema list) [] (by_operations schema list) refl))))))
+    (λ c. by_unless _ (next c.queue) (by_test (is_full c.queue) faults.QueueFull refl))
 
 pub write_other : (schema : Schema) (name : List ℕ) (key : Key) (row : Option Row) (copy : Copied) → wants (write_named schema name key row copy) ≡ false
 write_other schema name key row copy = by_both (object_named schema name key) _ (object_other schema name key)

@@ -28,13 +28,14 @@ use Rattle.occ_model.specs.Overlay.{own}
 use Rattle.occ_text.specs.Steps as steps
 use Rattle.occ_text.specs.declared.steps.Act.TheVariants as acts
 use Rattle.occ_sets.specs.Sets.{Copied}
+use Rattle.occ_sets.specs.Operations.{ops_of}
 use Rattle.occ_sets.specs.declared.reads.Answer as code_seen
 use Rattle.occ_cli.specs.declared.answers.Answer as code_answer
 use Rattle.occ_cli.specs.declared.answers.Answer.TheVariants as answers
 use Rattle.occ_cli.specs.Answers.{Answer, answer_of}
 use Rattle.occ_cli.specs.Answers as says
 use Rattle.occ_cli.proofs.Starving.{plays_starved}
-use Rattle.occ_cli.specs.Replaying.{AtMostOneStep, Played, PlayedIn, PutOff, Starved, CopyWantsScan, Plays, Begins, Abandons, Submits, Closes, Writes, Gets, GetsIn, Scans, next_item, still_waiting, kept_after, copy_of, open_after, object_named, place_named, Client, Replayed, Given, client_of, span_named, Tells, ScansIn, ByStore, ByClient, ByBoth, ByAsking, Enters, overlaid, replied, played}
+use Rattle.occ_cli.specs.Replaying.{AtMostOneStep, Played, PlayedIn, PutOff, Starved, CopyWantsScan, Plays, Begins, Abandons, Submits, Closes, HandsIn, operations_named, Writes, Gets, GetsIn, Scans, next_item, still_waiting, kept_after, copy_of, open_after, object_named, place_named, Client, Replayed, Given, client_of, span_named, Tells, ScansIn, ByStore, ByClient, ByBoth, ByAsking, Enters, overlaid, replied, played}
 
 -- What is played of the store.
 
@@ -91,12 +92,12 @@ module _ {C : Type 0} (old new : Replayed) (answer : Answer) (stays : new.world 
       (λ fault is. overlaid_refused question copy.writes m.0 fault (told_said (overlaid question copy.writes m.0) answer m.2 fault is))) g)
       h
 
-  item_by : (session : ℕ) (client next : Client) (item : Option Item)
+  item_by : (asks : Item → Event) (client next : Client) (item : Option Item)
       → MatchOption item ((answer ≡ says.Empty) × (next ≡ client) × (new.world ≡ old.world))
-      (λ i. (reply : Reply) × Step old.world (events.Enter session i) reply new.world × (answer ≡ says.Replied reply) × (next ≡ record client { queue = still_waiting client; kept = kept_after i reply }))
+      (λ i. (reply : Reply) × Step old.world (asks i) reply new.world × (answer ≡ says.Replied reply) × (next ≡ record client { queue = still_waiting client; kept = kept_after i reply }))
       → C
-  item_by session client next None h = stays h.2
-  item_by session client next (Some i) h = does (events.Enter session i) h.0 h.1 (told_said h.0 answer h.2)
+  item_by asks client next None h = stays h.2
+  item_by asks client next (Some i) h = does (asks i) h.0 h.1 (told_said h.0 answer h.2)
 
   opened_by : (session : ℕ) (client next : Client) (copy : Option Copied)
       → MatchOption copy ((answer ≡ says.refused faults.NoReadOpen) × (next ≡ client) × (new.world ≡ old.world))
@@ -126,7 +127,9 @@ module _ {C : Type 0} (old new : Replayed) (answer : Answer) (stays : new.world 
   plays_by (steps.Does acts.Submit session) h = client_by session (λ client next. Submits client answer next) h
   plays_by (steps.Does acts.Close session) h = client_by session (λ client next. Closes client answer next) h
   plays_by (steps.Does acts.Enter session) h =
-      both_by session (λ client next. Enters old.world session client answer next new.world) (λ client next m. item_by session client next (next_item client) m) h
+      both_by session (λ client next. Enters (events.Enter session) old.world client answer next new.world) (λ client next m. item_by (events.Enter session) client next (next_item client) m) h
+  plays_by (steps.Does acts.Serial session) h =
+      both_by session (λ client next. Enters (events.SerialEnd session) old.world client answer next new.world) (λ client next m. item_by (events.SerialEnd session) client next (next_item client) m) h
   plays_by (steps.Does acts.Decide session) h = tells_by (events.Decide session) h.0
   plays_by (steps.Does acts.Write session) h = tells_by (events.WriteOne session) h.0
   plays_by (steps.Does acts.Finish session) h = tells_by (events.Finish session) h.0
@@ -139,6 +142,8 @@ module _ {C : Type 0} (old new : Replayed) (answer : Answer) (stays : new.world 
   plays_by (steps.Delete session name key) h = client_by session (λ client next. Writes old.world.settings.schema name key None client answer next) h
   plays_by (steps.Forge session number start) h = tells_by (events.Enter session (events.Request number start [])) h.0
   plays_by (steps.RawRead session number start name key) h = tells_by (events.Read session number start (One (place_named old.world.settings.schema name) key)) h.0
+  plays_by (steps.Alone session list) h =
+      client_by session (λ client next. HandsIn old.world.settings.schema (operations_named old.world.settings.schema list) client answer next) h
   plays_by steps.Show h = stays (ap (λ (r : Replayed). r.world) h.1)
 
 -- whatever is played, the store does at most one step
@@ -223,39 +228,53 @@ found_at (y ∷ ys) zero x lt is = ap Some (sym is)
 found_at (y ∷ ys) (suc place) x lt is = found_at ys place x (omega arith) is
 
 module _ {Z : Type 0} where
-  -- an item that is handed back is kept
-  owed_kept : (session : ℕ) (item : code_item.Item Z) (reply : Reply) → owed (calls.Enter session item) reply ≡ kept_after (item_of item) reply
-  owed_kept session item (events.Refused fault) = refl
-  owed_kept session item (events.Answered given) = refl
-  owed_kept session item (events.Forgotten known) = refl
-  owed_kept session item (events.Entered place index) = refl
-  owed_kept session item events.Closed = refl
-  owed_kept session item (events.Decided verdict) = refl
-  owed_kept session item (events.Wrote object) = refl
-  owed_kept session item events.NoMore = refl
-  owed_kept session item (events.Finished number) = refl
-  owed_kept session item (events.BackedUp number) = refl
-  owed_kept session item (events.EndedBack cause) = refl
-  owed_kept session item (events.RanAlone number answers) = refl
-  owed_kept session item (events.Folded rows) = refl
+  -- an item that an entry or a serial end hands back is kept
+  owed_kept : (session : ℕ) (item : code_item.Item Z) (reply : Reply)
+      → (owed (calls.Enter session item) reply ≡ kept_after (item_of item) reply) × (owed (calls.SerialEnd session item) reply ≡ kept_after (item_of item) reply)
+  owed_kept session item (events.Refused fault) = (refl, refl)
+  owed_kept session item (events.Answered given) = (refl, refl)
+  owed_kept session item (events.Forgotten known) = (refl, refl)
+  owed_kept session item (events.Entered place index) = (refl, refl)
+  owed_kept session item events.Closed = (refl, refl)
+  owed_kept session item (events.Decided verdict) = (refl, refl)
+  owed_kept session item (events.Wrote object) = (refl, refl)
+  owed_kept session item events.NoMore = (refl, refl)
+  owed_kept session item (events.Finished number) = (refl, refl)
+  owed_kept session item (events.BackedUp number) = (refl, refl)
+  owed_kept session item (events.EndedBack cause) = (refl, refl)
+  owed_kept session item (events.RanAlone number answers) = (refl, refl)
+  owed_kept session item (events.Folded rows) = (refl, refl)
 
-  -- the store replied to an item that was to enter
-  pub entered_so : (old : Seen) (session : ℕ) (client : Client) (item : code_item.Item Z) (reply : code_reply.Reply Z) (next : Client) (new : Seen) → Some (item_of item) ≡ next_item client → Answers old (calls.Enter session item) reply new
-      → next ≡ record client { queue = still_waiting client; kept = handed_back reply } → Enters old.world session client (says.Replied (reply_of reply)) next new.world
-  entered_so old session client item reply next new is (inl step, back) left =
-      subst
-      (λ (o : Option Item). MatchOption o ((says.Replied (reply_of reply) ≡ says.Empty) × (next ≡ client) × (new.world ≡ old.world))
-      (λ i. (r : Reply) × Step old.world (events.Enter session i) r new.world × (says.Replied (reply_of reply) ≡ says.Replied r) × (next ≡ record client { queue = still_waiting client; kept = kept_after i r })))
-      is (reply_of reply, step, refl, left ∙ ap (λ (k : Option Item). record client { queue = still_waiting client; kept = k }) (back ∙ owed_kept session item (reply_of reply)))
-  entered_so old session client item reply next new is (inr off, back) left = absurd off
+  -- what the store replied to an item that it was handed
+  pub record IsHandedOver (asks : Item → Event) (item : code_item.Item Z) (old : World) (reply : code_reply.Reply Z) (new : World) : Type 0 where
+    pub step : Step old (asks (item_of item)) (reply_of reply) new
+    pub back : handed_back reply ≡ kept_after (item_of item) (reply_of reply)
 
-  -- the store refused an item, which is kept
-  pub refused_so : (old : Seen) (session : ℕ) (client : Client) (item : code_item.Item Z) (refused : code_refused.Refused (code_item.Item Z)) (known : Fault) (next : Client) (new : Seen) → Some (item_of item) ≡ next_item client
-      → Answers old (calls.Enter session item) (replies.RefusedItem refused) new → known ≡ refused.fault
-      → next ≡ record client { queue = still_waiting client; kept = Some (item_of refused.value) } → Enters old.world session client (says.Replied (events.Refused known)) next new.world
-  refused_so old session client item refused known next new is answered told_as left =
-      subst (λ (f : Fault). Enters old.world session client (says.Replied (events.Refused f)) next new.world) (sym told_as)
-      (entered_so old session client item (replies.RefusedItem refused) next new is answered left)
+  pub by_entry : (old : Seen) (session : ℕ) (item : code_item.Item Z) (reply : code_reply.Reply Z) (new : Seen)
+      → Answers old (calls.Enter session item) reply new → IsHandedOver (events.Enter session) item old.world reply new.world
+  by_entry old session item reply new (inl step, back) = record { step = step; back = back ∙ (owed_kept session item (reply_of reply)).0 }
+  by_entry old session item reply new (inr off, back) = absurd off
+
+  pub by_serial_end : (old : Seen) (session : ℕ) (item : code_item.Item Z) (reply : code_reply.Reply Z) (new : Seen)
+      → Answers old (calls.SerialEnd session item) reply new → IsHandedOver (events.SerialEnd session) item old.world reply new.world
+  by_serial_end old session item reply new (inl step, back) = record { step = step; back = back ∙ (owed_kept session item (reply_of reply)).1 }
+  by_serial_end old session item reply new (inr off, back) = absurd off
+
+  module _ (asks : Item → Event) (old : World) (client : Client) (item : code_item.Item Z) (next : Client) (new : World) (is : Some (item_of item) ≡ next_item client) where
+    -- what the store replied to the item that was next
+    pub entered_so : (reply : code_reply.Reply Z) → IsHandedOver asks item old reply new
+        → next ≡ record client { queue = still_waiting client; kept = handed_back reply } → Enters asks old client (says.Replied (reply_of reply)) next new
+    entered_so reply over left =
+        subst
+        (λ (o : Option Item). MatchOption o ((says.Replied (reply_of reply) ≡ says.Empty) × (next ≡ client) × (new ≡ old))
+        (λ i. (r : Reply) × Step old (asks i) r new × (says.Replied (reply_of reply) ≡ says.Replied r) × (next ≡ record client { queue = still_waiting client; kept = kept_after i r })))
+        is (reply_of reply, over.step, refl, left ∙ ap (λ (k : Option Item). record client { queue = still_waiting client; kept = k }) over.back)
+
+    -- the store refused it, and it is kept
+    pub refused_so : (refused : code_refused.Refused (code_item.Item Z)) (known : Fault) → IsHandedOver asks item old (replies.RefusedItem refused) new → known ≡ refused.fault
+        → next ≡ record client { queue = still_waiting client; kept = Some (item_of refused.value) } → Enters asks old client (says.Replied (events.Refused known)) next new
+    refused_so refused known over told_as left =
+        subst (λ (f : Fault). Enters asks old client (says.Replied (events.Refused f)) next new) (sym told_as) (entered_so (replies.RefusedItem refused) over left)
 
 -- a step of the store that is never put off
 pub never_off : {M P : Type 0} → (M × ⊥) ⊎ P → P
@@ -323,6 +342,8 @@ module _ {Z : Type 0} where
   write_stepped old session replies.NoMore next (inr off) = absurd off
   write_stepped old session (replies.Finished number) next (inr off) = absurd off
   write_stepped old session (replies.BackedUp number) next (inr off) = absurd off
+  write_stepped old session (replies.EndedBack cause) next (inr off) = absurd off
+  write_stepped old session (replies.RanAlone number given) next (inr off) = absurd off
   write_stepped old session (replies.RefusedItem given) next (inr off) = absurd off
 
   by_call : (old : Replayed) (call : code_step.Step Z) (reply : code_reply.Reply Z) (next : World) → Answers (record { world = old.world }) call reply (record { world = next }) → CalledBy (PutOff call old (record old { world = next })) old (event_of call) reply (record old { world = next })
@@ -334,6 +355,8 @@ module _ {Z : Type 0} where
   by_call old (calls.WriteOne session) reply next h = write_stepped old session reply next h.0
   by_call old (calls.Finish session) reply next h = stepped _ old (events.Finish session) reply next h.0
   by_call old (calls.BackUp session) reply next h = stepped _ old (events.BackUp session) reply next h.0
+  by_call old (calls.SerialEnd session item) reply next h = stepped _ old (events.SerialEnd session (item_of item)) reply next h.0
+  by_call old (calls.RunAlone session number operations) reply next h = stepped _ old (events.RunAlone session number (ops_of operations.items)) reply next h.0
 
   -- the same of a replay that is seen so
   pub by_calling : (world : World) (clients : List Client) (self : Replayed) → record { world = world; clients = clients } ≡ self → (call : code_step.Step Z) (reply : code_reply.Reply Z) (next : World) → Answers (record { world = world }) call reply (record { world = next })

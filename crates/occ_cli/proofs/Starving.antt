@@ -1,7 +1,7 @@
 -- A step that is played as a want of memory is one that may want it.
 use Rattle.std.proofs.Common.{◌≡◌, ℕ, List, Option, Some, None, Result, Ok, Err, refl, sym, ap, subst, ◌∙◌, arith}
 use Rattle.std.proofs.lemmas.Bool.{lt-ltb}
-use Rattle.std.specs.Prelude.{Bool, true, false, is_some, IsSomeAnd, IsOk, IsOkAnd, nat_lt, length, MatchOption, [], ◌∷◌}
+use Rattle.std.specs.Prelude.{Bool, true, false, is_some, IsSomeAnd, IsOk, IsOkAnd, nat_lt, length, slice_set, ◌-◌, MatchOption, [], ◌∷◌}
 use Rattle.occ_types.specs.Key.{Key}
 use Rattle.occ_types.specs.Question.{One}
 use Rattle.occ_types.specs.Row.{Row}
@@ -15,6 +15,7 @@ use Rattle.occ_model.specs.State as states
 use Rattle.occ_model.specs.World.{World, latest}
 use Rattle.occ_model.specs.Event.{Event, Item, Reply}
 use Rattle.occ_model.specs.Event as events
+use Rattle.occ_model.specs.Operations.{Operation}
 use Rattle.occ_model.specs.Refusal.{takes_memory, puts_next, has_writes_left}
 use Rattle.occ_model.specs.Step.{Step, refused, starved, taken}
 use Rattle.occ_model.proofs.Headlines.{not_told}
@@ -23,8 +24,8 @@ use Rattle.occ_text.specs.Steps as steps
 use Rattle.occ_text.specs.declared.steps.Act.TheVariants as acts
 use Rattle.occ_cli.specs.Answers.{Answer}
 use Rattle.occ_cli.specs.Answers as says
-use Rattle.occ_cli.specs.Replaying.{Replayed, Client, Given, Wants, WantsGet, CopyWantsGet, WantsScan, Starved, Plays, Begins, Submits, Closes, Writes, Gets, Scans, Tells, next_item, still_waiting, kept_after, client_of, copy_of, open_after, object_named, place_named, span_named, next_number, submitted, mark_of, write_named}
-use Rattle.occ_cli.proofs.OtherFaults.{is_want, wants, refusal_other, client_other, copy_other, object_other, span_other, number_other, submitted_other, mark_other, write_other}
+use Rattle.occ_cli.specs.Replaying.{Replayed, Client, Given, Wants, WantsGet, CopyWantsGet, WantsScan, Starved, Plays, ByBoth, Enters, StarvesItem, HandsIn, handed_in, operations_named, Begins, Submits, Closes, Writes, Gets, Scans, Tells, next_item, still_waiting, kept_after, client_of, copy_of, open_after, object_named, place_named, span_named, next_number, submitted, mark_of, write_named}
+use Rattle.occ_cli.proofs.OtherFaults.{is_want, wants, refusal_other, client_other, copy_other, object_other, span_other, number_other, submitted_other, mark_other, write_other, handed_in_other}
 
 -- the answer that tells of it
 abbrev hungry : Answer
@@ -82,6 +83,9 @@ no_submit old new submits = and_none (submitted old) _ (λ copy said. let is = s
 no_close : (old new : Client) → Closes old hungry new → ⊥
 no_close old new closes = and_none (mark_of old) _ (λ number said. let is = said.0 in cc is) (met (mark_of old) old new _ (mark_other old) closes)
 
+no_list : (schema : Schema) (list : List Operation) (old new : Client) → HandsIn schema list old hungry new → ⊥
+no_list schema list old new hands = and_none (handed_in schema list old) _ (λ number said. let is = said.0 in cc is) (met (handed_in schema list old) old new _ (handed_in_other schema list old) hands)
+
 no_write : (schema : Schema) (name : List ℕ) (key : Key) (row : Option Row) (old new : Client) → Writes schema name key row old hungry new → ⊥
 no_write schema name key row old new writes = and_none (copy_of old) _
     (λ copy m. and_none (write_named schema name key row copy) _ (λ write said. let is = said.0 in cc is)
@@ -90,16 +94,23 @@ no_write schema name key row old new writes = and_none (copy_of old) _
 
 -- of the store
 
-starves_item : (old new : World) (session : ℕ) (client next : Client) (item : Option Item)
+starves_item : (asks : Item → Event) (old new : World) (client next : Client) (item : Option Item)
     → MatchOption item ((hungry ≡ says.Empty) × (next ≡ client) × (new ≡ old))
-    (λ i. (reply : Reply) × Step old (events.Enter session i) reply new × (hungry ≡ says.Replied reply) × (next ≡ record client { queue = still_waiting client; kept = kept_after i reply }))
-    → IsSomeAnd item (λ i. Wants old (events.Enter session i) × (next ≡ record client { queue = still_waiting client; kept = Some i })) × (new ≡ old)
-starves_item old new session client next None h = let is = h.0 in cc is
-starves_item old new session client next (Some i) h =
+    (λ i. (reply : Reply) × Step old (asks i) reply new × (hungry ≡ says.Replied reply) × (next ≡ record client { queue = still_waiting client; kept = kept_after i reply }))
+    → IsSomeAnd item (λ i. Wants old (asks i) × (next ≡ record client { queue = still_waiting client; kept = Some i })) × (new ≡ old)
+starves_item asks old new client next None h = let is = h.0 in cc is
+starves_item asks old new client next (Some i) h =
     let said = h.2 in
     let reply_is : h.0 ≡ events.Refused faults.Memory = cc in
-    let starves = starved_store old new (events.Enter session i) h.0 h.1 reply_is in
+    let starves = starved_store old new (asks i) h.0 h.1 reply_is in
     ((starves.0, h.3 ∙ ap (λ r. record client { queue = still_waiting client; kept = kept_after i r }) reply_is), starves.1)
+
+starves_both : (asks : Item → Event) (old : Replayed) (session : ℕ) (new : Replayed) → new.world ≡ old.world
+    → ByBoth old session hungry new (λ client next. Enters asks old.world client hungry next new.world)
+    → IsOkAnd (client_of old.clients session) (λ client. (next : Client) × StarvesItem asks old.world client next × (new ≡ record old { clients = slice_set old.clients (session - 1) next }))
+starves_both asks old session new same h = and_so (client_of old.clients session) _ _
+    (λ client m. (m.0, (starves_item asks old.world new.world client m.0 (next_item client) m.1).0, λ i. record { world = same i; clients = m.2 i }))
+    (met (client_of old.clients session) old new _ (client_other old.clients session) h)
 
 wants_get : (old new : World) (session : ℕ) (name : List ℕ) (key : Key) (client : Client) → Gets old session name key client hungry new → WantsGet old session name key client
 wants_get old new session name key client gets = and_so (copy_of client) _ (CopyWantsGet old session name key)
@@ -148,9 +159,8 @@ plays_starved old (steps.Does acts.Begin session) new same h = and_none (client_
 plays_starved old (steps.Does acts.Abandon session) new same h = and_none (client_of old.clients session) _ (λ client m. no_abandon old.world new.world session client m.0 client.copy m.1) (met (client_of old.clients session) old new _ (client_other old.clients session) h)
 plays_starved old (steps.Does acts.Submit session) new same h = and_none (client_of old.clients session) _ (λ client m. no_submit client m.0 m.1) (met (client_of old.clients session) old new _ (client_other old.clients session) h)
 plays_starved old (steps.Does acts.Close session) new same h = and_none (client_of old.clients session) _ (λ client m. no_close client m.0 m.1) (met (client_of old.clients session) old new _ (client_other old.clients session) h)
-plays_starved old (steps.Does acts.Enter session) new same h = and_so (client_of old.clients session) _ _
-    (λ client m. (m.0, (starves_item old.world new.world session client m.0 (next_item client) m.1).0, λ i. record { world = same i; clients = m.2 i }))
-    (met (client_of old.clients session) old new _ (client_other old.clients session) h)
+plays_starved old (steps.Does acts.Enter session) new same h = starves_both (events.Enter session) old session new same h
+plays_starved old (steps.Does acts.Serial session) new same h = starves_both (events.SerialEnd session) old session new same h
 plays_starved old (steps.Does acts.Decide session) new same h = never old.world new.world (events.Decide session) refl h.0
 plays_starved old (steps.Does acts.Write session) new same h =
     let starves = (starved_told old.world new.world (events.WriteOne session) h.0).0 in
@@ -177,4 +187,5 @@ plays_starved old (steps.Forge session number start) new same h =
     ((starved_told old.world new.world (events.Enter session (events.Request number start [])) h.0).0, unchanged old new same h.1)
 plays_starved old (steps.RawRead session number start name key) new same h =
     ((starved_told old.world new.world (events.Read session number start (One (place_named old.world.settings.schema name) key)) h.0).0, unchanged old new same h.1)
+plays_starved old (steps.Alone session list) new same h = absurd (and_none (client_of old.clients session) _ (λ client m. no_list old.world.settings.schema (operations_named old.world.settings.schema list) client m.0 m.1) (met (client_of old.clients session) old new _ (client_other old.clients session) h))
 plays_starved old steps.Show new same h = let is = h.0 in cc is

@@ -1,5 +1,5 @@
 -- What a replay does with one step of a schedule (our own choice).
-use Rattle.std.specs.Prelude.{◌≡◌, ℕ, true, false, zero, suc, ◌-◌, ◌^◌, ◌≤◌, ◌⊎◌, min, List, [], ◌∷◌, length, replicate, drop, Option, None, Some, is_some, IsSomeAnd, Result, Ok, Err, IsOk, IsOkAnd, MatchOption, slice_get, slice_set}
+use Rattle.std.specs.Prelude.{◌≡◌, ℕ, true, false, zero, suc, ◌-◌, ◌^◌, ◌≤◌, ◌⊎◌, nat_lt, min, List, [], ◌∷◌, length, map, replicate, drop, Option, None, Some, is_some, IsSomeAnd, Result, Ok, Err, IsOk, IsOkAnd, MatchOption, slice_get, slice_set}
 use Rattle.std.specs.List.{position}
 use Rattle.std.specs.Option.{ok_or}
 use Rattle.std.specs.FinMap as finite
@@ -10,13 +10,15 @@ use Rattle.occ_types.specs.Row.{Row}
 use Rattle.occ_types.specs.Schema.{Schema, fault_if, first_fault, check_key, check_row, check_question}
 use Rattle.occ_types.specs.Fits.{has_name}
 use Rattle.occ_types.specs.declared.fault.Fault.{Fault}
-use Rattle.occ_types.specs.declared.limits.TheConstants.{MAX_ANSWER_ROWS}
+use Rattle.occ_types.specs.declared.limits.TheConstants.{MAX_ANSWER_ROWS, MAX_OPERATIONS}
 use Rattle.occ_types.specs.declared.fault.Fault.TheVariants as faults
 use Rattle.occ_model.specs.State.{Write}
 use Rattle.occ_model.specs.State as states
 use Rattle.occ_model.specs.Overlay.{set, own, overlay}
 use Rattle.occ_model.specs.World.{World, Settings, opened, low, active_count}
-use Rattle.occ_model.specs.Refusal.{numbers_exhausted, refusal, takes_memory, has_writes_left}
+use Rattle.occ_model.specs.Refusal.{numbers_exhausted, refusal, takes_memory, has_writes_left, check_operations}
+use Rattle.occ_model.specs.Operations.{Operation}
+use Rattle.occ_model.specs.Operations as operations
 use Rattle.occ_model.specs.Event.{Event, Item, Reply}
 use Rattle.occ_model.specs.Event as events
 use Rattle.occ_model.specs.Step as model
@@ -28,7 +30,8 @@ use Rattle.occ_text.specs.declared.steps.Act.TheVariants as acts
 use Rattle.occ_core.specs.declared.steps.Step as code_step
 use Rattle.occ_core.specs.declared.steps.Step.TheVariants as calls
 use Rattle.occ_cli.specs.declared.answers.Answer as code_answer
-use Rattle.occ_text.specs.Steps.{Step, Does, Get, Scan, Put, Delete, Forge, RawRead, Show}
+use Rattle.occ_text.specs.Operations as texts
+use Rattle.occ_text.specs.Steps.{Step, Does, Get, Scan, Put, Delete, Forge, RawRead, Alone, Show}
 use Rattle.occ_cli.specs.Answers.{Answer, answer_of}
 use Rattle.occ_cli.specs.Answers as says
 use Rattle.occ_cli.specs.declared.answers.Counts.{Counts}
@@ -167,6 +170,42 @@ Closes old answer new = Given (mark_of old) old answer new (λ number.
     (answer ≡ says.Closing number)
     × (new ≡ record old { queue = with_item old.queue (events.Close number) }))
 
+-- an operation, with the place of the table that it names
+abbrev pub operation_named : Schema → texts.Operation → Operation
+operation_named schema (texts.Get name key) = operations.Get (place_named schema name) key
+operation_named schema (texts.Scan name lower upper) = operations.Scan (place_named schema name) (Some lower) (Some upper)
+operation_named schema (texts.Put name key row) = operations.Put (place_named schema name) key row
+operation_named schema (texts.Delete name key) = operations.Delete (place_named schema name) key
+operation_named schema (texts.Add name key amount) = operations.Add (place_named schema name) key amount
+
+-- the operations, in their order
+abbrev pub operations_named : Schema → List texts.Operation → List Operation
+operations_named schema = map (operation_named schema)
+
+-- why operations have no list: the first one that doesn't fit, or that there is no memory for the list
+abbrev pub IsUnlisted : Schema → List Operation → Fault → Type 0
+IsUnlisted schema list fault = (check_operations schema list ≡ Some fault) ⊎ ((check_operations schema list ≡ None) × (fault ≡ faults.Memory))
+
+-- why operations can't be handed in even where there is room, where there is a reason
+abbrev pub unfit : Schema → List Operation → Client → Option Fault
+unfit schema list client = first_fault (
+    fault_if client.queue.closed faults.Closed
+    ∷ fault_if (is_some client.copy) faults.ReadOpen
+    ∷ numbers_exhausted (next client.queue)
+    ∷ fault_if (nat_lt MAX_OPERATIONS (length list)) faults.SetFull
+    ∷ check_operations schema list
+    ∷ [])
+
+-- `alone`: the number of the transaction that runs alone
+abbrev pub handed_in : Schema → List Operation → Client → Result ℕ Fault
+handed_in schema list client = and_then (unless (unfit schema list client) client) (λ c.
+    unless (fault_if (is_full c.queue) faults.QueueFull) (next c.queue))
+
+abbrev pub HandsIn : Schema → List Operation → Client → Answer → Client → Type 0
+HandsIn schema list old answer new = Given (handed_in schema list old) old answer new (λ number.
+    (answer ≡ says.Queued number)
+    × (new ≡ record old { queue = with_item old.queue (events.Alone number list) }))
+
 -- the answer is what the store replies to an event
 abbrev pub Tells : World → Event → Answer → World → Type 0
 Tells old event answer new = (reply : Reply) × model.Step old event reply new × (answer ≡ says.Replied reply)
@@ -220,11 +259,11 @@ abbrev pub kept_after : Item → Reply → Option Item
 kept_after item (events.Refused fault) = Some item
 kept_after item reply = None
 
--- `enter`
-abbrev pub Enters : World → ℕ → Client → Answer → Client → World → Type 0
-Enters old session client answer next new = MatchOption (next_item client)
+-- `enter` and `serial`, by what the store is asked for an item
+abbrev pub Enters : (Item → Event) → World → Client → Answer → Client → World → Type 0
+Enters asks old client answer next new = MatchOption (next_item client)
     ((answer ≡ says.Empty) × (next ≡ client) × (new ≡ old))
-    (λ item. (reply : Reply) × model.Step old (events.Enter session item) reply new
+    (λ item. (reply : Reply) × model.Step old (asks item) reply new
     × (answer ≡ says.Replied reply)
     × (next ≡ record client { queue = still_waiting client; kept = kept_after item reply }))
 
@@ -267,7 +306,8 @@ Plays old (Does acts.Begin session) answer new = ByClient old session answer new
 Plays old (Does acts.Abandon session) answer new = ByBoth old session answer new (λ client next. Abandons old.world session client answer next new.world)
 Plays old (Does acts.Submit session) answer new = ByClient old session answer new (λ client next. Submits client answer next)
 Plays old (Does acts.Close session) answer new = ByClient old session answer new (λ client next. Closes client answer next)
-Plays old (Does acts.Enter session) answer new = ByBoth old session answer new (λ client next. Enters old.world session client answer next new.world)
+Plays old (Does acts.Enter session) answer new = ByBoth old session answer new (λ client next. Enters (events.Enter session) old.world client answer next new.world)
+Plays old (Does acts.Serial session) answer new = ByBoth old session answer new (λ client next. Enters (events.SerialEnd session) old.world client answer next new.world)
 Plays old (Does acts.Decide session) answer new = ByStore old (events.Decide session) answer new
 Plays old (Does acts.Write session) answer new = ByStore old (events.WriteOne session) answer new
 Plays old (Does acts.Finish session) answer new = ByStore old (events.Finish session) answer new
@@ -282,6 +322,8 @@ Plays old (Delete session name key) answer new =
     ByClient old session answer new (λ client next. Writes old.world.settings.schema name key None client answer next)
 Plays old (Forge session number start) answer new = ByStore old (events.Enter session (events.Request number start [])) answer new
 Plays old (RawRead session number start name key) answer new = ByStore old (events.Read session number start (One (place_named old.world.settings.schema name) key)) answer new
+Plays old (Alone session list) answer new =
+    ByClient old session answer new (λ client next. HandsIn old.world.settings.schema (operations_named old.world.settings.schema list) client answer next)
 Plays old Show answer new = (answer ≡ says.Counted (counts_of old.world)) × (new ≡ old)
 
 -- an event that nothing refuses and that takes memory
@@ -317,19 +359,25 @@ abbrev pub WantsWrite : Schema → List ℕ → Key → Option Row → Client �
 WantsWrite schema name key row client = IsOkAnd (copy_of client) (CopyWantsWrite schema name key row)
 
 -- The item to be entered next wants memory. It is kept.
-abbrev pub StarvesItem : World → ℕ → Client → Client → Type 0
-StarvesItem world session old new = IsSomeAnd (next_item old) (λ item.
-    Wants world (events.Enter session item)
+abbrev pub StarvesItem : (Item → Event) → World → Client → Client → Type 0
+StarvesItem asks world old new = IsSomeAnd (next_item old) (λ item.
+    Wants world (asks item)
     × (new ≡ record old { queue = still_waiting old; kept = Some item }))
 
 -- A single write wants memory to name its object, or for the row to be put; one is left.
 abbrev pub WantsSingle : World → ℕ → Type 0
 WantsSingle world session = (refusal world (events.WriteOne session) ≡ None) × (has_writes_left world session ≡ true)
 
+-- For `alone` it wants room for the operations, whether or not the queue has room for them.
+abbrev pub WantsList : Schema → List Operation → Client → Type 0
+WantsList schema list client = unfit schema list client ≡ None
+
 -- When a step may want memory, and what it leaves then: no refusal applies that is tried before, and nothing changed, but that an item that was to enter is kept. Only a `scan` takes memory before the store is asked. The other steps take none.
 abbrev pub Starved : Replayed → Step → Replayed → Type 0
 Starved old (Does acts.Enter session) new = IsOkAnd (client_of old.clients session) (λ client.
-    (next : Client) × StarvesItem old.world session client next × (new ≡ record old { clients = slice_set old.clients (session - 1) next }))
+    (next : Client) × StarvesItem (events.Enter session) old.world client next × (new ≡ record old { clients = slice_set old.clients (session - 1) next }))
+Starved old (Does acts.Serial session) new = IsOkAnd (client_of old.clients session) (λ client.
+    (next : Client) × StarvesItem (events.SerialEnd session) old.world client next × (new ≡ record old { clients = slice_set old.clients (session - 1) next }))
 Starved old (Does acts.Write session) new = WantsSingle old.world session × (new ≡ old)
 Starved old (Get session name key) new = IsOkAnd (client_of old.clients session) (WantsGet old.world session name key) × (new ≡ old)
 Starved old (Scan session name lower upper) new = IsOkAnd (client_of old.clients session) (WantsScan old.world name lower upper) × (new ≡ old)
@@ -340,6 +388,8 @@ Starved old (Delete session name key) new =
 Starved old (Forge session number start) new = Wants old.world (events.Enter session (events.Request number start [])) × (new ≡ old)
 Starved old (RawRead session number start name key) new =
     Wants old.world (events.Read session number start (One (place_named old.world.settings.schema name) key)) × (new ≡ old)
+Starved old (Alone session list) new =
+    IsOkAnd (client_of old.clients session) (WantsList old.world.settings.schema (operations_named old.world.settings.schema list)) × (new ≡ old)
 Starved old step new = ⊥
 
 module _ {Z : Type 0} where

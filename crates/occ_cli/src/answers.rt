@@ -11,6 +11,7 @@ ghost use Rattle.occ_cli.specs.Answers as says;
 ghost use Rattle.occ_cli.specs.Answers.{answer_of, answer_text, reply_text, object_text, name_at, fault_number, verdict_text, found_text, pair_text, rows_text, counts_text};
 
 use crate::refusals::Refusal;
+use crate::tokens::write_ran_alone;
 use occ_case::{Cause, Verdict};
 use occ_core::Reply;
 use occ_text::writers::{write_key, write_row};
@@ -122,9 +123,9 @@ pub fn write_answer<A: Allocator>(
 /// - `ok`: the read phase is forgotten;
 /// - `entered PLACE`: a transaction entered the log at this place;
 /// - `closed`: the closing mark entered, and the session is closed;
-/// - `commit` or `backup CAUSE`: the verdict on a transaction;
+/// - `commit` or `backup CAUSE`: the verdict on a transaction; a serial end that is backed up is told by its cause as well;
 /// - `wrote NAME KEY`: a single write is done, or `nomore`: none is left;
-/// - `finished TN`: a transaction finished under this transaction number;
+/// - `finished TN`: a transaction finished under this transaction number; where operations ran alone, a token for each answer follows;
 /// - `backed N`: the transaction of this number is backed up;
 /// - `refused Fn`: the step is refused.
 fn write_reply<A: Allocator>(
@@ -145,6 +146,8 @@ fn write_reply<A: Allocator>(
         Reply::NoMore => line.push_str("nomore"),
         Reply::Finished(number) => write!(line, "finished {number}"),
         Reply::BackedUp(number) => write!(line, "backed {number}"),
+        Reply::EndedBack(cause) => line.push_str(verdict_text(Verdict::BackUp(*cause))),
+        Reply::RanAlone { number, answers } => write_ran_alone(line, *number, answers.as_slice()),
         Reply::Refused(fault) => write_refused(line, *fault),
         Reply::RefusedItem(refused) => write_refused(line, refused.fault),
     }

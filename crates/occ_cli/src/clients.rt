@@ -1,24 +1,26 @@
 //! The clients of a replay, one for each session.
-ghost use Rattle.std.specs.Prelude.{◌≡◌, ◌<◌, suc, None, Some, Err, length, IfOk, IsOkUnless, MatchResult};
+ghost use Rattle.std.specs.Prelude.{◌≡◌, ◌<◌, suc, None, Some, Err, length, map, replicate, IfOk, IsOkUnless, MatchResult};
 ghost use Rattle.std.specs.Option.{option_map};
-ghost use Rattle.std.specs.Result.{result_err};
-ghost use Rattle.occ_types.specs.Schema.{fault_if};
 ghost use Rattle.occ_types.specs.Seen.{key_of};
 ghost use Rattle.occ_types.specs.declared.fault.Fault.TheVariants as faults;
-ghost use Rattle.occ_model.specs.Overlay.{set};
+ghost use Rattle.occ_model.specs.Event as events;
 ghost use Rattle.occ_queue.specs.Items.{item_of};
-ghost use Rattle.occ_sets.specs.Sets.{is_full_for};
-ghost use Rattle.occ_cli.specs.Answers.{Done};
-ghost use Rattle.occ_cli.specs.Replaying.{client_of, fresh, Begins, Abandons, Writes, WritesCopy, Submits, Closes, Gets, Scans, Enters, next_item, still_waiting, Given, unless, check_written, WantsGet, WantsScan, WantsWrite, CopyWantsWrite, WantsRoom, played, PlayedIn};
+ghost use Rattle.occ_queue.specs.Numbering.{next, with_item, refusal_of_submit};
+ghost use Rattle.occ_sets.specs.Operations.{ops_of};
+ghost use Rattle.occ_text.specs.Operations.{operation_of};
+ghost use Rattle.occ_cli.specs.Answers.{Queued};
+ghost use Rattle.occ_cli.specs.Replaying.{client_of, fresh, Begins, Abandons, Writes, Submits, Closes, HandsIn, operations_named, Gets, Scans, Enters, next_item, still_waiting, Given, unless, WantsGet, WantsScan, WantsWrite, WantsList, played, PlayedIn};
 
 use crate::answers::Answer;
 use crate::asking;
-use crate::named::object_named;
+use crate::operations::operations_named;
+use crate::writing::write_copy;
 use occ_core::{Core, Reply, Step};
 use occ_queue::{Item, SessionQueue};
-use occ_sets::PrivateCopy;
-use occ_types::limits::MAX_NUMBER;
-use occ_types::{Fault, Key, Object, Refused, Row, Schema};
+use occ_sets::{Op, PrivateCopy};
+use occ_text::operations::Operation;
+use occ_types::limits::{MAX_NUMBER, MAX_OPERATIONS};
+use occ_types::{Fault, Key, Refused, Row, Schema};
 use std::alloc::Allocator;
 use std::marker::Model;
 
@@ -91,20 +93,14 @@ impl<A: Allocator> Client<A> {
         Ok(Answer::Closing(number))
     }
 
-    /// `put`, and `delete` where `row` is none. Refused with `NoReadOpen`, then with `NoTable`, `WrongKind`, `TooLong` or `WrongColumns` where the key or the row doesn't fit, with `SetFull`, and with `Memory`.
-    pub(crate) fn write(
-        &mut self,
-        schema: &Schema<A>,
-        table: &str,
-        key: Key<A>,
-        row: Option<Row<A>>,
-    ) -> Result<Answer<A>, Fault>
-        ensures { PlayedIn self.old self.new result (WantsWrite schema.now table.now (key_of key) row self.old) (λ answer. Writes schema.now table.now (key_of key) row self.old answer self.new) }
+    // Hands in operations under the next number, unless the queue refuses them.
+    fn hand_in(&mut self, operations: Vec<Op<A>, A>) -> Result<Answer<A>, Fault>
+        ensures { Given (unless (refusal_of_submit self.old.queue (events.Alone (next self.old.queue) (ops_of operations.items))) (next self.old.queue)) self.old (played result) self.new
+            (λ number. (played result ≡ Queued number) × (self.new ≡ record self.old { queue = with_item self.old.queue (events.Alone number (ops_of operations.items)) })) }
     {
-        match &mut self.copy {
-            None => Err(Fault::NoReadOpen),
-            Some(copy) => write_copy(copy, schema, table, key, row),
-        }
+        let number = self.queue.next();
+        self.queue.submit(Item::Alone { number, operations })?;
+        Ok(Answer::Queued(number))
     }
 
     // Takes what is to be entered next: the item that was refused before, or else the one that waits first.
@@ -130,6 +126,22 @@ impl<A: Allocator> Client<A> {
 }
 
 impl<A: Allocator + Copy> Client<A> {
+    /// `put`, and `delete` where `row` is none. Refused with `NoReadOpen`, then with `NoTable`, `WrongKind`, `TooLong` or `WrongColumns` where the key or the row doesn't fit, with `SetFull`, and with `Memory`.
+    pub(crate) fn write(
+        &mut self,
+        schema: &Schema<A>,
+        table: &str,
+        key: Key<A>,
+        row: Option<Row<A>>,
+    ) -> Result<Answer<A>, Fault>
+        ensures { PlayedIn self.old self.new result (WantsWrite schema.now table.now (key_of key) row self.old) (λ answer. Writes schema.now table.now (key_of key) row self.old answer self.new) }
+    {
+        match &mut self.copy {
+            None => Err(Fault::NoReadOpen),
+            Some(copy) => write_copy(copy, schema, table, key, row),
+        }
+    }
+
     /// `begin`: opens a transaction with the next number, which starts at this counter. Refused with `Closed`, with `ReadOpen`, and with `NumbersExhausted` where only the number of the closing mark is left.
     pub(crate) fn begin(&mut self, alloc: A, counter: u64) -> Result<Answer<A>, Fault>
         ensures { Begins counter self.old (played result) self.new }
@@ -200,9 +212,37 @@ impl<A: Allocator + Copy> Client<A> {
         }
     }
 
+    /// `alone`: operations wait from now on to run alone, under the next number. Refused with `Closed`, with `ReadOpen`, with
+    /// `NumbersExhausted` where only the number of the closing mark is left, with `SetFull` where they are more than 256, with the fault
+    /// of the first one that doesn't fit, with `Memory`, and with `QueueFull`.
+    pub(crate) fn alone(
+        &mut self,
+        alloc: A,
+        schema: &Schema<A>,
+        operations: Vec<Operation<'_, A>, A>,
+    ) -> Result<Answer<A>, Fault>
+        ensures { PlayedIn self.old self.new result (WantsList schema.now (operations_named schema.now (map operation_of operations.entry.items)) self.old)
+            (λ answer. HandsIn schema.now (operations_named schema.now (map operation_of operations.entry.items)) self.old answer self.new) }
+    {
+        if self.queue.is_closed() {
+            return Err(Fault::Closed);
+        }
+        if self.copy.is_some() {
+            return Err(Fault::ReadOpen);
+        }
+        if self.queue.next() >= MAX_NUMBER {
+            return Err(Fault::NumbersExhausted);
+        }
+        if operations.len() > MAX_OPERATIONS {
+            return Err(Fault::SetFull);
+        }
+        let operations = operations_named(alloc, schema, operations)?;
+        self.hand_in(operations)
+    }
+
     /// `enter`: what the store refused before, or else what waits first, enters the store. Where the store refuses it, also for want of memory, it is kept for the next time.
     pub(crate) fn enter(&mut self, core: &mut Core<A>, session: usize) -> Result<Answer<A>, Fault>
-        ensures { Enters core.old.world session self.old (played result) self.new core.new.world }
+        ensures { Enters (events.Enter session) core.old.world self.old (played result) self.new core.new.world }
     {
         let Some(item) = self.take_next() else {
             return Ok(Answer::Empty);
@@ -212,52 +252,35 @@ impl<A: Allocator + Copy> Client<A> {
             reply => Ok(Answer::Replied(reply)),
         }
     }
-}
 
-// Writes to an open transaction.
-fn write_copy<A: Allocator>(
-    copy: &mut PrivateCopy<A>,
-    schema: &Schema<A>,
-    table: &str,
-    key: Key<A>,
-    row: Option<Row<A>>,
-) -> Result<Answer<A>, Fault>
-    ensures { PlayedIn copy.old copy.new result (CopyWantsWrite schema.now table.now (key_of key) row copy.old) (λ answer. WritesCopy schema.now table.now (key_of key) row copy.old answer copy.new) }
-{
-    let Object { table, key } = object_named(schema, table, key)?;
-    check_written(schema, table, &row)?;
-    put_or_delete(copy, table, key, row)
-}
-
-// Whether the row of a write fits, where it has one.
-fn check_written<A: Allocator>(
-    schema: &Schema<A>,
-    table: usize,
-    row: &Option<Row<A>>,
-) -> Result<(), Fault>
-    ensures { result_err result ≡ check_written schema.now table row.now }
-{
-    match row {
-        None => Ok(()),
-        Some(row) => schema.check_row(table, row),
+    /// `serial`: the same by a serial end, which takes a whole transaction at once.
+    pub(crate) fn serial(&mut self, core: &mut Core<A>, session: usize) -> Result<Answer<A>, Fault>
+        ensures { Enters (events.SerialEnd session) core.old.world self.old (played result) self.new core.new.world }
+    {
+        let Some(item) = self.take_next() else {
+            return Ok(Answer::Empty);
+        };
+        match core.take(Step::SerialEnd { session, item }) {
+            Reply::RefusedItem(refused) => Err(self.keep(refused)),
+            reply => Ok(Answer::Replied(reply)),
+        }
     }
 }
 
-// Puts or deletes the row under a key of a table in an open transaction.
-fn put_or_delete<A: Allocator>(
-    copy: &mut PrivateCopy<A>,
-    table: usize,
-    key: Key<A>,
-    row: Option<Row<A>>,
-) -> Result<Answer<A>, Fault>
-    ensures { PlayedIn copy.old copy.new result (WantsRoom copy.old.writes (table, key_of key)) (λ answer. Given (unless (fault_if (is_full_for copy.old.writes (table, key_of key)) faults.SetFull) copy.old) copy.old answer copy.new
-        (λ old. (answer ≡ Done) × (copy.new ≡ record old { writes = set old.writes (table, key_of key) row }))) }
+/// Clients that did nothing yet, one for each session, each with room for `queue` items that wait. Refused with `Memory` where there is none for them.
+pub(crate) fn fresh_clients<A: Allocator + Copy>(
+    alloc: A,
+    sessions: usize,
+    queue: usize,
+) -> Result<Vec<Client<A>, A>, Fault>
+    ensures fresh { IfOk result (λ clients. clients.items ≡ replicate sessions (fresh queue)) }
+    ensures memory { IsOkUnless result faults.Memory }
 {
-    match row {
-        Some(row) => copy.put(table, key, row)?,
-        None => copy.delete(table, key)?,
+    let mut clients = Vec::with_capacity(alloc, sessions)?;
+    for _ in 0..sessions {
+        clients.push(Client::new(alloc, queue)?)?;
     }
-    Ok(Answer::Done)
+    Ok(clients)
 }
 
 /// The place of the client of a session. Refused with `NoSession`.

@@ -4,10 +4,14 @@
 mod answers;
 mod asking;
 mod clients;
+pub mod laws;
 mod named;
+mod operations;
 mod refusals;
 mod replay;
 mod replays;
+mod tokens;
+mod writing;
 
 pub use occ_audit::audit_rows;
 pub use occ_books::audit_text;

@@ -1,22 +1,24 @@
 //! A replay of a schedule, step by step.
 
-ghost use Rattle.std.specs.Prelude.{◌≡◌, ◌≢◌, replicate, IfOk, IfErr, OnErr, IsOkAnd, IsOkUnless};
+ghost use Rattle.std.specs.Prelude.{◌≡◌, ◌≢◌, map, IfOk, IfErr, OnErr, IsOkAnd};
 ghost use Rattle.occ_types.specs.Seen.{key_of};
 ghost use Rattle.occ_text.specs.declared.steps.Act.TheVariants as acts;
 ghost use Rattle.occ_types.specs.declared.fault.Fault.TheVariants as faults;
 ghost use Rattle.occ_core.specs.Runs.{event_of};
 ghost use Rattle.occ_cli.specs.Answers.{answer_of};
 ghost use Rattle.occ_cli.specs.Answers as says;
-ghost use Rattle.occ_text.specs.Steps.{step_of, Does, Get, Scan, Forge, RawRead, Show};
-ghost use Rattle.occ_cli.specs.Replaying.{started, fresh, client_of, counts_of, ByClient, ByStore, Writes, Plays, Played, PlayedIn, PutOff, Starved, WantsWrite, played};
+ghost use Rattle.occ_text.specs.Steps.{step_of, Does, Get, Scan, Forge, RawRead, Alone, Show};
+ghost use Rattle.occ_text.specs.Operations.{operation_of};
+ghost use Rattle.occ_cli.specs.Replaying.{started, client_of, counts_of, ByClient, ByStore, Writes, Plays, Played, PlayedIn, PutOff, Starved, WantsWrite, played};
 
 use crate::answers::{Answer, Counts, answered, refused};
-use crate::clients::{Client, place_of};
+use crate::clients::{Client, fresh_clients, place_of};
 use crate::named::place_named;
 use occ_core::{Core, Reply, Step as Call};
 use occ_queue::Item;
 use occ_sets::WriteSet;
 use occ_text::headers::Limits;
+use occ_text::operations::Operation;
 use occ_text::steps::{Act, Step};
 use occ_types::{Fault, Key, Refused, Row, Schema};
 use std::alloc::{AllocError, Allocator};
@@ -69,7 +71,7 @@ impl<A: Allocator + Copy> Replay<A> {
         })
     }
 
-    /// Does a step, and answers it. It is an error where memory is refused, which comes only where no other refusal applies that is tried before, and where the step takes memory: as it can be for `enter`, `write`, `get`, `scan`, `put`, `delete`, `forge` and `rawread` alone. Nothing has changed then, but that what was to enter is kept for the next time, as after any refusal.
+    /// Does a step, and answers it. It is an error where memory is refused, which comes only where no other refusal applies that is tried before, and where the step takes memory: as it can be for `enter`, `serial`, `write`, `get`, `scan`, `put`, `delete`, `alone`, `forge` and `rawread` only. Nothing has changed then, but that what was to enter is kept for the next time, as after any refusal.
     pub(crate) fn answer(&mut self, step: Step<'_, A>) -> Result<Answer<A>, AllocError>
         ensures ok { IfOk result (λ answer. Plays self.old (step_of step.entry) (answer_of answer) self.new) }
         ensures fed { IfOk result (λ answer. answer_of answer ≢ says.refused faults.Memory) }
@@ -121,6 +123,10 @@ impl<A: Allocator + Copy> Replay<A> {
                 table,
                 key,
             } => self.read_raw(session, number, start, table, key),
+            Step::Alone {
+                session,
+                operations,
+            } => self.alone(session, operations),
             Step::Show => Ok(Answer::Counted(self.counts())),
         }
     }
@@ -135,6 +141,7 @@ impl<A: Allocator + Copy> Replay<A> {
             Act::Submit => self.submit(session),
             Act::Close => self.close(session),
             Act::Enter => self.enter(session),
+            Act::Serial => self.serial(session),
             Act::Decide => self.call(Call::Decide(session)),
             Act::Write => self.call(Call::WriteOne(session)),
             Act::Finish => self.call(Call::Finish(session)),
@@ -183,6 +190,14 @@ impl<A: Allocator + Copy> Replay<A> {
         client.enter(&mut self.core, session)
     }
 
+    fn serial(&mut self, session: usize) -> Result<Answer<A>, Fault>
+        ensures { Plays self.old (Does acts.Serial session) (played result) self.new }
+    {
+        let place = place_of(self.clients.as_slice(), session)?;
+        let client = &mut self.clients[place];
+        client.serial(&mut self.core, session)
+    }
+
     fn get(&mut self, session: usize, table: &str, key: Key<A>) -> Result<Answer<A>, Fault>
         ensures { Played result (Starved self.old (Get session table.now (key_of key)) self.new) (λ answer. Plays self.old (Get session table.now (key_of key)) answer self.new) }
     {
@@ -218,6 +233,18 @@ impl<A: Allocator + Copy> Replay<A> {
         let place = place_of(self.clients.as_slice(), session)?;
         let client = &mut self.clients[place];
         client.write(self.core.schema(), table, key, row)
+    }
+
+    fn alone(
+        &mut self,
+        session: usize,
+        operations: Vec<Operation<'_, A>, A>,
+    ) -> Result<Answer<A>, Fault>
+        ensures { Played result (Starved self.old (Alone session (map operation_of operations.entry.items)) self.new) (λ answer. Plays self.old (Alone session (map operation_of operations.entry.items)) answer self.new) }
+    {
+        let place = place_of(self.clients.as_slice(), session)?;
+        let client = &mut self.clients[place];
+        client.alone(self.alloc, self.core.schema(), operations)
     }
 
     fn forge(&mut self, session: usize, number: u64, start: u64) -> Result<Answer<A>, Fault>
@@ -280,20 +307,4 @@ impl<A: Allocator> Replay<A> {
             active: self.core.active(),
         }
     }
-}
-
-// Clients that did nothing yet. Refused with `Memory` where there is none for them.
-fn fresh_clients<A: Allocator + Copy>(
-    alloc: A,
-    sessions: usize,
-    queue: usize,
-) -> Result<Vec<Client<A>, A>, Fault>
-    ensures fresh { IfOk result (λ clients. clients.items ≡ replicate sessions (fresh queue)) }
-    ensures memory { IsOkUnless result faults.Memory }
-{
-    let mut clients = Vec::with_capacity(alloc, sessions)?;
-    for _ in 0..sessions {
-        clients.push(Client::new(alloc, queue)?)?;
-    }
-    Ok(clients)
 }

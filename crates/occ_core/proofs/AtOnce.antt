@@ -10,7 +10,8 @@ use Rattle.occ_model.specs.State.{State, Write, Observation, apply}
 use Rattle.occ_model.specs.Log.{LogRow, Writing, Done, Back, is_active, last_folded}
 use Rattle.occ_model.specs.Validity.{finished_opponents, AreSame, window_low}
 use Rattle.occ_model.specs.World.{World, ReadPhase, phase_cmp, empty_base, latest, active_count, is_held}
-use Rattle.occ_model.specs.Invariant.{Invariant, NumbersAreBelow}
+use Rattle.occ_model.specs.Invariant.{NumbersAreBelow}
+use Rattle.occ_model.specs.Content.{IsLawful}
 use Rattle.occ_model.specs.Step.{entering}
 use Rattle.occ_model.specs.declared.verdict.Cause.{Cause}
 use Rattle.occ_model.proofs.Logs.{standing_at}
@@ -65,7 +66,7 @@ module _ (old : Parts) (place : ℕ) (slot : Slot) (row : LogRow) (sound : AreSo
   unlike a b ne = tests.decided (a == b) (λ e. absurd (ne (eqb-true a b e))) (λ e. e)
 
   pub passed_sound : (table : State) (counter : ℕ) (phases : FinMap phase_cmp ReadPhase) (window : List (List Write))
-      → Invariant (world_of (passed_parts table counter phases window))
+      → IsLawful (world_of (passed_parts table counter phases window))
       → length window ≡ counter - window_low counter old.settings.keep
       → ((start : ℕ) → window_low counter old.settings.keep ≤ start → AreSame (drop (start - window_low counter old.settings.keep) window) (finished_opponents (old.log ++ row ∷ []) counter (window_low counter old.settings.keep) start))
       → length old.log < MAX_LOG_ROWS → counter + active_count (world_of old) ≤ MAX_COUNTER
@@ -143,7 +144,7 @@ free_slot parts session number sound may =
 -- The end that commits.
 
 commit_done : (parts : Parts) → AreSound parts → (session number start : ℕ) (reads : List Observation) (writes : List Write) → MayEnd (world_of parts) session number
-    → Invariant (committed (world_of parts) session number start reads writes)
+    → IsLawful (committed (world_of parts) session number start reads writes)
     → (row : LogRow) → row ≡ entering (world_of parts) session number start reads writes (Done (parts.counter + 1))
     → (log : List LogRow) → log ≡ parts.log ++ row ∷ [] → (table : State) → table ≡ apply parts.table writes
     → (phases : FinMap phase_cmp ReadPhase) → phases ≡ finite.remove parts.phases (session, number)
@@ -177,9 +178,9 @@ commit_done parts sound session number start reads writes may lawful row row_is 
 
     passed : AreSound whole
     passed = passed_sound parts s.place s.slot own sound s.at s.free s.session_is may.number_fits refl (apply parts.table writes) (parts.counter + 1) (finite.remove parts.phases (session, number)) sets_now
-        (subst Invariant (sym worlds) lawful)
-        (moved_size parts.log [] (standing_at own (Writing 0)) parts.window parts.counter (low_of parts) next (below-push parts.counter parts.log own 0 sound.law.below) (λ bound. refl) (omega arith) (omega arith) sound.window_size is (omega arith))
-        (window_moved parts.log [] (standing_at own (Writing 0)) parts.window parts.counter (low_of parts) next (below-push parts.counter parts.log own 0 sound.law.below) (λ bound. refl) (omega arith) (omega arith) sound.window_size is)
+        (subst IsLawful (sym worlds) lawful)
+        (moved_size parts.log [] (standing_at own (Writing 0)) parts.window parts.counter (low_of parts) next (below-push parts.counter parts.log own 0 sound.law.invariant.below) (λ bound. refl) (omega arith) (omega arith) sound.window_size is (omega arith))
+        (window_moved parts.log [] (standing_at own (Writing 0)) parts.window parts.counter (low_of parts) next (below-push parts.counter parts.log own 0 sound.law.invariant.below) (λ bound. refl) (omega arith) (omega arith) sound.window_size is)
         may.log_room
         (let r = may.counter_room in one_more parts.counter (active_count (world_of parts)) r)
       where
@@ -205,7 +206,7 @@ commit_done parts sound session number start reads writes may lawful row row_is 
         }
 
 pub commit_whole : (parts : Parts) (world : World) → world_of parts ≡ world → AreSound parts → (session number start : ℕ) (reads : List Observation) (writes : List Write) → MayEnd world session number
-    → Invariant (committed world session number start reads writes)
+    → IsLawful (committed world session number start reads writes)
     → (row : LogRow) → row ≡ entering world session number start reads writes (Done (parts.counter + 1))
     → (log : List LogRow) → log ≡ parts.log ++ row ∷ [] → (table : State) → table ≡ apply parts.table writes
     → (phases : FinMap phase_cmp ReadPhase) → phases ≡ finite.remove parts.phases (session, number)
@@ -214,7 +215,7 @@ pub commit_whole : (parts : Parts) (world : World) → world_of parts ≡ world 
     → (world_of (ended_parts parts log table (parts.counter + 1) phases slots window) ≡ committed world session number start reads writes)
     × AreSound (ended_parts parts log table (parts.counter + 1) phases slots window)
 commit_whole parts world seen sound session number start reads writes may lawful row row_is log log_is table table_is phases phases_is slots slots_is window window_is =
-    subst (λ w. MayEnd w session number → Invariant (committed w session number start reads writes) → row ≡ entering w session number start reads writes (Done (parts.counter + 1))
+    subst (λ w. MayEnd w session number → IsLawful (committed w session number start reads writes) → row ≡ entering w session number start reads writes (Done (parts.counter + 1))
     → (world_of (ended_parts parts log table (parts.counter + 1) phases slots window) ≡ committed w session number start reads writes) × AreSound (ended_parts parts log table (parts.counter + 1) phases slots window)) seen
     (λ m l r. commit_done parts sound session number start reads writes m l row r log log_is table table_is phases phases_is slots slots_is window window_is)
     may lawful row_is
@@ -222,7 +223,7 @@ commit_whole parts world seen sound session number start reads writes may lawful
 -- The end that backs up.
 
 back_done : (parts : Parts) → AreSound parts → (session number start : ℕ) (reads : List Observation) (writes : List Write) (cause : Cause) → MayEnd (world_of parts) session number
-    → Invariant (backed (world_of parts) session number start reads writes cause)
+    → IsLawful (backed (world_of parts) session number start reads writes cause)
     → (row : LogRow) → row ≡ entering (world_of parts) session number start reads writes (Back cause)
     → (log : List LogRow) → log ≡ parts.log ++ row ∷ []
     → (phases : FinMap phase_cmp ReadPhase) → phases ≡ finite.remove parts.phases (session, number)
@@ -246,7 +247,7 @@ back_done parts sound session number start reads writes cause may lawful row row
 
     passed : AreSound whole
     passed = passed_sound parts s.place s.slot own sound s.at s.free s.session_is may.number_fits refl parts.table parts.counter (finite.remove parts.phases (session, number)) parts.window
-        (subst Invariant (sym worlds) lawful)
+        (subst IsLawful (sym worlds) lawful)
         sound.window_size
         (λ begin above test. sound.window_is begin above test ∙ sym (finished-push test parts.log own parts.counter (low_of parts) begin refl))
         may.log_room
@@ -269,7 +270,7 @@ back_done parts sound session number start reads writes cause may lawful row row
         }
 
 pub back_whole : (parts : Parts) (world : World) → world_of parts ≡ world → AreSound parts → (session number start : ℕ) (reads : List Observation) (writes : List Write) (cause : Cause) → MayEnd world session number
-    → Invariant (backed world session number start reads writes cause)
+    → IsLawful (backed world session number start reads writes cause)
     → (row : LogRow) → row ≡ entering world session number start reads writes (Back cause)
     → (log : List LogRow) → log ≡ parts.log ++ row ∷ []
     → (phases : FinMap phase_cmp ReadPhase) → phases ≡ finite.remove parts.phases (session, number)
@@ -277,7 +278,7 @@ pub back_whole : (parts : Parts) (world : World) → world_of parts ≡ world �
     → (world_of (ended_parts parts log parts.table parts.counter phases slots (record { keep = parts.settings.keep; sets = parts.window })) ≡ backed world session number start reads writes cause)
     × AreSound (ended_parts parts log parts.table parts.counter phases slots (record { keep = parts.settings.keep; sets = parts.window }))
 back_whole parts world seen sound session number start reads writes cause may lawful row row_is log log_is phases phases_is slots slots_is =
-    subst (λ w. MayEnd w session number → Invariant (backed w session number start reads writes cause) → row ≡ entering w session number start reads writes (Back cause)
+    subst (λ w. MayEnd w session number → IsLawful (backed w session number start reads writes cause) → row ≡ entering w session number start reads writes (Back cause)
     → (world_of (ended_parts parts log parts.table parts.counter phases slots (record { keep = parts.settings.keep; sets = parts.window })) ≡ backed w session number start reads writes cause)
     × AreSound (ended_parts parts log parts.table parts.counter phases slots (record { keep = parts.settings.keep; sets = parts.window }))) seen
     (λ m l r. back_done parts sound session number start reads writes cause m l row r log log_is phases phases_is slots slots_is)

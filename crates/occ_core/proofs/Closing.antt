@@ -15,7 +15,8 @@ use Rattle.occ_model.specs.Refusal.{refusal}
 use Rattle.occ_model.specs.Step.{Step, taken}
 use Rattle.occ_model.proofs.Tests as tests
 use Rattle.occ_model.proofs.Phases.{not_refused}
-use Rattle.occ_model.proofs.Steps.{passed, keeps}
+use Rattle.occ_model.proofs.Steps.{passed}
+use Rattle.occ_model.proofs.InSchema.{keeps_lawful}
 use Rattle.occ_core.specs.Reads.{session_fault, closed_fault}
 use Rattle.occ_core.specs.Entries.{due_fault, busy_fault, turn_to_close}
 use Rattle.occ_log.specs.Slots.{last_of}
@@ -74,7 +75,7 @@ close_step parts session number none = taken none (refl, refl)
 
 close_sound : (parts : Parts) (session number : ℕ) → AreSound parts → refusal (world_of parts) (Enter session (Close number)) ≡ None → AreSound (closed_parts parts session number)
 close_sound parts session number sound none = record {
-  law = keeps (world_of parts) (Enter session (Close number)) Closed (world_of (closed_parts parts session number)) sound.law (close_step parts session number none);
+  law = keeps_lawful (world_of parts) (Enter session (Close number)) Closed (world_of (closed_parts parts session number)) sound.law (close_step parts session number none);
   each_session = sound.each_session;
   slots_true = λ place slot at. slot_same parts (closed_parts parts session number) refl place slot (sound.slots_true place slot at);
   window_size = sound.window_size;

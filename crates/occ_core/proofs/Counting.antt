@@ -197,7 +197,7 @@ idle slots (row ∷ rows) held s out = at (idle slots rows held.1 s out) (latest
 pub active_counted : (parts : Parts) → AreSound parts → length (active_from (slice_get parts.log) parts.slots) ≡ active_count (world_of parts)
 active_counted parts sound =
     slots_tally parts.log parts.slots 1 each
-    ∙ counted (length parts.slots) parts.log sound.law.one_under_way (in_range parts.slots parts.log sound.law.active_held)
+    ∙ counted (length parts.slots) parts.log sound.law.invariant.one_under_way (in_range parts.slots parts.log sound.law.invariant.active_held)
   where
     row_counts : (row : LogRow) → length (cond (is_active row.standing) (row.writes ∷ []) []) ≡ cond (is_active row.standing) 1 0
     row_counts row = at (is_active row.standing)
@@ -212,7 +212,7 @@ active_counted parts sound =
         of_hold' : (h : Option Hold) → slot.hold ≡ h → length (elim h as (λ _. List (List Write)) [ None ↦ [] | Some hold ↦ elim (slice_get parts.log hold.place) [ None ↦ [] | Some row ↦ cond (is_active row.standing) (row.writes ∷ []) [] ] ]) ≡ act (latest (1 + k) parts.log)
         of_hold' None e =
             let out : sets.contains (held_from 1 parts.slots) (1 + k) ≡ false = contains-held 1 parts.slots k ∙ not_held parts.slots k slot at e in
-            sym (idle parts.slots parts.log sound.law.active_held (1 + k) out)
+            sym (idle parts.slots parts.log sound.law.invariant.active_held (1 + k) out)
           where
             not_held : (slots : List Slot) (k : ℕ) (slot : Slot) → slice_get slots k ≡ Some slot → slot.hold ≡ None → is_held_at slots k ≡ false
             not_held [] k slot at e = cc

@@ -26,7 +26,7 @@ use Rattle.occ_core.specs.Reads.{session_fault, closed_fault, start_fault}
 use Rattle.occ_core.specs.Entries.{due_fault, busy_fault, spare_fault, turn_to_enter, write_fault, log_fault, counter_fault, room_to_enter}
 use Rattle.occ_log.specs.Slots.{Slot, Hold, last_of, active_from, HoldsArePlaced}
 use Rattle.occ_book.specs.Undo.{ArePlaced}
-use Rattle.occ_core.specs.declared.core_entries.Entry.{Entry}
+use Rattle.occ_core.specs.declared.core_entries.Entry as code_entry
 use Rattle.occ_core.specs.Replies.{entry}
 use Rattle.occ_core.specs.Parts.{Parts, world_of, low_of, AreSound}
 use Rattle.occ_core.proofs.Calls.{held_world}
@@ -202,7 +202,7 @@ open_case parts world seen sound session number start writes case start_is low_i
       reads_are = reads_is ∙ ap (map (λ (o : Observation). o.0)) (sym (reads_are (finite.get parts.phases (session, number))));
       writes_are = writes_is;
       finished = λ test. ap (list_any test) (finished_is ∙ ap (λ w. drop (start - low w) parts.window) (sym seen)) ∙ in_window test;
-      active = λ test. ap (list_any test) active_is ∙ active_same parts.log parts.slots sound.law.one_under_way sound.law.active_held
+      active = λ test. ap (list_any test) active_is ∙ active_same parts.log parts.slots sound.law.invariant.one_under_way sound.law.invariant.active_held
           (λ place slot hold at holds. let r = (sound.slots_true place slot at).row_is hold holds in (r.0, r.1)) test;
     })
   where
@@ -319,7 +319,7 @@ enter_whole parts world seen sound session number start writes none row case is_
     none is_case row_is
 
 -- a fault is replied as it is
-pub entry_err : (old new : World) (event : Event) (reply : Result Entry Fault) (fault : Fault) → reply ≡ Err fault → Step old event (Refused fault) new → Step old event (entry reply) new
+pub entry_err : {Z : Type 0} (old new : World) (event : Event) (reply : Result (code_entry.Entry Z) Fault) (fault : Fault) → reply ≡ Err fault → Step old event (Refused fault) new → Step old event (entry reply) new
 entry_err old new event reply fault is step = subst (λ r. Step old event (entry r) new) (sym is) step
 
 -- the entry of a request is that of the item which it is

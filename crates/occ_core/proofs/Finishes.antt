@@ -36,7 +36,7 @@ found_is parts session place u row at =
 -- a row under way is not finished
 pub unfinished : (parts : Parts) (session place : ℕ) → AreSound parts → (u : UnderWay parts session place) → is_done u.row.standing ≡ false
 unfinished parts session place sound u =
-    sound.law.held_under_way (suc u.slot_at) (held_world parts u.slot_at u.slot u.there ∙ ap is_some u.holds) u.row (held_latest (suc u.slot_at) u.hold.place parts.log u.row u.row_there)
+    sound.law.invariant.held_under_way (suc u.slot_at) (held_world parts u.slot_at u.slot u.there ∙ ap is_some u.holds) u.row (held_latest (suc u.slot_at) u.hold.place parts.log u.row u.row_there)
 
 -- The guards on the standing.
 

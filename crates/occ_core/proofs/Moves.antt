@@ -22,7 +22,8 @@ use Rattle.occ_model.proofs.Tests as tests
 use Rattle.occ_model.proofs.Logs.{standing_at}
 use Rattle.occ_model.proofs.Turns.{latest-push}
 use Rattle.occ_model.proofs.Phases.{not_refused}
-use Rattle.occ_model.proofs.Steps.{keeps, passed}
+use Rattle.occ_model.proofs.Steps.{passed}
+use Rattle.occ_model.proofs.InSchema.{keeps_lawful}
 use Rattle.occ_log.specs.Slots.{Slot, Hold, held_from, IsHeldAt}
 use Rattle.occ_core.specs.Parts.{Parts, world_of, low_of, AreSound, SlotIsTrue}
 use Rattle.occ_log.proofs.Holding.{held-hold, held-free}
@@ -42,7 +43,7 @@ slot_same old new same place slot true' = record {
 pub read_moves : (old : Parts) (session number start : ℕ) (question : Question) → AreSound old → refusal (world_of old) (Read session number start question) ≡ None
     → AreSound (record old { phases = (read_more (world_of old) session number start question).phases })
 read_moves old session number start question sound none = record {
-  law = keeps (world_of old) (Read session number start question) (Answered (answer question old.table)) (read_more (world_of old) session number start question) sound.law (taken none (refl, refl));
+  law = keeps_lawful (world_of old) (Read session number start question) (Answered (answer question old.table)) (read_more (world_of old) session number start question) sound.law (taken none (refl, refl));
   each_session = sound.each_session;
   slots_true = λ place slot at. slot_same old (record old { phases = (read_more (world_of old) session number start question).phases }) refl place slot (sound.slots_true place slot at);
   window_size = sound.window_size;
@@ -118,7 +119,7 @@ module _ (old : Parts) (place number start : ℕ) (writes : List Write) (index :
 
   pub entered_sound : AreSound entered_parts
   entered_sound = record {
-    law = keeps (world_of old) (Enter (suc place) (Request number start writes)) (Entered (next_place (world_of old)) index) (world_of entered_parts) sound.law entered_step;
+    law = keeps_lawful (world_of old) (Enter (suc place) (Request number start writes)) (Entered (next_place (world_of old)) index) (world_of entered_parts) sound.law entered_step;
     each_session = length-set old.slots place _ ∙ sound.each_session;
     slots_true = each_slot entered_parts old.slots place _ less
         (record {
@@ -242,7 +243,7 @@ module _ (old : Parts) (place : ℕ) (slot : Slot) (hold : Hold) (row : LogRow) 
 
     pub decided_sound : AreSound decided_parts
     decided_sound = record {
-      law = keeps (world_of old) (Decide (suc place)) (Decided (verdict case)) (world_of decided_parts) sound.law decided_step;
+      law = keeps_lawful (world_of old) (Decide (suc place)) (Decided (verdict case)) (world_of decided_parts) sound.law decided_step;
       each_session = sound.each_session;
       slots_true = λ q other e. slots_turned decided_parts (decided (verdict case)) refl q other (sound.slots_true q other e);
       window_size = sound.window_size;
@@ -271,7 +272,7 @@ module _ (old : Parts) (place : ℕ) (slot : Slot) (hold : Hold) (row : LogRow) 
 
     pub written_sound : AreSound written_parts
     written_sound = record {
-      law = keeps (world_of old) (WriteOne (suc place)) (Wrote write.0) (world_of written_parts) sound.law written_step;
+      law = keeps_lawful (world_of old) (WriteOne (suc place)) (Wrote write.0) (world_of written_parts) sound.law written_step;
       each_session = sound.each_session;
       slots_true = λ q other e. slots_turned written_parts (Writing (done + 1)) refl q other (sound.slots_true q other e);
       window_size = sound.window_size;
@@ -320,18 +321,18 @@ module _ (old : Parts) (place : ℕ) (slot : Slot) (hold : Hold) (row : LogRow) 
     finished_sound =
         let s = split-at old.log hold.place row is_there in
         record {
-          law = keeps (world_of old) (Finish (suc place)) (Finished (old.counter + 1)) (world_of finished_parts) sound.law finished_step;
+          law = keeps_lawful (world_of old) (Finish (suc place)) (Finished (old.counter + 1)) (world_of finished_parts) sound.law finished_step;
           each_session = length-set old.slots place _ ∙ sound.each_session;
           slots_true = each_slot finished_parts old.slots place (record { last = slot.last; hold = None }) in_slots
               (let t = slots_turned finished_parts (Done (old.counter + 1)) refl place slot (sound.slots_true place slot at) in
               record { last_is = t.last_is; last_fits = t.last_fits; row_is = λ h (e : None ≡ Some h). cc e })
               (λ q other ne e. slots_turned finished_parts (Done (old.counter + 1)) refl q other (sound.slots_true q other e));
           window_size = moved_size s.before s.later row old.window old.counter (low_of old) (window_low (old.counter + 1) old.settings.keep)
-              (subst (NumbersAreBelow old.counter) s.was sound.law.below) (λ bound. ap (finished_within bound old.counter) stands) (omega arith) (omega arith) sound.window_size
+              (subst (NumbersAreBelow old.counter) s.was sound.law.invariant.below) (λ bound. ap (finished_within bound old.counter) stands) (omega arith) (omega arith) sound.window_size
               (λ start above test. sound.window_is start above test ∙ ap (λ l. some_finished test l old.counter (low_of old) start) s.was) (omega arith);
           window_is = λ start above test.
               window_moved s.before s.later row old.window old.counter (low_of old) (window_low (old.counter + 1) old.settings.keep)
-              (subst (NumbersAreBelow old.counter) s.was sound.law.below) (λ bound. ap (finished_within bound old.counter) stands) (omega arith) (omega arith) sound.window_size
+              (subst (NumbersAreBelow old.counter) s.was sound.law.invariant.below) (λ bound. ap (finished_within bound old.counter) stands) (omega arith) (omega arith) sound.window_size
               (λ start above test. sound.window_is start above test ∙ ap (λ l. some_finished test l old.counter (low_of old) start) s.was) start above test
               ∙ sym (ap (λ l. some_finished test l (old.counter + 1) (window_low (old.counter + 1) old.settings.keep) start) (s.now (standing_at row (Done (old.counter + 1)))));
           log_room = let r = sound.log_room in let e = length-set old.log hold.place (standing_at row (Done (old.counter + 1))) in omega arith;
@@ -355,7 +356,7 @@ module _ (old : Parts) (place : ℕ) (slot : Slot) (hold : Hold) (row : LogRow) 
 
     pub backed_sound : AreSound backed_parts
     backed_sound = record {
-      law = keeps (world_of old) (BackUp (suc place)) (BackedUp slot.last) (world_of backed_parts) sound.law backed_step;
+      law = keeps_lawful (world_of old) (BackUp (suc place)) (BackedUp slot.last) (world_of backed_parts) sound.law backed_step;
       each_session = length-set old.slots place _ ∙ sound.each_session;
       slots_true = each_slot backed_parts old.slots place (record { last = slot.last; hold = None }) (slice_get-below old.slots place slot at)
           (let t = sound.slots_true place slot at in record { last_is = t.last_is; last_fits = t.last_fits; row_is = λ h (e : None ≡ Some h). cc e })

@@ -53,7 +53,7 @@ idle_object (Some row) e = ap first_object (idle_rest row.writes row.standing (a
 pub next_none : (parts : Parts) (world : World) → world_of parts ≡ world → AreSound parts → (session : ℕ) (fault : Fault) → row_under_way parts.slots session ≡ Err fault → next_object world session ≡ None
 next_none parts world seen sound session fault found =
     ap (λ w. next_object w session) (sym seen)
-    ∙ idle_object (latest session parts.log) (idle parts.slots parts.log sound.law.active_held session (not_held parts session fault found))
+    ∙ idle_object (latest session parts.log) (idle parts.slots parts.log sound.law.invariant.active_held session (not_held parts session fault found))
 
 pub first_dropped : (n : ℕ) (writes : List Write) → first_object (drop n writes) ≡ option_map (λ w. w.0) (slice_get writes n)
 first_dropped zero [] = refl

@@ -10,8 +10,8 @@ use Rattle.occ_model.specs.Log.{LogRow}
 use Rattle.occ_model.specs.World.{ReadPhase, phase_cmp, opened}
 use Rattle.occ_book.specs.Kept.{Content}
 use Rattle.occ_log.specs.Window.{Window}
-use Rattle.occ_model.specs.Invariant.{Invariant}
-use Rattle.occ_model.proofs.Steps.{invariant_resumed}
+use Rattle.occ_model.specs.Content.{IsLawful}
+use Rattle.occ_model.proofs.InSchema.{opened_lawful}
 use Rattle.occ_log.specs.Slots.{Slot, held_from, idle_slots}
 use Rattle.occ_core.specs.Parts.{Parts, world_of, AreSound, SlotIsTrue}
 
@@ -51,7 +51,7 @@ opened_world schema sessions keep =
 
 pub opened_sound : (schema : Schema) (sessions keep : ℕ) → AreSound (opened_parts schema sessions keep)
 opened_sound schema sessions keep = record {
-  law = subst Invariant (sym (opened_world schema sessions keep)) (invariant_resumed (record { schema = schema; sessions = sessions; keep = keep }) _ 0);
+  law = subst IsLawful (sym (opened_world schema sessions keep)) (opened_lawful (record { schema = schema; sessions = sessions; keep = keep }));
   each_session = refl;
   slots_true = λ place slot at. let idle = idle_at sessions place slot at in
       subst (SlotIsTrue (opened_parts schema sessions keep) place) (sym idle) (record {

@@ -21,7 +21,7 @@ use Rattle.occ_model.specs.Refusal.{refusal}
 use Rattle.occ_model.specs.Step.{Step, refused, starved, taken, read_more}
 use Rattle.occ_model.proofs.Tests as tests
 use Rattle.occ_model.proofs.Phases.{not_refused}
-use Rattle.occ_model.proofs.Steps.{keeps}
+use Rattle.occ_model.proofs.InSchema.{keeps_lawful}
 use Rattle.occ_log.specs.Phases.{reads_of}
 use Rattle.occ_core.specs.Reads.{session_fault, closed_fault, number_fault, start_fault, turn_fault, size_fault, room_fault, noted}
 use Rattle.occ_core.specs.Replies.{reading, scanning, forgetting}
@@ -37,7 +37,7 @@ session_is parts session sound = ap (λ n. fault_if (not (nat_le 1 session && na
 forget_moves : (old : Parts) (session number : ℕ) → AreSound old → refusal (world_of old) (Forget session number) ≡ None
     → AreSound (record old { phases = finite.remove old.phases (session, number) })
 forget_moves old session number sound none = record {
-  law = keeps (world_of old) (Forget session number) (Forgotten (finite.contains_key old.phases (session, number))) (world_of (record old { phases = finite.remove old.phases (session, number) })) sound.law (taken none (refl, refl));
+  law = keeps_lawful (world_of old) (Forget session number) (Forgotten (finite.contains_key old.phases (session, number))) (world_of (record old { phases = finite.remove old.phases (session, number) })) sound.law (taken none (refl, refl));
   each_session = sound.each_session;
   slots_true = λ place slot at. slot_same old (record old { phases = finite.remove old.phases (session, number) }) refl place slot (sound.slots_true place slot at);
   window_size = sound.window_size;

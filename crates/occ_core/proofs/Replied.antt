@@ -1,12 +1,19 @@
 -- What each step is replied, and a list of them.
 use Rattle.std.proofs.Common.{◌≡◌, List, [], ◌∷◌, ◌++◌, Some, Result, Ok, Err, ℕ, refl, sym, ap, subst, inl, inr}
-use Rattle.std.specs.Prelude.{◌⊎◌, IfErr, option_map}
+use Rattle.std.specs.Prelude.{◌⊎◌, IfErr, Vec, option_map}
 use Rattle.std.specs.Result.{result_err}
-use Rattle.occ_model.specs.Event.{Event, Reply}
+use Rattle.occ_model.specs.Event.{Event, Reply, Alone}
 use Rattle.occ_model.specs.Step.{Run}
 use Rattle.occ_core.specs.Core.{Seen, Transition}
 use Rattle.occ_core.specs.Replies.{entering}
-use Rattle.occ_core.specs.declared.core_entries.Entry.{Entry}
+use Rattle.occ_core.specs.AtOnce.{ending_item}
+use Rattle.occ_core.specs.RunningAlone.{running_item}
+use Rattle.occ_core.specs.declared.core_serial.Ended as code_ended
+use Rattle.occ_core.specs.declared.core_serial.Ended.TheVariants as ends
+use Rattle.occ_sets.specs.declared.operations.Op as code_op
+use Rattle.occ_sets.specs.declared.reads.Answer as code_answer
+use Rattle.occ_sets.specs.Operations.{ops_of}
+use Rattle.occ_core.specs.declared.core_entries.Entry as code_entry
 use Rattle.occ_core.specs.declared.core_entries.Entry.TheVariants as entries
 use Rattle.occ_types.specs.declared.fault.Refused as refusals
 use Rattle.occ_queue.specs.declared.items.Item as items
@@ -28,11 +35,27 @@ module _ {Z : Type 0} where
   answered_as old step named reply said new name is stepped back = subst (λ s. Answers old s reply new) (sym name) (answered old named reply said new is stepped back)
 
   -- an entry that is refused has its own item handed back
-  pub entry_owed : (session : ℕ) (item : items.Item Z) (called : Result Entry (refusals.Refused (items.Item Z))) → IfErr called (λ refused. item_of refused.value ≡ item_of item)
+  pub entry_owed : (session : ℕ) (item : items.Item Z) (called : Result (code_entry.Entry Z) (refusals.Refused (items.Item Z))) → IfErr called (λ refused. item_of refused.value ≡ item_of item)
       → option_map (λ (r : refusals.Refused (items.Item Z)). item_of r.value) (result_err called) ≡ owed {Z = Z} (steps.Enter session item) (entering called)
   entry_owed session item (Ok (entries.Entered place index)) back = refl
+  entry_owed session item (Ok (entries.RanAlone number answers)) back = refl
   entry_owed session item (Ok entries.MarkedClosed) back = refl
   entry_owed session item (Err refused) back = ap Some back
+
+  -- and so has a serial end
+  pub end_owed : (session : ℕ) (item : items.Item Z) (called : Result (code_ended.Ended Z) (refusals.Refused (items.Item Z))) → IfErr called (λ refused. item_of refused.value ≡ item_of item)
+      → option_map (λ (r : refusals.Refused (items.Item Z)). item_of r.value) (result_err called) ≡ owed {Z = Z} (steps.SerialEnd session item) (ending_item called)
+  end_owed session item (Ok (ends.Committed number)) back = refl
+  end_owed session item (Ok (ends.BackedUp cause)) back = refl
+  end_owed session item (Ok (ends.RanAlone number answers)) back = refl
+  end_owed session item (Ok ends.MarkedClosed) back = refl
+  end_owed session item (Err refused) back = ap Some back
+
+  -- and a refused list of operations comes back as an item
+  pub run_owed : (session number : ℕ) (operations : Vec (code_op.Op Z) Z) (called : Result (ℕ × Vec (code_answer.Answer Z) Z) (refusals.Refused (items.Item Z))) → IfErr called (λ refused. item_of refused.value ≡ Alone number (ops_of operations.items))
+      → option_map (λ (r : refusals.Refused (items.Item Z)). item_of r.value) (result_err called) ≡ owed {Z = Z} (steps.RunAlone session number operations) (running_item called)
+  run_owed session number operations (Ok done) back = refl
+  run_owed session number operations (Err refused) back = ap Some back
 
   -- one step more
   pub runs_more : (old mid new : Seen) (done : List (code_step.Step Z)) (replies : List (code_reply.Reply Z)) (step : code_step.Step Z) (reply : code_reply.Reply Z)
@@ -51,6 +74,8 @@ module _ {Z : Type 0} where
   put_off old (steps.Decide session) reply new off = absurd off
   put_off old (steps.Finish session) reply new off = absurd off
   put_off old (steps.BackUp session) reply new off = absurd off
+  put_off old (steps.SerialEnd session item) reply new off = absurd off
+  put_off old (steps.RunAlone session number operations) reply new off = absurd off
   put_off old (steps.WriteOne session) (replies.Found row) new off = absurd off
   put_off old (steps.WriteOne session) (replies.Rows rows) new off = absurd off
   put_off old (steps.WriteOne session) (replies.Forgotten there) new off = absurd off
@@ -61,6 +86,8 @@ module _ {Z : Type 0} where
   put_off old (steps.WriteOne session) replies.NoMore new off = absurd off
   put_off old (steps.WriteOne session) (replies.Finished number) new off = absurd off
   put_off old (steps.WriteOne session) (replies.BackedUp number) new off = absurd off
+  put_off old (steps.WriteOne session) (replies.EndedBack cause) new off = absurd off
+  put_off old (steps.WriteOne session) (replies.RanAlone number answers) new off = absurd off
   put_off old (steps.WriteOne session) (replies.Refused fault) new off = off.3
   put_off old (steps.WriteOne session) (replies.RefusedItem refused) new off = absurd off
 

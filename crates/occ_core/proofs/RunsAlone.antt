@@ -13,17 +13,18 @@ use Rattle.occ_types.specs.Key.{Key}
 use Rattle.occ_types.specs.Object.{Object, object_cmp}
 use Rattle.occ_types.specs.Row.{Row}
 use Rattle.occ_types.specs.Schema.{Schema, Table, first_fault, check_key, check_key_in}
-use Rattle.occ_model.specs.Event.{Event, Reply, RunAlone, RanAlone}
-use Rattle.occ_model.specs.Invariant.{Invariant}
+use Rattle.occ_model.specs.Event.{Event, Reply, Item, Alone, Enter, SerialEnd, RunAlone, RanAlone}
+use Rattle.occ_model.specs.Content.{IsLawful}
 use Rattle.occ_model.specs.Operations.{Operation, Get, Scan, Put, Delete, Add, Progress, perform, perform_all, nothing_yet}
 use Rattle.occ_model.specs.Overlay.{set}
 use Rattle.occ_model.specs.Refusal as refusals
 use Rattle.occ_model.specs.Refusal.{refusal, refusal_of_alone, refusal_of_close, store_busy, check_operation, check_operations}
 use Rattle.occ_model.specs.State.{State, Write}
-use Rattle.occ_model.specs.Step.{Step, taken}
+use Rattle.occ_model.specs.Step.{Step, refused, starved, taken}
 use Rattle.occ_model.specs.World.{World, ReadPhase, phase_cmp, active_count}
 use Rattle.occ_model.proofs.Phases.{not_refused, phase_cmp_total, phase_cmp-IsAntisymmetric}
-use Rattle.occ_model.proofs.Steps.{passed, keeps}
+use Rattle.occ_model.proofs.Steps.{passed}
+use Rattle.occ_model.proofs.InSchema.{keeps_lawful}
 use Rattle.occ_model.proofs.Tests as tests
 use Rattle.occ_core.specs.AtOnce.{committed, MayEnd, quiet_fault}
 use Rattle.occ_core.specs.Entries.{spare_fault, turn_to_close, log_fault, counter_fault}
@@ -182,9 +183,9 @@ module _ (w : World) (session number : ℕ) (operations : List Operation) (none 
     commits : committed w session number start progress.reads progress.writes ≡ committed w session number w.counter done.reads done.writes
     commits = λ i. committed w session number (start_is i) (is i).reads (is i).writes
 
-    pub alone_lawful : Invariant w → Invariant (committed w session number start progress.reads progress.writes)
-    alone_lawful inv = subst Invariant (sym commits)
-        (keeps w (RunAlone session number operations) (RanAlone (w.counter + 1) done.answers) (committed w session number w.counter done.reads done.writes) inv alone_step)
+    pub alone_lawful : IsLawful w → IsLawful (committed w session number start progress.reads progress.writes)
+    alone_lawful inv = subst IsLawful (sym commits)
+        (keeps_lawful w (RunAlone session number operations) (RanAlone (w.counter + 1) done.answers) (committed w session number w.counter done.reads done.writes) inv alone_step)
 
     pub alone_returns : (answer : ℕ) → answer ≡ w.counter + 1 → (new : World) → new ≡ committed w session number start progress.reads progress.writes
         → Step w (RunAlone session number operations) (RanAlone answer progress.answers) new
@@ -195,3 +196,23 @@ module _ (w : World) (session number : ℕ) (operations : List Operation) (none 
 -- a fault is replied as it is
 pub running_err : {X : Type 0} (reply_of : Result X Fault → Reply) (old new : World) (event : Event) (reply : Result X Fault) (fault : Fault) → reply ≡ Err fault → Step old event (reply_of (Err fault)) new → Step old event (reply_of reply) new
 running_err reply_of old new event reply fault is step = subst (λ r. Step old event (reply_of r) new) (sym is) step
+
+-- Operations that are handed in as an item run as they do by themselves.
+
+pub alone_entered : (old new : World) (session number : ℕ) (operations : List Operation) (reply : Reply) → Step old (RunAlone session number operations) reply new → Step old (Enter session (Alone number operations)) reply new
+alone_entered old new session number operations reply (refused fault why said same) = refused fault why said same
+alone_entered old new session number operations reply (starved none takes said same) = starved none takes said same
+alone_entered old new session number operations reply (taken none does) = taken none does
+
+pub alone_ended : (old new : World) (session number : ℕ) (operations : List Operation) (reply : Reply) → Step old (RunAlone session number operations) reply new → Step old (SerialEnd session (Alone number operations)) reply new
+alone_ended old new session number operations reply (refused fault why said same) = refused fault why said same
+alone_ended old new session number operations reply (starved none takes said same) = starved none takes said same
+alone_ended old new session number operations reply (taken none does) = taken none does
+
+-- the entry of operations is that of the item which they are
+pub alone_of : (old new : World) (session : ℕ) (item own : Item) (reply : Reply) → Step old (Enter session own) reply new → own ≡ item → Step old (Enter session item) reply new
+alone_of old new session item own reply step is = subst (λ i. Step old (Enter session i) reply new) is step
+
+-- the run of operations is that of the list which they are
+pub run_of : (old new : World) (session number : ℕ) (given own : List Operation) (reply : Reply) → Step old (RunAlone session number given) reply new → given ≡ own → Step old (RunAlone session number own) reply new
+run_of old new session number given own reply step is = subst (λ o. Step old (RunAlone session number o) reply new) is step

@@ -13,7 +13,7 @@ use Rattle.occ_model.specs.Log.{LogRow, Case, is_active}
 use Rattle.occ_model.specs.Validity.{verdict}
 use Rattle.occ_model.specs.World.{World, active_count, reads_under, low}
 use Rattle.occ_model.specs.Event.{Event, Item, Reply, Request, Close, Enter, SerialEnd, Refused, Finished, EndedBack}
-use Rattle.occ_model.specs.Invariant.{Invariant}
+use Rattle.occ_model.specs.Content.{IsLawful}
 use Rattle.occ_model.specs.Refusal as refusals
 use Rattle.occ_model.specs.Refusal.{refusal, refusal_of_request, store_busy, check_writes}
 use Rattle.occ_model.specs.Step.{Step, refused, starved, taken, validity_of, EndsSerially}
@@ -22,14 +22,15 @@ use Rattle.occ_model.specs.declared.verdict.Verdict.TheVariants as verdicts
 use Rattle.occ_model.specs.declared.verdict.Cause.{Cause}
 use Rattle.occ_model.proofs.Entries.{verdict-validity}
 use Rattle.occ_model.proofs.Phases.{not_refused}
-use Rattle.occ_model.proofs.Steps.{passed, admitted, keeps}
+use Rattle.occ_model.proofs.Steps.{passed, admitted}
+use Rattle.occ_model.proofs.InSchema.{keeps_lawful}
 use Rattle.occ_core.specs.AtOnce.{committed, backed, MayEnd, quiet_fault, turn_to_end, ending}
 use Rattle.occ_core.specs.Entries.{spare_fault, turn_to_close, log_fault, counter_fault, room_to_enter}
 use Rattle.occ_core.specs.Parts.{Parts, world_of, AreSound}
 use Rattle.occ_core.specs.Reads.{start_fault}
 use Rattle.occ_log.specs.Slots.{active_from}
 use Rattle.occ_book.specs.Undo.{ArePlaced}
-use Rattle.occ_core.specs.declared.core_serial.Ended.{Ended}
+use Rattle.occ_core.specs.declared.core_serial.Ended as code_ended
 use Rattle.occ_core.proofs.Closing.{close_refusal}
 use Rattle.occ_core.proofs.Counting.{active_counted}
 use Rattle.occ_core.proofs.Entering.{nest, nest_last, counter_is, checks_placed, open_case}
@@ -184,9 +185,9 @@ module _ (w : World) (session number start : ℕ) (writes : List Write) (none : 
     backs : (cause : Cause) → backed same session number start reads theirs cause ≡ backed w session number start (reads_under w session number) writes cause
     backs cause = λ i. backed (kept i) session number start (reads_is i) (shared i) cause
 
-    pub commit_lawful : Invariant w → verdicts.Commit ≡ validity_of same session number start writes → Invariant (committed same session number start reads theirs)
+    pub commit_lawful : IsLawful w → verdicts.Commit ≡ validity_of same session number start writes → IsLawful (committed same session number start reads theirs)
     commit_lawful inv valid =
-        subst Invariant (sym commits) (keeps w (SerialEnd session (Request number start writes)) (Finished (w.counter + 1)) (committed w session number start (reads_under w session number) writes) inv
+        subst IsLawful (sym commits) (keeps_lawful w (SerialEnd session (Request number start writes)) (Finished (w.counter + 1)) (committed w session number start (reads_under w session number) writes) inv
         (commit_step (valid ∙ ap (λ v. validity_of v session number start writes) kept)))
 
     pub commit_returns : verdicts.Commit ≡ validity_of same session number start writes → (answer : ℕ) → answer ≡ same.counter + 1 → (new : World) → new ≡ committed same session number start reads theirs
@@ -196,9 +197,9 @@ module _ (w : World) (session number start : ℕ) (writes : List Write) (none : 
         (subst (λ a. Step w (SerialEnd session (Request number start writes)) (Finished a) (committed w session number start (reads_under w session number) writes)) (sym (answer_is ∙ ap (λ (v : World). v.counter + 1) kept))
         (commit_step (valid ∙ ap (λ v. validity_of v session number start writes) kept)))
 
-    pub back_lawful : (cause : Cause) → Invariant w → verdicts.BackUp cause ≡ validity_of same session number start writes → Invariant (backed same session number start reads theirs cause)
+    pub back_lawful : (cause : Cause) → IsLawful w → verdicts.BackUp cause ≡ validity_of same session number start writes → IsLawful (backed same session number start reads theirs cause)
     back_lawful cause inv valid =
-        subst Invariant (sym (backs cause)) (keeps w (SerialEnd session (Request number start writes)) (EndedBack cause) (backed w session number start (reads_under w session number) writes cause) inv
+        subst IsLawful (sym (backs cause)) (keeps_lawful w (SerialEnd session (Request number start writes)) (EndedBack cause) (backed w session number start (reads_under w session number) writes cause) inv
         (back_step cause (valid ∙ ap (λ v. validity_of v session number start writes) kept)))
 
     pub back_returns : (cause : Cause) → verdicts.BackUp cause ≡ validity_of same session number start writes → (new : World) → new ≡ backed same session number start reads theirs cause
@@ -208,7 +209,7 @@ module _ (w : World) (session number start : ℕ) (writes : List Write) (none : 
         (back_step cause (valid ∙ ap (λ v. validity_of v session number start writes) kept))
 
 -- a fault is replied as it is
-pub ending_err : (old new : World) (event : Event) (reply : Result Ended Fault) (fault : Fault) → reply ≡ Err fault → Step old event (Refused fault) new → Step old event (ending reply) new
+pub ending_err : {Z : Type 0} (old new : World) (event : Event) (reply : Result (code_ended.Ended Z) Fault) (fault : Fault) → reply ≡ Err fault → Step old event (Refused fault) new → Step old event (ending reply) new
 ending_err old new event reply fault is step = subst (λ r. Step old event (ending r) new) (sym is) step
 
 -- The end of what a session hands in.

@@ -6,6 +6,7 @@ use Rattle.occ_types.specs.declared.limits.TheConstants.{MAX_COUNTER, MAX_LOG_RO
 use Rattle.occ_model.proofs.Tests as tests
 use Rattle.occ_model.proofs.Steps.{audited}
 use Rattle.occ_model.specs.Invariant.{Invariant}
+use Rattle.occ_model.specs.Content.{IsInSchema}
 use Rattle.occ_model.specs.Log.{Audited}
 use Rattle.occ_model.specs.World.{World, empty_base, active_count, has_session, last_entered}
 use Rattle.occ_core.specs.Parts.{Parts, world_of, AreSound}
@@ -13,6 +14,7 @@ use Rattle.occ_core.proofs.Reading.{there}
 
 pub record Lawful (world : World) : Type 0 where
   pub invariant : Invariant world
+  pub content : IsInSchema world
   pub base : world.base ≡ empty_base
   pub audited : Audited empty_base world.marks world.table world.log
   pub counter : world.counter + active_count world ≤ MAX_COUNTER
@@ -32,9 +34,10 @@ last_fits parts sound session has =
 
 pub lawful : (parts : Parts) (world : World) → world_of parts ≡ world → AreSound parts → Lawful world
 lawful parts world seen sound = subst Lawful seen (record {
-  invariant = sound.law;
+  invariant = sound.law.invariant;
+  content = sound.law.content;
   base = refl;
-  audited = audited (world_of parts) sound.law;
+  audited = audited (world_of parts) sound.law.invariant;
   counter = sound.counter_room;
   numbers = last_fits parts sound;
   rows = sound.log_room;

@@ -1,5 +1,5 @@
 -- Whole transactions in one step: what such a step leaves, when it is refused, and what it replies.
-use Rattle.std.specs.Prelude.{◌≡◌, ℕ, ◌+◌, ◌<◌, true, false, nat_lt, List, [], ◌∷◌, ◌++◌, length, Option, Result, Ok, Err}
+use Rattle.std.specs.Prelude.{◌≡◌, ℕ, ◌+◌, ◌<◌, true, false, nat_lt, List, [], ◌∷◌, ◌++◌, map, length, Option, Result, Ok, Err}
 use Rattle.std.specs.FinMap as finite
 use Rattle.std.specs.FinMap.{FinMap}
 use Rattle.std.specs.Ordering.{nat_cmp}
@@ -12,13 +12,14 @@ use Rattle.occ_model.specs.State.{Write, Observation, apply}
 use Rattle.occ_model.specs.Log.{LogRow, Done, Back}
 use Rattle.occ_model.specs.World.{World, ReadPhase, phase_cmp, active_count, has_session, is_held}
 use Rattle.occ_model.specs.Step.{entering}
-use Rattle.occ_model.specs.Event.{Reply, Refused, Closed, Finished, EndedBack}
+use Rattle.occ_model.specs.Event.{Reply, Refused, Closed, Finished, EndedBack, RanAlone}
 use Rattle.occ_model.specs.declared.verdict.Cause.{Cause}
 use Rattle.occ_queue.specs.declared.items.Item as items
+use Rattle.occ_sets.specs.Seen.{answer_of}
 use Rattle.occ_core.specs.Reads.{start_fault}
 use Rattle.occ_core.specs.Entries.{spare_fault, turn_to_close}
 use Rattle.occ_log.specs.Slots.{Slot, active_from}
-use Rattle.occ_core.specs.declared.core_serial.Ended.{Ended}
+use Rattle.occ_core.specs.declared.core_serial.Ended as code_ended
 use Rattle.occ_core.specs.declared.core_serial.Ended.TheVariants as ends
 
 -- A transaction committed at once: its row stands at the end of the log under the next transaction number, its writes are done, and its read phase is over.
@@ -58,17 +59,19 @@ turn_to_end slots marks log phases counter session number start = first_fault (
     ∷ start_fault phases counter session number start
     ∷ [])
 
--- what the end of a transaction replies
-abbrev pub ending : Result Ended Fault → Reply
-ending (Ok (ends.Committed number)) = Finished number
-ending (Ok (ends.BackedUp cause)) = EndedBack cause
-ending (Ok ends.MarkedClosed) = Closed
-ending (Err fault) = Refused fault
-
 module _ {Z : Type 0} where
+  -- what the end of a transaction replies
+  abbrev pub ending : Result (code_ended.Ended Z) Fault → Reply
+  ending (Ok (ends.Committed number)) = Finished number
+  ending (Ok (ends.BackedUp cause)) = EndedBack cause
+  ending (Ok (ends.RanAlone number answers)) = RanAlone number (map answer_of answers.items)
+  ending (Ok ends.MarkedClosed) = Closed
+  ending (Err fault) = Refused fault
+
   -- and so where it hands back what is refused
-  abbrev pub ending_item : Result Ended (refused.Refused (items.Item Z)) → Reply
+  abbrev pub ending_item : Result (code_ended.Ended Z) (refused.Refused (items.Item Z)) → Reply
   ending_item (Ok (ends.Committed number)) = Finished number
   ending_item (Ok (ends.BackedUp cause)) = EndedBack cause
+  ending_item (Ok (ends.RanAlone number answers)) = RanAlone number (map answer_of answers.items)
   ending_item (Ok ends.MarkedClosed) = Closed
   ending_item (Err refusal) = Refused refusal.fault

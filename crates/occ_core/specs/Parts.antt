@@ -7,7 +7,7 @@ use Rattle.occ_model.specs.State.{State, Write}
 use Rattle.occ_model.specs.Log.{LogRow}
 use Rattle.occ_model.specs.Validity.{AreSame, finished_opponents}
 use Rattle.occ_model.specs.World.{Settings, World, ReadPhase, phase_cmp, empty_base, low, last_entered, active_count}
-use Rattle.occ_model.specs.Invariant.{Invariant}
+use Rattle.occ_model.specs.Content.{IsLawful}
 use Rattle.occ_log.specs.Slots.{Slot, Hold, held_from, IsHeldAt}
 
 pub record Parts : Type 0 where
@@ -45,7 +45,7 @@ pub record SlotIsTrue (parts : Parts) (place : ℕ) (slot : Slot) : Type 0 where
 
 -- What holds of the parts of every core.
 pub record AreSound (parts : Parts) : Type 0 where
-  pub law : Invariant (world_of parts)
+  pub law : IsLawful (world_of parts)
   pub each_session : length parts.slots ≡ parts.settings.sessions
   pub slots_true : (place : ℕ) (slot : Slot) → slice_get parts.slots place ≡ Some slot → SlotIsTrue parts place slot
   pub window_size : length parts.window ≡ parts.counter - low_of parts

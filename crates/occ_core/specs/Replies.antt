@@ -1,5 +1,5 @@
 -- What the calls of a core reply, as replies of the model.
-use Rattle.std.specs.Prelude.{◌≡◌, ◌<◌, ℕ, Bool, List, [], ◌∷◌, length, slice_get, Option, None, Some, Result, Ok, Err, Vec}
+use Rattle.std.specs.Prelude.{◌≡◌, ◌<◌, ℕ, Bool, List, [], ◌∷◌, map, length, slice_get, Option, None, Some, Result, Ok, Err, Vec}
 use Rattle.occ_types.specs.declared.fault.Fault.{Fault}
 use Rattle.occ_types.specs.declared.keys.Key as code_key
 use Rattle.occ_types.specs.Object.{Object}
@@ -7,11 +7,11 @@ use Rattle.occ_types.specs.Row.{Row}
 use Rattle.occ_model.specs.State.{Write, Found, Rows}
 use Rattle.occ_model.specs.Log.{LogRow, Writing, rest}
 use Rattle.occ_model.specs.World.{World, latest}
-use Rattle.occ_model.specs.Event.{Reply, Refused, Answered, Forgotten, Entered, Closed, Decided, Wrote, NoMore, Finished, BackedUp}
+use Rattle.occ_model.specs.Event.{Reply, Refused, Answered, Forgotten, Entered, Closed, Decided, Wrote, NoMore, Finished, BackedUp, RanAlone}
 use Rattle.occ_model.specs.declared.verdict.Verdict.{Verdict}
-use Rattle.occ_sets.specs.Seen.{rows_of}
+use Rattle.occ_sets.specs.Seen.{rows_of, answer_of}
 use Rattle.occ_log.specs.Slots.{written_in}
-use Rattle.occ_core.specs.declared.core_entries.Entry.{Entry}
+use Rattle.occ_core.specs.declared.core_entries.Entry as code_entry
 use Rattle.occ_core.specs.declared.core_entries.Entry.TheVariants as entries
 use Rattle.occ_queue.specs.declared.items.Item as items
 use Rattle.occ_types.specs.declared.fault.Refused as refused
@@ -22,16 +22,18 @@ abbrev pub decision : Result Verdict Fault → Reply
 decision (Ok verdict) = Decided verdict
 decision (Err fault) = Refused fault
 
--- a request that enters replies the place of its row and the index of its case
-abbrev pub entry : Result Entry Fault → Reply
-entry (Ok (entries.Entered place index)) = Entered place index
-entry (Ok entries.MarkedClosed) = Closed
-entry (Err fault) = Refused fault
-
 module _ {Z : Type 0} where
+  -- a request that enters replies the place of its row and the index of its case, and operations what their run replies
+  abbrev pub entry : Result (code_entry.Entry Z) Fault → Reply
+  entry (Ok (entries.Entered place index)) = Entered place index
+  entry (Ok (entries.RanAlone number answers)) = RanAlone number (map answer_of answers.items)
+  entry (Ok entries.MarkedClosed) = Closed
+  entry (Err fault) = Refused fault
+
   -- and so where it hands back what is refused
-  abbrev pub entering : Result Entry (refused.Refused (items.Item Z)) → Reply
+  abbrev pub entering : Result (code_entry.Entry Z) (refused.Refused (items.Item Z)) → Reply
   entering (Ok (entries.Entered place index)) = Entered place index
+  entering (Ok (entries.RanAlone number answers)) = RanAlone number (map answer_of answers.items)
   entering (Ok entries.MarkedClosed) = Closed
   entering (Err refusal) = Refused refusal.fault
 

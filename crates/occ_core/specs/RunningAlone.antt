@@ -5,6 +5,7 @@ use Rattle.std.specs.FinMap.{FinMap}
 use Rattle.std.specs.Ordering.{nat_cmp}
 use Rattle.occ_types.specs.declared.fault.Fault.{Fault}
 use Rattle.occ_types.specs.declared.fault.Fault.TheVariants.{ReadOpen, SetFull}
+use Rattle.occ_types.specs.declared.fault.Refused as refused
 use Rattle.occ_types.specs.declared.limits.TheConstants.{MAX_OPERATIONS}
 use Rattle.occ_types.specs.Schema.{Schema, fault_if, first_fault}
 use Rattle.occ_model.specs.Event.{Reply, Refused, RanAlone}
@@ -14,6 +15,7 @@ use Rattle.occ_model.specs.Refusal.{check_operations}
 use Rattle.occ_model.specs.World.{ReadPhase, phase_cmp}
 use Rattle.occ_sets.specs.Seen.{answer_of}
 use Rattle.occ_sets.specs.declared.reads.Answer as code_answer
+use Rattle.occ_queue.specs.declared.items.Item as items
 use Rattle.occ_core.specs.AtOnce.{quiet_fault}
 use Rattle.occ_core.specs.Entries.{spare_fault, turn_to_close, log_fault, counter_fault}
 use Rattle.occ_log.specs.Slots.{Slot, active_from}
@@ -49,3 +51,8 @@ module _ {Z : Type 0} where
   abbrev pub running : Result (ℕ × Vec (code_answer.Answer Z) Z) Fault → Reply
   running (Ok done) = RanAlone done.0 (map answer_of done.1.items)
   running (Err fault) = Refused fault
+
+  -- and so where it hands back what is refused
+  abbrev pub running_item : Result (ℕ × Vec (code_answer.Answer Z) Z) (refused.Refused (items.Item Z)) → Reply
+  running_item (Ok done) = RanAlone done.0 (map answer_of done.1.items)
+  running_item (Err refusal) = Refused refusal.fault

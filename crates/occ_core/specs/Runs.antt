@@ -1,13 +1,14 @@
 -- What a list of steps does to a core, and what it is replied: a run of the model.
-use Rattle.std.specs.Prelude.{◌≡◌, ◌⊎◌, true, List, [], ◌∷◌, Option, None, Some}
+use Rattle.std.specs.Prelude.{◌≡◌, ◌⊎◌, true, List, [], ◌∷◌, map, Option, None, Some}
 use Rattle.occ_types.specs.declared.fault.Fault.TheVariants.{Memory}
 use Rattle.occ_types.specs.Question.{One, Span}
 use Rattle.occ_types.specs.Seen.{key_of, end_of, object_of}
 use Rattle.occ_model.specs.State.{Found, Rows}
-use Rattle.occ_model.specs.Event.{Event, Item, Read, Forget, Enter, Decide, WriteOne, Finish, BackUp, Reply, Refused, Answered, Forgotten, Entered, Closed, Decided, Wrote, NoMore, Finished, BackedUp}
+use Rattle.occ_model.specs.Event.{Event, Item, Alone, Read, Forget, Enter, Decide, WriteOne, Finish, BackUp, SerialEnd, RunAlone, Reply, Refused, Answered, Forgotten, Entered, Closed, Decided, Wrote, NoMore, Finished, BackedUp, EndedBack, RanAlone}
 use Rattle.occ_model.specs.Refusal.{refusal, has_writes_left}
 use Rattle.occ_core.specs.Core.{Seen, Transition}
-use Rattle.occ_sets.specs.Seen.{rows_of}
+use Rattle.occ_sets.specs.Seen.{rows_of, answer_of}
+use Rattle.occ_sets.specs.Operations.{ops_of}
 use Rattle.occ_queue.specs.Items.{item_of}
 use Rattle.occ_core.specs.declared.steps.Step as code_step
 use Rattle.occ_core.specs.declared.steps.Step.TheVariants as steps
@@ -25,6 +26,8 @@ module _ {Z : Type 0} where
   event_of (steps.WriteOne session) = WriteOne session
   event_of (steps.Finish session) = Finish session
   event_of (steps.BackUp session) = BackUp session
+  event_of (steps.SerialEnd session item) = SerialEnd session (item_of item)
+  event_of (steps.RunAlone session number operations) = RunAlone session number (ops_of operations.items)
 
   -- the plain reply
   abbrev pub reply_of : code_reply.Reply Z → Reply
@@ -38,6 +41,8 @@ module _ {Z : Type 0} where
   reply_of replies.NoMore = NoMore
   reply_of (replies.Finished number) = Finished number
   reply_of (replies.BackedUp number) = BackedUp number
+  reply_of (replies.EndedBack cause) = EndedBack cause
+  reply_of (replies.RanAlone number answers) = RanAlone number (map answer_of answers.items)
   reply_of (replies.Refused fault) = Refused fault
   reply_of (replies.RefusedItem refused) = Refused refused.fault
 
@@ -46,9 +51,11 @@ module _ {Z : Type 0} where
   handed_back (replies.RefusedItem refused) = Some (item_of refused.value)
   handed_back reply = None
 
-  -- the item that is to be handed back: that of an entry which is refused
+  -- the item that is to be handed back: that of an entry or a serial end which is refused, or that which a refused list of operations is
   abbrev pub owed : code_step.Step Z → Reply → Option Item
   owed (steps.Enter session item) (Refused fault) = Some (item_of item)
+  owed (steps.SerialEnd session item) (Refused fault) = Some (item_of item)
+  owed (steps.RunAlone session number operations) (Refused fault) = Some (Alone number (ops_of operations.items))
   owed step reply = None
 
   -- A single write is put off where there is one left, nothing refuses it, and there is no memory to name its object in the reply. (Of a deletion the model says that it takes none; its name may.)

@@ -1,7 +1,7 @@
 //! The two ends of a transaction that is done in one step.
 ghost use Rattle.std.specs.Prelude.{◌≡◌, ◌≤◌, ◌+◌, ◌-◌, ◌<◌, [], ◌∷◌, ◌++◌, length, None, OnOk, OnErr, IfOk, IsOkUnless, slice_set};
 ghost use Rattle.occ_types.specs.declared.fault.Fault.TheVariants.{Memory};
-ghost use Rattle.occ_model.specs.Invariant.{Invariant};
+ghost use Rattle.occ_model.specs.Content.{IsLawful};
 ghost use Rattle.occ_model.specs.State.{apply};
 ghost use Rattle.occ_model.specs.Step.{entering};
 ghost use Rattle.occ_core.specs.AtOnce.{committed, backed, MayEnd};
@@ -27,7 +27,7 @@ impl<A: Allocator + Copy> Core<A> {
         reads: ReadSet<A>,
         writes: &WriteSet<A>,
     ) -> Result<u64, Fault>
-        requires lawful { Invariant (committed self.old.world transaction.session transaction.number transaction.start reads writes.now) }
+        requires lawful { IsLawful (committed self.old.world transaction.session transaction.number transaction.start reads writes.now) }
         requires room { MayEnd self.old.world transaction.session transaction.number }
         requires placed { ArePlaced (length self.old.world.settings.schema) writes.now }
         ensures number { IfOk result (λ number. number ≡ self.old.world.counter + 1) }
@@ -55,7 +55,7 @@ impl<A: Allocator + Copy> Core<A> {
         writes: &WriteSet<A>,
         cause: Cause,
     ) -> Result<(), Fault>
-        requires lawful { Invariant (backed self.old.world transaction.session transaction.number transaction.start reads writes.now cause) }
+        requires lawful { IsLawful (backed self.old.world transaction.session transaction.number transaction.start reads writes.now cause) }
         requires room { MayEnd self.old.world transaction.session transaction.number }
         ensures ok { OnOk result (self.new.world ≡ backed self.old.world transaction.session transaction.number transaction.start reads writes.now cause) }
         ensures err { OnErr result (self.new ≡ self.old) }

@@ -1,15 +1,16 @@
 //! Lists of operations that run alone, in one step.
-ghost use Rattle.std.specs.Prelude.{◌≡◌, length, IfOk, IsOkUnless};
+ghost use Rattle.std.specs.Prelude.{◌≡◌, length, IfOk, IfErr, IsOkUnless};
 ghost use Rattle.std.specs.Result.{result_err};
 ghost use Rattle.occ_types.specs.declared.fault.Fault.TheVariants.{Memory};
-ghost use Rattle.occ_model.specs.Event.{RunAlone};
+ghost use Rattle.occ_model.specs.Event.{RunAlone, Alone};
 ghost use Rattle.occ_model.specs.Operations.{nothing_yet, perform_all};
 ghost use Rattle.occ_model.specs.Refusal.{refusal};
 ghost use Rattle.occ_sets.specs.Operations.{ops_of};
 ghost use Rattle.occ_operations.specs.Performed.{progress_of};
 ghost use Rattle.occ_core.specs.Core.{Transition};
 ghost use Rattle.occ_log.specs.Logs.{row_at};
-ghost use Rattle.occ_core.specs.RunningAlone.{read_open_fault, count_fault, turn_to_run, room_to_run, running};
+ghost use Rattle.occ_core.specs.RunningAlone.{read_open_fault, count_fault, turn_to_run, room_to_run, running, running_item};
+ghost use Rattle.occ_queue.specs.Items.{item_of};
 
 use crate::actives::count_active;
 use crate::core_closing::check_turn_to_close;
@@ -19,9 +20,10 @@ use crate::entry_checks::{check_counter, check_log, check_spare};
 use occ_book::Marks;
 use occ_log::{Log, ReadPhases, Sessions, Transaction};
 use occ_operations::{Performed, perform_all};
+use occ_queue::Item;
 use occ_sets::{Answer, Op, check_operations};
 use occ_types::limits::MAX_OPERATIONS;
-use occ_types::{Fault, Schema};
+use occ_types::{Fault, Refused, Schema};
 use std::alloc::Allocator;
 
 impl<A: Allocator + Copy> Core<A> {
@@ -51,6 +53,25 @@ impl<A: Allocator + Copy> Core<A> {
         };
         let tn = self.commit_at_once(transaction, done.reads, &done.writes)?;
         Ok((tn, done.answers))
+    }
+
+    // Runs a list of operations alone that is handed over, and handed back in its item where it is refused.
+    pub(crate) fn take_alone(
+        &mut self,
+        session: usize,
+        number: u64,
+        operations: Vec<Op<A>, A>,
+    ) -> Result<(u64, Vec<Answer<A>, A>), Refused<Item<A>>>
+        ensures step { Transition self.old (RunAlone session number (ops_of operations.items)) (running_item result) self.new }
+        ensures handed_back { IfErr result (λ refused. item_of refused.value ≡ Alone number (ops_of operations.items)) }
+    {
+        match self.run_alone(session, number, operations.as_slice()) {
+            Ok(ran) => Ok(ran),
+            Err(fault) => Err(Refused {
+                value: Item::Alone { number, operations },
+                fault,
+            }),
+        }
     }
 
     // What a list of operations does, of which nothing stands in the tables yet. What it read and wrote is shared from now on.

@@ -18,7 +18,7 @@ use std::alloc::Allocator;
 
 impl<A: Allocator> Core<A> {
     // Enters the closing mark of a session, which takes no memory.
-    pub(crate) fn enter_close(&mut self, session: usize, number: u64) -> Result<Entry, Fault>
+    pub(crate) fn enter_close(&mut self, session: usize, number: u64) -> Result<Entry<A>, Fault>
         ensures { Transition self.old (Enter session (Close number)) (entry result) self.new }
     {
         self.check_close(session, number)?;

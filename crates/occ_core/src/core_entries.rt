@@ -3,12 +3,13 @@ ghost use Rattle.std.specs.Prelude.{◌≡◌, length, IfOk, IfErr};
 ghost use Rattle.std.specs.Result.{result_err};
 ghost use Rattle.occ_model.specs.Log.{Case as PlainCase, Open};
 ghost use Rattle.occ_model.specs.World.{reads_under};
-ghost use Rattle.occ_model.specs.Event.{Enter, Request};
+ghost use Rattle.occ_model.specs.Event.{Enter, Request, Alone};
 ghost use Rattle.occ_model.specs.Refusal.{refusal};
 ghost use Rattle.occ_model.specs.Step.{IsCaseOf, entering as entering_row};
 ghost use Rattle.occ_log.specs.Rows.{log_row_of};
 ghost use Rattle.occ_core.specs.Core.{Transition};
 ghost use Rattle.occ_core.specs.Replies.{entering, entry};
+ghost use Rattle.occ_sets.specs.Operations.{ops_of};
 ghost use Rattle.occ_queue.specs.Items.{item_of};
 
 use crate::actives::active_writes;
@@ -18,19 +19,27 @@ use occ_book::{LogRow, Standing};
 use occ_case::{Case, OpenCase};
 use occ_log::{Held, Transaction};
 use occ_queue::Item;
-use occ_sets::{ReadSet, WriteSet};
+use occ_sets::{Answer, Op, ReadSet, WriteSet};
 use occ_types::{Fault, Refused};
 use std::alloc::{AllocError, Allocator};
 
 /// What came of an entry.
-#[derive(Clone, Copy, Debug, PartialEq, Eq)]
-pub enum Entry {
+#[derive(Drop)]
+#[derive_where(Debug)]
+pub enum Entry<A: Allocator> {
     /// A transaction entered.
     Entered {
         /// The place of its row in the log.
         place: usize,
         /// The index that names its case.
         index: u64,
+    },
+    /// Operations ran alone, and committed.
+    RanAlone {
+        /// The transaction number.
+        number: u64,
+        /// What its questions were answered, in their order.
+        answers: Vec<Answer<A>, A>,
     },
     /// The closing mark entered: the session is closed.
     MarkedClosed,
@@ -40,14 +49,15 @@ impl<A: Allocator + Copy> Core<A> {
     /// Enters what a session hands in. A request is a transaction that ends its read phase with this number, start and writes. Its
     /// row, with what was read under the number, comes into the log and is open. Its case is fixed now, however late its decision
     /// comes: its opponents are the transactions that are active, and of those that finished since its start the ones in the window.
-    /// A closing mark ends the session: it is noted, and what the session has read under any number is dropped. That takes no memory.
+    /// Operations that run alone do now what `Core::run_alone` does with them, and are refused as there. A closing mark ends the
+    /// session: it is noted, and what the session has read under any number is dropped. That takes no memory.
     ///
     /// Refused, the first of these that holds: where there is no such session; where it is closed; where the number is not the one that is
     /// due; where the session has a row under way; and a request also where only the number of the closing mark is left; where the read
     /// phase has another start, or there is none and the start lies above the counter; where a write does not fit the schema; where the
     /// log is full; where the counter has no room for one more; and where there is no memory. The item is handed back then, and nothing
     /// moves.
-    pub fn enter(&mut self, session: usize, item: Item<A>) -> Result<Entry, Refused<Item<A>>>
+    pub fn enter(&mut self, session: usize, item: Item<A>) -> Result<Entry<A>, Refused<Item<A>>>
         ensures step { Transition self.old (Enter session (item_of item)) (entering result) self.new }
         ensures handed_back { IfErr result (λ refused. item_of refused.value ≡ item_of item) }
     {
@@ -74,6 +84,7 @@ impl<A: Allocator + Copy> Core<A> {
                     }),
                 }
             }
+            Item::Alone { number, operations } => self.enter_alone(session, number, operations),
             Item::Close { number } => match self.enter_close(session, number) {
                 Ok(entry) => Ok(entry),
                 Err(fault) => Err(Refused {
@@ -84,12 +95,28 @@ impl<A: Allocator + Copy> Core<A> {
         }
     }
 
+    // Enters operations that run alone: they run now.
+    fn enter_alone(
+        &mut self,
+        session: usize,
+        number: u64,
+        operations: Vec<Op<A>, A>,
+    ) -> Result<Entry<A>, Refused<Item<A>>>
+        ensures step { Transition self.old (Enter session (Alone number (ops_of operations.items))) (entering result) self.new }
+        ensures handed_back { IfErr result (λ refused. item_of refused.value ≡ Alone number (ops_of operations.items)) }
+    {
+        match self.take_alone(session, number, operations) {
+            Ok((number, answers)) => Ok(Entry::RanAlone { number, answers }),
+            Err(refused) => Err(refused),
+        }
+    }
+
     // Enters a request, whose writes are shared from now on.
     fn enter_request(
         &mut self,
         transaction: Transaction,
         writes: &mut WriteSet<A>,
-    ) -> Result<Entry, Fault>
+    ) -> Result<Entry<A>, Fault>
         ensures step { Transition self.old (Enter transaction.session (Request transaction.number transaction.start writes.old)) (entry result) self.new }
         ensures kept { writes.new ≡ writes.old }
     {

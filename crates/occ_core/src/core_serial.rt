@@ -4,13 +4,14 @@ ghost use Rattle.std.specs.Result.{result_err};
 ghost use Rattle.occ_types.specs.declared.fault.Fault.TheVariants.{Memory};
 ghost use Rattle.occ_model.specs.State.{Write};
 ghost use Rattle.occ_model.specs.World.{reads_under};
-ghost use Rattle.occ_model.specs.Event.{SerialEnd, Request};
+ghost use Rattle.occ_model.specs.Event.{SerialEnd, Request, Alone, Close};
 ghost use Rattle.occ_model.specs.Refusal.{refusal, store_busy};
 ghost use Rattle.occ_model.specs.Step.{validity_of};
 ghost use Rattle.occ_model.specs.Validity.{verdict};
 ghost use Rattle.occ_core.specs.AtOnce.{quiet_fault, turn_to_end, ending, ending_item};
 ghost use Rattle.occ_core.specs.Core.{Transition};
 ghost use Rattle.occ_log.specs.Logs.{row_at};
+ghost use Rattle.occ_sets.specs.Operations.{ops_of};
 ghost use Rattle.occ_queue.specs.Items.{item_of};
 
 use crate::actives::count_active;
@@ -22,17 +23,25 @@ use occ_book::Marks;
 use occ_case::{Cause, Verdict};
 use occ_log::{Log, ReadPhases, Sessions, Transaction, Window};
 use occ_queue::Item;
-use occ_sets::{ReadSet, WriteSet};
+use occ_sets::{Answer, Op, ReadSet, WriteSet};
 use occ_types::{Fault, Refused};
 use std::alloc::Allocator;
 
 /// What came of a serial end.
-#[derive(Clone, Copy, Debug, PartialEq, Eq)]
-pub enum Ended {
+#[derive(Drop)]
+#[derive_where(Debug)]
+pub enum Ended<A: Allocator> {
     /// The transaction committed under this transaction number, and all its writes are done.
     Committed(u64),
     /// The transaction was backed up, and none of its writes is done.
     BackedUp(Cause),
+    /// Operations ran alone, and committed.
+    RanAlone {
+        /// The transaction number.
+        number: u64,
+        /// What its questions were answered, in their order.
+        answers: Vec<Answer<A>, A>,
+    },
     /// The closing mark entered: the session is closed.
     MarkedClosed,
 }
@@ -40,14 +49,18 @@ pub enum Ended {
 impl<A: Allocator + Copy> Core<A> {
     /// Ends what a session hands in, in one step. A request enters, is tested against the write sets of the transactions that finished since
     /// its start, and either commits, with all its writes done, or is backed up. Its row, with what was read under the number, comes into the
-    /// log, and the session may go on. It makes no case. A closing mark does what `Core::enter` does with it.
+    /// log, and the session may go on. It makes no case. Operations that run alone, and a closing mark, do what `Core::enter` does with them.
     ///
     /// Refused, the first of these that holds: where there is no such session; where it is closed; where the number is not the one that is
     /// due; where the session has a row under way; and a request also where any transaction is active; where only the number of the closing
     /// mark is left; where the read phase has another start, or there is none and the start lies above the counter; where a write does not fit
     /// the schema; where the log is full; where the counter has no room for one more; and where there is no memory. The item is handed back
     /// then, and nothing moves.
-    pub fn serial_end(&mut self, session: usize, item: Item<A>) -> Result<Ended, Refused<Item<A>>>
+    pub fn serial_end(
+        &mut self,
+        session: usize,
+        item: Item<A>,
+    ) -> Result<Ended<A>, Refused<Item<A>>>
         ensures step { Transition self.old (SerialEnd session (item_of item)) (ending_item result) self.new }
         ensures handed_back { IfErr result (λ refused. item_of refused.value ≡ item_of item) }
     {
@@ -74,13 +87,38 @@ impl<A: Allocator + Copy> Core<A> {
                     }),
                 }
             }
-            Item::Close { number } => match self.enter_close(session, number) {
-                Ok(_entry) => Ok(Ended::MarkedClosed),
-                Err(fault) => Err(Refused {
-                    value: Item::Close { number },
-                    fault,
-                }),
-            },
+            Item::Alone { number, operations } => self.end_alone(session, number, operations),
+            Item::Close { number } => self.end_close(session, number),
+        }
+    }
+
+    // Ends with a closing mark, which enters.
+    fn end_close(&mut self, session: usize, number: u64) -> Result<Ended<A>, Refused<Item<A>>>
+        ensures step { Transition self.old (SerialEnd session (Close number)) (ending_item result) self.new }
+        ensures handed_back { IfErr result (λ refused. item_of refused.value ≡ Close number) }
+    {
+        match self.enter_close(session, number) {
+            Ok(_entry) => Ok(Ended::MarkedClosed),
+            Err(fault) => Err(Refused {
+                value: Item::Close { number },
+                fault,
+            }),
+        }
+    }
+
+    // Ends operations that run alone: they run now.
+    fn end_alone(
+        &mut self,
+        session: usize,
+        number: u64,
+        operations: Vec<Op<A>, A>,
+    ) -> Result<Ended<A>, Refused<Item<A>>>
+        ensures step { Transition self.old (SerialEnd session (Alone number (ops_of operations.items))) (ending_item result) self.new }
+        ensures handed_back { IfErr result (λ refused. item_of refused.value ≡ Alone number (ops_of operations.items)) }
+    {
+        match self.take_alone(session, number, operations) {
+            Ok((number, answers)) => Ok(Ended::RanAlone { number, answers }),
+            Err(refused) => Err(refused),
         }
     }
 
@@ -89,7 +127,7 @@ impl<A: Allocator + Copy> Core<A> {
         &mut self,
         transaction: Transaction,
         writes: &mut WriteSet<A>,
-    ) -> Result<Ended, Fault>
+    ) -> Result<Ended<A>, Fault>
         ensures step { Transition self.old (SerialEnd transaction.session (Request transaction.number transaction.start writes.old)) (ending result) self.new }
         ensures kept { writes.new ≡ writes.old }
     {

@@ -5,6 +5,7 @@ ghost use Rattle.occ_types.specs.declared.fault.Fault.TheVariants.{Memory};
 ghost use Rattle.occ_types.specs.Seen.{object_of};
 ghost use Rattle.occ_types.specs.declared.limits.TheConstants.{MAX_COUNTER, MAX_LOG_ROWS, MAX_NUMBER};
 ghost use Rattle.occ_model.specs.Invariant.{Invariant};
+ghost use Rattle.occ_model.specs.Content.{IsInSchema};
 ghost use Rattle.occ_model.specs.Log.{Audited};
 ghost use Rattle.occ_model.specs.Poll.{row_numbered};
 ghost use Rattle.occ_model.specs.World.{opened, low, empty_base, active_count, has_session, last_entered};
@@ -85,10 +86,11 @@ impl<A: Allocator + Copy> Core<A> {
 
 impl<A: Allocator> Core<A> {
     /// What holds of every core, between any two of its calls, for a caller to rest on: its world has the invariant that each step
-    /// keeps, so its log and tables pass the audit; each active transaction can still take a number; and the log, and the numbers of
-    /// each session, are within their limits. It computes nothing.
+    /// keeps, so its log and tables pass the audit; what stands in it fits its tables and sessions; each active transaction can still
+    /// take a number; and the log, and the numbers of each session, are within their limits. It computes nothing.
     pub fn law(&self)
         ensures invariant { Invariant self.now.world }
+        ensures content { IsInSchema self.now.world }
         ensures base { self.now.world.base ≡ empty_base }
         ensures audited { Audited empty_base self.now.world.marks self.now.world.table self.now.world.log }
         ensures counter { self.now.world.counter + active_count self.now.world ≤ MAX_COUNTER }

@@ -8,8 +8,8 @@ ghost use Rattle.occ_core.specs.Runs.{Answers, Runs};
 
 use crate::core_state::Core;
 use crate::replies::{
-    Reply, to_back_up, to_decision, to_entry, to_finish, to_forget, to_no_write, to_read, to_scan,
-    to_write,
+    Reply, to_back_up, to_decision, to_entry, to_finish, to_forget, to_no_write, to_read,
+    to_run_alone, to_scan, to_serial_end, to_write,
 };
 use crate::steps::Step;
 use occ_types::{Fault, Refused};
@@ -72,6 +72,12 @@ impl<A: Allocator + Copy> Core<A> {
             Step::WriteOne(session) => self.take_write(session),
             Step::Finish(session) => to_finish(self.finish(session)),
             Step::BackUp(session) => to_back_up(self.back_up(session)),
+            Step::SerialEnd { session, item } => to_serial_end(self.serial_end(session, item)),
+            Step::RunAlone {
+                session,
+                number,
+                operations,
+            } => to_run_alone(self.take_alone(session, number, operations)),
         }
     }
 

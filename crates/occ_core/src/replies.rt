@@ -3,13 +3,17 @@ ghost use Rattle.std.specs.Prelude.{◌≡◌, None, Some, option_map};
 ghost use Rattle.std.specs.Result.{result_err};
 ghost use Rattle.occ_types.specs.Seen.{object_of};
 ghost use Rattle.occ_core.specs.Replies.{reading, scanning, forgetting, entering, decision, finishing, backing, writing};
+ghost use Rattle.occ_core.specs.AtOnce.{ending_item};
+ghost use Rattle.occ_core.specs.RunningAlone.{running_item};
 ghost use Rattle.occ_core.specs.Runs.{reply_of, handed_back};
 ghost use Rattle.occ_queue.specs.Items.{item_of};
 
 use crate::core_entries::Entry;
+use crate::core_serial::Ended;
 use crate::core_turns::SingleWrite;
-use occ_case::Verdict;
+use occ_case::{Cause, Verdict};
 use occ_queue::Item;
+use occ_sets::Answer;
 use occ_types::{Fault, Key, Object, Refused, Row};
 use std::alloc::Allocator;
 
@@ -29,7 +33,7 @@ pub enum Reply<A: Allocator> {
         /// The index that names its case.
         index: u64,
     },
-    /// To the entry of a closing mark: the session is closed.
+    /// To a closing mark: the session is closed.
     Closed,
     /// To a decision: the verdict.
     Decided(Verdict),
@@ -37,13 +41,23 @@ pub enum Reply<A: Allocator> {
     Wrote(Object<A>),
     /// To a single write: none was left.
     NoMore,
-    /// To a finish: the transaction number.
+    /// To a finish, or to a serial end that committed: the transaction number.
     Finished(u64),
     /// To a back-up: the number of the transaction in its session.
     BackedUp(u64),
-    /// To a step that was refused, but for an entry: why. The core is as it was.
+    /// To a serial end that was backed up: why.
+    EndedBack(Cause),
+    /// To operations that ran alone.
+    RanAlone {
+        /// The transaction number.
+        number: u64,
+        /// What the questions were answered, in their order.
+        answers: Vec<Answer<A>, A>,
+    },
+    /// To a step that was refused and was handed no item: why. The core is as it was.
     Refused(Fault),
-    /// To an entry that was refused: why, and the item that was handed in. The core is as it was.
+    /// To an entry, a serial end or a run alone that was refused: why, and what was handed in. Operations come back as the item that
+    /// they are. The core is as it was.
     RefusedItem(Refused<Item<A>>),
 }
 
@@ -81,14 +95,42 @@ pub(crate) fn to_forget<A: Allocator>(called: Result<bool, Fault>) -> Reply<A>
 }
 
 // The reply to an entry.
-pub(crate) fn to_entry<A: Allocator>(called: Result<Entry, Refused<Item<A>>>) -> Reply<A>
+pub(crate) fn to_entry<A: Allocator>(called: Result<Entry<A>, Refused<Item<A>>>) -> Reply<A>
     ensures reply { reply_of result ≡ entering called }
     ensures back { handed_back result ≡ option_map (λ refused. item_of refused.value) (result_err called) }
 {
     match called {
         Ok(Entry::Entered { place, index }) => Reply::Entered { place, index },
+        Ok(Entry::RanAlone { number, answers }) => Reply::RanAlone { number, answers },
         Ok(Entry::MarkedClosed) => Reply::Closed,
         Err(refused) => Reply::RefusedItem(refused),
+    }
+}
+
+// The reply to a serial end.
+pub(crate) fn to_serial_end<A: Allocator>(called: Result<Ended<A>, Refused<Item<A>>>) -> Reply<A>
+    ensures reply { reply_of result ≡ ending_item called }
+    ensures back { handed_back result ≡ option_map (λ refused. item_of refused.value) (result_err called) }
+{
+    match called {
+        Ok(Ended::Committed(number)) => Reply::Finished(number),
+        Ok(Ended::BackedUp(cause)) => Reply::EndedBack(cause),
+        Ok(Ended::RanAlone { number, answers }) => Reply::RanAlone { number, answers },
+        Ok(Ended::MarkedClosed) => Reply::Closed,
+        Err(refusal) => Reply::RefusedItem(refusal),
+    }
+}
+
+// The reply to a run alone.
+pub(crate) fn to_run_alone<A: Allocator>(
+    called: Result<(u64, Vec<Answer<A>, A>), Refused<Item<A>>>,
+) -> Reply<A>
+    ensures reply { reply_of result ≡ running_item called }
+    ensures back { handed_back result ≡ option_map (λ refused. item_of refused.value) (result_err called) }
+{
+    match called {
+        Ok((number, answers)) => Reply::RanAlone { number, answers },
+        Err(refusal) => Reply::RefusedItem(refusal),
     }
 }
 

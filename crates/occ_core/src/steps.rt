@@ -1,5 +1,6 @@
 //! Steps: the calls of a core that change it.
 use occ_queue::Item;
+use occ_sets::Op;
 use occ_types::Key;
 use std::alloc::Allocator;
 
@@ -56,4 +57,20 @@ pub enum Step<A: Allocator> {
     Finish(usize),
     /// Lets this session go on after its transaction was decided to be backed up.
     BackUp(usize),
+    /// Ends what a session hands in, in one step.
+    SerialEnd {
+        /// The session.
+        session: usize,
+        /// What it hands in.
+        item: Item<A>,
+    },
+    /// Runs a list of operations alone, as a whole transaction in one step.
+    RunAlone {
+        /// The session.
+        session: usize,
+        /// The number of the transaction in its session.
+        number: u64,
+        /// What it does, one operation after another.
+        operations: Vec<Op<A>, A>,
+    },
 }

@@ -3,6 +3,12 @@
 #![tactic(auto)]
 
 #[cfg(test)]
-mod at_once_tests;
+mod life_tests;
+#[cfg(test)]
+mod stores;
+#[cfg(test)]
+mod telling;
 #[cfg(test)]
 mod tests;
+#[cfg(test)]
+mod thread_tests;

@@ -93,7 +93,7 @@ fn commit(
     };
     match store.serial_end(session, request)? {
         Ended::Committed(number) => Ok(Some(number)),
-        Ended::BackedUp(_) | Ended::MarkedClosed => Ok(None),
+        Ended::BackedUp(_) | Ended::RanAlone { .. } | Ended::MarkedClosed => Ok(None),
     }
 }
 

@@ -74,6 +74,14 @@ fn a_malformed_line_alone(rt: HostRuntime) -> Result<(), Fail> {
         "rawread 1 4294967296 0 t 1",
         "rawread 1 1 18446744073709551616 t 1",
         "rawread 1 1 0 t 18446744073709551616",
+        "serial",
+        "serial 256",
+        "serial 1 get:t:1",
+        "alone 1",
+        "alone 256 get:t:1",
+        "alone 1 add:t:1:'a",
+        "alone 1 put:t:1:2:3",
+        "alone 3 get:u:1 get:u:1 get:u:1 get:u:1 got:u:1",
     ] {
         let text = format!(in rt.alloc(); "{HEADER}{line}\n")?;
         assert!(rt;

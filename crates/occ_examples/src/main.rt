@@ -2,6 +2,8 @@
 #![tactic(auto)]
 
 #[cfg(test)]
+mod alone_tests;
+#[cfg(test)]
 mod attack_tests;
 #[cfg(test)]
 mod device_tests;
@@ -17,8 +19,10 @@ use std::process::ExitCode;
 use std::{fs, io};
 
 /// The schedules, each in a file `NAME.occ` with its text in `NAME.out`.
-const EXAMPLES: [&str; 27] = [
+const EXAMPLES: [&str; 34] = [
     "abandoned-and-begun-anew",
+    "alone-reads-its-own-writes",
+    "alone-while-another-writes",
     "blind-writes",
     "closed-sessions",
     "deletion-of-an-absent-key",
@@ -30,6 +34,7 @@ const EXAMPLES: [&str; 27] = [
     "full-read-set",
     "full-write-set",
     "judged-by-its-entry",
+    "long-range-alone",
     "lost-update",
     "malformed-key",
     "no-step",
@@ -39,11 +44,15 @@ const EXAMPLES: [&str; 27] = [
     "range-too-large",
     "read-between-two-writes",
     "refusals",
+    "refused-alone",
+    "refused-serial-ends",
+    "serial-ends",
     "text-keys",
     "text-lengths",
     "too-old",
     "torn-line",
     "upper-end-of-a-range",
+    "what-waits-to-run-alone",
     "write-phase-left-open",
 ];
 

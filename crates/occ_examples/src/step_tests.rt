@@ -4,13 +4,13 @@ use occ_cli::replay_text;
 use std::alloc::{AllocError, Global};
 use std::test::Fail;
 
-const HEADER: &str = "occ 1\nsessions 2\nqueue 4\nkeep 8\ntable t num int\n";
+pub(crate) const HEADER: &str = "occ 1\nsessions 2\nqueue 4\nkeep 8\ntable t num int\n";
 
 // The same, with room for one item that waits.
-const NARROW: &str = "occ 1\nsessions 2\nqueue 1\nkeep 8\ntable t num int\n";
+pub(crate) const NARROW: &str = "occ 1\nsessions 2\nqueue 1\nkeep 8\ntable t num int\n";
 
 // Whether a replay under this header answers each step so, and then prints this behind the header.
-fn answers(
+pub(crate) fn answers(
     alloc: Global,
     header: &str,
     turns: &[(&str, &str)],

@@ -7,6 +7,8 @@ pub mod Orders
 pub mod Folds
 pub mod Phases
 pub mod Steps
+pub mod Content
+pub mod InSchema
 pub mod Polls
 pub mod Decisions
 pub mod SerialEnds

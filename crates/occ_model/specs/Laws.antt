@@ -6,11 +6,12 @@ use Rattle.occ_types.specs.declared.fault.Fault.{Fault}
 use Rattle.occ_model.specs.State.{Write}
 use Rattle.occ_model.specs.Log.{LogRow, Standing, Open, Writing, Done, Back, Case, Base, last_folded, questions, Audited, Quiet, serial}
 use Rattle.occ_model.specs.Validity.{validity, IsCaseAt, verdict}
-use Rattle.occ_model.specs.World.{Settings, World, resumed, low, next_place, latest}
+use Rattle.occ_model.specs.World.{Settings, World, opened, resumed, low, next_place, latest}
 use Rattle.occ_model.specs.Event.{Request, Event, Enter, Decide, WriteOne, Finish, SerialEnd, Checkpoint, Reply, Refused, Entered, Decided, Wrote, Finished, BackedUp, Folded}
 use Rattle.occ_model.specs.Refusal.{refusal, foldable}
 use Rattle.occ_model.specs.Step.{Step, Run, Taken, validity_of, foldable_part}
 use Rattle.occ_model.specs.Invariant.{Invariant}
+use Rattle.occ_model.specs.Content.{IsInSchema}
 use Rattle.occ_model.specs.Poll.{poll, Rises}
 use Rattle.occ_model.specs.declared.verdict.Verdict.{Verdict}
 use Rattle.occ_model.specs.declared.verdict.Verdict.TheVariants as verdicts
@@ -94,3 +95,7 @@ CheckpointFolds = (old new : World) (count : ℕ) → Step old Checkpoint (Folde
 abbrev pub PollsRise : Type 0
 PollsRise = (old new : World) (event : Event) (reply : Reply) → Invariant old → Step old event reply new
     → (session : ℕ) → Rises (poll old session) (poll new session)
+
+-- What stands in a store that was opened fits its schema after every run: the sessions of its rows and marks are those that there are, no start or finish is above the counter, and the keys, rows and questions of its tables, read phases and log fit the tables.
+abbrev pub RunsStayInSchema : Type 0
+RunsStayInSchema = (settings : Settings) (events : List (Event × Reply)) (world : World) → Run (opened settings) events world → IsInSchema world

@@ -8,6 +8,7 @@ pub mod Event
 pub mod Refusal
 pub mod Step
 pub mod Invariant
+pub mod Content
 pub mod Poll
 pub mod Laws
 pub mod RangeLaws

@@ -1,6 +1,6 @@
 //! The laws of the model. Each function computes nothing: its contract is the law, and the check proves it.
 
-ghost use Rattle.occ_model.specs.Laws.{Headline, VerdictIsValidity, Decisions, RefusalsLeave, StepsKeep, SerialEndIsItsParts, CheckpointFolds, PollsRise};
+ghost use Rattle.occ_model.specs.Laws.{Headline, VerdictIsValidity, Decisions, RefusalsLeave, StepsKeep, SerialEndIsItsParts, CheckpointFolds, PollsRise, RunsStayInSchema};
 
 /// After every run, for every number of sessions and every window, from the empty store or from any base: the log holds each
 /// session's transactions once, in the order of their numbers, without a gap and none after its closing mark; each committed one
@@ -45,4 +45,9 @@ pub fn a_checkpoint_folds_what_is_settled()
 /// over, nor the transaction number of its last one to finish.
 pub fn polls_never_fall()
     ensures { PollsRise }
+{}
+
+/// What stands in a store that was opened fits its schema, after every run.
+pub fn every_run_stays_in_its_schema()
+    ensures { RunsStayInSchema }
 {}

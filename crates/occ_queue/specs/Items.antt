@@ -1,6 +1,7 @@
 -- What clauses see of the code's items: the plain items of the model.
 use Rattle.std.specs.Prelude.{ℕ, Bool, true, false, List, map}
 use Rattle.occ_model.specs.Event.{Item, Request, Alone, Close}
+use Rattle.occ_sets.specs.Operations.{ops_of}
 use Rattle.occ_queue.specs.declared.items.Item as code_item
 use Rattle.occ_queue.specs.declared.items.Item.TheVariants as items
 
@@ -8,6 +9,7 @@ module _ {Z : Type 0} where
   -- the plain item
   abbrev pub item_of : code_item.Item Z → Item
   item_of (items.Request number start writes) = Request number start writes
+  item_of (items.Alone number operations) = Alone number (ops_of operations.items)
   item_of (items.Close number) = Close number
 
   -- the plain items, in their order

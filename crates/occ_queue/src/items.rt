@@ -2,7 +2,7 @@
 ghost use Rattle.std.specs.Prelude.{◌≡◌};
 ghost use Rattle.occ_queue.specs.Items.{item_of, is_mark, number_of};
 
-use occ_sets::WriteSet;
+use occ_sets::{Op, WriteSet};
 use std::alloc::Allocator;
 
 /// What a session hands in.
@@ -18,6 +18,13 @@ pub enum Item<A: Allocator> {
         /// What it writes.
         writes: WriteSet<A>,
     },
+    /// Operations that run alone, as a whole transaction in one step.
+    Alone {
+        /// The number of the transaction in its session.
+        number: u64,
+        /// What it does, one operation after another.
+        operations: Vec<Op<A>, A>,
+    },
     /// The closing mark: nothing of the session comes after it.
     Close {
         /// The number that it takes in its session.
@@ -32,6 +39,7 @@ impl<A: Allocator> Item<A> {
     {
         match self {
             Item::Request { number, .. } => *number,
+            Item::Alone { number, .. } => *number,
             Item::Close { number } => *number,
         }
     }
@@ -41,7 +49,7 @@ impl<A: Allocator> Item<A> {
         ensures { result ≡ is_mark (item_of self.now) }
     {
         match self {
-            Item::Request { .. } => false,
+            Item::Request { .. } | Item::Alone { .. } => false,
             Item::Close { .. } => true,
         }
     }

@@ -16,12 +16,17 @@ use Rattle.occ_model.specs.State.{Write}
 use Rattle.occ_model.specs.Overlay.{set, own}
 use Rattle.occ_model.proofs.RangeLaws.{sets_own}
 use Rattle.occ_sets.specs.Seen.{write_of, writes_of}
-use Rattle.occ_sets.specs.Sets.{objects, is_full_for}
+use Rattle.occ_sets.specs.Sets.{WritesOnce, objects, is_full_for}
 
 -- no value is none
 some_absent : {X : Type 0} (r : Option X) → false ≡ is_some r → r ≡ None
 some_absent None e = refl
 some_absent (Some x) e = cc
+
+-- no writes write nothing twice
+pub none-WritesOnce : WritesOnce []
+unfolding IsDistinct
+none-WritesOnce = tt
 
 -- a set is full for no object that it has
 pub full_for_new : (writes : List Write) (object : Object) → is_full_for writes object ≡ true → own writes object ≡ None

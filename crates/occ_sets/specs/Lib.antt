@@ -1,3 +1,4 @@
+pub mod Handles
 pub mod Merging
 pub mod Operations
 pub mod Overlays

@@ -8,7 +8,8 @@ ghost use Rattle.occ_model.specs.Overlay.{set, own, overlay};
 ghost use Rattle.occ_sets.specs.Seen.{answer_of};
 ghost use Rattle.occ_sets.specs.Sets.{IsWriteSet, is_full_for};
 
-use crate::maps::{Write, WriteMap};
+use crate::handles::WriteHandle;
+use crate::maps::Write;
 use crate::overlays::{over_range, over_row};
 use crate::reads::Answer;
 use crate::writes::WriteSet;
@@ -22,7 +23,7 @@ use std::marker::Model;
 pub struct PrivateCopy<A: Allocator> {
     number: u64,
     start: u64,
-    writes: WriteMap<A>,
+    writes: WriteHandle<A>,
 }
 
 impl<A: Allocator> Model for PrivateCopy<A> {
@@ -45,7 +46,7 @@ impl<A: Allocator + Copy> PrivateCopy<A> {
         PrivateCopy {
             number,
             start,
-            writes: WriteMap::new(alloc),
+            writes: WriteHandle::new(alloc),
         }
     }
 
@@ -85,7 +86,7 @@ impl<A: Allocator> PrivateCopy<A> {
     }
 
     // The writes so far.
-    pub(crate) fn writes(&self) -> &WriteMap<A>
+    pub(crate) fn writes(&self) -> &WriteHandle<A>
         ensures { result.now ≡ self.now.writes }
     {
         &self.writes
@@ -121,6 +122,23 @@ impl<A: Allocator> PrivateCopy<A> {
         self.writes.own(object)
     }
 
+    /// The number, the start and the writes, for the request to enter. It takes no memory.
+    pub fn into_request(self) -> (u64, u64, WriteSet<A>)
+        ensures value { result ≡ (self.number, self.start, self.writes) }
+        ensures fits { IsWriteSet self.writes }
+    {
+        // Its clause says what holds of the writes.
+        let _len = self.len();
+        let PrivateCopy {
+            number,
+            start,
+            writes,
+        } = self;
+        (number, start, WriteSet::from_handle(writes))
+    }
+}
+
+impl<A: Allocator + Copy> PrivateCopy<A> {
     /// Writes an object of a table. A new object goes last; one that is there keeps its place and takes the new row, which needs no memory and has room always. A new one is refused with `SetFull` where there are 256 writes, and else with `Memory` where the copy cannot grow; both leave the copy as it was and hand the write back.
     pub fn put(&mut self, table: usize, key: Key<A>, row: Row<A>) -> Result<(), Refused<Write<A>>>
         ensures ok { OnOk result (self.new ≡ record self.old { writes = set self.old.writes (table, key_of key) (Some row) }) }
@@ -149,20 +167,5 @@ impl<A: Allocator> PrivateCopy<A> {
         ensures only_new { OnErr result (own self.old.writes (table, key_of key) ≡ None) }
     {
         self.writes.set(Object { table, key }, None)
-    }
-
-    /// The number, the start and the writes, for the request to enter. It takes no memory.
-    pub fn into_request(self) -> (u64, u64, WriteSet<A>)
-        ensures value { result ≡ (self.number, self.start, self.writes) }
-        ensures fits { IsWriteSet self.writes }
-    {
-        // Its clause says what holds of the writes.
-        let _len = self.len();
-        let PrivateCopy {
-            number,
-            start,
-            writes,
-        } = self;
-        (number, start, WriteSet::from_map(writes))
     }
 }

@@ -2,6 +2,7 @@
 #![tactic(auto)]
 
 mod copies;
+mod handles;
 mod maps;
 mod meets;
 #[cfg(test)]

@@ -10,7 +10,8 @@ ghost use Rattle.occ_sets.specs.Seen.{rows_of};
 ghost use Rattle.occ_sets.specs.Sets.{WritesOnce, is_full_for};
 ghost use Rattle.occ_sets.specs.Shareable.{held};
 
-use crate::maps::{Write, WriteMap};
+use crate::handles::WriteHandle;
+use crate::maps::Write;
 use crate::prepared::{merge, own_asked};
 use crate::shareable::Shareable;
 use occ_types::{Fault, Key, Object, Question, Refused, Row};
@@ -22,7 +23,7 @@ use std::mem;
 #[derive(Drop)]
 #[derive_where(Debug)]
 pub struct WriteSet<A: Allocator> {
-    content: Shareable<WriteMap<A>, A>,
+    content: Shareable<WriteHandle<A>, A>,
 }
 
 impl<A: Allocator> Model for WriteSet<A> {
@@ -41,7 +42,7 @@ impl<A: Allocator + Copy> WriteSet<A> {
     pub fn new(alloc: A) -> WriteSet<A>
         ensures { result ≡ [] }
     {
-        WriteSet::from_map(WriteMap::new(alloc))
+        WriteSet::from_handle(WriteHandle::new(alloc))
     }
 
     /// A set without a write, with room for `count` of them. Refused with `Memory` where there is none for it.
@@ -49,14 +50,14 @@ impl<A: Allocator + Copy> WriteSet<A> {
         ensures empty { IfOk result (λ writes. writes ≡ []) }
         ensures memory { IsOkUnless result Memory }
     {
-        let map = WriteMap::with_capacity(alloc, count)?;
-        Ok(WriteSet::from_map(map))
+        let map = WriteHandle::with_capacity(alloc, count)?;
+        Ok(WriteSet::from_handle(map))
     }
 }
 
 impl<A: Allocator> WriteSet<A> {
     // The set of some writes, which takes no memory.
-    pub(crate) fn from_map(map: WriteMap<A>) -> WriteSet<A>
+    pub(crate) fn from_handle(map: WriteHandle<A>) -> WriteSet<A>
         ensures { result ≡ map }
     {
         WriteSet {
@@ -65,7 +66,7 @@ impl<A: Allocator> WriteSet<A> {
     }
 
     // The writes.
-    pub(crate) fn map(&self) -> &WriteMap<A>
+    pub(crate) fn map(&self) -> &WriteHandle<A>
         ensures { result.now ≡ self.now }
     {
         self.content.get()
@@ -127,7 +128,7 @@ impl<A: Allocator + Copy> WriteSet<A> {
         ensures seen { IfOk result (λ seen. rows_of seen.items ≡ rows_over (question_of question.now) self.now (rows_of rows.items)) }
         ensures memory { IsOkUnless result Memory }
     {
-        let alloc = *self.map().entries.allocator();
+        let alloc = self.map().allocator();
         let own = own_asked(alloc, question, self.map())?;
         if own.len() == 0 {
             return Ok(rows);
@@ -141,8 +142,8 @@ impl<A: Allocator + Copy> WriteSet<A> {
         ensures kept { self.new ≡ self.old }
         ensures memory { IsOkUnless result Memory }
     {
-        let alloc = *self.map().entries.allocator();
-        self.content.share(alloc, WriteMap::new(alloc))?;
+        let alloc = self.map().allocator();
+        self.content.share(alloc, WriteHandle::new(alloc))?;
         Ok(())
     }
 
@@ -189,7 +190,7 @@ impl<A: Allocator + Copy> WriteSet<A> {
         ensures handed_back { IfErr result (λ refused. refused.value ≡ (record { table = table; key = key }, row)) }
         ensures memory { IfErr result (λ refused. refused.fault ≡ Memory) }
     {
-        let empty = WriteMap::new(*self.map().entries.allocator());
+        let empty = WriteHandle::new(self.map().allocator());
         let content = mem::replace(&mut self.content, Shareable::Plain(empty));
         let (content, done) = insert_in(content, (Object { table, key }, row));
         self.content = content;
@@ -198,10 +199,10 @@ impl<A: Allocator + Copy> WriteSet<A> {
 }
 
 // Does a write. It is refused, and handed back, where there is no memory.
-fn insert_in<A: Allocator + Clone>(
-    content: Shareable<WriteMap<A>, A>,
+fn insert_in<A: Allocator + Copy>(
+    content: Shareable<WriteHandle<A>, A>,
     write: Write<A>,
-) -> (Shareable<WriteMap<A>, A>, Result<(), Refused<Write<A>>>)
+) -> (Shareable<WriteHandle<A>, A>, Result<(), Refused<Write<A>>>)
     ensures ok { OnOk result.1 (held result.0 ≡ set (held content) (object_of write.0) write.1) }
     ensures err { OnErr result.1 (held result.0 ≡ held content) }
     ensures handed_back { IfErr result.1 (λ refused. refused.value ≡ write) }

@@ -21,7 +21,8 @@ use Rattle.occ_text.proofs.Numbers.{some_or_none, number_takes, number_again}
 use Rattle.occ_text.proofs.Escapes.{some_is, bind_value, map_value}
 use Rattle.occ_text.proofs.Words.{both, IsToken-from_test, tokens_takes, tokens_again, name_reads}
 use Rattle.occ_text.proofs.Spelled.{IsToken-decimal, IsToken-name}
-use Rattle.occ_text.proofs.StepLines.{takes, word_is, two_tokens, more_tokens, name_again}
+use Rattle.occ_text.proofs.Readers.{takes, word_is, name_again}
+use Rattle.occ_text.proofs.TokenLists.{two_tokens, more_tokens}
 
 -- a test that passed leaves what stands behind it
 pub tested : {X : Type 0} (b : Bool) (o : Option X) (x : X) → cond b o None ≡ Some x → (b ≡ true) × (o ≡ Some x)

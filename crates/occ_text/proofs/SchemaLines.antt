@@ -19,7 +19,8 @@ use Rattle.occ_text.specs.HeaderReading.{table_of_tokens, table_of_line}
 use Rattle.occ_text.specs.HeaderTaking.{TablesSoFar, if_free, table_behind, GoesOn}
 use Rattle.occ_text.proofs.Escapes.{some_is, bind_value}
 use Rattle.occ_text.proofs.Words.{both, IsToken-from_test, tokens_again}
-use Rattle.occ_text.proofs.StepLines.{takes, one_token}
+use Rattle.occ_text.proofs.Readers.{takes}
+use Rattle.occ_text.proofs.TokenLists.{one_token}
 use Rattle.occ_text.proofs.HeaderLines.{tested, table_reads}
 
 -- ---- what tables stand in a schema

@@ -1,7 +1,8 @@
 -- The bytes that stand in the spelling of a decimal, a key or a cell.
 use Rattle.std.proofs.Common.{◌≡◌, ℕ, suc, pos, negsuc, ◌+◌, ◌-◌, ◌^◌, ◌<◌, ◌≤◌, Bool, true, false, leb, ◌/◌, ◌%◌, List, [], ◌∷◌, length, FitsSigned, w64, refl, sym, subst, inl, inr, arith}
 use Rattle.std.specs.List.{All}
-use Rattle.std.specs.Fmt.{decimal}
+use Rattle.std.specs.Prelude.{ℤ}
+use Rattle.std.specs.Fmt.{decimal, signed_decimal}
 use Rattle.std.specs.Char.{is_ascii_digit, is_ascii_graphic, is_ascii_lowercase}
 use Rattle.std.proofs.lemmas.Bool.{leb-true, cases_lt}
 use Rattle.std.proofs.lemmas.Bool.Decides.{nat_tests}
@@ -75,7 +76,7 @@ pub of_key : (P : ℕ → Type 0) (key : Key) → OfSpellings P → KeyFits key 
 of_key P (keys.Num n) s fits = of_decimal P n s fits
 of_key P (keys.Text bytes) s fits = All-cons P 39 (escaped bytes) s.quote (of_escaped P bytes s fits.small)
 
-of_row : (P : ℕ → Type 0) (cells : Row) → OfSpellings P → P 44 → All CellFits cells → All P (row_text cells)
+pub of_row : (P : ℕ → Type 0) (cells : Row) → OfSpellings P → P 44 → All CellFits cells → All P (row_text cells)
 of_row P [] s comma each = All-nil P
 of_row P (a ∷ []) s comma each = of_cell P a s (All-head CellFits a [] each)
 of_row P (a ∷ b ∷ cells) s comma each =
@@ -136,3 +137,6 @@ row_some (a ∷ b ∷ cells) fits =
 
 pub IsToken-row : (cells : Row) → RowFits cells → IsToken (row_text cells)
 IsToken-row cells fits = record { some = row_some cells fits; graphic = of_row Graphic cells graphic refl fits.each }
+
+pub IsToken-int : (z : ℤ) → FitsSigned w64 z → IsToken (signed_decimal z)
+IsToken-int z fits = record { some = cell_some (rows.Int z) fits; graphic = of_cell Graphic (rows.Int z) graphic fits }

@@ -126,14 +126,14 @@ cell_again (rows.Text bytes) fits = ap (option_map rows.Text) (text_again bytes 
 
 -- ---- rows
 
-abbrev Lacks : ℕ → List ℕ → Type 0
+abbrev pub Lacks : ℕ → List ℕ → Type 0
 Lacks separator bytes = All (λ byte. byte ≢ separator) bytes
 
 -- a byte that stands in no cell, and in no key
 abbrev pub Separates : ℕ → Type 0
 Separates separator = OfSpellings (λ byte. byte ≢ separator)
 
-plain_differs : (separator byte : ℕ) → is_plain separator ≡ false → is_plain byte ≡ true → byte ≢ separator
+pub plain_differs : (separator byte : ℕ) → is_plain separator ≡ false → is_plain byte ≡ true → byte ≢ separator
 plain_differs separator byte other h e = absurd (false≢true (sym other ∙ ap is_plain (sym e) ∙ h))
 
 pub comma_separates : Separates 44

@@ -81,7 +81,7 @@ tokens_reads line = record {
 
 -- ---- names
 
-IsName-from_test : (token : List ℕ) → is_name token ≡ true → IsName token
+pub IsName-from_test : (token : List ℕ) → is_name token ≡ true → IsName token
 unfolding is_name
 IsName-from_test token h =
     let p = both (ltb 0 (length token) && leb (length token) 16) (list_all is_ascii_lowercase token) h in

@@ -6,8 +6,7 @@ use Rattle.occ_types.specs.declared.kind.Kind.TheVariants as cells
 use Rattle.occ_types.specs.declared.kind.KeyKind.{KeyKind}
 use Rattle.occ_types.specs.declared.kind.KeyKind.TheVariants as keys
 use Rattle.occ_types.specs.Schema.{Table}
-use Rattle.occ_text.specs.Reading.{tokens_of, number_of, name_of}
-use Rattle.occ_text.specs.StepReading.{◌>>=◌}
+use Rattle.occ_text.specs.Reading.{◌>>=◌, tokens_of, number_of, name_of}
 
 -- a number that isn't too small
 abbrev pub at_least : ℕ → ℕ → Option ℕ

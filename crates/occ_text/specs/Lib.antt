@@ -4,6 +4,8 @@ pub mod HeaderReading
 pub mod HeaderTaking
 pub mod Headers
 pub mod Line
+pub mod OperationReading
+pub mod Operations
 pub mod Parts
 pub mod Printing
 pub mod Reading

@@ -9,6 +9,11 @@ pub record Reads {X : Type 0} (spell : X → List ℕ) (fits : X → Type 0) (to
   pub found : IfSome read (λ x. (token ≡ spell x) × fits x)
   pub again : (x : X) → fits x → token ≡ spell x → read ≡ Some x
 
+-- what is read first, and then the rest
+infixl 10 ◌>>=◌
+abbrev pub ◌>>=◌ : {X Y : Type 0} → Option X → (X → Option Y) → Option Y
+read >>= rest = option_and_then rest read
+
 -- at least one byte, and only bytes 33 to 126
 unfoldable pub is_token : List ℕ → Bool
 is_token token = nat_lt 0 (length token) && list_all is_ascii_graphic token

@@ -1,21 +1,34 @@
 -- Reading the lines of steps, by the number of their tokens and then by their words.
-use Rattle.std.specs.Prelude.{◌-◌, ◌^◌, ℕ, List, [], ◌∷◌, Option, Some, None, if◌then◌else◌, option_and_then, codes}
-use Rattle.std.specs.List.{find}
+use Rattle.std.specs.Prelude.{◌-◌, ◌^◌, ◌==◌, ℕ, List, [], ◌∷◌, Option, Some, None, if◌then◌else◌, option_and_then, codes}
 use Rattle.std.specs.Str.{bytes_eq}
 use Rattle.occ_text.specs.declared.steps.Act.{Act}
-use Rattle.occ_text.specs.declared.steps.Act.TheVariants.{Begin, Abandon, Submit, Close, Enter, Decide, Write, Finish, BackUp}
+use Rattle.occ_text.specs.declared.steps.Act.TheVariants.{Begin, Abandon, Submit, Close, Enter, Serial, Decide, Write, Finish, BackUp}
+pub use Rattle.occ_text.specs.Reading.{◌>>=◌}
 use Rattle.occ_text.specs.Reading.{tokens_of, number_of, name_of}
 use Rattle.occ_text.specs.Escapes.{read_key, read_row}
-use Rattle.occ_text.specs.Steps.{Step, Does, Get, Scan, Put, Delete, Forge, RawRead, Show, act_word}
+use Rattle.occ_text.specs.OperationReading.{operations_of}
+use Rattle.occ_text.specs.Steps.{Step, Does, Get, Scan, Put, Delete, Forge, RawRead, Alone, Show, act_word}
 
--- what is read first, and then the rest
-infixl 10 ◌>>=◌
-abbrev pub ◌>>=◌ : {X Y : Type 0} → Option X → (X → Option Y) → Option Y
-read >>= rest = option_and_then rest read
+-- the one act whose word may begin with these two bytes
+unfoldable pub likely_act : ℕ → ℕ → Act
+likely_act first second = if first == 97 then Abandon
+    else (if first == 98 then (if second == 97 then BackUp else Begin)
+    else (if first == 99 then Close
+    else (if first == 100 then Decide
+    else (if first == 101 then Enter
+    else (if first == 102 then Finish
+    else (if first == 115 then (if second == 101 then Serial else Submit)
+    else Write))))))
 
--- the act of a word
+-- an act, where this is its word
+abbrev pub act_if : List ℕ → Act → Option Act
+act_if word act = if bytes_eq word (act_word act) then Some act else None
+
+-- the act of a word, which is compared with one word alone
 unfoldable pub act_of : List ℕ → Option Act
-act_of word = find (λ act. bytes_eq word (act_word act)) (Begin ∷ Abandon ∷ Submit ∷ Close ∷ Enter ∷ Decide ∷ Write ∷ Finish ∷ BackUp ∷ [])
+act_of [] = None
+act_of (a ∷ []) = None
+act_of (a ∷ b ∷ cs) = act_if (a ∷ b ∷ cs) (likely_act a b)
 
 -- WORD
 unfoldable pub bare_step : List ℕ → Option Step
@@ -103,16 +116,32 @@ last_step word session table key last = if bytes_eq word (codes "scan") then sca
 unfoldable pub long_step : List ℕ → List ℕ → List ℕ → List ℕ → List ℕ → List ℕ → Option Step
 long_step word session number start table key = if bytes_eq word (codes "rawread") then raw_step session number start table key else None
 
+-- the step of a word and some tokens, by their number
+unfoldable pub counted_step : List ℕ → List (List ℕ) → Option Step
+counted_step word [] = bare_step word
+counted_step word (s ∷ []) = act_step word s
+counted_step word (s ∷ t ∷ []) = None
+counted_step word (s ∷ t ∷ k ∷ []) = short_step word s t k
+counted_step word (s ∷ t ∷ k ∷ l ∷ []) = last_step word s t k l
+counted_step word (s ∷ n ∷ from ∷ t ∷ k ∷ []) = long_step word s n from t k
+counted_step word (s ∷ t ∷ k ∷ l ∷ m ∷ more ∷ others) = None
+
+-- alone S OP ..
+unfoldable pub alone_step : List ℕ → List (List ℕ) → Option Step
+alone_step session tokens = do
+  s ← number_of 255 session
+  o ← operations_of tokens
+  Some (Alone s o)
+
+-- the run alone of some tokens
+unfoldable pub alone_of_tokens : List (List ℕ) → Option Step
+alone_of_tokens [] = None
+alone_of_tokens (s ∷ tokens) = alone_step s tokens
+
 -- the step of some tokens
 unfoldable pub step_of_tokens : List (List ℕ) → Option Step
 step_of_tokens [] = None
-step_of_tokens (word ∷ []) = bare_step word
-step_of_tokens (word ∷ s ∷ []) = act_step word s
-step_of_tokens (word ∷ s ∷ t ∷ []) = None
-step_of_tokens (word ∷ s ∷ t ∷ k ∷ []) = short_step word s t k
-step_of_tokens (word ∷ s ∷ t ∷ k ∷ l ∷ []) = last_step word s t k l
-step_of_tokens (word ∷ s ∷ n ∷ from ∷ t ∷ k ∷ []) = long_step word s n from t k
-step_of_tokens (word ∷ s ∷ t ∷ k ∷ l ∷ m ∷ more ∷ others) = None
+step_of_tokens (word ∷ tokens) = if bytes_eq word (codes "alone") then alone_of_tokens tokens else counted_step word tokens
 
 -- the step of a line
 unfoldable pub step_of_line : List ℕ → Option Step

@@ -1,10 +1,11 @@
 -- The steps of a schedule, as plain data, and the one spelling of each (our own choice).
-use Rattle.std.specs.Prelude.{◌≤◌, ◌-◌, ◌^◌, ℕ, List, [], ◌∷◌, codes}
+use Rattle.std.specs.Prelude.{◌≤◌, ◌-◌, ◌^◌, ◌<◌, ℕ, List, [], ◌∷◌, All, length, map, codes}
 use Rattle.std.specs.Fmt.{decimal}
 use Rattle.occ_types.specs.Key.{Key}
 use Rattle.occ_types.specs.Row.{Row}
 use Rattle.occ_types.specs.Seen.{key_of}
 use Rattle.occ_text.specs.Spelling.{line_text, key_text, row_text, IsName, KeyFits, RowFits}
+use Rattle.occ_text.specs.Operations.{Operation, operation_of, operation_text, OperationFits}
 use Rattle.occ_text.specs.declared.steps.Act.{Act}
 use Rattle.occ_text.specs.declared.steps.Act.TheVariants as acts
 use Rattle.occ_text.specs.declared.steps.Step as code_step
@@ -20,6 +21,8 @@ pub data Step : Type 0 where
   -- the number and the start of the transaction stand before the name
   Forge : ℕ → ℕ → ℕ → Step
   RawRead : ℕ → ℕ → ℕ → List ℕ → Key → Step
+  -- its operations, in their order
+  Alone : ℕ → List Operation → Step
   Show : Step
 
 module _ {Z : Type 0} where
@@ -32,6 +35,7 @@ module _ {Z : Type 0} where
   step_of (steps.Delete session table key) = Delete session table.now (key_of key)
   step_of (steps.Forge session number start) = Forge session number start
   step_of (steps.RawRead session number start table key) = RawRead session number start table.now (key_of key)
+  step_of (steps.Alone session operations) = Alone session (map operation_of operations.items)
   step_of steps.Show = Show
 
 -- the word of what names a session and nothing else
@@ -41,6 +45,7 @@ act_word acts.Abandon = codes "abandon"
 act_word acts.Submit = codes "submit"
 act_word acts.Close = codes "close"
 act_word acts.Enter = codes "enter"
+act_word acts.Serial = codes "serial"
 act_word acts.Decide = codes "decide"
 act_word acts.Write = codes "write"
 act_word acts.Finish = codes "finish"
@@ -55,6 +60,7 @@ step_tokens (Put session table key row) = codes "put" ∷ decimal session ∷ ta
 step_tokens (Delete session table key) = codes "delete" ∷ decimal session ∷ table ∷ key_text key ∷ []
 step_tokens (Forge session number start) = codes "forge" ∷ decimal session ∷ decimal number ∷ decimal start ∷ []
 step_tokens (RawRead session number start table key) = codes "rawread" ∷ decimal session ∷ decimal number ∷ decimal start ∷ table ∷ key_text key ∷ []
+step_tokens (Alone session operations) = codes "alone" ∷ decimal session ∷ map operation_text operations
 step_tokens Show = codes "show" ∷ []
 
 -- the line of a step, without its line feed
@@ -70,4 +76,5 @@ StepFits (Put session table key row) = (session ≤ 255) × IsName table × KeyF
 StepFits (Delete session table key) = (session ≤ 255) × IsName table × KeyFits key
 StepFits (Forge session number start) = (session ≤ 255) × (number ≤ 2 ^ 32 - 1) × (start ≤ 2 ^ 64 - 1)
 StepFits (RawRead session number start table key) = (session ≤ 255) × (number ≤ 2 ^ 32 - 1) × (start ≤ 2 ^ 64 - 1) × IsName table × KeyFits key
+StepFits (Alone session operations) = (session ≤ 255) × (0 < length operations) × All OperationFits operations
 StepFits Show = Unit {0}

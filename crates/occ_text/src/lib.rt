@@ -6,9 +6,15 @@ pub mod faults;
 mod grammar_tests;
 pub mod headers;
 pub mod input;
+pub mod operation_reading;
+#[cfg(test)]
+mod operation_tests;
+pub mod operations;
 pub mod output;
 pub mod parts;
+mod step_forms;
 pub mod step_reading;
+mod step_words;
 pub mod steps;
 #[cfg(test)]
 mod tests;

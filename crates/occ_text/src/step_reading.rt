@@ -1,66 +1,19 @@
 //! The reader of the lines of steps.
 
-ghost use Rattle.std.specs.Prelude.{◌≡◌, ◌-◌, ◌^◌, Some, IfOk, option_map};
+ghost use Rattle.std.specs.Prelude.{◌≡◌, Some, IfOk, option_map};
 ghost use Rattle.occ_text.specs.Escapes.{Gives};
-ghost use Rattle.occ_text.specs.Reading.{number_of};
-ghost use Rattle.occ_text.specs.StepReading.{act_of, bare_step, act_step, get_step, delete_step, forge_step, scan_step, put_step, raw_step, short_step, last_step, long_step, step_of_tokens, step_of_line};
+ghost use Rattle.occ_text.specs.StepReading.{bare_step, act_step, short_step, last_step, long_step, counted_step, alone_of_tokens, step_of_tokens, step_of_line};
 ghost use Rattle.occ_text.specs.Steps as plain;
 ghost use Rattle.occ_text.specs.Steps.{step_of, step_text, StepFits};
 
 use crate::parts::Parts;
-use crate::steps::{Act, Step};
-use crate::texts;
-use crate::tokens::{Unread, is_word, name, number, tokens};
+use crate::step_forms::{
+    alone_step, delete_step, forge_step, get_step, put_step, raw_step, scan_step,
+};
+use crate::step_words::{self, act_of};
+use crate::steps::Step;
+use crate::tokens::{Unread, is_word, tokens};
 use std::alloc::Allocator;
-
-/// The act of a word.
-#[tactic(auto, unfolding(crate::specs::StepReading::act_of))]
-fn act_of(word: &[u8]) -> Option<Act>
-    ensures { result ≡ act_of word.now }
-{
-    if is_word(word, "begin") {
-        Some(Act::Begin)
-    } else if is_word(word, "abandon") {
-        Some(Act::Abandon)
-    } else if is_word(word, "submit") {
-        Some(Act::Submit)
-    } else if is_word(word, "close") {
-        Some(Act::Close)
-    } else if is_word(word, "enter") {
-        Some(Act::Enter)
-    } else if is_word(word, "decide") {
-        Some(Act::Decide)
-    } else if is_word(word, "write") {
-        Some(Act::Write)
-    } else if is_word(word, "finish") {
-        Some(Act::Finish)
-    } else if is_word(word, "backup") {
-        Some(Act::BackUp)
-    } else {
-        None
-    }
-}
-
-/// A session, which may be one that doesn't exist.
-fn session(token: &[u8]) -> Option<usize>
-    ensures { result ≡ number_of 255 token.now }
-{
-    Some(number(token, 255)? as usize)
-}
-
-/// The number of a transaction, which may be one that its session never comes to.
-fn transaction(token: &[u8]) -> Option<u64>
-    ensures { result ≡ number_of (2 ^ 32 - 1) token.now }
-{
-    number(token, u32::MAX as u64)
-}
-
-/// The start of a transaction, which may lie above the counter.
-fn start(token: &[u8]) -> Option<u64>
-    ensures { result ≡ number_of (2 ^ 64 - 1) token.now }
-{
-    number(token, u64::MAX)
-}
 
 /// `show`.
 #[tactic(auto, unfolding(crate::specs::StepReading::bare_step))]
@@ -80,139 +33,8 @@ fn act_step<'a, A: Allocator>(word: &[u8], session: &[u8]) -> Option<Step<'a, A>
     ensures { option_map step_of result ≡ act_step word.now session.now }
 {
     let act = act_of(word)?;
-    let session = self::session(session)?;
+    let session = step_words::session(session)?;
     Some(Step::Does { act, session })
-}
-
-/// `get S NAME KEY`.
-#[tactic(auto, unfolding(crate::specs::StepReading::get_step))]
-fn get_step<'a, A: Allocator>(
-    alloc: A,
-    session: &[u8],
-    table: &'a [u8],
-    key: &[u8],
-) -> Result<Step<'a, A>, Unread>
-    ensures { Gives step_of result (get_step session.now table.now key.now) }
-{
-    let session = self::session(session).ok_or(Unread::Malformed)?;
-    let table = name(table).ok_or(Unread::Malformed)?;
-    let key = texts::key(alloc, key)?;
-    Ok(Step::Get {
-        session,
-        table,
-        key,
-    })
-}
-
-/// `delete S NAME KEY`.
-#[tactic(auto, unfolding(crate::specs::StepReading::delete_step))]
-fn delete_step<'a, A: Allocator>(
-    alloc: A,
-    session: &[u8],
-    table: &'a [u8],
-    key: &[u8],
-) -> Result<Step<'a, A>, Unread>
-    ensures { Gives step_of result (delete_step session.now table.now key.now) }
-{
-    let session = self::session(session).ok_or(Unread::Malformed)?;
-    let table = name(table).ok_or(Unread::Malformed)?;
-    let key = texts::key(alloc, key)?;
-    Ok(Step::Delete {
-        session,
-        table,
-        key,
-    })
-}
-
-/// `forge S N START`.
-#[tactic(auto, unfolding(crate::specs::StepReading::forge_step))]
-fn forge_step<'a, A: Allocator>(
-    session: &[u8],
-    number: &[u8],
-    start: &[u8],
-) -> Result<Step<'a, A>, Unread>
-    ensures { Gives step_of result (forge_step session.now number.now start.now) }
-{
-    let session = self::session(session).ok_or(Unread::Malformed)?;
-    let number = transaction(number).ok_or(Unread::Malformed)?;
-    let start = self::start(start).ok_or(Unread::Malformed)?;
-    Ok(Step::Forge {
-        session,
-        number,
-        start,
-    })
-}
-
-/// `scan S NAME KEY KEY`.
-#[tactic(auto, unfolding(crate::specs::StepReading::scan_step))]
-fn scan_step<'a, A: Allocator + Copy>(
-    alloc: A,
-    session: &[u8],
-    table: &'a [u8],
-    lower: &[u8],
-    upper: &[u8],
-) -> Result<Step<'a, A>, Unread>
-    ensures { Gives step_of result (scan_step session.now table.now lower.now upper.now) }
-{
-    let session = self::session(session).ok_or(Unread::Malformed)?;
-    let table = name(table).ok_or(Unread::Malformed)?;
-    let lower = texts::key(alloc, lower)?;
-    let upper = texts::key(alloc, upper)?;
-    Ok(Step::Scan {
-        session,
-        table,
-        lower,
-        upper,
-    })
-}
-
-/// `put S NAME KEY ROW`.
-#[tactic(auto, unfolding(crate::specs::StepReading::put_step))]
-fn put_step<'a, A: Allocator + Copy>(
-    alloc: A,
-    session: &[u8],
-    table: &'a [u8],
-    key: &[u8],
-    row: &[u8],
-) -> Result<Step<'a, A>, Unread>
-    ensures { Gives step_of result (put_step session.now table.now key.now row.now) }
-{
-    let session = self::session(session).ok_or(Unread::Malformed)?;
-    let table = name(table).ok_or(Unread::Malformed)?;
-    let key = texts::key(alloc, key)?;
-    let row = texts::row(alloc, row)?;
-    Ok(Step::Put {
-        session,
-        table,
-        key,
-        row,
-    })
-}
-
-/// `rawread S N START NAME KEY`.
-#[tactic(auto, unfolding(crate::specs::StepReading::raw_step))]
-fn raw_step<'a, A: Allocator>(
-    alloc: A,
-    session: &[u8],
-    number: &[u8],
-    start: &[u8],
-    table: &'a [u8],
-    key: &[u8],
-) -> Result<Step<'a, A>, Unread>
-    ensures { Gives step_of result (raw_step session.now number.now start.now table.now key.now) }
-{
-    let session = self::session(session).ok_or(Unread::Malformed)?;
-    let number = transaction(number).ok_or(Unread::Malformed)?;
-    let start = self::start(start).ok_or(Unread::Malformed)?;
-    let table = name(table).ok_or(Unread::Malformed)?;
-    let key = texts::key(alloc, key)?;
-    Ok(Step::RawRead {
-        session,
-        number,
-        start,
-        table,
-        key,
-    })
 }
 
 /// `WORD S NAME KEY`, or `WORD S N START`.
@@ -278,16 +100,14 @@ fn long_step<'a, A: Allocator>(
     }
 }
 
-/// The step of some tokens, by their number.
-fn step_of_parts<'a, A: Allocator + Copy>(
+/// The step of a word and some tokens, by their number.
+fn counted_step<'a, A: Allocator + Copy>(
     alloc: A,
+    word: &[u8],
     mut parts: Parts<'a>,
 ) -> Result<Step<'a, A>, Unread>
-    ensures { Gives step_of result (step_of_tokens parts.entry) }
+    ensures { Gives step_of result (counted_step word.now parts.entry) }
 {
-    let Some(word) = parts.take_part() else {
-        return Err(Unread::Malformed);
-    };
     let Some(session) = parts.take_part() else {
         return bare_step(word).ok_or(Unread::Malformed);
     };
@@ -309,6 +129,35 @@ fn step_of_parts<'a, A: Allocator + Copy>(
     }
 }
 
+/// The run alone of some tokens.
+fn alone_of_parts<'a, A: Allocator + Copy>(
+    alloc: A,
+    mut parts: Parts<'a>,
+) -> Result<Step<'a, A>, Unread>
+    ensures { Gives step_of result (alone_of_tokens parts.entry) }
+{
+    let Some(session) = parts.take_part() else {
+        return Err(Unread::Malformed);
+    };
+    alone_step(alloc, session, parts)
+}
+
+/// The step of some tokens. A run alone has any number of them; every other step goes by their number.
+fn step_of_parts<'a, A: Allocator + Copy>(
+    alloc: A,
+    mut parts: Parts<'a>,
+) -> Result<Step<'a, A>, Unread>
+    ensures { Gives step_of result (step_of_tokens parts.entry) }
+{
+    let Some(word) = parts.take_part() else {
+        return Err(Unread::Malformed);
+    };
+    if is_word(word, "alone") {
+        return alone_of_parts(alloc, parts);
+    }
+    counted_step(alloc, word, parts)
+}
+
 #[tactic(auto, unfolding(crate::specs::StepReading::step_of_line))]
 fn step_value<'a, A: Allocator + Copy>(alloc: A, line: &'a [u8]) -> Result<Step<'a, A>, Unread>
     ensures { Gives step_of result (step_of_line line.now) }
@@ -317,8 +166,8 @@ fn step_value<'a, A: Allocator + Copy>(alloc: A, line: &'a [u8]) -> Result<Step<
     step_of_parts(alloc, parts)
 }
 
-/// A step, from its line without the line feed. `Malformed` where the line is none; `Memory` where it was refused for a key or
-/// a row.
+/// A step, from its line without the line feed. `Malformed` where the line is none; `Memory` where it was refused for a key,
+/// a row or a list of operations.
 pub fn read_step<'a, A: Allocator + Copy>(alloc: A, line: &'a [u8]) -> Result<Step<'a, A>, Unread>
     ensures exact { Gives step_of result (step_of_line line.now) }
     ensures found { IfOk result (λ step. (line.now ≡ step_text (step_of step)) × StepFits (step_of step)) }

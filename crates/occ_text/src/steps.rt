@@ -1,5 +1,6 @@
 //! The steps of a schedule.
 
+use crate::operations::Operation;
 use occ_types::{Key, Row};
 use std::alloc::Allocator;
 
@@ -16,6 +17,8 @@ pub enum Act {
     Close,
     /// Enters what was handed in first.
     Enter,
+    /// Does the same by a serial end, which takes the whole transaction at once.
+    Serial,
     /// Decides the row that is under way.
     Decide,
     /// Does one single write of it.
@@ -30,7 +33,7 @@ pub enum Act {
 /// keys and rows fit it, is for the step to say.
 #[derive(Drop)]
 pub enum Step<'a, A: Allocator> {
-    /// `begin S`, `abandon S`, `submit S`, `close S`, `enter S`, `decide S`, `write S`, `finish S` or `backup S`.
+    /// `begin S`, `abandon S`, `submit S`, `close S`, `enter S`, `serial S`, `decide S`, `write S`, `finish S` or `backup S`.
     Does {
         /// What is done.
         act: Act,
@@ -98,6 +101,13 @@ pub enum Step<'a, A: Allocator> {
         table: &'a str,
         /// The key.
         key: Key<A>,
+    },
+    /// `alone S OP ..`: hands in a transaction that runs alone.
+    Alone {
+        /// The session, up to 255.
+        session: usize,
+        /// What it does, in this order: one operation or more, and any number of them.
+        operations: Vec<Operation<'a, A>, A>,
     },
     /// `show`: counts what there is.
     Show,

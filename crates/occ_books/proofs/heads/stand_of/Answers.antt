@@ -1,5 +1,5 @@
 use Rattle.std.proofs.Common.{◌∙◌, ap, sym}
-use Rattle.occ_text.proofs.StepLines.{behind}
+use Rattle.occ_text.proofs.Readers.{behind}
 use Rattle.occ_books.specs.Heads.{stand_of}
 use Rattle.occ_books.proofs.heads.stand_of.Goals as goal
 

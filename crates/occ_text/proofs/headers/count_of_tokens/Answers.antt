@@ -1,6 +1,6 @@
 use Rattle.std.proofs.Common.{◌∙◌, ap, sym}
 use Rattle.occ_text.specs.HeaderReading.{count_of_tokens}
-use Rattle.occ_text.proofs.StepLines.{behind}
+use Rattle.occ_text.proofs.Readers.{behind}
 use Rattle.occ_text.proofs.headers.count_of_tokens.Goals as goal
 
 pub returns-in_err-word : goal.returns-in_err-word

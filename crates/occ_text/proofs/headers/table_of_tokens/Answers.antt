@@ -2,7 +2,7 @@ use Rattle.std.proofs.Common.{ℕ, List, ap, sym, subst}
 use Rattle.occ_types.specs.Seen.{table_of}
 use Rattle.occ_text.specs.Escapes.{Gives}
 use Rattle.occ_text.specs.HeaderReading.{table_of_tokens}
-use Rattle.occ_text.proofs.StepLines.{behind}
+use Rattle.occ_text.proofs.Readers.{behind}
 use Rattle.occ_text.proofs.headers.table_of_tokens.Goals as goal
 
 pub returns-in_default : goal.returns-in_default

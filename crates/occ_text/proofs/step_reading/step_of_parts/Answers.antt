@@ -1,49 +1,17 @@
-use Rattle.std.proofs.Common.{ℕ, List, ap, sym, subst, ◌∙◌}
-use Rattle.occ_text.specs.Escapes.{Gives}
+use Rattle.std.proofs.Common.{ap, sym, ◌∙◌}
 use Rattle.occ_text.specs.StepReading.{step_of_tokens}
 use Rattle.occ_text.specs.Steps.{step_of}
-use Rattle.occ_text.proofs.StepLines.{behind}
-use Rattle.occ_text.proofs.Values.{Gives-from_option}
+use Rattle.occ_text.proofs.StepsTaken.{gives_alone, gives_counted}
 use Rattle.occ_text.proofs.step_reading.step_of_parts.Goals as goal
 
 pub returns-in_default : goal.returns-in_default
 unfolding step_of_tokens
 returns-in_default g c = ap step_of_tokens c.in_default.ensures.0
 
-pub returns-in_default-take_part : goal.returns-in_default-take_part
-unfolding step_of_tokens
-returns-in_default-take_part g c =
-    let all = behind c.in-Some.ensures c.in_default-take_part.ensures.0 in
-    Gives-from_option step_of c.bare_step.result c.ok_or.result (step_of_tokens c.args.parts) c.ok_or.ensures.value (c.bare_step.ensures ∙ sym (ap step_of_tokens all))
+pub returns-then-is_word : goal.returns-then-is_word
+returns-then-is_word g c =
+    gives_alone step_of c.alone_of_parts.result c.args.parts _ _ c.in-Some.ensures (sym c.is_word.ensures ∙ c.if-is_word.true) c.alone_of_parts.ensures
 
-pub returns-in_default-take_part-2 : goal.returns-in_default-take_part-2
-unfolding step_of_tokens
-returns-in_default-take_part-2 g c =
-    let all = behind c.in-Some.ensures (behind c.in-Some-take_part.ensures c.in_default-take_part-2.ensures.0) in
-    Gives-from_option step_of c.act_step.result c.ok_or-in_default-take_part-2.result (step_of_tokens c.args.parts) c.ok_or-in_default-take_part-2.ensures.value (c.act_step.ensures ∙ sym (ap step_of_tokens all))
-
-pub returns-in_default-take_part-3 : goal.returns-in_default-take_part-3
-unfolding step_of_tokens
-returns-in_default-take_part-3 g c = ap step_of_tokens (behind c.in-Some.ensures (behind c.in-Some-take_part.ensures (behind c.in-Some-take_part-2.ensures c.in_default-take_part-3.ensures.0)))
-
-pub returns-in_default-take_part-4 : goal.returns-in_default-take_part-4
-unfolding step_of_tokens
-returns-in_default-take_part-4 g c =
-    let all = behind c.in-Some.ensures (behind c.in-Some-take_part.ensures (behind c.in-Some-take_part-2.ensures (behind c.in-Some-take_part-3.ensures c.in_default-take_part-4.ensures.0))) in
-    subst (λ (l : List (List ℕ)). Gives step_of c.short_step.result (step_of_tokens l)) (sym all) c.short_step.ensures
-
-pub returns-in_default-take_part-5 : goal.returns-in_default-take_part-5
-unfolding step_of_tokens
-returns-in_default-take_part-5 g c =
-    let all = behind c.in-Some.ensures (behind c.in-Some-take_part.ensures (behind c.in-Some-take_part-2.ensures (behind c.in-Some-take_part-3.ensures (behind c.in-Some-take_part-4.ensures c.in_default-take_part-5.ensures.0)))) in
-    subst (λ (l : List (List ℕ)). Gives step_of c.last_step.result (step_of_tokens l)) (sym all) c.last_step.ensures
-
-pub returns-in-None : goal.returns-in-None
-unfolding step_of_tokens
-returns-in-None g c =
-    let all = behind c.in-Some.ensures (behind c.in-Some-take_part.ensures (behind c.in-Some-take_part-2.ensures (behind c.in-Some-take_part-3.ensures (behind c.in-Some-take_part-4.ensures (behind c.in-Some-take_part-5.ensures c.in-None.ensures.0))))) in
-    subst (λ (l : List (List ℕ)). Gives step_of c.long_step.result (step_of_tokens l)) (sym all) c.long_step.ensures
-
-pub returns-in-Some-take_part-6 : goal.returns-in-Some-take_part-6
-unfolding step_of_tokens
-returns-in-Some-take_part-6 g c = ap step_of_tokens (behind c.in-Some.ensures (behind c.in-Some-take_part.ensures (behind c.in-Some-take_part-2.ensures (behind c.in-Some-take_part-3.ensures (behind c.in-Some-take_part-4.ensures (behind c.in-Some-take_part-5.ensures c.in-Some-take_part-6.ensures))))))
+pub returns : goal.returns
+returns g c =
+    gives_counted step_of c.counted_step.result c.args.parts _ _ c.in-Some.ensures (sym c.is_word.ensures ∙ c.if-is_word.false) c.counted_step.ensures

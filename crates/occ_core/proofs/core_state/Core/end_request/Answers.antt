@@ -17,7 +17,7 @@ tested-requires-clause-quiet g c =
 pub commit_at_once-requires-clause-lawful : goal.commit_at_once-requires-clause-lawful
 commit_at_once-requires-clause-lawful g c =
     let t = c.args.transaction in
-    commit_lawful c.args.self.now.world t.session t.number t.start c.args.writes.now (sym c.in_ok-check_serial.ensures) c.shared_reads.new.self.world (ap (λ s. s.world) c.in_ok-reads.ensures.kept) c.in_ok-reads.reads c.in_ok-reads.ensures.reads c.share.new.self c.in_ok-share.ensures.kept c.law.ensures.invariant (c.in-Commit.ensures c.args.writes.now)
+    commit_lawful c.args.self.now.world t.session t.number t.start c.args.writes.now (sym c.in_ok-check_serial.ensures) c.shared_reads.new.self.world (ap (λ s. s.world) c.in_ok-reads.ensures.kept) c.in_ok-reads.reads c.in_ok-reads.ensures.reads c.share.new.self c.in_ok-share.ensures.kept (record { invariant = c.law.ensures.invariant; content = c.law.ensures.content }) (c.in-Commit.ensures c.args.writes.now)
 
 pub commit_at_once-requires-clause-room : goal.commit_at_once-requires-clause-room
 commit_at_once-requires-clause-room g c =
@@ -32,7 +32,7 @@ commit_at_once-requires-clause-placed g c =
 pub back_up_at_once-requires-clause-lawful : goal.back_up_at_once-requires-clause-lawful
 back_up_at_once-requires-clause-lawful g c =
     let t = c.args.transaction in
-    back_lawful c.args.self.now.world t.session t.number t.start c.args.writes.now (sym c.in_ok-check_serial.ensures) c.shared_reads.new.self.world (ap (λ s. s.world) c.in_ok-reads.ensures.kept) c.in_ok-reads.reads c.in_ok-reads.ensures.reads c.share.new.self c.in_ok-share.ensures.kept c.in-BackUp.cause c.law.ensures.invariant (c.in-BackUp.ensures c.args.writes.now)
+    back_lawful c.args.self.now.world t.session t.number t.start c.args.writes.now (sym c.in_ok-check_serial.ensures) c.shared_reads.new.self.world (ap (λ s. s.world) c.in_ok-reads.ensures.kept) c.in_ok-reads.reads c.in_ok-reads.ensures.reads c.share.new.self c.in_ok-share.ensures.kept c.in-BackUp.cause (record { invariant = c.law.ensures.invariant; content = c.law.ensures.content }) (c.in-BackUp.ensures c.args.writes.now)
 
 pub back_up_at_once-requires-clause-room : goal.back_up_at_once-requires-clause-room
 back_up_at_once-requires-clause-room g c =

@@ -1,10 +1,14 @@
 use Rattle.std.proofs.Common.{rules}
 use Rattle.occ_core.proofs.Closing.{close_of}
 use Rattle.occ_core.proofs.Entering.{entry_of}
+use Rattle.occ_core.proofs.RunsAlone.{alone_of}
 use Rattle.occ_core.proofs.core_state.Core.enter.Goals as goal
 
 pub returns-in-Err-clause-step : goal.returns-in-Err-clause-step
 returns-in-Err-clause-step g c = entry_of _ _ _ _ _ _ _ _ c.in-Err.ensures.step (search rules)
+
+pub returns-in-Alone-clause-step : goal.returns-in-Alone-clause-step
+returns-in-Alone-clause-step g c = alone_of _ _ _ _ _ _ c.enter_alone.ensures.step (search rules)
 
 pub returns-in-Err-enter_close-clause-step : goal.returns-in-Err-enter_close-clause-step
 returns-in-Err-enter_close-clause-step g c = close_of _ _ _ _ _ _ c.in-Err-enter_close.ensures (search rules)

@@ -15,7 +15,7 @@ returns-in_err-check_alone g c =
 
 pub commit_at_once-requires-clause-lawful : goal.commit_at_once-requires-clause-lawful
 commit_at_once-requires-clause-lawful g c =
-    alone_lawful c.args.self.now.world c.args.session c.args.number (ops_of c.args.operations.now) (sym c.in_ok-check_alone.ensures) c.tnc.result c.tnc.ensures (progress_of c.in_ok-done.done) c.in_ok-done.ensures.performed c.law.ensures.invariant
+    alone_lawful c.args.self.now.world c.args.session c.args.number (ops_of c.args.operations.now) (sym c.in_ok-check_alone.ensures) c.tnc.result c.tnc.ensures (progress_of c.in_ok-done.done) c.in_ok-done.ensures.performed (record { invariant = c.law.ensures.invariant; content = c.law.ensures.content })
 
 pub commit_at_once-requires-clause-room : goal.commit_at_once-requires-clause-room
 commit_at_once-requires-clause-room g c = alone_room c.args.self.now.world c.args.session c.args.number (ops_of c.args.operations.now) (sym c.in_ok-check_alone.ensures)

@@ -1,7 +1,7 @@
 use Rattle.std.proofs.Common.{ap, sym, subst, ◌∙◌}
 use Rattle.occ_core.specs.declared.steps.Step.TheVariants as steps
 use Rattle.occ_core.specs.Runs.{Answers, owed}
-use Rattle.occ_core.proofs.Replied.{answered_as, entry_owed}
+use Rattle.occ_core.proofs.Replied.{answered_as, entry_owed, end_owed, run_owed}
 use Rattle.occ_core.proofs.core_state.Core.take.Goals as goal
 
 pub returns-in-Read : goal.returns-in-Read
@@ -36,3 +36,15 @@ returns-in-Finish g c =
 pub returns-in-BackUp : goal.returns-in-BackUp
 returns-in-BackUp g c =
     answered_as c.args.self.now c.args.step (steps.BackUp c.in-BackUp.session) c.to_back_up.result _ c.back_up.new.self c.in-BackUp.is c.to_back_up.ensures.reply c.back_up.ensures c.to_back_up.ensures.none
+
+pub returns-in-SerialEnd : goal.returns-in-SerialEnd
+returns-in-SerialEnd g c =
+    answered_as c.args.self.now c.args.step (steps.SerialEnd c.in-SerialEnd.session c.in-SerialEnd.item) c.to_serial_end.result _ c.serial_end.new.self c.in-SerialEnd.is c.to_serial_end.ensures.reply c.serial_end.ensures.step
+    (c.to_serial_end.ensures.back ∙ end_owed c.in-SerialEnd.session c.in-SerialEnd.item c.serial_end.result c.serial_end.ensures.handed_back
+    ∙ ap (owed {Z = g.row.A.Denot} (steps.SerialEnd c.in-SerialEnd.session c.in-SerialEnd.item)) (sym c.to_serial_end.ensures.reply))
+
+pub returns-in-RunAlone : goal.returns-in-RunAlone
+returns-in-RunAlone g c =
+    answered_as c.args.self.now c.args.step (steps.RunAlone c.in-RunAlone.session c.in-RunAlone.number c.in-RunAlone.operations) c.to_run_alone.result _ c.take_alone.new.self c.in-RunAlone.is c.to_run_alone.ensures.reply c.take_alone.ensures.step
+    (c.to_run_alone.ensures.back ∙ run_owed c.in-RunAlone.session c.in-RunAlone.number c.in-RunAlone.operations c.take_alone.result c.take_alone.ensures.handed_back
+    ∙ ap (owed {Z = g.row.A.Denot} (steps.RunAlone c.in-RunAlone.session c.in-RunAlone.number c.in-RunAlone.operations)) (sym c.to_run_alone.ensures.reply))

@@ -1,6 +1,6 @@
 use Rattle.std.proofs.Common.{◌≡◌, ap, ◌∙◌, replicate, arith}
 use Rattle.occ_cli.specs.Replaying.{fresh}
-use Rattle.occ_cli.proofs.replays.fresh_clients.Goals as goal
+use Rattle.occ_cli.proofs.clients.fresh_clients.Goals as goal
 
 pub returns-clause-fresh : goal.returns-clause-fresh
 returns-clause-fresh g c =

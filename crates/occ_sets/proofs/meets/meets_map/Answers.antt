@@ -7,7 +7,7 @@ use Rattle.occ_types.specs.Seen.{object_of}
 use Rattle.occ_model.specs.State.{meets_writes}
 use Rattle.occ_model.specs.Overlay.{own}
 use Rattle.occ_sets.proofs.Meetings.{meets_writes-keys}
-use Rattle.occ_sets.proofs.meets.meets_writes.Goals as goal
+use Rattle.occ_sets.proofs.meets.meets_map.Goals as goal
 
 -- each object of the others is looked up
 pub returns : goal.returns
@@ -15,4 +15,4 @@ returns g c =
     let writes = c.args.writes.now in
     let es = c.others.inside.entries.entries in
     let found : c.any.result ≡ list_any (λ o. is_some (own writes (object_of o))) (keys_of es) = any_from_yields_List (λ o. is_some (own writes (object_of o))) _ _ c.any.result c.any.ensures.ran (YieldsList-from_rest (keys_of es) cc) (λ x b q k. search (rules, tests)) in
-    found ∙ meets_writes-keys writes es ∙ ap (meets_writes writes) (c.others.view_is ∙ c.map-others.ensures)
+    found ∙ meets_writes-keys writes es ∙ ap (meets_writes writes) c.others.view_is

@@ -1,6 +1,6 @@
 use Rattle.std.proofs.Common.{◌≡◌, replicate}
 use Rattle.occ_cli.specs.Replaying.{fresh}
-use Rattle.occ_cli.proofs.replays.fresh_clients.Given as goal
+use Rattle.occ_cli.proofs.clients.fresh_clients.Given as goal
 
 abbrev pub invariant-loop : goal.invariant-loop
 invariant-loop g l = l.clients.items ≡ replicate l.counter (fresh l.queue)

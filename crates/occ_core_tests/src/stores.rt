@@ -1,0 +1,73 @@
+//! A small store, and the steps that are handed to it.
+use occ_core::{Core, Step};
+use occ_queue::Item;
+use occ_sets::WriteSet;
+use occ_types::{Cell, Fault, Key, KeyKind, Kind, Row, Schema, TableDef, Text};
+use std::alloc::Global;
+
+/// A store of two sessions with one table, whose keys are numbers and whose rows are one number. It keeps eight write sets.
+pub(crate) fn store(alloc: Global) -> Result<Core<Global>, Fault> {
+    let table = TableDef {
+        name: Text::new(alloc, "t")?,
+        key: KeyKind::Num,
+        columns: vec![in alloc; Kind::Int]?,
+    };
+    let schema = Schema::new(vec![in alloc; table]?)?;
+    let core = Core::open(alloc, schema, 2, 8)?;
+    Ok(core)
+}
+
+/// A read of a key in the first transaction of a session, which starts at 0.
+pub(crate) fn read(session: usize, key: u64) -> Step<Global> {
+    Step::Read {
+        session,
+        number: 1,
+        start: 0,
+        table: 0,
+        key: Key::Num(key),
+    }
+}
+
+/// The entry of the first transaction of a session, which starts at 0.
+pub(crate) fn enter_with(session: usize, writes: WriteSet<Global>) -> Step<Global> {
+    let item = Item::Request {
+        number: 1,
+        start: 0,
+        writes,
+    };
+    Step::Enter { session, item }
+}
+
+/// The entry of one that puts one row, the number 5.
+pub(crate) fn enter(alloc: Global, session: usize, key: u64) -> Result<Step<Global>, Fault> {
+    let mut writes = WriteSet::new(alloc);
+    let row = Row::from_cells(vec![in alloc; Cell::Int(5)]?);
+    writes.set(0, Key::Num(key), Some(row))?;
+    Ok(enter_with(session, writes))
+}
+
+/// The entry of the closing mark of a session.
+pub(crate) fn close(session: usize, number: u64) -> Step<Global> {
+    Step::Enter {
+        session,
+        item: Item::Close { number },
+    }
+}
+
+/// The serial end of a transaction of a session, which starts at 0 and writes nothing.
+pub(crate) fn end(alloc: Global, session: usize, number: u64) -> Step<Global> {
+    let item = Item::Request {
+        number,
+        start: 0,
+        writes: WriteSet::new(alloc),
+    };
+    Step::SerialEnd { session, item }
+}
+
+/// The serial end of the closing mark of a session.
+pub(crate) fn close_serially(session: usize, number: u64) -> Step<Global> {
+    Step::SerialEnd {
+        session,
+        item: Item::Close { number },
+    }
+}

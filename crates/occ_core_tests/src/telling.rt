@@ -1,0 +1,77 @@
+//! What is replied to steps, in words.
+use occ_core::{Core, Reply, Step, drive};
+use occ_queue::Item;
+use occ_types::{Cell, Fault, Key, Object, Refused, Row};
+use std::alloc::{AllocError, Global};
+
+// What a core replies to steps, in words.
+pub(crate) fn told(
+    alloc: Global,
+    core: &mut Core<Global>,
+    steps: Vec<Step<Global>, Global>,
+) -> Result<String<Global>, Fault> {
+    let replies = drive(alloc, core, steps)?;
+    let mut words = String::new(alloc);
+    for reply in &replies {
+        tell(&mut words, reply)?;
+    }
+    Ok(words)
+}
+
+fn tell(words: &mut String<Global>, reply: &Reply<Global>) -> Result<(), AllocError> {
+    match reply {
+        Reply::Found(None) => words.push_str("none; "),
+        Reply::Found(Some(row)) => tell_row(words, row),
+        Reply::Rows(rows) => {
+            let count = rows.len();
+            write!(words, "{count} rows; ")
+        }
+        Reply::Forgotten(there) => write!(words, "forgotten {there}; "),
+        Reply::Entered { place, .. } => write!(words, "entered {place}; "),
+        Reply::Closed => words.push_str("closed; "),
+        Reply::Decided(verdict) => write!(words, "{verdict:?}; "),
+        Reply::Wrote(object) => tell_key(words, object),
+        Reply::NoMore => words.push_str("no more; "),
+        Reply::Finished(number) => write!(words, "finished {number}; "),
+        Reply::BackedUp(number) => write!(words, "backed {number}; "),
+        Reply::EndedBack(cause) => write!(words, "ended back by {cause:?}; "),
+        Reply::RanAlone { number, answers } => {
+            let count = answers.len();
+            write!(words, "ran alone as {number} with {count}; ")
+        }
+        Reply::Refused(fault) => write!(words, "refused {fault:?}; "),
+        Reply::RefusedItem(refused) => tell_refusal(words, refused),
+    }
+}
+
+fn tell_row(words: &mut String<Global>, row: &Row<Global>) -> Result<(), AllocError> {
+    match row.cells().get(0) {
+        Some(Cell::Int(number)) => write!(words, "row {number}; "),
+        _ => words.push_str("another row; "),
+    }
+}
+
+fn tell_key(words: &mut String<Global>, object: &Object<Global>) -> Result<(), AllocError> {
+    match &object.key {
+        Key::Num(number) => write!(words, "wrote {number}; "),
+        Key::Text(_) => words.push_str("wrote a text; "),
+    }
+}
+
+fn tell_refusal(
+    words: &mut String<Global>,
+    refused: &Refused<Item<Global>>,
+) -> Result<(), AllocError> {
+    let fault = refused.fault;
+    match &refused.value {
+        Item::Request { writes, .. } => {
+            let count = writes.len();
+            write!(words, "turned away {fault:?} with {count}; ")
+        }
+        Item::Alone { number, operations } => {
+            let count = operations.len();
+            write!(words, "{number} with {count} turned away {fault:?}; ")
+        }
+        Item::Close { number } => write!(words, "mark {number} turned away {fault:?}; "),
+    }
+}

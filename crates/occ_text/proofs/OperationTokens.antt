@@ -1,0 +1,82 @@
+-- The tokens of the operations of a run alone: what is read is spelled so, and what is spelled so is read again.
+use Rattle.std.proofs.Common.{◌≡◌, ℕ, ◌<◌, List, [], ◌∷◌, ◌++◌, length, map, Option, Some, None, option_map, refl, sym, ap, subst, ◌∙◌, append_assoc, arith}
+use Rattle.std.specs.List.{All}
+use Rattle.std.proofs.lemmas.List.{map-append}
+use Rattle.std.proofs.lemmas.List.Elements.{All-nil, All-cons, All-head, All-tail}
+use Rattle.occ_text.specs.Spelling.{IsToken}
+use Rattle.occ_text.specs.Operations.{Operation, operation_text, OperationFits}
+use Rattle.occ_text.specs.OperationReading.{read_operation, read_operations, if_any, operations_of}
+use Rattle.occ_text.proofs.Escapes.{some_is, bind_value, map_value}
+use Rattle.occ_text.proofs.OperationsTaken.{operation_takes}
+use Rattle.occ_text.proofs.OperationsSpelled.{operation_again, IsToken-operation}
+
+-- operations that were read are spelled by their tokens, and fit
+pub record Operations (tokens : List (List ℕ)) (operations : List Operation) : Type 0 where
+  pub spelled : tokens ≡ map operation_text operations
+  pub each : All OperationFits operations
+
+each_takes : (tokens : List (List ℕ)) (operations : List Operation) → read_operations tokens ≡ Some operations → Operations tokens operations
+each_takes [] operations h = subst (Operations []) (some_is [] operations h) (record { spelled = refl; each = All-nil OperationFits })
+each_takes (token ∷ tokens) operations h =
+    let b = bind_value (read_operation token) (λ operation. option_map (λ more. operation ∷ more) (read_operations tokens)) operations h in
+    let m = map_value (read_operations tokens) (λ more. b.0 ∷ more) operations b.2 in
+    let o = operation_takes token b.0 b.1 in
+    let rest = each_takes tokens m.0 m.1 in
+    subst (Operations (token ∷ tokens)) m.2 (record {
+      spelled = λ i. o.0 i ∷ rest.spelled i;
+      each = All-cons OperationFits b.0 m.0 o.1 rest.each;
+    })
+
+-- ---- the loop
+
+regroup : {S : Type 0} (view : S → Operation) (old : List S) (x : S) (o : Option (List Operation))
+    → option_map (λ more. map view (old ++ x ∷ []) ++ more) o ≡ option_map (λ more. map view old ++ more) (option_map (λ more. view x ∷ more) o)
+regroup view old x None = refl
+regroup view old x (Some more) = ap Some (ap (λ (l : List Operation). l ++ more) (map-append view old (x ∷ [])) ∙ append_assoc (map view old) (view x ∷ []) more)
+
+-- one more operation behind those that were read
+pub one_more : {S : Type 0} (view : S → Operation) (all tokens rest : List (List ℕ)) (token : List ℕ) (old new : List S) (x : S) → tokens ≡ token ∷ rest → read_operation token ≡ Some (view x) → new ≡ old ++ x ∷ []
+    → option_map (λ more. map view old ++ more) (read_operations tokens) ≡ read_operations all → option_map (λ more. map view new ++ more) (read_operations rest) ≡ read_operations all
+one_more view all tokens rest token old new x same read pushed so_far =
+    let e : read_operations (token ∷ rest) ≡ option_map (λ more. view x ∷ more) (read_operations rest) = rw read refl in
+    ap (λ l. option_map (λ more. map view l ++ more) (read_operations rest)) pushed ∙ regroup view old x (read_operations rest)
+    ∙ ap (option_map (λ (more : List Operation). map view old ++ more)) (sym (ap read_operations same ∙ e)) ∙ so_far
+
+-- ---- one operation or more
+
+any_is : (operations more : List Operation) → if_any operations ≡ Some more → (operations ≡ more) × (0 < length operations)
+any_is [] more h = absurd cc
+any_is (operation ∷ operations) more h = (some_is (operation ∷ operations) more h, omega arith)
+
+-- what was read of the tokens of a run alone
+pub record Taken (tokens : List (List ℕ)) (operations : List Operation) : Type 0 where
+  pub spelled : tokens ≡ map operation_text operations
+  pub some : 0 < length operations
+  pub each : All OperationFits operations
+
+pub operations_take : (tokens : List (List ℕ)) (operations : List Operation) → operations_of tokens ≡ Some operations → Taken tokens operations
+unfolding operations_of
+operations_take tokens operations h =
+    let b = bind_value (read_operations tokens) if_any operations h in
+    let a = any_is b.0 operations b.2 in
+    let all = each_takes tokens b.0 b.1 in
+    subst (Taken tokens) a.0 (record { spelled = all.spelled; some = a.1; each = all.each })
+
+each_again : (operations : List Operation) → All OperationFits operations → read_operations (map operation_text operations) ≡ Some operations
+each_again [] each = refl
+each_again (operation ∷ operations) each =
+    rw (operation_again operation (All-head OperationFits operation operations each), each_again operations (All-tail OperationFits operation operations each)) refl
+
+any_again : (operations : List Operation) → 0 < length operations → if_any operations ≡ Some operations
+any_again [] some = absurd (omega arith)
+any_again (operation ∷ operations) some = refl
+
+pub operations_again : (operations : List Operation) → 0 < length operations → All OperationFits operations → operations_of (map operation_text operations) ≡ Some operations
+unfolding operations_of
+operations_again operations some each = rw (each_again operations each) (any_again operations some)
+
+pub AreTokens-operations : (operations : List Operation) → All OperationFits operations → All IsToken (map operation_text operations)
+AreTokens-operations [] each = All-nil IsToken
+AreTokens-operations (operation ∷ operations) each =
+    All-cons IsToken (operation_text operation) (map operation_text operations) (IsToken-operation operation (All-head OperationFits operation operations each))
+    (AreTokens-operations operations (All-tail OperationFits operation operations each))

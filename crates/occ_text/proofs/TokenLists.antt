@@ -1,0 +1,23 @@
+-- Tokens one after another.
+use Rattle.std.proofs.Common.{ℕ, List, [], ◌∷◌, arith}
+use Rattle.std.proofs.lemmas.List.Elements.{All-nil, All-cons}
+use Rattle.occ_text.specs.Spelling.{IsToken, AreTokens}
+
+pub one_token : {a : List ℕ} → IsToken a → AreTokens (a ∷ [])
+one_token {a = a} p = record { some = omega arith; each = All-cons IsToken a [] p (All-nil IsToken) }
+
+-- one token more before others
+pub more_tokens : (a : List ℕ) (tokens : List (List ℕ)) → IsToken a → AreTokens tokens → AreTokens (a ∷ tokens)
+more_tokens a tokens p rest = record { some = omega arith; each = All-cons IsToken a tokens p rest.each }
+
+pub two_tokens : {a b : List ℕ} → IsToken a → IsToken b → AreTokens (a ∷ b ∷ [])
+two_tokens {a = a} {b = b} p q = more_tokens a (b ∷ []) p (one_token q)
+
+pub four_tokens : {a b c d : List ℕ} → IsToken a → IsToken b → IsToken c → IsToken d → AreTokens (a ∷ b ∷ c ∷ d ∷ [])
+four_tokens {a = a} {b = b} {c = c} {d = d} p q r s = more_tokens a (b ∷ c ∷ d ∷ []) p (more_tokens b (c ∷ d ∷ []) q (two_tokens r s))
+
+pub five_tokens : {a b c d e : List ℕ} → IsToken a → IsToken b → IsToken c → IsToken d → IsToken e → AreTokens (a ∷ b ∷ c ∷ d ∷ e ∷ [])
+five_tokens {a = a} {b = b} {c = c} {d = d} {e = e} p q r s t = more_tokens a (b ∷ c ∷ d ∷ e ∷ []) p (four_tokens q r s t)
+
+pub six_tokens : {a b c d e f : List ℕ} → IsToken a → IsToken b → IsToken c → IsToken d → IsToken e → IsToken f → AreTokens (a ∷ b ∷ c ∷ d ∷ e ∷ f ∷ [])
+six_tokens {a = a} {b = b} {c = c} {d = d} {e = e} {f = f} p q r s t u = more_tokens a (b ∷ c ∷ d ∷ e ∷ f ∷ []) p (five_tokens q r s t u)

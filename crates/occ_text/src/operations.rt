@@ -1,0 +1,51 @@
+//! The operations of a run alone, as a text names them.
+
+use occ_types::{Key, Row};
+use std::alloc::Allocator;
+
+/// One operation of a transaction that runs alone, as its token says it. A table is named and not yet found: whether there is one
+/// of that name, and whether keys and rows fit it, is for the run to say.
+#[derive(Drop)]
+pub enum Operation<'a, A: Allocator> {
+    /// `get:NAME:KEY`: reads one key.
+    Get {
+        /// The table's name.
+        table: &'a str,
+        /// The key.
+        key: Key<A>,
+    },
+    /// `scan:NAME:KEY:KEY`: reads a range.
+    Scan {
+        /// The table's name.
+        table: &'a str,
+        /// The lower end, which lies within.
+        lower: Key<A>,
+        /// The upper end, which lies outside.
+        upper: Key<A>,
+    },
+    /// `put:NAME:KEY:ROW`: writes a row.
+    Put {
+        /// The table's name.
+        table: &'a str,
+        /// The key.
+        key: Key<A>,
+        /// The row.
+        row: Row<A>,
+    },
+    /// `delete:NAME:KEY`: deletes a row.
+    Delete {
+        /// The table's name.
+        table: &'a str,
+        /// The key.
+        key: Key<A>,
+    },
+    /// `add:NAME:KEY:INT`: adds to the one whole number of a row.
+    Add {
+        /// The table's name.
+        table: &'a str,
+        /// The key.
+        key: Key<A>,
+        /// What is added, which may be below 0.
+        amount: i64,
+    },
+}

@@ -1,0 +1,162 @@
+//! The steps with a table or with numbers, each by its form: what stands behind its word is read in order.
+
+ghost use Rattle.std.specs.Prelude.{◌≡◌};
+ghost use Rattle.occ_text.specs.Escapes.{Gives};
+ghost use Rattle.occ_text.specs.StepReading.{get_step, delete_step, forge_step, scan_step, put_step, raw_step, alone_step};
+ghost use Rattle.occ_text.specs.Steps.{step_of};
+
+use crate::operation_reading::operations;
+use crate::parts::Parts;
+use crate::step_words::{self, transaction};
+use crate::steps::Step;
+use crate::texts;
+use crate::tokens::{Unread, name};
+use std::alloc::Allocator;
+
+/// `get S NAME KEY`.
+#[tactic(auto, unfolding(crate::specs::StepReading::get_step))]
+pub(crate) fn get_step<'a, A: Allocator>(
+    alloc: A,
+    session: &[u8],
+    table: &'a [u8],
+    key: &[u8],
+) -> Result<Step<'a, A>, Unread>
+    ensures { Gives step_of result (get_step session.now table.now key.now) }
+{
+    let session = step_words::session(session).ok_or(Unread::Malformed)?;
+    let table = name(table).ok_or(Unread::Malformed)?;
+    let key = texts::key(alloc, key)?;
+    Ok(Step::Get {
+        session,
+        table,
+        key,
+    })
+}
+
+/// `delete S NAME KEY`.
+#[tactic(auto, unfolding(crate::specs::StepReading::delete_step))]
+pub(crate) fn delete_step<'a, A: Allocator>(
+    alloc: A,
+    session: &[u8],
+    table: &'a [u8],
+    key: &[u8],
+) -> Result<Step<'a, A>, Unread>
+    ensures { Gives step_of result (delete_step session.now table.now key.now) }
+{
+    let session = step_words::session(session).ok_or(Unread::Malformed)?;
+    let table = name(table).ok_or(Unread::Malformed)?;
+    let key = texts::key(alloc, key)?;
+    Ok(Step::Delete {
+        session,
+        table,
+        key,
+    })
+}
+
+/// `forge S N START`.
+#[tactic(auto, unfolding(crate::specs::StepReading::forge_step))]
+pub(crate) fn forge_step<'a, A: Allocator>(
+    session: &[u8],
+    number: &[u8],
+    start: &[u8],
+) -> Result<Step<'a, A>, Unread>
+    ensures { Gives step_of result (forge_step session.now number.now start.now) }
+{
+    let session = step_words::session(session).ok_or(Unread::Malformed)?;
+    let number = transaction(number).ok_or(Unread::Malformed)?;
+    let start = step_words::start(start).ok_or(Unread::Malformed)?;
+    Ok(Step::Forge {
+        session,
+        number,
+        start,
+    })
+}
+
+/// `scan S NAME KEY KEY`.
+#[tactic(auto, unfolding(crate::specs::StepReading::scan_step))]
+pub(crate) fn scan_step<'a, A: Allocator + Copy>(
+    alloc: A,
+    session: &[u8],
+    table: &'a [u8],
+    lower: &[u8],
+    upper: &[u8],
+) -> Result<Step<'a, A>, Unread>
+    ensures { Gives step_of result (scan_step session.now table.now lower.now upper.now) }
+{
+    let session = step_words::session(session).ok_or(Unread::Malformed)?;
+    let table = name(table).ok_or(Unread::Malformed)?;
+    let lower = texts::key(alloc, lower)?;
+    let upper = texts::key(alloc, upper)?;
+    Ok(Step::Scan {
+        session,
+        table,
+        lower,
+        upper,
+    })
+}
+
+/// `put S NAME KEY ROW`.
+#[tactic(auto, unfolding(crate::specs::StepReading::put_step))]
+pub(crate) fn put_step<'a, A: Allocator + Copy>(
+    alloc: A,
+    session: &[u8],
+    table: &'a [u8],
+    key: &[u8],
+    row: &[u8],
+) -> Result<Step<'a, A>, Unread>
+    ensures { Gives step_of result (put_step session.now table.now key.now row.now) }
+{
+    let session = step_words::session(session).ok_or(Unread::Malformed)?;
+    let table = name(table).ok_or(Unread::Malformed)?;
+    let key = texts::key(alloc, key)?;
+    let row = texts::row(alloc, row)?;
+    Ok(Step::Put {
+        session,
+        table,
+        key,
+        row,
+    })
+}
+
+/// `rawread S N START NAME KEY`.
+#[tactic(auto, unfolding(crate::specs::StepReading::raw_step))]
+pub(crate) fn raw_step<'a, A: Allocator>(
+    alloc: A,
+    session: &[u8],
+    number: &[u8],
+    start: &[u8],
+    table: &'a [u8],
+    key: &[u8],
+) -> Result<Step<'a, A>, Unread>
+    ensures { Gives step_of result (raw_step session.now number.now start.now table.now key.now) }
+{
+    let session = step_words::session(session).ok_or(Unread::Malformed)?;
+    let number = transaction(number).ok_or(Unread::Malformed)?;
+    let start = step_words::start(start).ok_or(Unread::Malformed)?;
+    let table = name(table).ok_or(Unread::Malformed)?;
+    let key = texts::key(alloc, key)?;
+    Ok(Step::RawRead {
+        session,
+        number,
+        start,
+        table,
+        key,
+    })
+}
+
+/// `alone S OP ..`.
+#[tactic(auto, unfolding(crate::specs::StepReading::alone_step))]
+pub(crate) fn alone_step<'a, A: Allocator + Copy>(
+    alloc: A,
+    session: &[u8],
+    tokens: Parts<'a>,
+) -> Result<Step<'a, A>, Unread>
+    ensures { Gives step_of result (alone_step session.now tokens.entry) }
+{
+    let session = step_words::session(session).ok_or(Unread::Malformed)?;
+    let operations = operations(alloc, tokens)?;
+    Ok(Step::Alone {
+        session,
+        operations,
+    })
+}
