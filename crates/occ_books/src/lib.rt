@@ -2,8 +2,6 @@
 #![tactic(auto)]
 
 pub mod audits;
-#[cfg(test)]
-mod count_tests;
 mod cursors;
 pub mod entries;
 pub mod heads;
@@ -11,8 +9,6 @@ pub mod laws;
 mod named;
 pub mod printed;
 mod takes;
-#[cfg(test)]
-mod tests;
 mod transactions;
 
 pub use audits::audit_text;

@@ -28,16 +28,21 @@ fn main(rt: HostRuntime) -> ExitCode {
 fn pay(alloc: Global) -> Result<String, Fault> {
     let mut lines = String::new(alloc);
     let mut store = open(alloc)?;
-    let first = begin(alloc, &mut store, 1, 1, 30)?;
-    let second = begin(alloc, &mut store, 2, 1, 12)?;
-    tell(&mut lines, 1, commit(&mut store, 1, first)?)?;
-    tell(&mut lines, 2, commit(&mut store, 2, second)?)?;
+    pay_both(alloc, &mut store, &mut lines)?;
     let again = begin(alloc, &mut store, 2, 2, 12)?;
     tell(&mut lines, 2, commit(&mut store, 2, again)?)?;
     tell(&mut lines, 1, Some(pay_alone(&mut store, 1, 2, 8)?))?;
     let balance = balance(&mut store, 1, 3)?;
     writeln!(lines, "the account has {balance}").or(Err(Fault::Memory))?;
     Ok(lines)
+}
+
+/// Two payments of two sessions, of which both begin before either ends.
+fn pay_both(alloc: Global, store: &mut Core<Global>, lines: &mut String) -> Result<(), Fault> {
+    let first = begin(alloc, store, 1, 1, 30)?;
+    let second = begin(alloc, store, 2, 1, 12)?;
+    tell(lines, 1, commit(store, 1, first)?)?;
+    tell(lines, 2, commit(store, 2, second)?)
 }
 
 /// A store of two sessions that keeps the last 8 write sets for testing. Its one table has balances under the numbers of accounts.

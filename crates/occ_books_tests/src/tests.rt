@@ -1,6 +1,6 @@
 //! Books that are right, wrong and malformed, and devices that fail.
 
-use crate::audit_text;
+use occ_books::audit_text;
 use occ_devices::Device;
 use occ_text::trouble::Trouble;
 use std::alloc::{AllocError, Global};
