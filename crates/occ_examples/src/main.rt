@@ -1,4 +1,4 @@
-//! Replays each example, and tells of each how it ended, whether its text is the one that lies beside it, and what the audit of its book says. Then it audits books that lie there alone.
+//! Replays each example, and tells of each how it ended, whether its text is the one that lies beside it, and what the audit of its book says. Then it audits books that lie there alone. At last it does all of that again, each time with one request for memory refused.
 #![tactic(auto)]
 
 #[cfg(test)]
@@ -9,12 +9,14 @@ mod attack_tests;
 mod device_tests;
 #[cfg(test)]
 mod limit_tests;
+mod refused;
 #[cfg(test)]
 mod step_tests;
 #[cfg(test)]
 mod text_tests;
 
 use occ_cli::{audit_text, replay_text, status_of};
+use refused::{Case, Engine, Tried, refuse_in_turn};
 use std::process::ExitCode;
 use std::{fs, io};
 
@@ -66,7 +68,7 @@ fn main(rt: HostRuntime) -> ExitCode {
     }
 }
 
-/// Prints a line for each example, and one for each book.
+/// Prints a line for each example and one for each book, and then what came of them where memory was refused.
 fn tell_all(rt: &HostRuntime) -> io::Result<()> {
     for name in EXAMPLES {
         tell(rt, name)?;
@@ -74,7 +76,22 @@ fn tell_all(rt: &HostRuntime) -> io::Result<()> {
     for name in BOOKS {
         tell_book(rt, name)?;
     }
-    Ok(())
+    tell_refusals(rt)
+}
+
+/// Prints a line for each replay and each audit of an example, and for each audit of a book: how many requests for memory it makes,
+/// how many of them were refused in turn, and how many of those runs came to their end all the same. The last line has the sum of the
+/// refused ones.
+fn tell_refusals(rt: &HostRuntime) -> io::Result<()> {
+    let mut sum = 0u64;
+    for name in EXAMPLES {
+        sum = sum.saturating_add(refuse_to_example(rt, name)?);
+    }
+    for name in BOOKS {
+        let book = fs::read_to_string(rt, format!(in rt.alloc(); "{name}.book")?.as_str())?;
+        sum = sum.saturating_add(refuse_to_audit(rt, name, book.as_bytes())?);
+    }
+    println!(rt; "{sum} requests refused")
 }
 
 /// Prints the line of one example.
@@ -122,4 +139,60 @@ fn tell_book(rt: &HostRuntime, name: &str) -> io::Result<()> {
         Err(_) => "",
     };
     println!(rt; "{name}: {line}, status {}", status_of(&ended))
+}
+
+/// Refuses the requests of a replay in turn, and those of the audit of its book. The answer is how many were refused.
+fn refuse_to_example(rt: &HostRuntime, name: &str) -> io::Result<u64> {
+    let schedule = fs::read_to_string(rt, format!(in rt.alloc(); "{name}.occ")?.as_str())?;
+    let wanted = fs::read_to_string(rt, format!(in rt.alloc(); "{name}.out")?.as_str())?;
+    let mut reader = schedule.as_bytes();
+    let mut book = Vec::new(rt.alloc());
+    let ended = replay_text(rt.alloc(), &mut reader, &mut book, true);
+    let case = Case {
+        engine: Engine::Replay,
+        text: schedule.as_bytes(),
+        ended: ended.map(|()| true),
+        written: wanted.as_bytes(),
+    };
+    let refused = refuse_to(rt, name, "replay", case)?;
+    if ended.is_err() {
+        return Ok(refused);
+    }
+    Ok(refused.saturating_add(refuse_to_audit(rt, name, book.as_slice())?))
+}
+
+/// Refuses the requests of the audit of a book in turn. The answer is how many were refused.
+fn refuse_to_audit(rt: &HostRuntime, name: &str, book: &[u8]) -> io::Result<u64> {
+    let mut reader = book;
+    let mut written = Vec::new(rt.alloc());
+    let ended = audit_text(rt.alloc(), &mut reader, &mut written);
+    let case = Case {
+        engine: Engine::Audit,
+        text: book,
+        ended,
+        written: written.as_slice(),
+    };
+    refuse_to(rt, name, "audit", case)
+}
+
+/// Refuses the requests of a case in turn, and prints its line.
+fn refuse_to(rt: &HostRuntime, name: &str, what: &str, case: Case) -> io::Result<u64> {
+    match refuse_in_turn(rt.alloc(), case) {
+        Ok(
+            Tried {
+                requests,
+                refused,
+                whole,
+            },
+        ) => {
+            println!(rt;
+                "{name}, {what}: {refused} of {requests} requests refused in turn, {whole} to the end"
+            )?;
+            Ok(refused)
+        }
+        Err((place, flaw)) => {
+            println!(rt; "{name}, {what}: request {place} refused, {flaw}")?;
+            Ok(0)
+        }
+    }
 }
