@@ -1,4 +1,3 @@
 pub mod Order
 pub mod Replica
-pub mod Rests
 pub mod Rows

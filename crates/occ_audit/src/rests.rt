@@ -1,21 +1,19 @@
 //! What the open write phases of a log have still to do.
-ghost use Rattle.std.specs.Prelude.{◌≡◌, drop, IfOk, OnOk};
+ghost use Rattle.std.specs.Prelude.{◌≡◌, IfOk, OnOk};
 ghost use Rattle.std.specs.Bool.{Decides};
 ghost use Rattle.occ_model.specs.State as states;
 ghost use Rattle.occ_model.specs.State.{apply};
 ghost use Rattle.occ_model.specs.Log.{settled, rest};
-ghost use Rattle.occ_audit.specs.Rests.{writes_in};
+ghost use Rattle.occ_book.specs.LastWrites.{writes_in};
 ghost use Rattle.occ_audit.specs.Rows.{log_of, log_row_of};
 
 use crate::replica::Replica;
-use occ_book::{LogRow, Standing, Tables};
-use occ_sets::WriteSet;
-use occ_types::{Object, Row};
+use occ_book::{LastWrites, LogRow, Standing, Tables, note_writes};
 use std::alloc::{AllocError, Allocator};
 use std::collections::BTreeMap;
 
 /// The last write of each object among those that the open write phases have still to do.
-pub(crate) type Rests<'a, A> = BTreeMap<&'a Object<A>, Option<&'a Row<A>>, A>;
+pub(crate) type Rests<'a, A> = LastWrites<'a, A>;
 
 // The rests of a log.
 pub(crate) fn rests_of<'a, A: Allocator + Copy, O>(
@@ -42,22 +40,6 @@ fn note_rest<'a, A: Allocator + Copy, O>(
         Standing::Writing(done) => note_writes(rests, &row.writes, *done),
         _ => Ok(()),
     }
-}
-
-// Notes the writes of a set, without those before the place `from`.
-fn note_writes<'a, A: Allocator + Copy>(
-    rests: &mut Rests<'a, A>,
-    writes: &'a WriteSet<A>,
-    from: usize,
-) -> Result<(), AllocError>
-    ensures { OnOk result ((table : states.State) → apply table (writes_in rests.new.entries) ≡ apply (apply table (writes_in rests.old.entries)) (drop from writes.now)) }
-{
-    for place in from..writes.len() {
-        if let Some((object, row)) = writes.write_at(place) {
-            rests.insert(object, row)?;
-        }
-    }
-    Ok(())
 }
 
 // Whether the tables, with the rests done, are the replayed state. The rests are looked up there and taken back: under each of their objects it gets what the tables have.

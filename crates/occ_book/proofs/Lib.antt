@@ -1,5 +1,7 @@
 pub mod Absent
 pub mod Copies
+pub mod Folding
+pub mod LastNotes
 pub mod MarkViews
 pub mod Parted
 pub mod RowCopies

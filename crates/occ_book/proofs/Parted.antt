@@ -12,37 +12,25 @@ use Rattle.occ_model.specs.Overlay.{set}
 use Rattle.occ_model.proofs.States.{same, apply-put}
 use Rattle.occ_book.specs.Undo.{ArePlaced, if_put, puts, if_deletion, deletions}
 
-drop-at : {X : Type 0} (xs : List X) (i : ℕ) (x : X) → slice_get xs i ≡ Some x → drop i xs ≡ x ∷ drop (i + 1) xs
+-- the element at a place, and what is left behind it
+pub drop-at : {X : Type 0} (xs : List X) (i : ℕ) (x : X) → slice_get xs i ≡ Some x → drop i xs ≡ x ∷ drop (i + 1) xs
 drop-at xs i x e = rw add-one (drop-cons xs i x (slice_get_within xs i x e) ∙ ap (λ y. y ∷ drop (suc i) xs) (get_or_from_slice_get xs i x x e))
 
--- a row that the write at a place puts is the first one from there on
-pub put-here : (writes : List Write) (place : ℕ) (object : Object) (o : Option Row) (row : Row) → o ≡ Some row → Some (object, o) ≡ slice_get writes place → puts (drop place writes) ≡ (object, Some row) ∷ puts (drop (place + 1) writes)
-put-here writes place object o row some is =
-    ap puts (drop-at writes place (object, o) (sym is)) ∙ ap (λ r. if_put object r (puts (drop (place + 1) writes))) some
+-- the rows that are put from a place on, by the write there
+pub puts-at : (writes : List Write) (place : ℕ) (object : Object) (row : Option Row) → Some (object, row) ≡ slice_get writes place → puts (drop place writes) ≡ if_put object row (puts (drop (place + 1) writes))
+puts-at writes place object row is = ap puts (drop-at writes place (object, row) (sym is))
 
--- a deletion at a place puts no row
-pub put-later : (writes : List Write) (place : ℕ) (object : Object) (o : Option Row) → o ≡ None → Some (object, o) ≡ slice_get writes place → puts (drop (place + 1) writes) ≡ puts (drop place writes)
-put-later writes place object o none is =
-    sym (ap puts (drop-at writes place (object, o) (sym is)) ∙ ap (λ r. if_put object r (puts (drop (place + 1) writes))) none)
+-- and the deletions
+pub deletions-at : (writes : List Write) (place : ℕ) (object : Object) (row : Option Row) → Some (object, row) ≡ slice_get writes place → deletions (drop place writes) ≡ if_deletion object row (deletions (drop (place + 1) writes))
+deletions-at writes place object row is = ap deletions (drop-at writes place (object, row) (sym is))
 
--- a deletion at a place is the first one from there on
-pub deleted-here : (writes : List Write) (place : ℕ) (object : Object) (o : Option Row) → o ≡ None → Some (object, o) ≡ slice_get writes place → deletions (drop place writes) ≡ (object, None) ∷ deletions (drop (place + 1) writes)
-deleted-here writes place object o none is =
-    ap deletions (drop-at writes place (object, o) (sym is)) ∙ ap (λ r. if_deletion object r (deletions (drop (place + 1) writes))) none
-
--- a write that puts a row deletes nothing
-pub deleted-later : (writes : List Write) (place : ℕ) (object : Object) (o : Option Row) (row : Row) → o ≡ Some row → Some (object, o) ≡ slice_get writes place → deletions (drop (place + 1) writes) ≡ deletions (drop place writes)
-deleted-later writes place object o row some is =
-    sym (ap deletions (drop-at writes place (object, o) (sym is)) ∙ ap (λ r. if_deletion object r (deletions (drop (place + 1) writes))) some)
-
--- where a row is put, it is false that none is
-pub some-put : (P : Type 0) (writes others : List Write) (write : Write) → writes ≡ write ∷ others → writes ≡ [] → P
-some-put P writes others write some none =
-    let e : write ∷ others ≡ [] = sym some ∙ none in
-    cc
+-- where no row is put, a write puts none
+pub none-put : (object : Object) (row : Option Row) (others : List Write) → if_put object row others ≡ [] → row ≡ None
+none-put object None others e = refl
+none-put object (Some row) others e = cc
 
 -- nothing is left behind the end
-slice_get-none : {X : Type 0} (xs : List X) (i : ℕ) → None ≡ slice_get xs i → length xs ≤ i
+pub slice_get-none : {X : Type 0} (xs : List X) (i : ℕ) → None ≡ slice_get xs i → length xs ≤ i
 slice_get-none [] i e = omega arith
 slice_get-none (x ∷ xs) zero e = cc
 slice_get-none (x ∷ xs) (suc i) e = let h = slice_get-none xs i e in omega arith

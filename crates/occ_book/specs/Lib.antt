@@ -1,4 +1,6 @@
+pub mod Base
 pub mod Kept
+pub mod LastWrites
 pub mod Marks
 pub mod Rows
 pub mod Undo

@@ -1,7 +1,9 @@
 //! What a book has: the rows that entered, the tables, the closing marks and the counters.
 #![tactic(auto)]
 
+mod base;
 mod books;
+mod lasts;
 mod maps;
 mod marks;
 mod rows;
@@ -10,7 +12,9 @@ mod tables;
 mod tests;
 mod writes;
 
+pub use base::Base;
 pub use books::{Book, BookView};
+pub use lasts::{LastWrites, note_writes};
 pub use marks::Marks;
 pub use rows::{LogRow, Standing};
 pub use tables::Tables;

@@ -1,4 +1,4 @@
-//! The closing marks of the sessions.
+//! A number for each session: its closing mark, or the last one that was folded.
 ghost use Rattle.std.specs.Prelude.{◌≡◌, ◌==◌, ◌≤◌, count_by, is_some, IfOk, IsOkUnless};
 ghost use Rattle.std.specs.FinMap as finite;
 ghost use Rattle.occ_types.specs.declared.fault.Fault.TheVariants.{Memory};
@@ -8,7 +8,7 @@ use occ_types::Fault;
 use std::alloc::{AllocError, Allocator};
 use std::marker::Model;
 
-/// The closing mark of each session that has one: the number that it took. There is a slot for each session, whose room is taken when the marks are made. Clauses see how many sessions there are, and the marks by session.
+/// A number for each session that has one, its mark: the number that its closing mark took, or in a base its last one that was folded. There is a slot for each session, whose room is taken when the marks are made. Clauses see how many sessions there are, and the marks by session.
 #[derive(Drop)]
 pub struct Marks<A: Allocator> {
     slots: Vec<Option<u64>, A>,
@@ -73,7 +73,7 @@ impl<A: Allocator> Marks<A> {
         }
     }
 
-    /// A session has this mark. It takes no memory.
+    /// A session has this mark from now on, also where it had another. It takes no memory.
     pub fn set(&mut self, session: usize, number: u64)
         requires first { 1 ≤ session }
         requires last { session ≤ self.old.sessions }

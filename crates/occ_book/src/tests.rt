@@ -1,11 +1,13 @@
 //! That calls succeed where there is memory, which no clause says.
 ghost use Rattle.std.specs.Prelude.{IfSome};
+ghost use Rattle.occ_model.specs.Content.{IsSession};
+ghost use Rattle.occ_book.specs.Base.{FitsIn, AllFitIn};
 ghost use Rattle.occ_book.specs.Undo.{ArePlaced};
 
-use crate::{Book, LogRow, Marks, Standing, Tables};
+use crate::{Base, Book, LogRow, Marks, Standing, Tables};
 use occ_case::Cause;
 use occ_sets::{ReadSet, WriteSet};
-use occ_types::{Cell, Key, Row};
+use occ_types::{Cell, Fault, Key, Row};
 use std::alloc::Global;
 use std::test::Fail;
 
@@ -177,5 +179,132 @@ fn books(rt: HostRuntime) -> Result<(), Fail> {
     assert_eq!(rt; lent.marks.len(), 1);
     assert_eq!(rt; lent.low, 0);
     assert_eq!(rt; lent.tnc, 1);
+    Ok(())
+}
+
+// A row of one of two sessions, with its number, that writes rows of one number to the first table.
+fn entered(
+    alloc: Global,
+    session: usize,
+    number: u64,
+    rows: &[(u64, Option<i64>)],
+    standing: Standing<()>,
+) -> Option<LogRow<Global, ()>>
+    requires { IsSession 2 session }
+    ensures { IfSome result (λ row. FitsIn 1 2 row) }
+{
+    let writes = writes(alloc, rows)?;
+    Some(LogRow {
+        place: 0,
+        session,
+        number,
+        start: 0,
+        finish: 0,
+        reads: ReadSet::new(alloc),
+        writes,
+        standing,
+    })
+}
+
+// The first row of session 1, which puts two rows.
+fn putting(alloc: Global) -> Option<LogRow<Global, ()>>
+    ensures { IfSome result (λ row. FitsIn 1 2 row) }
+{
+    entered(
+        alloc,
+        1,
+        1,
+        &[(7, Some(1)), (9, Some(2))],
+        Standing::Done(1),
+    )
+}
+
+// The first row of session 2, which is backed up.
+fn failing(alloc: Global) -> Option<LogRow<Global, ()>>
+    ensures { IfSome result (λ row. FitsIn 1 2 row) }
+{
+    let back = Standing::Back(Cause::Conflict);
+    entered(alloc, 2, 1, &[(7, Some(100)), (10, Some(6))], back)
+}
+
+// The second row of session 1, which deletes one of its rows, replaces the other, and puts a third.
+fn changing(alloc: Global) -> Option<LogRow<Global, ()>>
+    ensures { IfSome result (λ row. FitsIn 1 2 row) }
+{
+    let rows = [(9, None), (7, Some(4)), (8, Some(5))];
+    entered(alloc, 1, 2, &rows, Standing::Done(2))
+}
+
+// Folds rows into a base of one table and two sessions.
+fn fold_in(base: &mut Base<Global>, rows: &[LogRow<Global, ()>]) -> Result<(), Fault>
+    requires { AllFitIn 1 2 rows.now }
+{
+    if base.state().count() != 1 || base.numbers().sessions() != 2 {
+        return Err(Fault::Memory);
+    }
+    if base.place() > 100 || rows.len() > 100 {
+        return Err(Fault::Memory);
+    }
+    base.fold(rows)
+}
+
+// All three rows, folded at once.
+fn folded_at_once(alloc: Global) -> Option<Base<Global>> {
+    let (first, second, third) = (putting(alloc)?, failing(alloc)?, changing(alloc)?);
+    let rows = vec![in alloc; first, second, third].ok()?;
+    let mut base = Base::new(alloc, 1, 2).ok()?;
+    fold_in(&mut base, rows.as_slice()).ok()?;
+    Some(base)
+}
+
+// The same, folded in two parts.
+fn folded_in_parts(alloc: Global) -> Option<Base<Global>> {
+    let (first, second, third) = (putting(alloc)?, failing(alloc)?, changing(alloc)?);
+    let front = vec![in alloc; first, second].ok()?;
+    let last = vec![in alloc; third].ok()?;
+    let mut base = Base::new(alloc, 1, 2).ok()?;
+    fold_in(&mut base, front.as_slice()).ok()?;
+    fold_in(&mut base, last.as_slice()).ok()?;
+    Some(base)
+}
+
+// A row that is backed up, folded alone.
+fn folded_back(alloc: Global) -> Option<Base<Global>> {
+    let row = failing(alloc)?;
+    let rows = vec![in alloc; row].ok()?;
+    let mut base = Base::new(alloc, 1, 2).ok()?;
+    fold_in(&mut base, rows.as_slice()).ok()?;
+    Some(base)
+}
+
+#[test]
+fn bases(rt: HostRuntime) -> Result<(), Fail> {
+    let alloc = rt.alloc();
+    let (Some(whole), Some(parts)) = (folded_at_once(alloc), folded_in_parts(alloc)) else {
+        assert!(rt; false, "there is memory");
+        return Ok(());
+    };
+    let copy = parts.clone()?;
+    for base in [&whole, &parts, &copy] {
+        assert!(rt; has_rows(alloc, base.state(), &[(7, 4), (8, 5)]));
+        assert!(rt; base.last(1) == Some(2));
+        assert!(rt; base.last(2) == Some(1));
+        assert_eq!(rt; base.numbers().len(), 2);
+        assert_eq!(rt; base.place(), 3);
+    }
+    Ok(())
+}
+
+#[test]
+fn base_of_a_backed_up_row(rt: HostRuntime) -> Result<(), Fail> {
+    let alloc = rt.alloc();
+    let Some(base) = folded_back(alloc) else {
+        assert!(rt; false, "there is memory");
+        return Ok(());
+    };
+    assert!(rt; has_rows(alloc, base.state(), &[]));
+    assert!(rt; base.last(1) == None);
+    assert!(rt; base.last(2) == Some(1));
+    assert_eq!(rt; base.place(), 1);
     Ok(())
 }

@@ -1,5 +1,5 @@
 -- How many transactions are active: counted through the sessions, and in the log.
-use Rattle.std.proofs.Common.{◌≡◌, ℕ, zero, suc, ◌+◌, ◌<◌, ◌≤◌, Bool, true, false, cond, List, [], ◌∷◌, ◌++◌, drop, length, Option, None, Some, refl, sym, ap, subst, ◌∙◌, arith, length-append, append_assoc, eqb-true, eq-eqb}
+use Rattle.std.proofs.Common.{◌≡◌, ℕ, zero, suc, ◌+◌, ◌-◌, ◌<◌, ◌≤◌, Bool, true, false, cond, List, [], ◌∷◌, ◌++◌, drop, length, Option, None, Some, refl, sym, ap, subst, ◌∙◌, arith, length-append, append_assoc, eqb-true, eq-eqb}
 use Rattle.std.specs.Prelude.{◌==◌, is_some, slice_get, if◌then◌else◌, filter, option_map}
 use Rattle.std.specs.Ordering.{nat_cmp}
 use Rattle.std.specs.FinSet as sets
@@ -10,7 +10,11 @@ use Rattle.occ_model.specs.World.{latest, active_count}
 use Rattle.occ_model.specs.Invariant.{OneUnderWay, ActiveAreHeld}
 use Rattle.occ_model.proofs.Tests as tests
 use Rattle.occ_log.specs.Slots.{Slot, Hold, held_from, active_of, active_from}
-use Rattle.occ_core.specs.Entries.{active_at}
+use Rattle.std.proofs.lemmas.Bool.{lt-leb}
+use Rattle.occ_types.specs.declared.fault.Fault.TheVariants.{CounterExhausted}
+use Rattle.occ_types.specs.declared.limits.TheConstants.{MAX_COUNTER}
+use Rattle.occ_types.specs.Schema.{fault_if}
+use Rattle.occ_core.specs.Entries.{active_at, counter_fault}
 use Rattle.occ_core.specs.Parts.{Parts, world_of, AreSound}
 use Rattle.occ_log.proofs.Holding.{is_held_at, contains-held, held_place}
 use Rattle.occ_log.proofs.Opponents.{held-get, held-latest}
@@ -48,6 +52,37 @@ active_found log slots k writes less found = active_next log slots k less ∙ ap
 
 pub active_skipped : (log : ℕ → Option LogRow) (slots : List Slot) (k : ℕ) → k < length slots → None ≡ active_at log (slice_get slots k) → active_from log (drop k slots) ≡ active_from log (drop (k + 1) slots)
 active_skipped log slots k less found = active_next log slots k less ∙ ap (λ o. listed o ++ active_from log (drop (k + 1) slots)) (sym found)
+
+-- a session has one at most
+one_at_most : (log : ℕ → Option LogRow) (slot : Slot) → length (active_of log slot) ≤ 1
+one_at_most log slot = held slot.hold
+  where
+    chosen : (b : Bool) (writes : List Write) → length (cond b (writes ∷ []) []) ≤ 1
+    chosen true writes = omega arith
+    chosen false writes = omega arith
+
+    found : (o : Option LogRow) → length (elim o as (λ _. List (List Write)) [ None ↦ [] | Some row ↦ cond (is_active row.standing) (row.writes ∷ []) [] ]) ≤ 1
+    found None = omega arith
+    found (Some row) = chosen (is_active row.standing) row.writes
+
+    held : (h : Option Hold) → length (elim h as (λ _. List (List Write)) [ None ↦ [] | Some hold ↦ elim (log hold.place) [ None ↦ [] | Some row ↦ cond (is_active row.standing) (row.writes ∷ []) [] ] ]) ≤ 1
+    held None = omega arith
+    held (Some hold) = found (log hold.place)
+
+-- no more are active than there are sessions
+pub active_within : (log : ℕ → Option LogRow) (slots : List Slot) → length (active_from log slots) ≤ length slots
+active_within log [] = omega arith
+active_within log (slot ∷ slots) =
+    let one = one_at_most log slot in
+    let more = active_within log slots in
+    let all = length-append (active_of log slot) (active_from log slots) in
+    omega arith
+
+-- where the counter has room for one of each session, it has room for those that are active
+pub counter_free : (log : ℕ → Option LogRow) (slots : List Slot) (counter : ℕ) → length slots < MAX_COUNTER - counter → counter_fault counter (length (active_from log slots)) ≡ None
+counter_free log slots counter room =
+    let within = active_within log slots in
+    ap (λ full. fault_if full CounterExhausted) (lt-leb (MAX_COUNTER - counter) (length (active_from log slots)) (omega arith))
 
 -- In the log.
 

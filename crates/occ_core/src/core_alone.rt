@@ -16,7 +16,7 @@ use crate::actives::count_active;
 use crate::core_closing::check_turn_to_close;
 use crate::core_serial::check_quiet;
 use crate::core_state::Core;
-use crate::entry_checks::{check_counter, check_log, check_spare};
+use crate::entry_checks::{check_log, check_numbers, check_spare};
 use occ_book::Marks;
 use occ_log::{Log, ReadPhases, Sessions, Transaction};
 use occ_operations::{Performed, perform_all};
@@ -153,7 +153,7 @@ fn check_room_to_run<A: Allocator>(
     check_count(operations.len())?;
     check_operations(schema, operations)?;
     check_log(log.len())?;
-    check_counter(counter, count_active(sessions, log))
+    check_numbers(sessions, log, counter)
 }
 
 // Whether a list has so few operations that it may run.

@@ -3,7 +3,7 @@ ghost use Rattle.std.specs.Prelude.{◌≡◌, IfOk, OnOk, OnErr, IsOkUnless, No
 ghost use Rattle.std.specs.Option.{option_copied};
 ghost use Rattle.std.specs.Result.{result_err};
 ghost use Rattle.occ_types.specs.Question.{One, Span};
-ghost use Rattle.occ_types.specs.Seen.{key_of, end_of};
+ghost use Rattle.occ_types.specs.Seen.{key_of, end_of, question_of};
 ghost use Rattle.occ_model.specs.Event.{Read, Forget};
 ghost use Rattle.occ_model.specs.State.{answer, Found, Rows};
 ghost use Rattle.occ_sets.specs.Seen.{observation_of, rows_of};
@@ -161,7 +161,7 @@ fn observe_row<A: Allocator + Clone>(
     Ok((Observation { question, answer }, row))
 }
 
-// The question for a range and what the tables answer, and a copy of the rows.
+// The question for a range and what the tables answer, and a copy of the rows. The tables are asked once.
 fn observe_rows<A: Allocator + Clone>(
     tables: &Tables<A>,
     table: usize,
@@ -171,14 +171,34 @@ fn observe_rows<A: Allocator + Clone>(
     ensures memory { IsOkUnless result Memory }
     ensures answered { IfOk result (λ copies. (observation_of copies.0 ≡ (Span table (end_of lower.now) (end_of upper.now), answer (Span table (end_of lower.now) (end_of upper.now)) tables.now.state)) × (Rows (rows_of copies.1.items) ≡ answer (Span table (end_of lower.now) (end_of upper.now)) tables.now.state)) }
 {
-    let question = Question::Span {
+    let question = span(table, lower, upper)?;
+    let rows = tables.rows(table, lower, upper)?;
+    let answer = Answer::Rows(copy_rows(&rows)?);
+    Ok((Observation { question, answer }, rows))
+}
+
+// The question for a range, with copies of its ends.
+fn span<A: Allocator + Clone>(
+    table: usize,
+    lower: &Option<Key<A>>,
+    upper: &Option<Key<A>>,
+) -> Result<Question<A>, AllocError>
+    ensures { IfOk result (λ question. question_of question ≡ Span table (end_of lower.now) (end_of upper.now)) }
+{
+    Ok(Question::Span {
         table,
         lower: lower.clone()?,
         upper: upper.clone()?,
-    };
-    let answer = Answer::Rows(tables.rows(table, lower, upper)?);
-    let rows = tables.rows(table, lower, upper)?;
-    Ok((Observation { question, answer }, rows))
+    })
+}
+
+// A copy of the rows of a range, with their keys.
+fn copy_rows<A: Allocator + Clone>(
+    rows: &Vec<(Key<A>, Row<A>), A>,
+) -> Result<Vec<(Key<A>, Row<A>), A>, AllocError>
+    ensures { IfOk result (λ copied. rows_of copied.items ≡ rows_of rows.now.items) }
+{
+    Ok(rows.clone()?)
 }
 
 // A copy of a row that may be there.

@@ -4,6 +4,7 @@ ghost use Rattle.std.specs.Result.{result_err};
 ghost use Rattle.occ_model.specs.Refusal.{check_writes};
 ghost use Rattle.occ_log.specs.Logs.{row_at};
 ghost use Rattle.occ_log.specs.Rows.{slot_of};
+ghost use Rattle.occ_log.specs.Slots.{active_from};
 ghost use Rattle.occ_core.specs.Entries.{due_fault, busy_fault, spare_fault, turn_to_enter, write_fault, log_fault, counter_fault, room_to_enter};
 
 use crate::actives::count_active;
@@ -76,7 +77,7 @@ pub(crate) fn check_room<A: Allocator>(
 {
     check_writes(schema, writes)?;
     check_log(log.len())?;
-    check_counter(counter, count_active(sessions, log))
+    check_numbers(sessions, log, counter)
 }
 
 // Whether each write fits the schema, in their order.
@@ -117,8 +118,23 @@ pub(crate) fn check_log(rows: usize) -> Result<(), Fault>
     Ok(())
 }
 
-// Whether the counter has room for the active transactions and one more.
-pub(crate) fn check_counter(counter: u64, active: usize) -> Result<(), Fault>
+// Whether the counter has room for the active transactions and one more. A session has one of them at most, so they are counted only
+// where one of each session would be too many.
+pub(crate) fn check_numbers<A: Allocator>(
+    sessions: &Sessions<A>,
+    log: &Log<A>,
+    counter: u64,
+) -> Result<(), Fault>
+    ensures { result_err result ≡ counter_fault counter (length (active_from (row_at log.now) sessions.now)) }
+{
+    if (sessions.len() as u64) < MAX_COUNTER.saturating_sub(counter) {
+        return Ok(());
+    }
+    check_counter(counter, count_active(sessions, log))
+}
+
+// Whether the counter has room for so many active transactions and one more.
+fn check_counter(counter: u64, active: usize) -> Result<(), Fault>
     ensures { result_err result ≡ counter_fault counter active }
 {
     if active as u64 >= MAX_COUNTER.saturating_sub(counter) {

@@ -78,20 +78,16 @@ pub struct Tried {
     pub whole: u64,
 }
 
-// So many requests of a run are refused at most. Of a run that makes more, it is each second one, or each third one, and so on.
-const MOST: u64 = 600;
-
-/// Runs a case once for each request for memory that it makes, or for `MOST` of them at most, with that request refused, and once more
-/// with none refused. An error is the place of the first request whose run showed a flaw.
+/// Runs a case once for each request for memory that it makes, with that request refused, and once more with none refused. An error is
+/// the place of the first request whose run showed a flaw.
 pub fn refuse_in_turn(alloc: Global, case: Case) -> Result<Tried, (u64, Flaw)> {
     let ample = Refusing::new(alloc, Plan::Nothing);
     let mut written = Vec::new(alloc);
     let _ended = case.engine.run(&ample, case.text, &mut written);
     let requests = ample.requests();
-    let stride = requests.saturating_sub(1) / MOST + 1;
     let (mut refused, mut whole) = (0u64, 0u64);
-    for turn in 0..requests.div_ceil(stride) {
-        let tried = run_refused(alloc, case, turn.saturating_mul(stride))?;
+    for place in 0..requests {
+        let tried = run_refused(alloc, case, place)?;
         refused = refused.saturating_add(tried.refused);
         whole = whole.saturating_add(u64::from(tried.is_whole));
     }

@@ -8,3 +8,5 @@ pub mod PhaseViews
 pub mod Listed
 pub mod Numbered
 pub mod Dropping
+pub mod Folding
+mod LogTests

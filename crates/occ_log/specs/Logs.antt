@@ -1,5 +1,5 @@
 -- What clauses see of the log that a core keeps, and how its rows are found.
-use Rattle.std.specs.Prelude.{◌≡◌, ℕ, zero, suc, ◌-◌, Bool, true, ◌&&◌, ◌==◌, nat_lt, List, [], ◌∷◌, map, filter, length, Option, None, Some, if◌then◌else◌, slice_get, Vec, vec_len, vec_capacity}
+use Rattle.std.specs.Prelude.{◌≡◌, ℕ, zero, suc, ◌-◌, Bool, true, ◌&&◌, ◌==◌, nat_lt, nat_le, List, [], ◌∷◌, map, filter, length, Option, None, Some, if◌then◌else◌, slice_get, Vec, vec_len, vec_capacity}
 use Rattle.occ_book.specs.declared.rows.LogRow as code_row
 use Rattle.occ_case.specs.declared.cases.OpenCase as code_open
 use Rattle.occ_model.specs.Log.{LogRow, Counts, numbers}
@@ -57,6 +57,10 @@ rows_of session rows = filter (λ row. row.session == session) rows
 abbrev pub HaveNoGap : List LogRow → Type 0
 HaveNoGap rows = (session : ℕ) → (first : ℕ) × Counts first (numbers session rows)
 
+-- of some places, those from a first one on
+abbrev pub places_from : ℕ → List ℕ → List ℕ
+places_from first places = filter (λ place. nat_le first place) places
+
 -- each session's list has the places of its rows
 abbrev pub AreListed : ℕ → List LogRow → List (List ℕ) → Type 0
 AreListed first rows lists = (session : ℕ) → list_of lists session ≡ places_in session first rows
@@ -68,6 +72,10 @@ module _ {Z : Type 0} where
   -- a vector has room for one more
   abbrev pub has_room : {X : Type 0} → Vec X Z → Bool
   has_room items = nat_lt (vec_len items) (vec_capacity items)
+
+  -- each vector that has room for one more still has it
+  abbrev pub KeepRoom : {X : Type 0} → List (Vec X Z) → List (Vec X Z) → Type 0
+  KeepRoom old new = (place : ℕ) → slice_get (map has_room old) place ≡ Some true → slice_get (map has_room new) place ≡ Some true
 
   -- the log, of the place of its first row, its rows, and the lists of their places
   abbrev pub kept_of : ℕ → Vec (code_row.LogRow Z (code_open.OpenCase Z)) Z → Vec (Vec ℕ Z) Z → Kept

@@ -1,12 +1,15 @@
 //! The decision log.
-ghost use Rattle.std.specs.Prelude.{◌≡◌, ◌<◌, ◌≤◌, ◌+◌, ◌-◌, ◌^◌, [], ◌∷◌, ◌++◌, length, is_some, true, IfOk, OnOk, slice_get, slice_set, Some};
+ghost use Rattle.std.specs.Prelude.{◌≡◌, ◌<◌, ◌≤◌, ◌+◌, ◌-◌, ◌^◌, ℕ, [], ◌∷◌, ◌++◌, length, drop, map, is_some, true, IfOk, OnOk, slice_get, slice_set, Some};
+ghost use Rattle.std.specs.List.{list_any, prefix_len};
 ghost use Rattle.std.specs.Option.{option_map};
 ghost use Rattle.occ_types.specs.Seen.{object_of};
-ghost use Rattle.occ_log.specs.Logs.{row_at, HasRoom, IsBegun, HaveNoGap, rows_of, places_in};
+ghost use Rattle.occ_log.specs.Logs.{row_at, HasRoom, IsBegun, HaveNoGap, KeepRoom, has_room, lists_of, places_from, rows_of, places_in};
 ghost use Rattle.occ_log.specs.Rows.{log_row_of, log_of, standing_of};
 ghost use Rattle.occ_log.specs.Slots.{written_at};
-ghost use Rattle.occ_model.specs.Log.{LogRow as PlainRow};
+ghost use Rattle.occ_model.specs.Log.{LogRow as PlainRow, is_open};
 ghost use Rattle.occ_model.specs.Poll.{row_numbered};
+ghost use Rattle.occ_model.specs.Refusal.{foldable};
+ghost use Rattle.occ_model.specs.Step.{foldable_part};
 
 use occ_book::{LogRow, Standing};
 use occ_case::OpenCase;
@@ -173,6 +176,101 @@ impl<A: Allocator> Log<A> {
         let row = &mut self.rows[place - self.first];
         row.standing = standing;
     }
+
+    /// Whether a row is open: entered, and not decided.
+    pub fn has_open(&self) -> bool
+        ensures { result ≡ list_any (λ row. is_open row.standing) self.now.rows }
+    {
+        some_open(&self.rows)
+    }
+
+    /// How many rows the longest beginning has that can be folded, where the window begins at `low`: each of them is backed up, or
+    /// finished under a number that is not above `low`.
+    pub fn foldable(&self, low: u64) -> usize
+        ensures { result ≡ length (foldable_part low self.now.rows) }
+    {
+        count_foldable(&self.rows, low)
+    }
+
+    /// So many rows go from the beginning, and the log begins so many places later; the rows that stay keep theirs. The memory of the
+    /// rows goes back to the allocator. The vectors that list them keep their room, and so a session that had room for one more row
+    /// has it still. It takes no memory, and costs as much as there are rows and sessions.
+    pub fn fold(&mut self, count: usize)
+        requires count { count ≤ length self.old.rows }
+        requires places { self.old.first + length self.old.rows < 2 ^ 64 }
+        ensures rows { self.new.rows ≡ drop count self.old.rows }
+        ensures first { self.new.first ≡ self.old.first + count }
+        ensures sessions { self.new.sessions ≡ self.old.sessions }
+        ensures room { (session : ℕ) → HasRoom self.old session → HasRoom self.new session }
+    {
+        self.first += count;
+        drop_front(&mut self.rows, count);
+        keep_lists(&mut self.places, self.first);
+    }
+}
+
+// Whether one of some rows is open.
+fn some_open<A: Allocator>(rows: &Vec<LogRow<A, OpenCase<A>>, A>) -> bool
+    ensures { result ≡ list_any (λ row. is_open (standing_of row.standing)) rows.now.items }
+{
+    rows.iter().any(|row| stands_open(&row.standing))
+}
+
+fn stands_open<A: Allocator>(standing: &Standing<OpenCase<A>>) -> bool
+    ensures { result ≡ is_open (standing_of standing.now) }
+{
+    match standing {
+        Standing::Open(_case) => true,
+        Standing::Writing(_done) => false,
+        Standing::Done(_number) => false,
+        Standing::Back(_cause) => false,
+    }
+}
+
+// How many rows come before the first one that can't be folded.
+fn count_foldable<A: Allocator>(rows: &Vec<LogRow<A, OpenCase<A>>, A>, low: u64) -> usize
+    ensures { result ≡ prefix_len (λ row. foldable low (standing_of row.standing)) rows.now.items }
+{
+    rows.iter()
+        .take_while(|row| can_fold(&row.standing, low))
+        .count()
+}
+
+fn can_fold<A: Allocator>(standing: &Standing<OpenCase<A>>, low: u64) -> bool
+    ensures { result ≡ foldable low (standing_of standing.now) }
+{
+    match standing {
+        Standing::Open(_case) => false,
+        Standing::Writing(_done) => false,
+        Standing::Done(number) => *number <= low,
+        Standing::Back(_cause) => true,
+    }
+}
+
+// The first of some items are dropped, so many of them.
+fn drop_front<T: Drop, A: Allocator>(items: &mut Vec<T, A>, count: usize)
+    requires { count ≤ length items.old.items }
+    ensures items { items.new.items ≡ drop count items.old.items }
+    ensures room { has_room items.old ≡ true → has_room items.new ≡ true }
+{
+    drop(items.drain(..count));
+}
+
+// Each list keeps its places from the first one of the log on.
+fn keep_lists<A: Allocator>(lists: &mut Vec<Vec<usize, A>, A>, first: usize)
+    ensures lists { lists_of lists.new.items ≡ map (places_from first) (lists_of lists.old.items) }
+    ensures room { KeepRoom lists.old.items lists.new.items }
+{
+    for place in 0..lists.len() {
+        keep_places(&mut lists[place], first);
+    }
+}
+
+fn keep_places<A: Allocator>(places: &mut Vec<usize, A>, first: usize)
+    ensures items { places.new.items ≡ places_from first places.old.items }
+    ensures room { has_room places.old ≡ true → has_room places.new ≡ true }
+{
+    places.retain(|place| first <= *place);
 }
 
 impl<A: Allocator + Clone> Log<A> {

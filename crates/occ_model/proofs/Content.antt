@@ -15,12 +15,12 @@ use Rattle.occ_types.specs.Row.{Row, Int}
 use Rattle.occ_model.specs.State.{State, Write, Observation, answer, put, apply}
 use Rattle.occ_model.specs.Overlay.{set, own}
 use Rattle.occ_model.specs.Operations.{Operation, Get, Scan, Put, Delete, Add, Progress, perform, perform_all, asked, nothing_yet, seen, number_in, held_sum}
-use Rattle.occ_model.specs.Log.{LogRow, Standing, Open, Writing, Done, Back, Case}
+use Rattle.occ_model.specs.Log.{LogRow, Standing, Open, Writing, Done, Back, Case, is_committed, after, serial}
 use Rattle.occ_model.specs.World.{World, ReadPhase, latest, turn, reads_under, has_session, low, phase_cmp}
 use Rattle.occ_model.specs.Event.{Request, Alone, Close, Event, Read, Forget, Enter, Decide, WriteOne, Finish, BackUp, SerialEnd, RunAlone, Checkpoint, Reply}
 use Rattle.occ_model.specs.Refusal as refusals
 use Rattle.occ_model.specs.Refusal.{refusal, refusal_of_request, refusal_of_close, refusal_of_alone}
-use Rattle.occ_model.specs.Step.{Step, refused, starved, taken, Taken, entering, validity_of, read_more, entered, closed, decided, WritesOne, finished, EndsSerially, RunsAlone, foldable_part, shortened}
+use Rattle.occ_model.specs.Step.{Step, refused, starved, taken, Taken, entering, validity_of, read_more, entered, closed, decided, WritesOne, finished, EndsSerially, RunsAlone, foldable_part, folded_numbers, shortened}
 use Rattle.occ_model.specs.Invariant.{Invariant}
 use Rattle.occ_model.specs.Content.{IsSession, StateIs, WriteIs, ReadIs, RowIs, ContentIs, OperationIs, ItemIs, EventIs}
 use Rattle.occ_model.specs.declared.verdict.Verdict.{Verdict}
@@ -47,6 +47,10 @@ module _ {X : Type 0} (P : X → Type 0) where
   pub all_replace : (before later : List X) (x other : X) → P other → AllByRecursion P (before ++ x ∷ later) → AllByRecursion P (before ++ other ∷ later)
   all_replace [] later x other is all = (is, all.1)
   all_replace (y ∷ ys) later x other is all = (all.0, all_replace ys later x other is all.1)
+
+  pub all_front : (before later : List X) → AllByRecursion P (before ++ later) → AllByRecursion P before
+  all_front [] later all = tt
+  all_front (y ∷ ys) later all = (all.0, all_front ys later all.1)
 
   pub all_later : (before later : List X) → AllByRecursion P (before ++ later) → AllByRecursion P later
   all_later [] later all = all
@@ -146,6 +150,8 @@ module _ (Askable : Question → Type 0) (Storable : ℕ → Row → Type 0) whe
       | inr before ↦ content.few s n phase before
     ];
     table = content.table;
+    base = content.base;
+    folded = content.folded;
   }
     where
       more : length (reads_under old session number ++ (question, answer question old.table) ∷ []) ≤ MAX_QUESTIONS
@@ -173,6 +179,8 @@ module _ (Askable : Question → Type 0) (Storable : ℕ → Row → Type 0) whe
         phases = λ s n phase is. content.phases s n phase (get-retain-from old.phases _ (s, n) phase is);
         few = λ s n phase is. content.few s n phase (get-retain-from old.phases _ (s, n) phase is);
         table = content.table;
+        base = content.base;
+        folded = content.folded;
       }
 
   -- a row that enters
@@ -192,6 +200,8 @@ module _ (Askable : Question → Type 0) (Storable : ℕ → Row → Type 0) whe
     phases = λ s n phase is. content.phases s n phase (get-remove-from old.phases (session, number) (s, n) phase is);
     few = λ s n phase is. content.few s n phase (get-remove-from old.phases (session, number) (s, n) phase is);
     table = content.table;
+    base = content.base;
+    folded = content.folded;
   }
 
   content_decide : (old : World) (session : ℕ) (row : LogRow) (verdict : Verdict) → latest session old.log ≡ Some row → ContentIs Askable Storable old → ContentIs Askable Storable (record old { log = turn session (decided verdict) old.log })
@@ -201,6 +211,8 @@ module _ (Askable : Question → Type 0) (Storable : ℕ → Row → Type 0) whe
     phases = content.phases;
     few = content.few;
     table = content.table;
+    base = content.base;
+    folded = content.folded;
   }
     where
       few : (v : Verdict) (done : ℕ) → decided v ≡ Writing done → done ≤ length row.writes
@@ -223,6 +235,8 @@ module _ (Askable : Question → Type 0) (Storable : ℕ → Row → Type 0) whe
         phases = content.phases;
         few = content.few;
         table = put_is old.table write content.table (all_get (WriteIs Askable Storable) done row.writes write e (latest_is old.settings.sessions old.counter session old.log row there content.log).writes);
+        base = content.base;
+        folded = content.folded;
       })
 
   content_finish : (old : World) (session : ℕ) (row : LogRow) → latest session old.log ≡ Some row → ContentIs Askable Storable old → ContentIs Askable Storable (finished old session)
@@ -233,6 +247,8 @@ module _ (Askable : Question → Type 0) (Storable : ℕ → Row → Type 0) whe
     phases = content.phases;
     few = content.few;
     table = content.table;
+    base = content.base;
+    folded = content.folded;
   }
 
   -- a transaction that commits in the step of its entry
@@ -253,6 +269,8 @@ module _ (Askable : Question → Type 0) (Storable : ℕ → Row → Type 0) whe
     phases = λ s n phase is. content.phases s n phase (fewer (s, n) phase is);
     few = λ s n phase is. content.few s n phase (fewer (s, n) phase is);
     table = apply_is writes old.table content.table written;
+    base = content.base;
+    folded = content.folded;
   }
 
   content_serial : (old : World) (session number start : ℕ) (writes : List Write) (reply : Reply) (new : World) (valid : Verdict) → Invariant old → ContentIs Askable Storable old → Admitted old session number start
@@ -269,6 +287,8 @@ module _ (Askable : Question → Type 0) (Storable : ℕ → Row → Type 0) whe
         phases = λ s n phase is. content.phases s n phase (get-remove-from old.phases (session, number) (s, n) phase is);
         few = λ s n phase is. content.few s n phase (get-remove-from old.phases (session, number) (s, n) phase is);
         table = content.table;
+        base = content.base;
+        folded = content.folded;
       })
 
   -- Operations that run alone.
@@ -350,15 +370,40 @@ module _ (Askable : Question → Type 0) (Storable : ℕ → Row → Type 0) whe
       subst (ContentIs Askable Storable) (sym runs.1) (content_done old session number old.counter done.reads done.writes old.phases content
       (tests.not_false _ (not_refused _ faults.NoSession a.0)) (omega arith) (λ k phase at. at) (within_questions (length done.reads) (length operations) count few) is.reads is.writes)
 
+  -- What is folded: the state that its committed rows make, and the sessions that it has numbers of.
+
+  after_is : (sessions counter : ℕ) (state : State) (row : LogRow) → StateIs Askable Storable state → RowIs Askable Storable sessions counter row → StateIs Askable Storable (after state row)
+  after_is sessions counter state row are is = go (is_committed row.standing)
+    where
+      go : (b : Bool) → StateIs Askable Storable (cond b (apply state row.writes) state)
+      go true = apply_is row.writes state are is.writes
+      go false = are
+
+  serial_is : (sessions counter : ℕ) (rows : List LogRow) (state : State) → StateIs Askable Storable state → AllByRecursion (RowIs Askable Storable sessions counter) rows → StateIs Askable Storable (serial state rows)
+  serial_is sessions counter [] state are all = are
+  serial_is sessions counter (row ∷ rows) state are all = serial_is sessions counter rows (after state row) (after_is sessions counter state row are all.0) all.1
+
+  folded_is : (sessions counter : ℕ) (rows : List LogRow) (last : FinMap nat_cmp ℕ) → ((session number : ℕ) → finite.get last session ≡ Some number → IsSession sessions session)
+      → AllByRecursion (RowIs Askable Storable sessions counter) rows → (session number : ℕ) → finite.get (folded_numbers last rows) session ≡ Some number → IsSession sessions session
+  folded_is sessions counter [] last known all = known
+  folded_is sessions counter (row ∷ rows) last known all = folded_is sessions counter rows (finite.insert last row.session row.number)
+      (λ s n is. tests.decided (s == row.session)
+      (λ same. subst (IsSession sessions) (sym (eqb-true s row.session same)) all.0.session)
+      (λ other. known s n (sym (get-other last row.session row.number s (λ e. tests.clash (s == row.session) (Rattle.std.proofs.lemmas.Bool.eq-eqb s row.session e) other)) ∙ is))) all.1
+
   content_fold : (old : World) → ContentIs Askable Storable old → ContentIs Askable Storable (shortened old)
   content_fold old content =
       let part = foldable_part (low old) old.log in
+      let all = subst (AllByRecursion (RowIs Askable Storable old.settings.sessions old.counter)) (folds.part_rest (low old) old.log) content.log in
+      let rows = all_front (RowIs Askable Storable old.settings.sessions old.counter) part (drop (length part) old.log) all in
       record {
-        log = all_later (RowIs Askable Storable old.settings.sessions old.counter) part (drop (length part) old.log) (subst (AllByRecursion (RowIs Askable Storable old.settings.sessions old.counter)) (folds.part_rest (low old) old.log) content.log);
+        log = all_later (RowIs Askable Storable old.settings.sessions old.counter) part (drop (length part) old.log) all;
         marks = content.marks;
         phases = content.phases;
         few = content.few;
         table = content.table;
+        base = serial_is old.settings.sessions old.counter part old.base.state content.base rows;
+        folded = folded_is old.settings.sessions old.counter part old.base.last content.folded rows;
       }
 
   -- Every event that is taken.
@@ -370,6 +415,8 @@ module _ (Askable : Question → Type 0) (Storable : ℕ → Row → Type 0) whe
     phases = λ s n phase is. content.phases s n phase (get-remove-from old.phases (session, number) (s, n) phase is);
     few = λ s n phase is. content.few s n phase (get-remove-from old.phases (session, number) (s, n) phase is);
     table = content.table;
+    base = content.base;
+    folded = content.folded;
   })
   content_taken old (Enter session (Request number start writes)) reply new inv content good none t =
       subst (ContentIs Askable Storable) (sym t.4) (content_enter old session number start writes t.0 t.1 inv content (admitted old None session number start writes none).0 good)
@@ -378,7 +425,7 @@ module _ (Askable : Question → Type 0) (Storable : ℕ → Row → Type 0) whe
   content_taken old (Decide session) reply new inv content good none t = subst (ContentIs Askable Storable) (sym t.6) (content_decide old session t.0 (Rattle.occ_model.specs.Validity.verdict t.2) t.3 content)
   content_taken old (WriteOne session) reply new inv content good none t = content_write old session t.1 t.0 t.2 content reply new t.4
   content_taken old (Finish session) reply new inv content good none t = subst (ContentIs Askable Storable) (sym t.5) (content_finish old session t.0 t.2 content)
-  content_taken old (BackUp session) reply new inv content good none t = subst (ContentIs Askable Storable) (sym t.1) (record { log = content.log; marks = content.marks; phases = content.phases; few = content.few; table = content.table })
+  content_taken old (BackUp session) reply new inv content good none t = subst (ContentIs Askable Storable) (sym t.1) (record { log = content.log; marks = content.marks; phases = content.phases; few = content.few; table = content.table; base = content.base; folded = content.folded })
   content_taken old (SerialEnd session (Request number start writes)) reply new inv content good none t =
       content_serial old session number start writes reply new (validity_of old session number start writes) inv content (admitted old (refusals.store_busy old) session number start writes none).0 good t
   content_taken old (SerialEnd session (Alone number operations)) reply new inv content good none t = content_alone old session number operations reply new content none good t

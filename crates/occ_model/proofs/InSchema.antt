@@ -14,14 +14,15 @@ use Rattle.occ_types.specs.Object.{object_cmp}
 use Rattle.occ_types.specs.Row.{Row, Int}
 use Rattle.occ_types.specs.Schema.{Table, Schema, fault_if, first_fault, check_key, check_row, check_cells, check_question}
 use Rattle.occ_model.specs.State.{Write}
+use Rattle.occ_model.specs.Log.{Base}
 use Rattle.occ_model.specs.Operations.{Operation, Get, Scan, Put, Delete, Add, held_sum}
-use Rattle.occ_model.specs.World.{Settings, World, ReadPhase, opened, phase_cmp}
+use Rattle.occ_model.specs.World.{Settings, World, ReadPhase, opened, resumed, empty_base, phase_cmp}
 use Rattle.occ_model.specs.Event.{Item, Request, Alone, Close, Event, Read, Forget, Enter, Decide, WriteOne, Finish, BackUp, SerialEnd, RunAlone, Checkpoint, Reply}
 use Rattle.occ_model.specs.Refusal as refusals
 use Rattle.occ_model.specs.Refusal.{refusal, refusal_of_request, refusal_of_alone, wrong_start, check_writes, check_number, check_operation, check_operations}
 use Rattle.occ_model.specs.Step.{Step, Run, refused, starved, taken, Taken, WritesOne, EndsSerially, validity_of}
 use Rattle.occ_model.specs.Invariant.{Invariant}
-use Rattle.occ_model.specs.Content.{WriteIs, ContentIs, OperationIs, EventIs, QuestionFits, RowFits, IsInSchema, IsLawful}
+use Rattle.occ_model.specs.Content.{IsSession, StateIs, WriteIs, ContentIs, OperationIs, EventIs, QuestionFits, RowFits, IsInSchema, IsLawful}
 use Rattle.occ_model.specs.declared.verdict.Verdict.{Verdict}
 use Rattle.occ_model.specs.declared.verdict.Verdict.TheVariants as verdicts
 use Rattle.occ_model.proofs.Tests as tests
@@ -181,14 +182,17 @@ keeps_in_schema old event reply new inv content step =
     subst (λ (s : Settings). ContentIs (QuestionFits s.schema) (RowFits s.schema) new) (sym (same_settings old new event reply step))
     (keeps_content (QuestionFits old.settings.schema) (RowFits old.settings.schema) old event reply new inv content (event_fits old event) step)
 
--- A store that was just opened has no content.
-pub opened_in_schema : (settings : Settings) → IsInSchema (opened settings)
-opened_in_schema settings = record {
+-- A store that goes on from a base that fits has no other content.
+pub resumed_in_schema : (settings : Settings) (base : Base) (counter : ℕ) → StateIs (QuestionFits settings.schema) (RowFits settings.schema) base.state
+    → ((session number : ℕ) → finite.get base.last session ≡ Some number → IsSession settings.sessions session) → IsInSchema (resumed settings base counter)
+resumed_in_schema settings base counter fits folded = record {
   log = tt;
   marks = λ session mark is. absurd (nothing (sym (finite.get-empty nat_cmp session) ∙ is));
   phases = λ session number phase is. absurd (no_phase (sym (finite.get-empty phase_cmp (session, number)) ∙ is));
   few = λ session number phase is. absurd (no_phase (sym (finite.get-empty phase_cmp (session, number)) ∙ is));
-  table = λ object row is. absurd (no_row (sym (finite.get-empty object_cmp object) ∙ is));
+  table = fits;
+  base = fits;
+  folded = folded;
 }
   where
     nothing : {n : ℕ} → None ≡ Some n → ⊥
@@ -196,6 +200,15 @@ opened_in_schema settings = record {
 
     no_phase : {p : ReadPhase} → None ≡ Some p → ⊥
     no_phase e = cc
+
+-- And one that was just opened has none at all.
+pub opened_in_schema : (settings : Settings) → IsInSchema (opened settings)
+opened_in_schema settings = resumed_in_schema settings empty_base 0
+    (λ object row is. absurd (no_row (sym (finite.get-empty object_cmp object) ∙ is)))
+    (λ session number is. absurd (nothing (sym (finite.get-empty nat_cmp session) ∙ is)))
+  where
+    nothing : {n : ℕ} → None ≡ Some n → ⊥
+    nothing e = cc
 
     no_row : {r : Row} → None ≡ Some r → ⊥
     no_row e = cc

@@ -1,11 +1,11 @@
 -- Places and numbers, as rows are added and folded.
-use Rattle.std.proofs.Common.{◌≡◌, ℕ, ◌+◌, Bool, true, false, cond, List, [], ◌∷◌, ◌++◌, map, length, Option, None, Some, refl, sym, ap, subst, ◌∙◌, suc, arith}
-use Rattle.std.specs.Prelude.{if◌then◌else◌, ◌==◌, filter, unwrap_or}
+use Rattle.std.proofs.Common.{◌≡◌, ℕ, ◌+◌, Bool, true, false, cond, List, [], ◌∷◌, ◌++◌, map, length, Option, None, Some, refl, sym, ap, subst, ◌∙◌, zero, suc, arith}
+use Rattle.std.specs.Prelude.{if◌then◌else◌, ◌==◌, filter, slice_get, unwrap_or}
 use Rattle.std.proofs.lemmas.Bool.{eqb-true, eq-eqb}
 use Rattle.std.specs.Ordering.{nat_cmp, eq_by_cmp}
 use Rattle.std.specs.Cmp.{nat_cmp_total, Equal-is, tied_itself}
 use Rattle.std.specs.FinMap.{FinMap, get, insert, get-insert, nat_cmp-IsAntisymmetric}
-use Rattle.occ_model.specs.Log.{LogRow, Counts, numbers}
+use Rattle.occ_model.specs.Log.{LogRow, Counts, numbers, Base, InOrder}
 use Rattle.occ_model.specs.World.{latest}
 use Rattle.occ_model.specs.Step.{folded_numbers}
 use Rattle.occ_model.proofs.Tests.{clash, decided}
@@ -47,6 +47,18 @@ places-append (x ∷ xs) ys = ap (λ l. x.place ∷ l) (places-append xs ys)
 pub length-places : (rows : List LogRow) → length (map (λ r. r.place) rows) ≡ length rows
 length-places [] = refl
 length-places (x ∷ xs) = ap suc (length-places xs)
+
+-- The row at an index has the place that lies so far above the first one.
+pub placed_at : (n index : ℕ) (rows : List LogRow) (row : LogRow) → Counts n (map (λ r. r.place) rows) → slice_get rows index ≡ Some row → row.place ≡ n + index
+placed_at n index [] row counts there = cc
+placed_at n zero (x ∷ xs) row counts there =
+    let same : x ≡ row = cc in
+    let is : row.place ≡ n = ap (λ (r : LogRow). r.place) (sym same) ∙ counts.0 in
+    omega arith
+placed_at n (suc index) (x ∷ xs) row counts there = let is = placed_at (suc n) index xs row counts.1 there in omega arith
+
+pub row_placed : (base : Base) (marks : FinMap nat_cmp ℕ) (log : List LogRow) (index : ℕ) (row : LogRow) → InOrder base marks log → slice_get log index ≡ Some row → row.place ≡ base.place + index
+row_placed base marks log index row order there = placed_at base.place index log row order.places there
 
 -- The number of a session's latest row, or else what was folded, counts the session's rows.
 pub latest_number : (session base : ℕ) (log : List LogRow) → Counts (suc base) (numbers session log)

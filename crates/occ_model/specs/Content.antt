@@ -54,6 +54,9 @@ module _ (Askable : Question → Type 0) (Storable : ℕ → Row → Type 0) whe
     pub phases : (session number : ℕ) (phase : ReadPhase) → get world.phases (session, number) ≡ Some phase → AllByRecursion ReadIs phase.reads
     pub few : (session number : ℕ) (phase : ReadPhase) → get world.phases (session, number) ≡ Some phase → length phase.reads ≤ MAX_QUESTIONS
     pub table : StateIs world.table
+    -- what was folded out of the log
+    pub base : StateIs world.base.state
+    pub folded : (session number : ℕ) → get world.base.last session ≡ Some number → IsSession world.settings.sessions session
 
   abbrev pub OperationIs : Operation → Type 0
   OperationIs (Get place key) = Askable (One place key)

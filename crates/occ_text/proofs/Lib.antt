@@ -1,4 +1,5 @@
 pub mod Cuts
+pub mod Digits
 pub mod Escapes
 pub mod HeaderLines
 pub mod Line
@@ -16,6 +17,7 @@ pub mod StepsSpelled
 pub mod StepsTaken
 pub mod Taking
 pub mod TokenLists
+pub mod TokenBytes
 pub mod Values
 pub mod WholeHeader
 pub mod Words

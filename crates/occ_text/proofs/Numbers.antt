@@ -1,17 +1,14 @@
 -- Decimals: each number has one, and no other bytes are read.
-use Rattle.std.proofs.Common.{◌≡◌, ◌≢◌, ℕ, zero, suc, ◌-◌, ◌^◌, ◌<◌, ◌≤◌, Bool, true, false, cond, eqb, ltb, leb, ◌&&◌, ◌||◌, not, IfSome, List, [], ◌∷◌, length, get_or, Option, Some, None, ℤ, pos, negsuc, FitsSigned, w64, option_map, MatchResult, drop, lit<, Result, Ok, Err, refl, sym, ap, subst, ◌∙◌, arith, rules}
+use Rattle.std.proofs.Common.{◌≡◌, ◌≢◌, ℕ, zero, suc, ◌-◌, ◌^◌, ◌<◌, ◌≤◌, Bool, true, false, cond, eqb, ltb, leb, ◌&&◌, ◌||◌, not, IfSome, List, [], ◌∷◌, length, get_or, Option, Some, None, ℤ, pos, negsuc, FitsSigned, w64, option_map, drop, lit<, refl, sym, ap, subst, ◌∙◌, arith, rules}
 use Rattle.std.specs.List.{list_all}
-use Rattle.std.specs.Prelude.{option_and_then, unwrap_or}
-use Rattle.std.specs.Result.{result_ok}
+use Rattle.std.specs.Prelude.{option_and_then}
 use Rattle.std.specs.Char.{is_ascii_digit}
 use Rattle.std.specs.Fmt.{decimal, signed_decimal}
-use Rattle.std.specs.Str.{IsUtf8}
-use Rattle.std.specs.Str.Parse.{ParsesUnsigned, digits_value}
-use Rattle.std.proofs.lemmas.Bool.{ltb-true, lt-ltb, leb-true, le-leb, eqb-true, eq-eqb, ne_eqb, false_from_ne_true}
-use Rattle.std.proofs.lemmas.Str.{IsUtf8-from_ascii}
-use Rattle.std.proofs.lemmas.Str.Parse.{IsNumeralModel, numerals_by_value, parse_digits, digit_at}
+use Rattle.std.specs.Str.Parse.{digits_value}
+use Rattle.std.proofs.lemmas.Bool.{ltb-true, lt-ltb, leb-true, le-leb, eqb-true, eq-eqb, ne_eqb}
+use Rattle.std.proofs.lemmas.Str.Parse.{IsNumeralModel, numerals_by_value, digit_at}
 use Rattle.std.proofs.lemmas.Int.{ints}
-use Rattle.std.proofs.lemmas.Fmt.{decimal-digits_value, digits_decimal, digits_value-decimal, decimal_nonempty, first_decimal, decimal_digit, IsAscii-from_digits}
+use Rattle.std.proofs.lemmas.Fmt.{decimal-digits_value, digits_decimal, digits_value-decimal, decimal_nonempty, first_decimal, decimal_digit}
 use Rattle.occ_text.specs.Reading.{Reads, begins_with, is_decimal, decimal_of, at_most, number_of, negated, int_of}
 
 abbrev AreDigits : List ℕ → Type 0
@@ -57,12 +54,8 @@ test_from_decimal : (token : List ℕ) → Decimal token → is_decimal token �
 unfolding is_decimal
 test_from_decimal token d = all_three _ _ _ (lt-ltb 0 (length token) d.some) d.digits (test_from_lead token d.lead)
 
--- the bytes of a decimal are text
-pub IsUtf8-decimal : (token : List ℕ) → is_decimal token ≡ true → IsUtf8 token
-IsUtf8-decimal token h = IsUtf8-from_ascii token (IsAscii-from_digits token (own.to token (decimal_from_test token h).digits))
-
 -- what a number's reader gives, by its two tests
-number_passed : (a b : Bool) (n x : ℕ) → cond (a && b) (Some n) None ≡ Some x → (a ≡ true) × (b ≡ true) × (n ≡ x)
+pub number_passed : (a b : Bool) (n x : ℕ) → cond (a && b) (Some n) None ≡ Some x → (a ≡ true) × (b ≡ true) × (n ≡ x)
 number_passed true true n x h = (refl, refl, cc)
 number_passed true false n x h = absurd cc
 number_passed false b n x h = absurd cc
@@ -121,33 +114,10 @@ number_reads limit token small = record {
   again = λ n le e. ap (number_of limit) e ∙ number_again limit n small le;
 }
 
--- what std reads of digits
-pub decimal_parsed : {E : Type 0} (token : List ℕ) (r : Result ℕ E) → ParsesUnsigned 64 10 token r → is_decimal token ≡ true → decimal_of token ≡ result_ok r
-unfolding decimal_of
-decimal_parsed {E} token (Ok x) h d =
-    let p = parse_digits own {E = E} 64 token (Ok x) h (decimal_from_test token d).digits in
-    rw (d, lt-ltb (digits_value 10 token) (2 ^ 64) p.0.1) (ap Some (sym p.1))
-decimal_parsed {E} token (Err e) h d =
-    let t = decimal_from_test token d in
-    let p = parse_digits own {E = E} 64 token (Err e) h t.digits in
-    rw (d, false_from_ne_true _ (λ lt. p (t.some, ltb-true (digits_value 10 token) (2 ^ 64) lt))) refl
-
 -- what is no decimal has no value
 pub decimal_none : (token : List ℕ) → is_decimal token ≡ false → decimal_of token ≡ None
 unfolding decimal_of
 decimal_none token h = rw h refl
-
-some_is : {S : Type 0} (x y : S) → Some x ≡ Some y → x ≡ y
-some_is x y e = ap (λ o. unwrap_or o x) e
-
--- what a call that gave an option out of a result was
-pub was_ok : {S E : Type 0} (r : Result S E) (P : S → Type 0) (Q : E → Type 0) (x : S) → MatchResult r P Q → Some x ≡ result_ok r → P x
-was_ok (Ok y) P Q x h e = subst P (some_is y x (sym e)) h
-was_ok (Err d) P Q x h e = absurd cc
-
-pub was_err : {S E : Type 0} (r : Result S E) (P : S → Type 0) (N : Type 0) (Q : E → Type 0) → MatchResult r P (λ e. (N → ⊥) × Q e) → None ≡ result_ok r → N → ⊥
-was_err (Ok y) P N Q h e n = absurd cc
-was_err (Err d) P N Q h e n = h.0 n
 
 -- ---- with a sign
 

@@ -1,3 +1,4 @@
+pub mod Digits
 pub mod Escapes
 pub mod Faults
 pub mod HeaderReading
@@ -14,3 +15,4 @@ pub mod Spelling
 pub mod Status
 pub mod StepReading
 pub mod Steps
+pub mod TokenBytes

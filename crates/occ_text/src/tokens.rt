@@ -4,12 +4,14 @@ ghost use Rattle.std.specs.Prelude.{◌≡◌, ◌≤◌, ◌^◌, FitsSigned, I
 ghost use Rattle.std.specs.Int.{w64};
 ghost use Rattle.std.specs.List.{list_all};
 ghost use Rattle.std.specs.Str.{bytes_eq};
-ghost use Rattle.std.specs.Char.{is_ascii_digit, is_ascii_graphic, is_ascii_lowercase};
+ghost use Rattle.std.specs.Char.{is_ascii_lowercase};
 ghost use Rattle.std.specs.Fmt.{decimal, signed_decimal};
 ghost use Rattle.occ_text.specs.declared.tokens.Unread.TheVariants.{Memory};
 ghost use Rattle.occ_text.specs.Spelling.{line_text, AreTokens, IsName};
 ghost use Rattle.occ_text.specs.Parts.{parts_left};
-ghost use Rattle.occ_text.specs.Reading.{Reads, is_token, tokens_of, is_name, name_of, begins_with, is_decimal, decimal_of, number_of, negated, int_of};
+ghost use Rattle.occ_text.specs.Digits.{begins_decimal, with_digit};
+ghost use Rattle.occ_text.specs.TokenBytes.{may_follow};
+ghost use Rattle.occ_text.specs.Reading.{Reads, is_token, tokens_of, is_name, name_of, begins_with, decimal_of, number_of, negated, int_of};
 
 use crate::parts::Parts;
 use std::alloc::{AllocError, AllocFailed};
@@ -40,29 +42,25 @@ impl<T: Drop> From<AllocFailed<T>> for Unread {
     }
 }
 
-#[tactic(auto, unfolding(crate::specs::Reading::is_token))]
-fn is_token(bytes: &[u8]) -> bool
-    ensures { result ≡ is_token bytes.now }
+// Whether a byte may stand behind another: a byte of a token behind any, and a space behind one of a token.
+fn may_follow(previous: u8, byte: u8) -> bool
+    ensures { result ≡ may_follow previous byte }
 {
-    !bytes.is_empty() && are_graphic(bytes)
+    byte.is_ascii_graphic() || (byte == b' ' && previous != b' ')
 }
 
-fn are_graphic(bytes: &[u8]) -> bool
-    ensures { result ≡ list_all is_ascii_graphic bytes.now }
-{
-    bytes.iter().all(|byte| byte.is_ascii_graphic())
-}
-
+// Whether a line is tokens. Its beginning and its end are as spaces are: a token stands beside each.
 fn are_tokens(line: &[u8]) -> bool
     ensures { result ≡ list_all is_token (parts_left 32 (Some line.now)) }
 {
-    let mut parts = Parts::new(line, b' ');
-    while let Some(part) = parts.take_part() {
-        if !is_token(part) {
+    let mut previous = b' ';
+    for byte in line {
+        if !may_follow(previous, *byte) {
             return false;
         }
+        previous = *byte;
     }
-    true
+    previous != b' '
 }
 
 /// The tokens of a line: at least one, each of at least one byte 33 to 126, with one space between two of them. None where the
@@ -105,29 +103,40 @@ pub(crate) fn without_first(bytes: &[u8]) -> &[u8]
     bytes.split_at(1).1
 }
 
-fn are_digits(bytes: &[u8]) -> bool
-    ensures { result ≡ list_all is_ascii_digit bytes.now }
+// Whether bytes may be a decimal by their first one: `0` stands alone.
+fn begins_decimal(token: &[u8]) -> bool
+    ensures { result ≡ begins_decimal token.now }
 {
-    bytes.iter().all(|byte| byte.is_ascii_digit())
+    !token.is_empty() && (!begins_with(token, b'0') || token.len() == 1)
 }
 
-/// Whether the bytes are `0`, or digits that don't begin with it.
-#[tactic(auto, unfolding(crate::specs::Reading::is_decimal))]
-fn is_decimal(token: &[u8]) -> bool
-    ensures { result ≡ is_decimal token.now }
+// A number with one more digit behind it. None where the byte is no digit, and past 64 bits.
+fn with_digit(number: u64, byte: u8) -> Option<u64>
+    ensures { result ≡ with_digit number byte }
 {
-    !token.is_empty() && are_digits(token) && (!begins_with(token, b'0') || token.len() == 1)
+    if !byte.is_ascii_digit() {
+        return None;
+    }
+    let tens = number.checked_mul(10)?;
+    let longer = tens.checked_add((byte - b'0') as u64)?;
+    Some(longer)
 }
 
 /// The number of 64 bits that the bytes spell.
 fn decimal_value(token: &[u8]) -> Option<u64>
     ensures { result ≡ decimal_of token.now }
 {
-    if !is_decimal(token) {
+    if !begins_decimal(token) {
         return None;
     }
-    let text = str::from_utf8(token).ok()?;
-    text.parse().ok()
+    let mut number: u64 = 0;
+    for byte in token {
+        let Some(longer) = with_digit(number, *byte) else {
+            return None;
+        };
+        number = longer;
+    }
+    Some(number)
 }
 
 /// A number up to `limit`. None where the token spells none.

@@ -9,10 +9,11 @@ use Rattle.occ_types.specs.Seen.{object_of}
 use Rattle.occ_types.specs.declared.objects.Object.{Object}
 use Rattle.occ_model.specs.State.{put, apply}
 use Rattle.occ_model.proofs.Tests.{clash, not_false}
-use Rattle.occ_audit.specs.Rests.{writes_in}
+use Rattle.occ_book.specs.LastWrites.{writes_in}
 use Rattle.occ_audit.proofs.Walks.{via, along}
 use Rattle.occ_audit.proofs.Ranges.{option-decides}
-use Rattle.occ_audit.proofs.Overlaid.{AreInOrder, distinct-writes_in, taken_back, not_back}
+use Rattle.occ_book.proofs.LastNotes.{AreInOrder, distinct-writes_in}
+use Rattle.occ_audit.proofs.Overlaid.{taken_back, not_back}
 use Rattle.occ_audit.proofs.rests.are_settled.Goals as goal
 
 pub returns-then-ne : goal.returns-then-ne

@@ -2,7 +2,7 @@ use Rattle.std.proofs.Common.{◌+◌, drop, sym, ap, ◌∙◌}
 use Rattle.std.proofs.lemmas.List.{at_drop_all}
 use Rattle.occ_model.specs.State.{apply}
 use Rattle.occ_model.specs.Log.{settled}
-use Rattle.occ_audit.specs.Rests.{writes_in}
+use Rattle.occ_book.specs.LastWrites.{writes_in}
 use Rattle.occ_audit.specs.Rows.{log_of}
 use Rattle.occ_audit.proofs.Walks.{left-cons}
 use Rattle.occ_audit.proofs.rests.rests_of.Goals as goal

@@ -1,12 +1,7 @@
-use Rattle.std.proofs.Common.{◌≡◌, Some, length}
-use Rattle.std.specs.List.{list_all}
-use Rattle.occ_text.specs.Parts.{parts_left}
-use Rattle.occ_text.specs.Reading.{is_token}
+use Rattle.std.proofs.Common.{◌≡◌, drop}
+use Rattle.occ_text.specs.TokenBytes.{goes_on}
 use Rattle.occ_text.proofs.tokens.are_tokens.Given as goal
 
--- the parts that are left decide
-abbrev pub invariant-loop-part : goal.invariant-loop-part
-invariant-loop-part l = list_all is_token (parts_left 32 (Some l.line)) ≡ list_all is_token l.parts
-
-abbrev pub decreases-loop-part : goal.decreases-loop-part
-decreases-loop-part l = length l.parts
+-- what is left goes on behind the byte before it as the line goes on behind a space
+abbrev pub invariant-loop-byte : goal.invariant-loop-byte
+invariant-loop-byte l = goes_on l.previous (drop l.byte-index l.line) ≡ goes_on 32 l.line

@@ -1,17 +1,28 @@
-use Rattle.std.proofs.Common.{◌∙◌, ap, sym}
-use Rattle.std.specs.Str.{IsUtf8}
-use Rattle.occ_text.specs.Reading.{is_decimal, decimal_of}
-use Rattle.occ_text.proofs.Numbers.{decimal_none, decimal_parsed, IsUtf8-decimal, was_ok, was_err}
+use Rattle.std.proofs.Common.{◌≡◌, true, get_or, None, Some, sym, ◌∙◌, arith}
+use Rattle.occ_text.specs.Digits.{begins_decimal, with_digit}
+use Rattle.occ_text.proofs.Digits.{begins_none, goes_on, stops, ends}
 use Rattle.occ_text.proofs.tokens.decimal_value.Goals as goal
 
-pub returns-then-not-is_decimal : goal.returns-then-not-is_decimal
-returns-then-not-is_decimal c = sym (decimal_none c.args.token.now (sym c.if-not-is_decimal.ensures))
+pub returns-then-not-begins_decimal : goal.returns-then-not-begins_decimal
+returns-then-not-begins_decimal c = sym (begins_none c.args.token.now (sym c.begins_decimal.ensures ∙ c.if-not-begins_decimal.true))
 
-pub returns-in_err-text : goal.returns-in_err-text
-returns-in_err-text c =
-    absurd (was_err c.from_utf8.result _ (IsUtf8 c.args.token.now) _ c.from_utf8.ensures.cases c.in_err-text.ensures.value (IsUtf8-decimal c.args.token.now (sym c.if-not-is_decimal.ensures)))
+pub returns-in_default : goal.returns-in_default
+returns-in_default c =
+    let now = c.with_digit.ensures in
+    let is = c.in_default.is in
+    let none : with_digit c.loop-byte.number (get_or c.args.token.now c.loop-byte.byte-index 0) ≡ None = cc in
+    sym (stops c.args.token.now c.loop-byte.byte-index c.loop-byte.number (omega arith) none c.loop-byte.invariant)
+
+pub loop-byte-preserved : goal.loop-byte-preserved
+loop-byte-preserved c =
+    let now = c.with_digit.ensures in
+    let is = c.in-Some.is in
+    let some : with_digit c.loop-byte.number (get_or c.args.token.now c.loop-byte.byte-index 0) ≡ Some c.in-Some.longer = cc in
+    goes_on c.args.token.now c.loop-byte.byte-index c.loop-byte.number c.in-Some.longer (omega arith) some c.loop-byte.invariant
 
 pub returns : goal.returns
 returns c =
-    let same = was_ok c.from_utf8.result _ _ c.in_ok-text.text c.from_utf8.ensures.cases c.in_ok-text.ensures.value in
-    c.ok-2.ensures.value ∙ sym (decimal_parsed c.in_ok-text.text.now c.parse.result c.parse.ensures.value.0 (ap is_decimal same.0 ∙ sym c.if-not-is_decimal.ensures)) ∙ ap decimal_of same.0
+    let now = c.begins_decimal.ensures in
+    let passed = c.if-not-begins_decimal.false in
+    let begins : begins_decimal c.args.token.now ≡ true = cc in
+    sym (ends c.args.token.now c.loop-byte.byte-index c.loop-byte.number (omega arith) begins c.loop-byte.invariant)

@@ -1,4 +1,4 @@
--- What clauses see of the writes that are still to be done.
+-- What clauses see of the last write of each object.
 use Rattle.std.specs.Prelude.{List, map, Option}
 use Rattle.std.specs.Borrow.{Bor}
 use Rattle.std.specs.Option.{option_copied}

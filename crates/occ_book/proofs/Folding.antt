@@ -1,0 +1,64 @@
+-- Rows of a log, as they are folded into a base.
+use Rattle.std.proofs.Common.{◌≡◌, ℕ, suc, ◌+◌, ◌<◌, cond, List, [], ◌∷◌, length, get_or, drop, refl, sym, ap, ◌∙◌, add-one, drop-cons}
+use Rattle.std.proofs.lemmas.List.{length-map}
+use Rattle.std.specs.Ordering.{nat_cmp}
+use Rattle.std.specs.FinMap as finite
+use Rattle.std.specs.FinMap.{FinMap}
+use Rattle.occ_model.specs.State.{State, apply}
+use Rattle.occ_model.specs.Log.{Case, is_committed, after, serial}
+use Rattle.occ_model.specs.Step.{folded, folded_numbers}
+use Rattle.occ_book.specs.Base.{BaseContent, base_content, commits, committed_writes, written, numbered}
+use Rattle.occ_book.specs.Kept.{Content}
+use Rattle.occ_book.specs.Marks.{Marked}
+use Rattle.occ_book.specs.Rows.{standing_of, log_row_of, log_of}
+use Rattle.occ_book.specs.declared.rows.Standing as code_standing
+use Rattle.occ_book.specs.declared.rows.Standing.TheVariants as standings
+use Rattle.occ_book.specs.declared.rows.LogRow as code_row
+
+-- the element at a place, and what is left behind it
+pub left-cons : {X : Type 0} (xs : List X) (i : ℕ) (x : X) → i < length xs → x ≡ get_or xs i x → drop i xs ≡ x ∷ drop (i + 1) xs
+left-cons xs i x h at = rw add-one (drop-cons xs i x h ∙ ap (λ y. y ∷ drop (suc i) xs) (sym at))
+
+-- whatever is held of open rows
+module _ {Z O : Type 0} (opened : O → ℕ × Case) where
+  after-written : (state : State) (row : code_row.LogRow Z O) → apply state (committed_writes row) ≡ after state (log_row_of opened row)
+  after-written state row = by row.standing
+    where
+      by : (s : code_standing.Standing O) → apply state (cond (commits s) row.writes []) ≡ cond (is_committed (standing_of opened s)) (apply state row.writes) state
+      by (standings.Open held) = refl
+      by (standings.Writing done) = refl
+      by (standings.Done number) = refl
+      by (standings.Back cause) = refl
+
+  -- what rows write is what serial replay of them makes
+  pub written-serial : (state : State) (rows : List (code_row.LogRow Z O)) → written state rows ≡ serial state (log_of opened rows)
+  written-serial state [] = refl
+  written-serial state (row ∷ rows) =
+      ap (λ s. written s rows) (after-written state row) ∙ written-serial (after state (log_row_of opened row)) rows
+
+  pub numbered-folded : (last : FinMap nat_cmp ℕ) (rows : List (code_row.LogRow Z O)) → numbered last rows ≡ folded_numbers last (log_of opened rows)
+  numbered-folded last [] = refl
+  numbered-folded last (row ∷ rows) = numbered-folded (finite.insert last row.session row.number) rows
+
+  -- a base whose parts took in some rows has them folded
+  pub base-folded : (old : BaseContent) (tables more : Content) (numbers next : Marked) (place behind : ℕ) (rows : List (code_row.LogRow Z O))
+      → base_content tables numbers place ≡ old
+      → more ≡ record { tables = tables.tables; state = written tables.state rows }
+      → next ≡ record numbers { marks = numbered numbers.marks rows }
+      → behind ≡ place + length rows
+      → base_content more next behind ≡ record old { base = folded old.base (log_of opened rows) }
+  base-folded old tables more numbers next place behind rows view state marks places =
+      let parts : base_content more next behind ≡ base_content (record { tables = tables.tables; state = written tables.state rows }) (record numbers { marks = numbered numbers.marks rows }) (place + length rows)
+      = λ i. base_content (state i) (marks i) (places i) in
+      let whole : base_content (record { tables = tables.tables; state = written tables.state rows }) (record numbers { marks = numbered numbers.marks rows }) (place + length rows)
+      ≡ record (base_content tables numbers place) { base = folded (base_content tables numbers place).base (log_of opened rows) }
+      = λ i. record {
+        tables = tables.tables;
+        sessions = numbers.sessions;
+        base = record {
+          state = written-serial tables.state rows i;
+          last = numbered-folded numbers.marks rows i;
+          place = place + sym (length-map rows (log_row_of opened)) i;
+        };
+      } in
+      parts ∙ whole ∙ ap (λ (o : BaseContent). record o { base = folded o.base (log_of opened rows) }) view

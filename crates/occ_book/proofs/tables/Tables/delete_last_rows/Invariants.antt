@@ -1,0 +1,13 @@
+use Rattle.std.proofs.Common.{◌≡◌}
+use Rattle.occ_model.specs.State.{apply}
+use Rattle.occ_book.specs.LastWrites.{writes_in}
+use Rattle.occ_book.specs.Undo.{ArePlaced, deletions}
+use Rattle.occ_book.proofs.tables.Tables.delete_last_rows.Given as goal
+
+-- the deletions that are left lead to the same state
+abbrev pub invariant-loop-object : goal.invariant-loop-object
+invariant-loop-object g l = record {
+  tables : l.self.tables ≡ l.fn.self.tables;
+  placed : ArePlaced l.self.tables (writes_in l.object-iterator);
+  left : apply l.self.state (deletions (writes_in l.object-iterator)) ≡ apply l.fn.self.state (deletions (writes_in l.last.entries));
+}
