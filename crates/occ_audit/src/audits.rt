@@ -7,8 +7,8 @@ ghost use Rattle.occ_model.specs.World.{empty_base};
 ghost use Rattle.occ_book.specs.Rows.{log_of};
 
 use crate::order::{are_closed, are_placed, last_numbers};
-use crate::replay::replay;
 use crate::rests::{are_settled, rests_of};
+use crate::serial_replay::replay;
 use occ_book::BookView;
 use occ_types::Fault;
 use std::alloc::Allocator;

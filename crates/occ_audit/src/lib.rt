@@ -3,9 +3,9 @@
 
 mod audits;
 mod order;
-mod replay;
 mod replica;
 mod rests;
+mod serial_replay;
 #[cfg(test)]
 mod tests;
 

@@ -25,13 +25,13 @@ use Rattle.occ_text.proofs.TokenLists.{two_tokens}
 use Rattle.occ_text.proofs.HeaderLines.{count_reads, table_reads}
 use Rattle.occ_text.proofs.SchemaLines.{each_fits}
 use Rattle.occ_print.specs.Books.{Book, book_lines, book_text}
-use Rattle.occ_books.specs.Heads.{head_of_line, mark_of_line}
-use Rattle.occ_books.specs.Entries.{Asked, AskedOne, AskedSpan, asked_of_line, pair_of_line, write_of_line, at_of_line}
+use Rattle.occ_books.specs.NumberLines.{head_of_line, mark_of_line}
+use Rattle.occ_books.specs.RowLines.{Asked, AskedOne, AskedSpan, asked_of_line, pair_of_line, write_of_line, at_of_line}
 use Rattle.occ_books.specs.Places.{Frame, InRow, Place, rows_to_come, writes_to_come, reads_to_come, pairs_to_come, marks_to_come, state_to_come, behind_read, Counted, Leads, LeadOn, MayEnd, Stopped}
 use Rattle.occ_books.specs.Places as places
-use Rattle.occ_books.specs.Printed.{BookFits, IsEnding}
+use Rattle.occ_books.specs.WholeBooks.{BookFits, IsEnding}
 use Rattle.occ_books.proofs.LinesAgain.{wide, head_line-again, mark_line-again}
-use Rattle.occ_books.proofs.EntriesAgain.{asked_line-again, pair_line-again, write_line-again, at_line-again}
+use Rattle.occ_books.proofs.RowLinesAgain.{asked_line-again, pair_line-again, write_line-again, at_line-again}
 use Rattle.occ_books.proofs.LineLengths.{width, joined_width, words_have_no_feed, line_of_words, asked_is_line, pair_is_line, write_is_line, at_is_line, head_is_line, mark_is_line, counts_is_line, count_is_line}
 use Rattle.occ_books.proofs.Leading.{lead_on}
 use Rattle.occ_books.proofs.BookLeads.{book_leads, ending_leads}

@@ -26,14 +26,14 @@ use Rattle.occ_text.specs.HeaderTaking.{TablesSoFar}
 use Rattle.occ_text.proofs.Words.{both}
 use Rattle.occ_text.proofs.SchemaLines.{IsSchema-from_check}
 use Rattle.occ_print.specs.Books.{Book, header_lines, pair_line, read_lines, write_line, row_line, row_lines, log_lines, mark_line, mark_lines, at_line, row_count, state_lines, counter_line, book_lines}
-use Rattle.occ_books.specs.declared.heads.Head.{Head}
+use Rattle.occ_books.specs.declared.number_lines.Head.{Head}
 use Rattle.occ_book.specs.declared.rows.Standing.TheVariants as stands
-use Rattle.occ_books.specs.Heads.{Stand, head_text, StandFits, HeadFits}
-use Rattle.occ_books.specs.Entries.{AskedOne, AskedSpan, PairFits, WriteFits, AtFits}
+use Rattle.occ_books.specs.NumberLines.{Stand, head_text, StandFits, HeadFits}
+use Rattle.occ_books.specs.RowLines.{AskedOne, AskedSpan, PairFits, WriteFits, AtFits}
 use Rattle.occ_books.specs.Taking.{is_behind, RisesFrom, ReadFits, StandingFits, LogRowFits, StandsSo}
 use Rattle.occ_books.specs.Places.{Frame, InRow, frame_of, in_row, Place, rows_to_come, writes_to_come, reads_to_come, pairs_to_come, marks_to_come, state_to_come, IsAbove, Leads, LeadOn, MayEnd}
 use Rattle.occ_books.specs.Places as places
-use Rattle.occ_books.specs.Printed.{EntryFits, BookFits, IsEnding}
+use Rattle.occ_books.specs.WholeBooks.{EntryFits, BookFits, IsEnding}
 use Rattle.occ_books.proofs.Leading.{lead_on}
 use Rattle.occ_books.proofs.PartsLeading.{limits_lead}
 use Rattle.occ_books.proofs.RowTaking.{head_line}

@@ -14,9 +14,9 @@ use Rattle.occ_model.specs.World.{World, active_count, empty_base}
 use Rattle.occ_text.specs.Headers.{Header}
 use Rattle.occ_model.specs.Content.{WriteIs, ReadIs, RowIs, QuestionFits, IsInSchema}
 use Rattle.occ_model.specs.Content as content
-use Rattle.occ_books.specs.Entries.{WriteFits, AtFits}
+use Rattle.occ_books.specs.RowLines.{WriteFits, AtFits}
 use Rattle.occ_books.specs.Taking.{StandingFits, LogRowFits, ReadFits}
-use Rattle.occ_books.specs.Printed.{EntryFits, BookFits}
+use Rattle.occ_books.specs.WholeBooks.{EntryFits, BookFits}
 use Rattle.occ_books.specs.Cores.{book_in, IsHeaderOf, ReadHasWords, WriteHasWords, RowHasWords, HasWords}
 use Rattle.occ_books.proofs.CoreContent.{all_entries, all_both, write_fits, read_fits, table_fits}
 

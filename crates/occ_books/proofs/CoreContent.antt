@@ -18,7 +18,7 @@ use Rattle.occ_model.specs.Content.{StateIs, WriteIs, ReadIs, QuestionFits}
 use Rattle.occ_model.specs.Content as content
 use Rattle.occ_model.proofs.RangeLaws.{answers_range}
 use Rattle.occ_text.specs.Spelling.{KeyFits, RowFits}
-use Rattle.occ_books.specs.Entries.{ObjectFits, RowFitsIn, FoundFits, EndsFit, SpanFits, PairFits, WriteFits, AtFits}
+use Rattle.occ_books.specs.RowLines.{ObjectFits, RowFitsIn, FoundFits, EndsFit, SpanFits, PairFits, WriteFits, AtFits}
 use Rattle.occ_books.specs.Taking.{RisesFrom, ReadFits}
 use Rattle.occ_books.specs.Cores.{ReadHasWords, WriteHasWords}
 

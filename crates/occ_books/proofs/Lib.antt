@@ -1,10 +1,10 @@
 pub mod Lines
-pub mod HeadLines
-pub mod EntryLines
+pub mod NumberLines
+pub mod RowLines
 pub mod Found
 pub mod Gathering
 pub mod Leading
-pub mod SingleTakes
+pub mod SingleLines
 pub mod RowTaking
 pub mod RowLeading
 pub mod Rising
@@ -12,7 +12,7 @@ pub mod Sections
 pub mod PartsLeading
 pub mod Telling
 pub mod LinesAgain
-pub mod EntriesAgain
+pub mod RowLinesAgain
 pub mod LineLengths
 pub mod BookLeads
 pub mod BookLaws

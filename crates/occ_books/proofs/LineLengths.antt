@@ -33,14 +33,14 @@ use Rattle.occ_text.proofs.SchemaLines.{each_fits, IsSchema-from_check}
 use Rattle.occ_print.specs.Books.{table_name, pair_line, write_line, at_line}
 use Rattle.occ_books.specs.Cursors.{Tokens}
 use Rattle.occ_book.specs.declared.rows.Standing.TheVariants as stands
-use Rattle.occ_books.specs.declared.heads.Head.{Head}
-use Rattle.occ_books.specs.declared.heads.Mark.{Mark}
-use Rattle.occ_books.specs.declared.heads.Counts.{Counts}
-use Rattle.occ_books.specs.Heads.{Stand, stand_tokens, head_tokens, head_text, mark_text, counts_text, StandFits, HeadFits, MarkFits, CountsFit}
-use Rattle.occ_books.specs.Entries.{Asked, AskedOne, AskedSpan, asked_text, ObjectFits, RowFitsIn, FoundFits, AskedFits, PairFits, WriteFits, AtFits}
-use Rattle.occ_books.proofs.EntryLines.{found_text, asked_tokens, asked_spelling, write_tokens}
+use Rattle.occ_books.specs.declared.number_lines.Head.{Head}
+use Rattle.occ_books.specs.declared.number_lines.Mark.{Mark}
+use Rattle.occ_books.specs.declared.number_lines.Counts.{Counts}
+use Rattle.occ_books.specs.NumberLines.{Stand, stand_tokens, head_tokens, head_text, mark_text, counts_text, StandFits, HeadFits, MarkFits, CountsFit}
+use Rattle.occ_books.specs.RowLines.{Asked, AskedOne, AskedSpan, asked_text, ObjectFits, RowFitsIn, FoundFits, AskedFits, PairFits, WriteFits, AtFits}
+use Rattle.occ_books.proofs.RowLines.{found_text, asked_tokens, asked_spelling, write_tokens}
 use Rattle.occ_books.proofs.LinesAgain.{small_number, head-AreTokens, mark_tokens, mark_words, counts_tokens, counts_words}
-use Rattle.occ_books.proofs.EntriesAgain.{IsNamed, no_fault, fits_there, checked_table, asked-again, pair_tokens, pair_words, write-again, write_spelling, at_tokens, at_words}
+use Rattle.occ_books.proofs.RowLinesAgain.{IsNamed, no_fault, fits_there, checked_table, asked-again, pair_tokens, pair_words, write-again, write_spelling, at_tokens, at_words}
 
 -- ---- tokens have no line feed
 

@@ -24,7 +24,7 @@ use Rattle.occ_text.proofs.Words.{name_reads}
 use Rattle.occ_text.proofs.Values.{key_reads, row_reads}
 use Rattle.occ_text.proofs.Readers.{takes, word_is}
 use Rattle.occ_books.specs.Cursors.{Tokens, before, next_token, the_word, next_word, next_number, at_end}
-use Rattle.occ_books.specs.Named.{unless_fault, place_of, key_in, row_in, next_table, next_key, next_row, next_object}
+use Rattle.occ_books.specs.SchemaReaders.{unless_fault, place_of, key_in, row_in, next_table, next_key, next_row, next_object}
 
 -- ---- single tokens
 

@@ -11,12 +11,12 @@ use Rattle.occ_text.proofs.Spelled.{IsToken-decimal}
 use Rattle.occ_text.proofs.TokenLists.{one_token, more_tokens}
 use Rattle.occ_model.specs.declared.verdict.Cause.TheVariants.{Conflict, TooOld}
 use Rattle.occ_book.specs.declared.rows.Standing.TheVariants.{Open, Writing, Done, Back}
-use Rattle.occ_books.specs.declared.heads.Head.{Head}
-use Rattle.occ_books.specs.declared.heads.Mark.{Mark}
-use Rattle.occ_books.specs.declared.heads.Counts.{Counts}
-use Rattle.occ_books.proofs.HeadLines.{head_line-takes, mark_line-takes, counts_line-takes}
+use Rattle.occ_books.specs.declared.number_lines.Head.{Head}
+use Rattle.occ_books.specs.declared.number_lines.Mark.{Mark}
+use Rattle.occ_books.specs.declared.number_lines.Counts.{Counts}
+use Rattle.occ_books.proofs.NumberLines.{head_line-takes, mark_line-takes, counts_line-takes}
 use Rattle.occ_books.specs.Cursors.{Tokens, before, next_word, next_number}
-use Rattle.occ_books.specs.Heads.{Stand, stand_tokens, head_tokens, head_text, mark_text, counts_text, IsSession, StandFits, HeadFits, MarkFits, CountsFit, bare_stand, counted_stand, stand_of, unless_zero, next_session, head_of, head_of_line, mark_of, mark_of_line, counts_of, counts_of_line}
+use Rattle.occ_books.specs.NumberLines.{Stand, stand_tokens, head_tokens, head_text, mark_text, counts_text, IsSession, StandFits, HeadFits, MarkFits, CountsFit, bare_stand, counted_stand, stand_of, unless_zero, next_session, head_of, head_of_line, mark_of, mark_of_line, counts_of, counts_of_line}
 
 pub number-again : (limit n : ℕ) (rest : Tokens) → limit < 2 ^ 64 → n ≤ limit → next_number limit (decimal n ∷ rest) ≡ Some (n, rest)
 unfolding next_number

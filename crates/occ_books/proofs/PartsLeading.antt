@@ -30,10 +30,10 @@ use Rattle.occ_text.specs.Escapes.{Gives}
 use Rattle.occ_text.proofs.SchemaLines.{check-from_IsSchema}
 use Rattle.occ_text.proofs.SchemaLines as schema_lines
 use Rattle.occ_print.specs.Books.{at_line}
-use Rattle.occ_books.specs.declared.heads.Mark.{Mark}
-use Rattle.occ_books.specs.declared.heads.Counts.{Counts}
-use Rattle.occ_books.specs.Heads.{MarkFits, CountsFit, mark_text, counts_text}
-use Rattle.occ_books.specs.Entries.{AtFits}
+use Rattle.occ_books.specs.declared.number_lines.Mark.{Mark}
+use Rattle.occ_books.specs.declared.number_lines.Counts.{Counts}
+use Rattle.occ_books.specs.NumberLines.{MarkFits, CountsFit, mark_text, counts_text}
+use Rattle.occ_books.specs.RowLines.{AtFits}
 use Rattle.occ_books.specs.Taking.{TakesLines, Further, OneTable, LogOf, further_text, FurtherFits, is_behind}
 use Rattle.occ_books.specs.Places.{Place, Frame, Version, Sessions, Queue, Keep, Tables, Marks, MarkOf, State, RowAt, Counter, Audit, End, rows_to_come, marks_to_come, state_to_come, Counted, Leads, LeadOn, MayEnd, Unended, Led, Stopped, FailsFrom, Ended, EndsFrom}
 use Rattle.occ_books.proofs.Gathering.{more_lines}

@@ -20,12 +20,12 @@ use Rattle.occ_text.specs.declared.faults.ReadFault.TheVariants as faults
 use Rattle.occ_text.specs.Faults.{told}
 use Rattle.occ_text.specs.Line.{IsLine, NoneTaken, IsSpelled, Taken}
 use Rattle.occ_print.specs.Books.{pair_line, write_line}
-use Rattle.occ_books.specs.declared.heads.Head.{Head}
-use Rattle.occ_books.specs.Heads.{HeadFits, head_text}
-use Rattle.occ_books.specs.Entries.{Asked, AskedSpan, asked_text, AskedFits, PairFits, WriteFits, write_of_line}
+use Rattle.occ_books.specs.declared.number_lines.Head.{Head}
+use Rattle.occ_books.specs.NumberLines.{HeadFits, head_text}
+use Rattle.occ_books.specs.RowLines.{Asked, AskedSpan, asked_text, AskedFits, PairFits, WriteFits, write_of_line}
 use Rattle.occ_books.specs.Places.{Place, InRow, LogRow, ReadOf, PairOf, WriteOf, Led, FailsFrom, TakesFrom, IsAbove, last_key, frame_of, in_row, behind_read, pairs_to_come, reads_to_come, writes_to_come}
 use Rattle.occ_books.proofs.Leading.{LeadsOn, led_line, led_then, line_refused, none_fails, taken_led, begun, turn, turn_fails}
-use Rattle.occ_books.proofs.EntriesAgain.{write_line-again}
+use Rattle.occ_books.proofs.RowLinesAgain.{write_line-again}
 
 -- ---- keys of a range, each above the one before
 

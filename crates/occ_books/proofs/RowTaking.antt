@@ -19,9 +19,9 @@ use Rattle.occ_model.specs.declared.verdict.Cause.TheVariants.{Conflict, TooOld}
 use Rattle.occ_text.specs.Spelling.{line_text}
 use Rattle.occ_print.specs.Books.{question_text, pair_line, read_lines, write_line, standing_text, row_line, row_lines}
 use Rattle.occ_book.specs.declared.rows.Standing.TheVariants as stands
-use Rattle.occ_books.specs.declared.heads.Head.{Head}
-use Rattle.occ_books.specs.Heads.{Stand, stand_tokens, head_text, IsSession, StandFits, HeadFits}
-use Rattle.occ_books.specs.Entries.{AskedSpan, asked_text, AskedFits, PairFits, WriteFits}
+use Rattle.occ_books.specs.declared.number_lines.Head.{Head}
+use Rattle.occ_books.specs.NumberLines.{Stand, stand_tokens, head_text, IsSession, StandFits, HeadFits}
+use Rattle.occ_books.specs.RowLines.{AskedSpan, asked_text, AskedFits, PairFits, WriteFits}
 use Rattle.occ_books.specs.Taking.{TakesLines, Gathered, ReadFits, RisesFrom, StandingFits, LogRowFits, StandsSo, IsRowOf}
 use Rattle.occ_books.specs.Places.{IsAbove, last_key}
 use Rattle.occ_books.proofs.Gathering.{more_lines, single_lines}

@@ -29,12 +29,12 @@ use Rattle.occ_text.specs.Line.{lines_text}
 use Rattle.occ_print.specs.Books.{row_lines, mark_line, mark_lines, at_line, row_count, state_lines}
 use Rattle.occ_text.proofs.SchemaLines.{table_next}
 use Rattle.occ_text.proofs.Readers.{word_is}
-use Rattle.occ_books.specs.declared.heads.Mark.{Mark}
-use Rattle.occ_books.specs.Heads.{mark_text, counts_text, MarkFits, CountsFit}
-use Rattle.occ_books.specs.Entries.{AtFits}
+use Rattle.occ_books.specs.declared.number_lines.Mark.{Mark}
+use Rattle.occ_books.specs.NumberLines.{mark_text, counts_text, MarkFits, CountsFit}
+use Rattle.occ_books.specs.RowLines.{AtFits}
 use Rattle.occ_books.specs.Taking.{TakesLines, Gathered, LogRowFits, is_behind}
-use Rattle.occ_books.specs.Printed.{IsEnding, EndTaken, EntryFits, IsBookText}
-use Rattle.occ_books.specs.declared.heads.Counts.{Counts}
+use Rattle.occ_books.specs.WholeBooks.{IsEnding, EndTaken, EntryFits, IsBookText}
+use Rattle.occ_books.specs.declared.number_lines.Counts.{Counts}
 use Rattle.occ_books.proofs.Gathering.{one_line, more_lines, gathered_next, count_more, nothing, single_lines}
 use Rattle.occ_books.proofs.Rising.{LastIs, insert_last}
 

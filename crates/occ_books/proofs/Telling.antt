@@ -17,7 +17,7 @@ use Rattle.occ_print.specs.Books.{Book}
 use Rattle.occ_text.specs.Line.{Source, HasFailed}
 use Rattle.occ_text.specs.Sending.{Sends, PushGives}
 use Rattle.occ_books.specs.Places.{Version, Unread, FailsFrom}
-use Rattle.occ_books.specs.Printed.{verdict_text, ToldFront, TellGives, AuditGives, Judged, IsBookText}
+use Rattle.occ_books.specs.WholeBooks.{verdict_text, ToldFront, TellGives, AuditGives, Judged, IsBookText}
 
 front_of : (verdict : Bool) (a b : Option (List ℕ)) (bytes held : List ℕ) → bytes ≡ verdict_text verdict → Sends a b bytes held → ToldFront verdict a b
 front_of verdict a b bytes held is s = record { front = s.sent; rest = held; whole = sym is ∙ s.whole; told = s.written }

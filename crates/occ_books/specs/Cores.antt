@@ -10,7 +10,7 @@ use Rattle.occ_model.specs.World.{World, low}
 use Rattle.occ_text.specs.Headers.{Header, HeaderFits}
 use Rattle.occ_text.specs.Spelling.{KeyFits, RowFits}
 use Rattle.occ_print.specs.Books.{Book}
-use Rattle.occ_books.specs.Entries.{EndsFit}
+use Rattle.occ_books.specs.RowLines.{EndsFit}
 
 -- the book of a world under a header
 abbrev pub book_in : Header → World → Book

@@ -1,9 +1,9 @@
 pub mod Cursors
-pub mod Named
-pub mod Heads
-pub mod Entries
+pub mod SchemaReaders
+pub mod NumberLines
+pub mod RowLines
 pub mod Taking
 pub mod Places
-pub mod Printed
+pub mod WholeBooks
 pub mod Untold
 pub mod Cores

@@ -15,11 +15,11 @@ use Rattle.occ_text.specs.Line.{IsLine, CannotStand, lines_text}
 use Rattle.occ_text.specs.Headers.{Within, count_text, table_text}
 use Rattle.occ_text.specs.HeaderTaking.{TablesSoFar}
 use Rattle.occ_print.specs.Books.{pair_line, write_line, at_line}
-use Rattle.occ_books.specs.declared.heads.Head.{Head}
-use Rattle.occ_books.specs.declared.heads.Mark.{Mark}
-use Rattle.occ_books.specs.declared.heads.Counts.{Counts}
-use Rattle.occ_books.specs.Heads.{HeadFits, MarkFits, CountsFit, head_text, mark_text, counts_text}
-use Rattle.occ_books.specs.Entries.{Asked, AskedOne, AskedSpan, AskedFits, PairFits, WriteFits, AtFits, asked_text}
+use Rattle.occ_books.specs.declared.number_lines.Head.{Head}
+use Rattle.occ_books.specs.declared.number_lines.Mark.{Mark}
+use Rattle.occ_books.specs.declared.number_lines.Counts.{Counts}
+use Rattle.occ_books.specs.NumberLines.{HeadFits, MarkFits, CountsFit, head_text, mark_text, counts_text}
+use Rattle.occ_books.specs.RowLines.{Asked, AskedOne, AskedSpan, AskedFits, PairFits, WriteFits, AtFits, asked_text}
 use Rattle.occ_books.specs.Taking.{is_behind}
 
 -- what a header tells that the lines behind it have to fit

@@ -16,11 +16,11 @@ use Rattle.occ_book.specs.declared.rows.Standing.TheVariants as stands
 use Rattle.occ_text.specs.Line.{lines_text}
 use Rattle.occ_text.specs.Headers.{table_text, count_text, Within}
 use Rattle.occ_text.specs.HeaderTaking.{TablesSoFar}
-use Rattle.occ_books.specs.declared.heads.Head.{Head}
-use Rattle.occ_books.specs.declared.printed.Behind as code_behind
-use Rattle.occ_books.specs.declared.printed.Behind.TheVariants as behind
-use Rattle.occ_books.specs.Heads.{IsSession, Stand}
-use Rattle.occ_books.specs.Entries.{ObjectFits, FoundFits, SpanFits, PairFits, WriteFits}
+use Rattle.occ_books.specs.declared.number_lines.Head.{Head}
+use Rattle.occ_books.specs.declared.whole_books.Behind as code_behind
+use Rattle.occ_books.specs.declared.whole_books.Behind.TheVariants as behind
+use Rattle.occ_books.specs.NumberLines.{IsSession, Stand}
+use Rattle.occ_books.specs.RowLines.{ObjectFits, FoundFits, SpanFits, PairFits, WriteFits}
 
 -- whole lines were taken, and nothing else
 abbrev pub TakesLines : Option (List ℕ) → Option (List ℕ) → List (List ℕ) → Type 0

@@ -5,9 +5,9 @@ ghost use Rattle.std.specs.Bool.{Decides};
 ghost use Rattle.occ_model.specs.Log.{Audited};
 ghost use Rattle.occ_model.specs.World.{empty_base};
 ghost use Rattle.occ_text.specs.declared.trouble.Trouble.TheVariants.{Memory};
-ghost use Rattle.occ_books.specs.Printed.{AuditGives, TellGives, printed_book, verdict_text};
+ghost use Rattle.occ_books.specs.WholeBooks.{AuditGives, TellGives, printed_book, verdict_text};
 
-use crate::printed::{PrintedBook, take_book};
+use crate::whole_books::{PrintedBook, take_book};
 use occ_audit::audit_rows;
 use occ_print::lines::audit_line;
 use occ_text::faults::WriteFault;

@@ -9,7 +9,7 @@ ghost use Rattle.occ_text.specs.Headers.{Header};
 ghost use Rattle.occ_text.specs.Line.{lines_text};
 ghost use Rattle.occ_print.specs.Books.{Book, book_lines, book_text};
 ghost use Rattle.occ_books.specs.Places.{Place, Version, Audit, LeadOn, MayEnd, Stopped};
-ghost use Rattle.occ_books.specs.Printed.{BookFits, IsEnding};
+ghost use Rattle.occ_books.specs.WholeBooks.{BookFits, IsEnding};
 ghost use Rattle.occ_books.specs.Cores.{IsHeaderOf, HasWords, book_in};
 
 /// Lines lead from the beginning of a text to one place at most.

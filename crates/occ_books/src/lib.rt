@@ -3,12 +3,12 @@
 
 pub mod audits;
 mod cursors;
-pub mod entries;
-pub mod heads;
 pub mod laws;
-mod named;
-pub mod printed;
-mod takes;
+pub mod number_lines;
+pub mod row_lines;
+mod schema_readers;
+mod single_lines;
 mod transactions;
+pub mod whole_books;
 
 pub use audits::audit_text;

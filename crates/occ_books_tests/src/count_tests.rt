@@ -1,7 +1,7 @@
 //! Books of one row with many reads and writes.
 
 use occ_books::audit_text;
-use occ_books::printed::take_book;
+use occ_books::whole_books::take_book;
 use occ_print::books::write_book;
 use occ_text::input::Input;
 use occ_text::output::Output;

@@ -94,12 +94,12 @@ abbrev pub found_text : Option Row → List ℕ
 found_text None = codes "none"
 found_text (Some row) = codes "row " ++ row_text row
 
--- a key and its row, with the space before them
-abbrev pub pair_text : Key × Row → List ℕ
-pair_text pair = codes " " ++ (key_text pair.0 ++ (codes "=" ++ row_text pair.1))
+-- a key and its row, with what stands before them
+abbrev pub pair_text : List ℕ → Key × Row → List ℕ
+pair_text before pair = before ++ (key_text pair.0 ++ (codes "=" ++ row_text pair.1))
 
 abbrev pub rows_text : List (Key × Row) → List ℕ
-rows_text rows = (codes "rows " ++ decimal (length rows)) ++ flat_map pair_text rows
+rows_text rows = (codes "rows " ++ decimal (length rows)) ++ flat_map (pair_text (codes " ")) rows
 
 abbrev pub counts_text : Counts → List ℕ
 counts_text counts =
@@ -114,15 +114,11 @@ name_at schema place = elim (slice_get schema place) [ None ↦ [] | Some table 
 abbrev pub object_text : Schema → Object → List ℕ
 object_text schema object = name_at schema object.0 ++ (codes " " ++ key_text object.1)
 
--- a key and its row in a token
-abbrev pub pair_token : Key × Row → List ℕ
-pair_token pair = codes ":" ++ (key_text pair.0 ++ (codes "=" ++ row_text pair.1))
-
 -- what was read by an operation that ran alone, as a token with the space before it
 abbrev pub answer_token : states.Answer → List ℕ
 answer_token (states.Found None) = codes " none"
 answer_token (states.Found (Some row)) = codes " row:" ++ row_text row
-answer_token (states.Rows rows) = (codes " rows:" ++ decimal (length rows)) ++ flat_map pair_token rows
+answer_token (states.Rows rows) = (codes " rows:" ++ decimal (length rows)) ++ flat_map (pair_text (codes ":")) rows
 
 -- the line of what the store replies, under its schema
 abbrev pub reply_text : Schema → Reply → List ℕ

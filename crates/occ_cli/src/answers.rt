@@ -8,8 +8,9 @@ ghost use Rattle.occ_types.specs.Seen.{key_of, object_of};
 ghost use Rattle.occ_types.specs.declared.fault.Fault.TheVariants as faults;
 ghost use Rattle.occ_core.specs.Runs.{reply_of};
 ghost use Rattle.occ_cli.specs.Answers as says;
-ghost use Rattle.occ_cli.specs.Answers.{answer_of, answer_text, reply_text, object_text, name_at, fault_number, verdict_text, found_text, pair_text, rows_text, counts_text};
+ghost use Rattle.occ_cli.specs.Answers.{answer_of, answer_text, reply_text, object_text, name_at, fault_number, verdict_text, found_text, rows_text, counts_text};
 
+use crate::pairs::write_pairs;
 use crate::refusals::Refusal;
 use crate::tokens::write_ran_alone;
 use occ_case::{Cause, Verdict};
@@ -175,33 +176,7 @@ fn write_rows<A: Allocator>(
 {
     let count = rows.len();
     write!(line, "rows {count}")?;
-    write_pairs(line, rows)
-}
-
-/// Appends keys with their rows, each after a space.
-fn write_pairs<A: Allocator>(
-    line: &mut String<A>,
-    rows: &[(Key<A>, Row<A>)],
-) -> Result<(), AllocError>
-    ensures { OnOk result (string_bytes line.new ≡ string_bytes line.old ++ flat_map pair_text (rows_of rows.now)) }
-{
-    for (key, row) in rows {
-        write_pair(line, key, row)?;
-    }
-    Ok(())
-}
-
-fn write_pair<A: Allocator>(
-    line: &mut String<A>,
-    key: &Key<A>,
-    row: &Row<A>,
-) -> Result<(), AllocError>
-    ensures { OnOk result (string_bytes line.new ≡ string_bytes line.old ++ pair_text (key_of key.now, row.now)) }
-{
-    line.push(' ')?;
-    write_key(line, key)?;
-    line.push('=')?;
-    write_row(line, row)
+    write_pairs(line, " ", rows)
 }
 
 /// The words of a verdict.

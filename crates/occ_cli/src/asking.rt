@@ -14,7 +14,7 @@ ghost use Rattle.occ_cli.specs.Answers as says;
 ghost use Rattle.occ_cli.specs.Replaying.{CopyWantsGet, CopyWantsScan, GetsIn, MayAnswer, ScansIn, Tells, played, replied, Played, PlayedIn};
 
 use crate::answers::Answer;
-use crate::named::{object_named, span_named};
+use crate::step_objects::{object_named, span_named};
 use occ_core::{Core, Reply};
 use occ_sets::{Answer as Seen, Prepared, PrivateCopy};
 use occ_types::{Fault, Key, Object, Question, Row};

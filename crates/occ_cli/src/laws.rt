@@ -1,6 +1,6 @@
 //! What holds of the book of every core.
 ghost use Rattle.occ_text.specs.Headers.{Header};
-ghost use Rattle.occ_books.specs.Printed.{BookFits};
+ghost use Rattle.occ_books.specs.WholeBooks.{BookFits};
 ghost use Rattle.occ_books.specs.Cores.{IsHeaderOf, HasWords, book_in};
 
 use occ_core::Core;

@@ -4,10 +4,11 @@ ghost use Rattle.std.specs.Prelude.{◌≡◌, ◌++◌, OnOk, codes, length, ma
 ghost use Rattle.std.specs.List.{flat_map};
 ghost use Rattle.occ_sets.specs.Seen.{answer_of, rows_of};
 ghost use Rattle.occ_types.specs.Seen.{key_of};
-ghost use Rattle.occ_cli.specs.Answers.{answer_token, pair_token};
+ghost use Rattle.occ_cli.specs.Answers.{answer_token, pair_text};
 
+use crate::pairs::write_pairs;
 use occ_sets::Answer;
-use occ_text::writers::{write_key, write_row};
+use occ_text::writers::write_row;
 use occ_types::{Key, Row};
 use std::alloc::{AllocError, Allocator};
 
@@ -55,35 +56,9 @@ fn write_range<A: Allocator>(
     line: &mut String<A>,
     rows: &[(Key<A>, Row<A>)],
 ) -> Result<(), AllocError>
-    ensures { OnOk result (string_bytes line.new ≡ string_bytes line.old ++ ((codes " rows:" ++ decimal (length (rows_of rows.now))) ++ flat_map pair_token (rows_of rows.now))) }
+    ensures { OnOk result (string_bytes line.new ≡ string_bytes line.old ++ ((codes " rows:" ++ decimal (length (rows_of rows.now))) ++ flat_map (pair_text (codes ":")) (rows_of rows.now))) }
 {
     let count = rows.len();
     write!(line, " rows:{count}")?;
-    write_pairs(line, rows)
-}
-
-// Appends keys with their rows, each after a colon.
-fn write_pairs<A: Allocator>(
-    line: &mut String<A>,
-    rows: &[(Key<A>, Row<A>)],
-) -> Result<(), AllocError>
-    ensures { OnOk result (string_bytes line.new ≡ string_bytes line.old ++ flat_map pair_token (rows_of rows.now)) }
-{
-    for (key, row) in rows {
-        write_pair(line, key, row)?;
-    }
-    Ok(())
-}
-
-fn write_pair<A: Allocator>(
-    line: &mut String<A>,
-    key: &Key<A>,
-    row: &Row<A>,
-) -> Result<(), AllocError>
-    ensures { OnOk result (string_bytes line.new ≡ string_bytes line.old ++ pair_token (key_of key.now, row.now)) }
-{
-    line.push(':')?;
-    write_key(line, key)?;
-    line.push('=')?;
-    write_row(line, row)
+    write_pairs(line, ":", rows)
 }

@@ -10,7 +10,7 @@ ghost use Rattle.occ_cli.specs.Answers.{Done};
 ghost use Rattle.occ_cli.specs.Replaying.{WritesCopy, Given, unless, check_written, CopyWantsWrite, WantsRoom, played, PlayedIn};
 
 use crate::answers::Answer;
-use crate::named::object_named;
+use crate::step_objects::object_named;
 use occ_sets::PrivateCopy;
 use occ_types::{Fault, Key, Object, Row, Schema};
 use std::alloc::Allocator;

@@ -2,7 +2,7 @@ use Rattle.std.proofs.Common.{◌≡◌, ap, subst}
 use Rattle.std.specs.Result.{IsErrAnd}
 use Rattle.occ_text.specs.declared.trouble.Trouble.{Trouble}
 use Rattle.occ_text.specs.Line.{Source}
-use Rattle.occ_books.specs.Printed.{printed_book}
+use Rattle.occ_books.specs.WholeBooks.{printed_book}
 use Rattle.occ_books.proofs.Telling.{refused, stopped, told, judged}
 use Rattle.occ_books.proofs.audits.audit_text.Goals as goal
 

@@ -1,7 +1,7 @@
 use Rattle.std.proofs.Common.{[], ◌∷◌, length, None, sym, ap, subst}
 use Rattle.occ_types.specs.Seen.{key_of}
 use Rattle.occ_print.specs.Books.{pair_line}
-use Rattle.occ_books.specs.Entries.{pair_of, PairFits}
+use Rattle.occ_books.specs.RowLines.{pair_of, PairFits}
 use Rattle.occ_books.specs.Taking.{RisesFrom}
 use Rattle.occ_books.specs.Places.{IsAbove, last_key, pairs_to_come, reads_to_come}
 use Rattle.occ_books.proofs.Gathering.{nothing_viewed, viewed_next, viewed_more, count_more}

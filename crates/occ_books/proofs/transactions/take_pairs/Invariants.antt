@@ -2,7 +2,7 @@ use Rattle.std.proofs.Common.{◌≡◌, ℕ, ◌-◌, [], ◌∷◌, None, leng
 use Rattle.std.specs.Io.KnownBytes.{prepend_known}
 use Rattle.occ_sets.specs.Seen.{rows_of}
 use Rattle.occ_print.specs.Books.{pair_line}
-use Rattle.occ_books.specs.Entries.{PairFits}
+use Rattle.occ_books.specs.RowLines.{PairFits}
 use Rattle.occ_books.specs.Taking.{Gathered, RisesFrom}
 use Rattle.occ_books.specs.Places.{InRow, Led, last_key, pairs_to_come}
 use Rattle.occ_books.proofs.transactions.take_pairs.Given as goal

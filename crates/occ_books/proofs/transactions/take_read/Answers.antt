@@ -2,7 +2,7 @@ use Rattle.std.proofs.Common.{Ok, Err, ◌∙◌}
 use Rattle.std.proofs.lemmas.List.{length-map}
 use Rattle.occ_types.specs.Seen.{question_of, object_of}
 use Rattle.occ_sets.specs.Seen.{rows_of}
-use Rattle.occ_books.specs.Entries.{AskedOne}
+use Rattle.occ_books.specs.RowLines.{AskedOne}
 use Rattle.occ_books.specs.Places.{ReadOf, reads_to_come}
 use Rattle.occ_books.proofs.RowTaking.{span_taken}
 use Rattle.occ_books.proofs.Leading.{failed}

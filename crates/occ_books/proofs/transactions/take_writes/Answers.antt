@@ -2,7 +2,7 @@ use Rattle.std.proofs.Common.{[], ◌∷◌, map, length, refl, sym, ap, subst}
 use Rattle.occ_types.specs.Seen.{object_of}
 use Rattle.occ_model.specs.RangeLaws.{IsDistinctWrites}
 use Rattle.occ_print.specs.Books.{write_line}
-use Rattle.occ_books.specs.Entries.{WriteFits}
+use Rattle.occ_books.specs.RowLines.{WriteFits}
 use Rattle.occ_books.specs.Places.{writes_to_come, rows_to_come}
 use Rattle.occ_books.proofs.Gathering.{nothing_yet, gathered_next, count_more}
 use Rattle.occ_books.proofs.RowTaking.{distinct-more, not_some}

@@ -2,7 +2,7 @@ use Rattle.std.proofs.Common.{◌≡◌, ◌-◌, [], ◌∷◌, map, length}
 use Rattle.std.specs.Io.KnownBytes.{prepend_known}
 use Rattle.occ_model.specs.RangeLaws.{IsDistinctWrites}
 use Rattle.occ_print.specs.Books.{write_line}
-use Rattle.occ_books.specs.Entries.{WriteFits}
+use Rattle.occ_books.specs.RowLines.{WriteFits}
 use Rattle.occ_books.specs.Taking.{Gathered}
 use Rattle.occ_books.specs.Places.{InRow, Led, writes_to_come}
 use Rattle.occ_books.proofs.transactions.take_writes.Given as goal

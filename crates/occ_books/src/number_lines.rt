@@ -1,0 +1,190 @@
+//! Lines that have numbers alone: the first one of a row of the log, that of a closing mark, and the last one of a book.
+
+ghost use Rattle.std.specs.Prelude.{◌≡◌};
+ghost use Rattle.occ_text.specs.Reading.{Reads};
+ghost use Rattle.occ_books.specs.Cursors.{before};
+ghost use Rattle.occ_books.specs.NumberLines.{mark_text, counts_text, head_text, HeadFits, MarkFits, CountsFit, bare_stand, counted_stand, stand_of, next_session, mark_of, mark_of_line, counts_of, counts_of_line, head_of, head_of_line};
+
+use crate::cursors::{at_end, next_number, next_word};
+use occ_book::Standing;
+use occ_model::Cause;
+use occ_text::parts::Parts;
+use occ_text::tokens::{is_word, number, tokens};
+
+/// The first line of a row of the log: `row PLACE S N START FINISH R W STANDING`.
+#[derive(Clone, Copy, Debug, PartialEq, Eq)]
+pub struct Head {
+    /// The place in the log.
+    pub place: usize,
+    /// The session.
+    pub session: usize,
+    /// The number in the session.
+    pub number: u64,
+    /// The counter as the transaction began.
+    pub start: u64,
+    /// The counter as it entered.
+    pub finish: u64,
+    /// How many reads follow.
+    pub reads: usize,
+    /// How many writes follow them.
+    pub writes: usize,
+    /// How far it has come: `open`, `writing D` where so many of its writes are done, `done TN` under this number, or `conflict` or `tooold`, for which it is backed up. Nothing more is told of an open row.
+    pub standing: Standing<()>,
+}
+
+/// A closing mark: `mark S N`.
+#[derive(Clone, Copy, Debug, PartialEq, Eq)]
+pub struct Mark {
+    /// The session.
+    pub session: usize,
+    /// The number of its mark.
+    pub number: u64,
+}
+
+/// The last line of a book: `counter T low L`.
+#[derive(Clone, Copy, Debug, PartialEq, Eq)]
+pub struct Counts {
+    /// The transaction counter.
+    pub counter: u64,
+    /// The lower end of the window.
+    pub low: u64,
+}
+
+/// A standing without a number.
+#[tactic(auto, unfolding(crate::specs::NumberLines::bare_stand))]
+fn bare_stand(word: &[u8]) -> Option<Standing<()>>
+    ensures { result ≡ bare_stand word.now }
+{
+    if is_word(word, "open") {
+        Some(Standing::Open(()))
+    } else if is_word(word, "conflict") {
+        Some(Standing::Back(Cause::Conflict))
+    } else if is_word(word, "tooold") {
+        Some(Standing::Back(Cause::TooOld))
+    } else {
+        None
+    }
+}
+
+/// A standing with a number, of a row with so many writes.
+#[tactic(auto, unfolding(crate::specs::NumberLines::counted_stand))]
+fn counted_stand(writes: usize, word: &[u8], digits: &[u8]) -> Option<Standing<()>>
+    ensures { result ≡ counted_stand writes word.now digits.now }
+{
+    if is_word(word, "writing") {
+        let done = number(digits, writes as u64)?;
+        Some(Standing::Writing(done as usize))
+    } else if is_word(word, "done") {
+        let number = number(digits, u64::MAX)?;
+        Some(Standing::Done(number))
+    } else {
+        None
+    }
+}
+
+/// The standing of the last tokens of a line.
+fn stand_of(writes: usize, parts: &mut Parts<'_>) -> Option<Standing<()>>
+    ensures { result ≡ stand_of writes parts.old }
+{
+    let word = parts.take_part()?;
+    let Some(digits) = parts.take_part() else {
+        return bare_stand(word);
+    };
+    match parts.take_part() {
+        None => counted_stand(writes, word, digits),
+        Some(_) => None,
+    }
+}
+
+/// A session of a header that has so many.
+#[tactic(auto, unfolding(crate::specs::NumberLines::next_session))]
+fn next_session(sessions: usize, parts: &mut Parts<'_>) -> Option<usize>
+    ensures { before parts.new result ≡ next_session sessions parts.old }
+{
+    let session = next_number(parts, sessions as u64)?;
+    if session == 0 {
+        return None;
+    }
+    Some(session as usize)
+}
+
+// The first line of a row, from its tokens.
+#[tactic(auto, unfolding(crate::specs::NumberLines::head_of))]
+fn head_of(sessions: usize, parts: &mut Parts<'_>) -> Option<Head>
+    ensures { result ≡ head_of sessions parts.old }
+{
+    next_word(parts, "row")?;
+    let place = next_number(parts, u64::MAX)? as usize;
+    let session = next_session(sessions, parts)?;
+    let number = next_number(parts, u64::MAX)?;
+    let start = next_number(parts, u64::MAX)?;
+    let finish = next_number(parts, u64::MAX)?;
+    let reads = next_number(parts, u64::MAX)? as usize;
+    let writes = next_number(parts, u64::MAX)? as usize;
+    let standing = stand_of(writes, parts)?;
+    Some(Head {
+        place,
+        session,
+        number,
+        start,
+        finish,
+        reads,
+        writes,
+        standing,
+    })
+}
+
+/// The first line of a row of the log, under a header with so many sessions. None where the line is none.
+#[tactic(auto, unfolding(crate::specs::NumberLines::head_of_line))]
+pub fn read_head(line: &[u8], sessions: usize) -> Option<Head>
+    ensures exact { result ≡ head_of_line sessions line.now }
+    ensures grammar { Reads head_text (HeadFits sessions) line.now result }
+{
+    let mut parts = tokens(line)?;
+    head_of(sessions, &mut parts)
+}
+
+// A closing mark, from the tokens of its line.
+#[tactic(auto, unfolding(crate::specs::NumberLines::mark_of))]
+fn mark_of(sessions: usize, parts: &mut Parts<'_>) -> Option<Mark>
+    ensures { result ≡ mark_of sessions parts.old }
+{
+    next_word(parts, "mark")?;
+    let session = next_session(sessions, parts)?;
+    let number = next_number(parts, u64::MAX)?;
+    at_end(parts)?;
+    Some(Mark { session, number })
+}
+
+/// A closing mark, under a header with so many sessions. None where the line is none.
+#[tactic(auto, unfolding(crate::specs::NumberLines::mark_of_line))]
+pub fn read_mark(line: &[u8], sessions: usize) -> Option<Mark>
+    ensures exact { result ≡ mark_of_line sessions line.now }
+    ensures grammar { Reads mark_text (MarkFits sessions) line.now result }
+{
+    let mut parts = tokens(line)?;
+    mark_of(sessions, &mut parts)
+}
+
+// The last line of a book, from its tokens.
+#[tactic(auto, unfolding(crate::specs::NumberLines::counts_of))]
+fn counts_of(parts: &mut Parts<'_>) -> Option<Counts>
+    ensures { result ≡ counts_of parts.old }
+{
+    next_word(parts, "counter")?;
+    let counter = next_number(parts, u64::MAX)?;
+    next_word(parts, "low")?;
+    let low = next_number(parts, u64::MAX)?;
+    at_end(parts)?;
+    Some(Counts { counter, low })
+}
+
+/// The last line of a book. None where the line is none.
+#[tactic(auto, unfolding(crate::specs::NumberLines::counts_of_line))]
+pub fn read_counts(line: &[u8]) -> Option<Counts>
+    ensures exact { result ≡ counts_of_line line.now }
+    ensures grammar { Reads counts_text CountsFit line.now result }
+{
+    let mut parts = tokens(line)?;
+    counts_of(&mut parts)
+}

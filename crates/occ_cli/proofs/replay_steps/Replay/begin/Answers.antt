@@ -1,0 +1,20 @@
+use Rattle.std.proofs.Common.{subst}
+use Rattle.std.proofs.lemmas.Result.{err_from_is_err_and}
+use Rattle.occ_cli.specs.Replaying.{Begins, played}
+use Rattle.occ_cli.proofs.Replaying.{by_sure_client, no_mover}
+use Rattle.occ_cli.proofs.replay_steps.Replay.begin.Goals as goal
+
+pub returns-in_err-place : goal.returns-in_err-place
+returns-in_err-place g c =
+    let p = err_from_is_err_and c.from_residual.result c.from_residual.ensures.1 in
+    no_mover c.self.inside.core.world c.self.inside.clients.items c.args.self.now c.self.view_is c.from_residual.result
+    c.as_slice.result.now c.args.session p.0 c.in_err-place.field-0.0
+    (λ answer client next. Begins c.args.self.now.world.counter client answer next)
+    c.as_slice.ensures.value p.1 p.2 c.in_err-place.ensures
+
+pub returns : goal.returns
+returns g c =
+    by_sure_client c.self.inside.core.world c.self.inside.clients.items c.args.self.now c.self.view_is c.begin.result
+    c.as_slice.result.now c.as_slice.ensures.value c.args.session c.in_ok-place.place c.in_ok-place.ensures c.index_mut-client.result.now c.index_mut-client.ensures.value c.begin.new.self
+    (λ world answer client next. Begins world.counter client answer next)
+    (subst (λ k. Begins k c.index_mut-client.result.now (played c.begin.result) c.begin.new.self) c.tnc-counter.ensures c.begin.ensures)
