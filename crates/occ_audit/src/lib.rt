@@ -6,7 +6,5 @@ mod order;
 mod replica;
 mod rests;
 mod serial_replay;
-#[cfg(test)]
-mod tests;
 
 pub use audits::audit_rows;

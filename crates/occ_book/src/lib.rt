@@ -8,8 +8,6 @@ mod maps;
 mod marks;
 mod rows;
 mod tables;
-#[cfg(test)]
-mod tests;
 mod writes;
 
 pub use base::Base;

@@ -9,4 +9,3 @@ pub mod Listed
 pub mod Numbered
 pub mod Dropping
 pub mod Folding
-mod LogTests

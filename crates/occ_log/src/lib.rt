@@ -3,12 +3,8 @@
 #![tactic(auto)]
 
 mod log;
-#[cfg(test)]
-mod log_tests;
 mod phases;
 mod sessions;
-#[cfg(test)]
-mod tests;
 mod window;
 
 pub use log::Log;

@@ -4,7 +4,5 @@
 mod asking;
 mod performed;
 mod sums;
-#[cfg(test)]
-mod tests;
 
 pub use performed::{Performed, perform_all};

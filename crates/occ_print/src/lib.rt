@@ -1,8 +1,6 @@
 //! The book of a store as a text: the definitions of its lines, and their printing.
 #![tactic(auto)]
 
-#[cfg(test)]
-mod book_tests;
 pub mod books;
 pub mod ends;
 pub mod lines;

@@ -4,8 +4,6 @@
 mod items;
 mod queues;
 mod session_queues;
-#[cfg(test)]
-mod tests;
 
 pub use items::Item;
 pub use queues::Queue;

@@ -2,8 +2,6 @@
 #![tactic(auto)]
 
 mod plan;
-#[cfg(test)]
-mod tests;
 
 pub use plan::Plan;
 use std::alloc::{AllocError, Allocator};

@@ -5,15 +5,11 @@ mod copies;
 mod handles;
 mod maps;
 mod meets;
-#[cfg(test)]
-mod operation_tests;
 mod operations;
 mod overlays;
 mod prepared;
 mod reads;
 mod shareable;
-#[cfg(test)]
-mod tests;
 mod writes;
 
 pub use copies::PrivateCopy;

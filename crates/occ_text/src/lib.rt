@@ -2,13 +2,9 @@
 #![tactic(auto)]
 
 pub mod faults;
-#[cfg(test)]
-mod grammar_tests;
 pub mod headers;
 pub mod input;
 pub mod operation_reading;
-#[cfg(test)]
-mod operation_tests;
 pub mod operations;
 pub mod output;
 pub mod parts;
@@ -16,8 +12,6 @@ mod step_forms;
 pub mod step_reading;
 mod step_words;
 pub mod steps;
-#[cfg(test)]
-mod tests;
 pub mod texts;
 pub mod tokens;
 pub mod trouble;

@@ -11,8 +11,6 @@ mod questions;
 mod rows;
 mod schemas;
 mod tables;
-#[cfg(test)]
-mod tests;
 mod texts;
 
 pub use cells::Cell;

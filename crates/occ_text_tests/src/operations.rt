@@ -1,0 +1,124 @@
+//! Runs alone: each operation once, tokens that are none, and more operations than a run may have.
+
+use occ_text::operation_reading::read_operation;
+use occ_text::operations::Operation;
+use occ_text::step_reading::read_step;
+use occ_text::steps::{Act, Step};
+use occ_text::tokens::Unread;
+use occ_types::Key;
+use std::test::Fail;
+
+#[test]
+fn each_operation_is_read(rt: HostRuntime) -> Result<(), Fail> {
+    let alloc = rt.alloc();
+    assert!(rt;
+        matches!(&read_operation(alloc, b"get:stock:18446744073709551615"), Ok(Operation::Get { table, key })
+        if *table == "stock" && *key == Key::Num(u64::MAX))
+    );
+    assert!(rt;
+        matches!(&read_operation(alloc, b"scan:stock:9:7"), Ok(Operation::Scan { table, lower, upper })
+        if *table == "stock" && *lower == Key::Num(9) && *upper == Key::Num(7))
+    );
+    assert!(rt;
+        matches!(&read_operation(alloc, b"put:stock:7:-5,'%3a"), Ok(Operation::Put { table, key, row })
+        if *table == "stock" && *key == Key::Num(7) && row.len() == 2)
+    );
+    assert!(rt;
+        matches!(&read_operation(alloc, b"delete:stock:7"), Ok(Operation::Delete { table, key })
+        if *table == "stock" && *key == Key::Num(7))
+    );
+    assert!(rt;
+        matches!(&read_operation(alloc, b"add:stock:7:-9223372036854775808"), Ok(Operation::Add { table, key, amount: i64::MIN })
+        if *table == "stock" && *key == Key::Num(7))
+    );
+    Ok(())
+}
+
+#[test]
+fn tokens_that_are_no_operation(rt: HostRuntime) -> Result<(), Fail> {
+    for token in [
+        "",
+        "get",
+        "get:t",
+        "get:t:",
+        "get::1",
+        "get:T:1",
+        "get:t:1:2",
+        "get:t:'a:b",
+        "Get:t:1",
+        ":get:t:1",
+        "scan:t:1",
+        "scan:t:1:2:3",
+        "put:t:1",
+        "put:t:1:",
+        "put:t:1:2,",
+        "delete:t:1:2",
+        "add:t:1",
+        "add:t:1:'a",
+        "add:t:1:1,2",
+        "add:t:1:-0",
+        "add:t:1:9223372036854775808",
+        "add:t::1",
+        "sub:t:1:1",
+    ] {
+        let operation = read_operation(rt.alloc(), token.as_bytes());
+        assert!(rt; matches!(operation, Err(Unread::Malformed)), "{token:?}");
+    }
+    Ok(())
+}
+
+#[test]
+fn runs_alone_are_read_in_order(rt: HostRuntime) -> Result<(), Fail> {
+    let step = read_step(rt.alloc(), b"alone 255 get:a:1 put:b:2:3 get:c:4");
+    assert!(rt;
+        matches!(&step, Ok(Step::Alone { session: 255, operations })
+        if matches!(operations.as_slice(), [
+            Operation::Get { table: "a", .. },
+            Operation::Put { table: "b", .. },
+            Operation::Get { table: "c", .. },
+        ]))
+    );
+    let step = read_step(rt.alloc(), b"serial 7");
+    assert!(rt;
+        matches!(
+            step,
+            Ok(Step::Does {
+                act: Act::Serial,
+                session: 7
+            })
+        )
+    );
+    Ok(())
+}
+
+#[test]
+fn runs_alone_that_are_malformed(rt: HostRuntime) -> Result<(), Fail> {
+    for line in [
+        "alone",
+        "alone 1",
+        "alone 256 get:t:1",
+        "alone get:t:1",
+        "alone 1 get:t:1 ",
+        "alone 1  get:t:1",
+        "alone 1 get t 1",
+        "alone 1 get:t:1 get:t:2 get:t:3 get:t:4 get:t",
+        "serial",
+        "serial 1 get:t:1",
+        "serialize 1",
+    ] {
+        let step = read_step(rt.alloc(), line.as_bytes());
+        assert!(rt; matches!(step, Err(Unread::Malformed)), "{line:?}");
+    }
+    Ok(())
+}
+
+#[test]
+fn more_operations_are_read_than_may_run(rt: HostRuntime) -> Result<(), Fail> {
+    let mut line = String::from_str(rt.alloc(), "alone 1")?;
+    for _ in 0..257 {
+        line.push_str(" add:t:1:1")?;
+    }
+    let step = read_step(rt.alloc(), line.as_bytes());
+    assert!(rt; matches!(&step, Ok(Step::Alone { operations, .. }) if operations.len() == 257));
+    Ok(())
+}

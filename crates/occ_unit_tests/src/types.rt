@@ -1,0 +1,178 @@
+//! Each public function once, on its happy path.
+use occ_types::{Cell, Fault, Key, KeyKind, Kind, Object, Question, Row, Schema, TableDef, Text};
+use std::alloc::{AllocError, Global};
+use std::cmp::Ordering;
+use std::test::Fail;
+
+fn text(alloc: Global, letters: &str) -> Result<Text<Global>, AllocError> {
+    Text::new(alloc, letters)
+}
+
+// A table `goods` with text keys and the columns Int and Text, and a table `stock` with numbers as keys and the column Int.
+fn shop(alloc: Global) -> Result<Vec<TableDef<Global>, Global>, AllocError> {
+    let mut tables = Vec::new(alloc);
+    tables.push(TableDef {
+        name: text(alloc, "goods")?,
+        key: KeyKind::Text,
+        columns: vec![in alloc; Kind::Int, Kind::Text]?,
+    })?;
+    tables.push(TableDef {
+        name: text(alloc, "stock")?,
+        key: KeyKind::Num,
+        columns: vec![in alloc; Kind::Int]?,
+    })?;
+    Ok(tables)
+}
+
+#[test]
+fn texts(rt: HostRuntime) -> Result<(), Fail> {
+    let alloc = rt.alloc();
+    let word = text(alloc, "häher")?;
+    assert_eq!(rt; word.as_str(), "häher");
+    assert_eq!(rt; word.len(), 6);
+    assert_eq!(rt; word.as_bytes(), "häher".as_bytes());
+    assert!(rt; !word.is_empty());
+    assert!(rt; text(alloc, "")?.is_empty());
+    assert!(rt; word.clone()? == word);
+    // By bytes and not by length: Z comes before a, and a prefix before what it begins.
+    assert!(rt; text(alloc, "Z")? < text(alloc, "a")?);
+    assert!(rt; text(alloc, "abc")? < text(alloc, "b")?);
+    assert!(rt; text(alloc, "ab")? < text(alloc, "abc")?);
+    assert_eq!(rt;
+        format!(in alloc; "{word:?}")?.as_str(),
+        "Text { text: \"häher\" }"
+    );
+    Ok(())
+}
+
+#[test]
+fn keys(rt: HostRuntime) -> Result<(), Fail> {
+    let alloc = rt.alloc();
+    let seven = Key::Num(7);
+    let word = Key::Text(text(alloc, "a")?);
+    assert!(rt; seven == Key::Num(7));
+    assert!(rt; seven != Key::Num(8));
+    assert!(rt; seven < Key::Num(10));
+    assert!(rt; Key::Num(u64::MAX) < word);
+    assert!(rt; word.clone()? == word);
+    assert_eq!(rt; word.cmp(&seven), Ordering::Greater);
+    assert!(rt; Cell::Int(-1) == Cell::<Global>::Int(-1));
+    assert!(rt; Cell::Text(text(alloc, "a")?) != Cell::Int(0));
+    Ok(())
+}
+
+#[test]
+fn rows(rt: HostRuntime) -> Result<(), Fail> {
+    let alloc = rt.alloc();
+    let row = Row::from_cells(vec![in alloc; Cell::Int(3), Cell::Text(text(alloc, "pears")?)]?);
+    assert_eq!(rt; row.len(), 2);
+    assert!(rt; !row.is_empty());
+    assert!(rt; row.clone()? == row);
+    let other = Row::from_cells(vec![in alloc; Cell::Int(3), Cell::Text(text(alloc, "plums")?)]?);
+    assert!(rt; row != other);
+    let beginning = Row::from_cells(vec![in alloc; Cell::Int(3)]?);
+    assert!(rt; row != beginning);
+    for cell in row.cells() {
+        assert!(rt; *cell != Cell::Int(4));
+    }
+    assert_eq!(rt; row.into_cells().len(), 2);
+    Ok(())
+}
+
+#[test]
+fn questions(rt: HostRuntime) -> Result<(), Fail> {
+    let alloc = rt.alloc();
+    let one = Question::<Global>::One(Object {
+        table: 1,
+        key: Key::Num(5),
+    });
+    assert_eq!(rt; one.table(), 1);
+    assert!(rt; one.asks(1, &Key::Num(5)));
+    assert!(rt; !one.asks(0, &Key::Num(5)));
+    assert!(rt; !one.asks(1, &Key::Num(6)));
+    let span = Question::Span {
+        table: 0,
+        lower: Some(Key::Num(5)),
+        upper: Some(Key::Text(text(alloc, "m")?)),
+    };
+    assert_eq!(rt; span.table(), 0);
+    assert!(rt; span.asks(0, &Key::Num(5)));
+    assert!(rt; !span.asks(0, &Key::Num(4)));
+    assert!(rt; !span.asks(1, &Key::Num(5)));
+    assert!(rt; span.asks(0, &Key::Text(text(alloc, "lz")?)));
+    assert!(rt; !span.asks(0, &Key::Text(text(alloc, "m")?)));
+    assert!(rt; span.clone()? == span);
+    assert!(rt; span != one);
+    let all = Question::<Global>::Span {
+        table: 0,
+        lower: None,
+        upper: None,
+    };
+    assert!(rt; all.asks(0, &Key::Num(0)));
+    Ok(())
+}
+
+#[test]
+fn schemas(rt: HostRuntime) -> Result<(), Fail> {
+    let alloc = rt.alloc();
+    let Ok(schema) = Schema::new(shop(alloc)?) else {
+        assert!(rt; false, "two good tables");
+        return Ok(());
+    };
+    assert_eq!(rt; schema.tables().len(), 2);
+    assert_eq!(rt; schema.table_named("goods"), Some(0));
+    assert_eq!(rt; schema.table_named("stock"), Some(1));
+    assert_eq!(rt; schema.table_named("good"), None);
+    let twice = shop(alloc)?;
+    let mut more = shop(alloc)?;
+    for table in twice {
+        more.push(table)?;
+    }
+    let Err(refused) = Schema::new(more) else {
+        assert!(rt; false, "two names twice");
+        return Ok(());
+    };
+    assert_eq!(rt; refused.fault, Fault::BadSchema);
+    assert_eq!(rt; refused.value.len(), 4);
+    assert!(rt; Schema::new(Vec::<TableDef<Global>>::new(alloc)).is_err());
+    Ok(())
+}
+
+#[test]
+fn checks(rt: HostRuntime) -> Result<(), Fail> {
+    let alloc = rt.alloc();
+    let Ok(schema) = Schema::new(shop(alloc)?) else {
+        assert!(rt; false, "two good tables");
+        return Ok(());
+    };
+    let pear = Key::Text(text(alloc, "pear")?);
+    assert_eq!(rt; schema.check_key(0, &pear), Ok(()));
+    assert_eq!(rt; schema.check_key(1, &pear), Err(Fault::WrongKind));
+    assert_eq!(rt; schema.check_key(2, &pear), Err(Fault::NoTable));
+    for (bytes, fits) in [(64, true), (65, false)] {
+        let long = Key::Text(Text::from_string("a".repeat(alloc, bytes)?));
+        assert_eq!(rt; schema.check_key(0, &long).is_ok(), fits, "{bytes} bytes");
+    }
+    for (bytes, fits) in [(256, true), (257, false)] {
+        let long = Cell::Text(Text::from_string("a".repeat(alloc, bytes)?));
+        let row = Row::from_cells(vec![in alloc; Cell::Int(1), long]?);
+        assert_eq!(rt; schema.check_row(0, &row).is_ok(), fits, "{bytes} bytes");
+        assert_eq!(rt; schema.check_row(1, &row), Err(Fault::WrongColumns));
+    }
+    let row = Row::from_cells(vec![in alloc; Cell::Int(1), Cell::Int(1)]?);
+    assert_eq!(rt; schema.check_row(0, &row), Err(Fault::WrongKind));
+    for (lower, upper, answer) in [(1, 2, Ok(())), (2, 2, Err(Fault::EmptyRange))] {
+        let question = Question::<Global>::Span {
+            table: 1,
+            lower: Some(Key::Num(lower)),
+            upper: Some(Key::Num(upper)),
+        };
+        assert_eq!(rt; schema.check_question(&question), answer);
+    }
+    let question = Question::One(Object {
+        table: 1,
+        key: pear,
+    });
+    assert_eq!(rt; schema.check_question(&question), Err(Fault::WrongKind));
+    Ok(())
+}
