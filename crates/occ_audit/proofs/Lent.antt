@@ -17,7 +17,7 @@ use Rattle.occ_types.specs.declared.keys.Key.TheVariants as keys
 use Rattle.occ_types.proofs.Asked.{object_tied}
 use Rattle.occ_model.specs.State.{State, put}
 use Rattle.occ_model.proofs.States.{same, get-put, same_state}
-use Rattle.occ_audit.specs.Replica.{lent, with_table, state_of}
+use Rattle.occ_audit.specs.Replica.{lent, row_under, with_table, state_of}
 
 unless : {X : Type 0} (b : Bool) (x y : X) → cond (not b) x y ≡ cond b y x
 unless true x y = refl
@@ -33,20 +33,16 @@ abbrev pub Lent : Type 0 → Type 0
 Lent Z = BTreeMap (Bor (code_key.Key Z)) (Bor Row)
 
 module _ {Z : Type 0} where
-  -- the row under a key
-  abbrev pub row_at : List (code_key.Key Z × Row) → Key → Option Row
-  row_at es k = lookup (λ x. key_same k (key_of x)) es
-
   -- the row under a key of a table that may be there
   abbrev pub row_in : Option (Lent Z) → Key → Option Row
   row_in None k = None
-  row_in (Some m) k = row_at (lent m.entries) k
+  row_in (Some m) k = row_under (lent m.entries) k
 
   -- the map of a table
   abbrev pub table_at : List (ℕ × Lent Z) → ℕ → Option (Lent Z)
   table_at tables t = lookup (λ x. is_eq (nat_cmp t x)) tables
 
-  get-with_table : (t : ℕ) (es : List (code_key.Key Z × Row)) (s : State) (u : ℕ) (k : Key) → get (with_table t es s) (u, k) ≡ cond (nat_eq u t) (row_at es k) (get s (u, k))
+  get-with_table : (t : ℕ) (es : List (code_key.Key Z × Row)) (s : State) (u : ℕ) (k : Key) → get (with_table t es s) (u, k) ≡ cond (nat_eq u t) (row_under es k) (get s (u, k))
   get-with_table t [] s u k =
       let test : Object → Bool = λ o. not (nat_eq o.0 t) in
       get-retain_keys s test (u, k) (λ x e. sym (ap test (object_cmp-IsAntisymmetric (u, k) x e)))
@@ -54,7 +50,7 @@ module _ {Z : Type 0} where
   get-with_table t (e ∷ es) s u k =
       get-insert object_cmp_total (with_table t es s) (t, key_of e.0) e.1 (u, k)
       ∙ (λ i. cond (object_tied u t k (key_of e.0) i) (Some e.1) (get-with_table t es s u k i))
-      ∙ gated (nat_eq u t) (key_same k (key_of e.0)) (Some e.1) (row_at es k) (get s (u, k))
+      ∙ gated (nat_eq u t) (key_same k (key_of e.0)) (Some e.1) (row_under es k) (get s (u, k))
 
   -- the state has at an object what the map of its table has at its key
   pub get-state_of : (tables : List (ℕ × Lent Z)) (t : ℕ) (k : Key) → get (state_of tables) (t, k) ≡ row_in (table_at tables t) k
@@ -62,18 +58,18 @@ module _ {Z : Type 0} where
   get-state_of [] t k = get-empty object_cmp (t, k)
   get-state_of (e ∷ es) t k =
       get-with_table e.0 (lent e.1.entries) (state_of es) t k
-      ∙ (λ i. cond (sym (unsigned_tied t e.0) i) (row_at (lent e.1.entries) k) (get-state_of es t k i))
+      ∙ (λ i. cond (sym (unsigned_tied t e.0) i) (row_under (lent e.1.entries) k) (get-state_of es t k i))
       ∙ by (is_eq (nat_cmp t e.0))
     where
-      by : (b : Bool) → cond b (row_at (lent e.1.entries) k) (row_in (table_at es t) k) ≡ row_in (cond b (Some e.1) (table_at es t)) k
+      by : (b : Bool) → cond b (row_under (lent e.1.entries) k) (row_in (table_at es t) k) ≡ row_in (cond b (Some e.1) (table_at es t)) k
       by true = refl
       by false = refl
 
   -- a look-up among references, seen as one among rows
-  row_at-lent : (es : List (Bor (code_key.Key Z) × Bor Row)) (k : Key) → row_at (lent es) k ≡ option_copied (lookup (λ x. key_same k (key_of x.now)) es)
-  row_at-lent [] k = refl
-  row_at-lent (e ∷ es) k =
-      ap (cond (key_same k (key_of e.0.now)) (Some e.1.now)) (row_at-lent es k) ∙ by (key_same k (key_of e.0.now))
+  row_under-lent : (es : List (Bor (code_key.Key Z) × Bor Row)) (k : Key) → row_under (lent es) k ≡ option_copied (lookup (λ x. key_same k (key_of x.now)) es)
+  row_under-lent [] k = refl
+  row_under-lent (e ∷ es) k =
+      ap (cond (key_same k (key_of e.0.now)) (Some e.1.now)) (row_under-lent es k) ∙ by (key_same k (key_of e.0.now))
     where
       by : (b : Bool) → cond b (Some e.1.now) (option_copied (lookup (λ x. key_same k (key_of x.now)) es)) ≡ option_copied (cond b (Some e.1) (lookup (λ x. key_same k (key_of x.now)) es))
       by true = refl
@@ -87,7 +83,7 @@ module _ {Z : Type 0} where
   -- the row that a look-up in the map of a table finds
   pub row-found : (tables : List (ℕ × Lent Z)) (t : ℕ) (key : code_key.Key Z) (old : State) (m : Lent Z) (r : Option (Bor Row)) → state_of tables ≡ old → table_at tables t ≡ Some m → r ≡ lookup (λ x. key_same (key_of key) (key_of x.now)) m.entries → option_copied r ≡ get old (t, key_of key)
   row-found tables t key old m r view at is =
-      ap option_copied is ∙ sym (row_at-lent m.entries (key_of key)) ∙ sym (get-in tables t old (Some m) view at (key_of key))
+      ap option_copied is ∙ sym (row_under-lent m.entries (key_of key)) ∙ sym (get-in tables t old (Some m) view at (key_of key))
 
   -- each key is that of the code's, behind some reference
   pub code_of : (k : Key) → (x : Bor (code_key.Key Z)) × (key_of x.now ≡ k)
@@ -99,12 +95,12 @@ module _ {Z : Type 0} where
   Changes m n key w = (q : Bor (code_key.Key Z))
       → lookup (λ x. key_same (key_of q.now) (key_of x.now)) n.entries ≡ cond (key_same (key_of key) (key_of q.now)) w (lookup (λ x. key_same (key_of q.now) (key_of x.now)) m.entries)
 
-  row_at-changed : (m n : Lent Z) (key : code_key.Key Z) (w : Option (Bor Row)) → Changes m n key w → (k : Key) → row_at (lent n.entries) k ≡ cond (key_same k (key_of key)) (option_copied w) (row_at (lent m.entries) k)
-  row_at-changed m n key w is k =
-      row_at-lent n.entries k
+  pub row_under-changed : (m n : Lent Z) (key : code_key.Key Z) (w : Option (Bor Row)) → Changes m n key w → (k : Key) → row_under (lent n.entries) k ≡ cond (key_same k (key_of key)) (option_copied w) (row_under (lent m.entries) k)
+  row_under-changed m n key w is k =
+      row_under-lent n.entries k
       ∙ ap option_copied (let q = code_of k in subst (λ l. lookup (λ x. key_same l (key_of x.now)) n.entries ≡ cond (key_same (key_of key) l) w (lookup (λ x. key_same l (key_of x.now)) m.entries)) q.1 (is q.0))
       ∙ by (key_same (key_of key) k)
-      ∙ (λ i. cond ((eq_by_cmp_equiv key_cmp_total).symm (key_of key) k i) (option_copied w) (sym (row_at-lent m.entries k) i))
+      ∙ (λ i. cond ((eq_by_cmp_equiv key_cmp_total).symm (key_of key) k i) (option_copied w) (sym (row_under-lent m.entries k) i))
     where
       by : (b : Bool) → option_copied (cond b w (lookup (λ x. key_same k (key_of x.now)) m.entries)) ≡ cond b (option_copied w) (option_copied (lookup (λ x. key_same k (key_of x.now)) m.entries))
       by true = refl
@@ -115,7 +111,7 @@ module _ {Z : Type 0} where
   Places tables next t n = (u : ℕ) → table_at next u ≡ cond (is_eq (nat_cmp t u)) (Some n) (table_at tables u)
 
   -- a change of the map of one table at one key is a write
-  state_of-put : (tables next : List (ℕ × Lent Z)) (t : ℕ) (key : Key) (row : Option Row) (n : Lent Z) (old : State) → state_of tables ≡ old → Places tables next t n → ((k : Key) → row_at (lent n.entries) k ≡ cond (key_same k key) row (row_in (table_at tables t) k)) → state_of next ≡ put old ((t, key), row)
+  state_of-put : (tables next : List (ℕ × Lent Z)) (t : ℕ) (key : Key) (row : Option Row) (n : Lent Z) (old : State) → state_of tables ≡ old → Places tables next t n → ((k : Key) → row_under (lent n.entries) k ≡ cond (key_same k key) row (row_in (table_at tables t) k)) → state_of next ≡ put old ((t, key), row)
   state_of-put tables next t key row n old view placed is = same_state _ _ (λ object.
       get-state_of next object.0 object.1
       ∙ ap (λ o. row_in o object.1) (placed object.0)
@@ -139,13 +135,13 @@ module _ {Z : Type 0} where
   pub put-kept : (tables next : List (ℕ × Lent Z)) (t : ℕ) (key : code_key.Key Z) (w : Option (Bor Row)) (m n : Lent Z) (old : State) → state_of tables ≡ old → table_at tables t ≡ Some m → Places tables next t n → Changes m n key w → state_of next ≡ put old ((t, key_of key), option_copied w)
   put-kept tables next t key w m n old view at placed is =
       state_of-put tables next t (key_of key) (option_copied w) n old view placed (λ k.
-      row_at-changed m n key w is k
+      row_under-changed m n key w is k
       ∙ ap (λ o. cond (key_same k (key_of key)) (option_copied w) (row_in o k)) (sym at))
 
   -- and where it gets one
   pub put-new : (tables next : List (ℕ × Lent Z)) (t : ℕ) (key : code_key.Key Z) (w : Option (Bor Row)) (m n : Lent Z) (old : State) → state_of tables ≡ old → table_at tables t ≡ None → m.entries ≡ [] → Places tables next t n → Changes m n key w → state_of next ≡ put old ((t, key_of key), option_copied w)
   put-new tables next t key w m n old view at none placed is =
       state_of-put tables next t (key_of key) (option_copied w) n old view placed (λ k.
-      row_at-changed m n key w is k
-      ∙ ap (λ es. cond (key_same k (key_of key)) (option_copied w) (row_at (lent es) k)) none
+      row_under-changed m n key w is k
+      ∙ ap (λ es. cond (key_same k (key_of key)) (option_copied w) (row_under (lent es) k)) none
       ∙ ap (λ o. cond (key_same k (key_of key)) (option_copied w) (row_in o k)) (sym at))

@@ -4,6 +4,7 @@ pub mod Equal
 pub mod Lent
 pub mod Ranges
 pub mod Tables
+pub mod Filled
 pub mod Overlaid
 pub mod Orders
 pub mod Claims

@@ -11,7 +11,7 @@ use Rattle.std.specs.Cmp.{unsigned_tied, unsigned_Decides}
 use Rattle.std.proofs.lemmas.Bool.Decides.{Decides-eqb}
 use Rattle.occ_book.specs.Marks.{mark_at, marks_listed}
 use Rattle.occ_book.specs.declared.rows.LogRow as code_row
-use Rattle.occ_model.specs.Log.{LogRow, Counts, numbers}
+use Rattle.occ_model.specs.Log.{LogRow, Base, Counts, numbers, last_folded}
 use Rattle.occ_model.proofs.Tests.{decided, clash}
 use Rattle.occ_audit.specs.Order.{AreNumbered, AreClosed, last_of}
 use Rattle.occ_audit.specs.Rows.{log_row_of, log_of}
@@ -20,15 +20,15 @@ use Rattle.occ_audit.proofs.Walks.{left-cons}
 abbrev pub places : List LogRow → List ℕ
 places log = map (λ row. row.place) log
 
--- The numbers of a session count on from 1 where what is left of them counts on from its last.
-pub record Counted (whole left : List LogRow) (last : ℕ) (session : ℕ) : Type 0 where
-  pub onward : Counts 1 (numbers session whole) → Counts (suc last) (numbers session left)
-  pub back : Counts (suc last) (numbers session left) → Counts 1 (numbers session whole)
-  pub counted : last + length (numbers session left) ≡ length (numbers session whole)
+-- The numbers of a session count on from a first one where what is left of them counts on from its last.
+pub record Counted (whole left : List LogRow) (first last : ℕ) (session : ℕ) : Type 0 where
+  pub onward : Counts (suc first) (numbers session whole) → Counts (suc last) (numbers session left)
+  pub back : Counts (suc last) (numbers session left) → Counts (suc first) (numbers session whole)
+  pub counted : last + length (numbers session left) ≡ first + length (numbers session whole)
 
--- of each session
-abbrev pub AreCounted : List LogRow → List LogRow → BTreeMap ℕ ℕ → Type 0
-AreCounted whole left last = (session : ℕ) → Counted whole left (last_of last session) session
+-- of each session, from its last one in a base on
+abbrev pub AreCounted : Base → List LogRow → List LogRow → BTreeMap ℕ ℕ → Type 0
+AreCounted base whole left last = (session : ℕ) → Counted whole left (last_folded base session) (last_of base last session) session
 
 -- the numbers of a session, with a row and without it
 
@@ -45,16 +45,16 @@ numbers_without session row left apart =
 abbrev pub IsNoted : BTreeMap ℕ ℕ → BTreeMap ℕ ℕ → ℕ → ℕ → Type 0
 IsNoted m n session number = (q : ℕ) → get nat_cmp n q ≡ cond (is_eq (nat_cmp session q)) (Some number) (get nat_cmp m q)
 
-noted_here : (m n : BTreeMap ℕ ℕ) (session number q : ℕ) → IsNoted m n session number → session ≡ q → last_of n q ≡ number
-noted_here m n session number q is e =
-    ap (λ o. unwrap_or o 0) (is q ∙ ap (λ b. cond b (Some number) (get nat_cmp m q)) (unsigned_tied session q ∙ (unsigned_Decides session q).1 e))
+noted_here : (base : Base) (m n : BTreeMap ℕ ℕ) (session number q : ℕ) → IsNoted m n session number → session ≡ q → last_of base n q ≡ number
+noted_here base m n session number q is e =
+    ap (λ o. unwrap_or o (last_folded base q)) (is q ∙ ap (λ b. cond b (Some number) (get nat_cmp m q)) (unsigned_tied session q ∙ (unsigned_Decides session q).1 e))
 
-noted_elsewhere : (m n : BTreeMap ℕ ℕ) (session number q : ℕ) → IsNoted m n session number → (session ≡ q → ⊥) → last_of n q ≡ last_of m q
-noted_elsewhere m n session number q is apart =
-    ap (λ o. unwrap_or o 0) (is q ∙ ap (λ b. cond b (Some number) (get nat_cmp m q)) (unsigned_tied session q ∙ decided (nat_eq session q) (λ e. absurd (apart ((unsigned_Decides session q).0 e))) (λ e. e)))
+noted_elsewhere : (base : Base) (m n : BTreeMap ℕ ℕ) (session number q : ℕ) → IsNoted m n session number → (session ≡ q → ⊥) → last_of base n q ≡ last_of base m q
+noted_elsewhere base m n session number q is apart =
+    ap (λ o. unwrap_or o (last_folded base q)) (is q ∙ ap (λ b. cond b (Some number) (get nat_cmp m q)) (unsigned_tied session q ∙ decided (nat_eq session q) (λ e. absurd (apart ((unsigned_Decides session q).0 e))) (λ e. e)))
 
-counted-here : (whole left : List LogRow) (row : LogRow) (session last next : ℕ) → Counted whole (row ∷ left) last session → row.session ≡ session → row.number ≡ suc last → next ≡ row.number → Counted whole left next session
-counted-here whole left row session last next c here due is =
+counted-here : (whole left : List LogRow) (row : LogRow) (session first last next : ℕ) → Counted whole (row ∷ left) first last session → row.session ≡ session → row.number ≡ suc last → next ≡ row.number → Counted whole left first next session
+counted-here whole left row session first last next c here due is =
     let with_row = numbers_with session row left here in
     let on : next ≡ suc last = is ∙ due in
     let more = ap length with_row in
@@ -64,8 +64,8 @@ counted-here whole left row session last next c here due is =
       counted = let k = c.counted in omega arith;
     }
 
-counted-elsewhere : (whole left : List LogRow) (row : LogRow) (session last next : ℕ) → Counted whole (row ∷ left) last session → (row.session ≡ session → ⊥) → next ≡ last → Counted whole left next session
-counted-elsewhere whole left row session last next c apart is =
+counted-elsewhere : (whole left : List LogRow) (row : LogRow) (session first last next : ℕ) → Counted whole (row ∷ left) first last session → (row.session ≡ session → ⊥) → next ≡ last → Counted whole left first next session
+counted-elsewhere whole left row session first last next c apart is =
     let without = numbers_without session row left apart in
     record {
       onward = λ h. subst (λ n. Counts (suc n) (numbers session left)) (sym is) (subst (Counts (suc last)) without (c.onward h));
@@ -73,29 +73,29 @@ counted-elsewhere whole left row session last next c apart is =
       counted = (λ i. is i + length (numbers session left)) ∙ ap (λ ns. last + length ns) (sym without) ∙ c.counted;
     }
 
-counted-more : (whole left : List LogRow) (row : LogRow) (m n : BTreeMap ℕ ℕ) → AreCounted whole (row ∷ left) m → row.number ≡ suc (last_of m row.session) → IsNoted m n row.session row.number → AreCounted whole left n
-counted-more whole left row m n c due is session = decided (nat_eq row.session session)
+counted-more : (base : Base) (whole left : List LogRow) (row : LogRow) (m n : BTreeMap ℕ ℕ) → AreCounted base whole (row ∷ left) m → row.number ≡ suc (last_of base m row.session) → IsNoted m n row.session row.number → AreCounted base whole left n
+counted-more base whole left row m n c due is session = decided (nat_eq row.session session)
     (λ e.
     let here = (unsigned_Decides row.session session).0 e in
-    counted-here whole left row session (last_of m session) (last_of n session) (c session) here (due ∙ ap (λ s. suc (last_of m s)) here) (noted_here m n row.session row.number session is here))
+    counted-here whole left row session (last_folded base session) (last_of base m session) (last_of base n session) (c session) here (due ∙ ap (λ s. suc (last_of base m s)) here) (noted_here base m n row.session row.number session is here))
     (λ e.
     let apart = λ (f : row.session ≡ session). clash (nat_eq row.session session) ((unsigned_Decides row.session session).1 f) e in
-    counted-elsewhere whole left row session (last_of m session) (last_of n session) (c session) apart (noted_elsewhere m n row.session row.number session is apart))
+    counted-elsewhere whole left row session (last_folded base session) (last_of base m session) (last_of base n session) (c session) apart (noted_elsewhere base m n row.session row.number session is apart))
 
 -- at first nothing is kept of any session
-pub counted-none : (whole : List LogRow) (last : BTreeMap ℕ ℕ) → last.entries ≡ [] → AreCounted whole whole last
-counted-none whole last none session =
-    let zero_kept : last_of last session ≡ 0 = ap (λ es. unwrap_or (lookup (λ x. is_eq (nat_cmp session x)) es) 0) none in
+pub counted-none : (base : Base) (whole : List LogRow) (last : BTreeMap ℕ ℕ) → last.entries ≡ [] → AreCounted base whole whole last
+counted-none base whole last none session =
+    let folded : last_of base last session ≡ last_folded base session = ap (λ es. unwrap_or (lookup (λ x. is_eq (nat_cmp session x)) es) (last_folded base session)) none in
     record {
-      onward = λ h. subst (λ n. Counts (suc n) (numbers session whole)) (sym zero_kept) h;
-      back = λ h. subst (λ n. Counts (suc n) (numbers session whole)) zero_kept h;
-      counted = omega arith;
+      onward = λ h. subst (λ n. Counts (suc n) (numbers session whole)) (sym folded) h;
+      back = λ h. subst (λ n. Counts (suc n) (numbers session whole)) folded h;
+      counted = ap (λ n. n + length (numbers session whole)) folded;
     }
 
 -- and at last all are counted
-pub counted-all : (whole left : List LogRow) (last : BTreeMap ℕ ℕ) → left ≡ [] → AreCounted whole left last → AreNumbered whole × ((session : ℕ) → last_of last session ≡ length (numbers session whole))
-counted-all whole left last nothing c = (
-  λ session. (c session).back (subst (λ l. Counts (suc (last_of last session)) (numbers session l)) (sym nothing) tt),
+pub counted-all : (base : Base) (whole left : List LogRow) (last : BTreeMap ℕ ℕ) → left ≡ [] → AreCounted base whole left last → AreNumbered base whole × ((session : ℕ) → last_of base last session ≡ last_folded base session + length (numbers session whole))
+counted-all base whole left last nothing c = (
+  λ session. (c session).back (subst (λ l. Counts (suc (last_of base last session)) (numbers session l)) (sym nothing) tt),
   λ session.
       let none_left = ap (λ l. length (numbers session l)) nothing in
       let all = (c session).counted in
@@ -134,26 +134,26 @@ mark-within marks sessions session mark listed at =
     (h.0, omega (arith, h.1))
 
 -- the marks of the sessions up to one are due
-abbrev pub AreClosedTo : ℕ → FinMap nat_cmp ℕ → BTreeMap ℕ ℕ → Type 0
-AreClosedTo to marks last = (session mark : ℕ) → session ≤ to → finite.get marks session ≡ Some mark → mark ≡ suc (last_of last session)
+abbrev pub AreClosedTo : ℕ → Base → FinMap nat_cmp ℕ → BTreeMap ℕ ℕ → Type 0
+AreClosedTo to base marks last = (session mark : ℕ) → session ≤ to → finite.get marks session ≡ Some mark → mark ≡ suc (last_of base last session)
 
-pub closed-none : (marks : FinMap nat_cmp ℕ) (sessions : ℕ) (last : BTreeMap ℕ ℕ) → finite.entries marks ≡ marks_listed marks 1 sessions → AreClosedTo 0 marks last
-closed-none marks sessions last listed session mark h at =
+pub closed-none : (base : Base) (marks : FinMap nat_cmp ℕ) (sessions : ℕ) (last : BTreeMap ℕ ℕ) → finite.entries marks ≡ marks_listed marks 1 sessions → AreClosedTo 0 base marks last
+closed-none base marks sessions last listed session mark h at =
     let within = mark-within marks sessions session mark listed at in absurd (omega (arith, within.0))
 
-pub closed-all : (marks : FinMap nat_cmp ℕ) (sessions to : ℕ) (last : BTreeMap ℕ ℕ) → finite.entries marks ≡ marks_listed marks 1 sessions → sessions ≤ to → AreClosedTo to marks last → AreClosed marks last
-closed-all marks sessions to last listed all closed session mark at =
+pub closed-all : (base : Base) (marks : FinMap nat_cmp ℕ) (sessions to : ℕ) (last : BTreeMap ℕ ℕ) → finite.entries marks ≡ marks_listed marks 1 sessions → sessions ≤ to → AreClosedTo to base marks last → AreClosed base marks last
+closed-all base marks sessions to last listed all closed session mark at =
     let within = mark-within marks sessions session mark listed at in closed session mark (omega (arith, within.1)) at
 
 module _ {Z O : Type 0} where
   -- one more row is counted
-  pub rows-counted : (whole : List LogRow) (log : List (code_row.LogRow Z O)) (i : ℕ) (row : code_row.LogRow Z O) (m n : BTreeMap ℕ ℕ) → i < length log → row ≡ get_or log i row → AreCounted whole (log_of (drop i log)) m → row.number ≡ suc (last_of m row.session) → IsNoted m n row.session row.number → AreCounted whole (log_of (drop (i + 1) log)) n
-  rows-counted whole log i row m n h at c due is =
-      counted-more whole (log_of (drop (i + 1) log)) (log_row_of row) m n (subst (λ rows. AreCounted whole (log_of rows) m) (left-cons log i row h at) c) due is
+  pub rows-counted : (base : Base) (whole : List LogRow) (log : List (code_row.LogRow Z O)) (i : ℕ) (row : code_row.LogRow Z O) (m n : BTreeMap ℕ ℕ) → i < length log → row ≡ get_or log i row → AreCounted base whole (log_of (drop i log)) m → row.number ≡ suc (last_of base m row.session) → IsNoted m n row.session row.number → AreCounted base whole (log_of (drop (i + 1) log)) n
+  rows-counted base whole log i row m n h at c due is =
+      counted-more base whole (log_of (drop (i + 1) log)) (log_row_of row) m n (subst (λ rows. AreCounted base whole (log_of rows) m) (left-cons log i row h at) c) due is
 
   -- a number that is not due
-  pub rows-uncounted : (whole : List LogRow) (log : List (code_row.LogRow Z O)) (i : ℕ) (row : code_row.LogRow Z O) (m : BTreeMap ℕ ℕ) → i < length log → row ≡ get_or log i row → AreCounted whole (log_of (drop i log)) m → (row.number ≡ suc (last_of m row.session) → ⊥) → AreNumbered whole → ⊥
-  rows-uncounted whole log i row m h at c undue numbered =
+  pub rows-uncounted : (base : Base) (whole : List LogRow) (log : List (code_row.LogRow Z O)) (i : ℕ) (row : code_row.LogRow Z O) (m : BTreeMap ℕ ℕ) → i < length log → row ≡ get_or log i row → AreCounted base whole (log_of (drop i log)) m → (row.number ≡ suc (last_of base m row.session) → ⊥) → AreNumbered base whole → ⊥
+  rows-uncounted base whole log i row m h at c undue numbered =
       let left = log_of (drop (i + 1) log) in
-      let here : Counted whole (log_row_of row ∷ left) (last_of m row.session) row.session = subst (λ rows. AreCounted whole (log_of rows) m) (left-cons log i row h at) c row.session in
-      undue (subst (Counts (suc (last_of m row.session))) (numbers_with row.session (log_row_of row) left refl) (here.onward (numbered row.session))).0
+      let here : Counted whole (log_row_of row ∷ left) (last_folded base row.session) (last_of base m row.session) row.session = subst (λ rows. AreCounted base whole (log_of rows) m) (left-cons log i row h at) c row.session in
+      undue (subst (Counts (suc (last_of base m row.session))) (numbers_with row.session (log_row_of row) left refl) (here.onward (numbered row.session))).0

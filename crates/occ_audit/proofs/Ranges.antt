@@ -32,8 +32,8 @@ use Rattle.occ_model.specs.State.{State, Answer, Found, Rows, answer}
 use Rattle.occ_book.specs.Kept.{is_within, is_backward, lower_bound, upper_bound, entries_within}
 use Rattle.occ_book.proofs.Views.{entries_within-backward}
 use Rattle.occ_book.proofs.Sizes.{all_within}
-use Rattle.occ_audit.specs.Replica.{lent, IsInOrder}
-use Rattle.occ_audit.proofs.Lent.{row_at, code_of}
+use Rattle.occ_audit.specs.Replica.{lent, row_under, IsInOrder}
+use Rattle.occ_audit.proofs.Lent.{code_of}
 
 -- a part of keys in order is in order
 
@@ -89,7 +89,7 @@ kept-filtered {X} {Y} f p (e ∷ es) = by (p (f e)) (kept-filtered f p es)
 
 module _ {Z : Type 0} where
   -- rows of a table, in order, are the answer to a range where they are what is found within it
-  answer-is : (state : State) (t : ℕ) (a b : Option Key) (fs : List (code_key.Key Z × Row)) → IsStrictlySortedBy (on key_of key_cmp) (keys_of fs) → ((k : Key) → row_at fs k ≡ cond (is_within a b k) (get state (t, k)) None) → answer (Span t a b) state ≡ Rows (rows_of fs)
+  answer-is : (state : State) (t : ℕ) (a b : Option Key) (fs : List (code_key.Key Z × Row)) → IsStrictlySortedBy (on key_of key_cmp) (keys_of fs) → ((k : Key) → row_under fs k ≡ cond (is_within a b k) (get state (t, k)) None) → answer (Span t a b) state ≡ Rows (rows_of fs)
   unfolding answer
   answer-is state t a b fs sorted is =
       ap Rows (answer_of_entries (Span t a b) fs state (record {
@@ -98,14 +98,14 @@ module _ {Z : Type 0} where
       }) sorted)
 
   -- the answer of a table: what lies between the ends
-  pub answer-between : (state : State) (t : ℕ) (a b : Option Key) (es : List (Bor (code_key.Key Z) × Bor Row)) → IsInOrder es → ((k : Key) → get state (t, k) ≡ row_at (lent es) k) → answer (Span t a b) state ≡ Rows (rows_of (entries_within a b (lent es)))
+  pub answer-between : (state : State) (t : ℕ) (a b : Option Key) (es : List (Bor (code_key.Key Z) × Bor Row)) → IsInOrder es → ((k : Key) → get state (t, k) ≡ row_under (lent es) k) → answer (Span t a b) state ≡ Rows (rows_of (entries_within a b (lent es)))
   answer-between state t a b es ordered is =
       answer-is state t a b (entries_within a b (lent es)) (sorted-filtered (on key_of key_cmp) (λ key. is_within a b (key_of key)) (lent es) (sorted-lent es ordered)) (λ k.
       lookup-filter-keys (λ x. key_same k (key_of x)) (λ x. is_within a b (key_of x)) (is_within a b k) (λ x e. ap (is_within a b) (sym (key_cmp-IsAntisymmetric k (key_of x) ((Equal-is (key_cmp k (key_of x))).0 e)))) (lent es)
       ∙ ap (λ r. cond (is_within a b k) r None) (sym (is k)))
 
   -- all of it where there are no ends
-  pub answer-all : (state : State) (t : ℕ) (es : List (Bor (code_key.Key Z) × Bor Row)) → IsInOrder es → ((k : Key) → get state (t, k) ≡ row_at (lent es) k) → answer (Span t None None) state ≡ Rows (rows_of (lent es))
+  pub answer-all : (state : State) (t : ℕ) (es : List (Bor (code_key.Key Z) × Bor Row)) → IsInOrder es → ((k : Key) → get state (t, k) ≡ row_under (lent es) k) → answer (Span t None None) state ≡ Rows (rows_of (lent es))
   answer-all state t es ordered is =
       answer-between state t None None es ordered is ∙ ap (λ fs. Rows (rows_of fs)) (all_within (lent es))
 

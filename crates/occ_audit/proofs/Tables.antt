@@ -20,7 +20,7 @@ use Rattle.occ_model.proofs.States.{same_state}
 use Rattle.occ_model.proofs.Tests.{decided}
 use Rattle.occ_audit.specs.Replica.{SameTable}
 
-one_of_two : (x y : Option Row) → ((row : Row) → x ≡ Some row → y ≡ Some row) → ((row : Row) → y ≡ Some row → x ≡ Some row) → x ≡ y
+pub one_of_two : (x y : Option Row) → ((row : Row) → x ≡ Some row → y ≡ Some row) → ((row : Row) → y ≡ Some row → x ≡ Some row) → x ≡ y
 one_of_two None None f g = refl
 one_of_two None (Some row) f g = g row refl
 one_of_two (Some row) y f g = sym (f row refl)

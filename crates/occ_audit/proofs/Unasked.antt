@@ -3,11 +3,9 @@ use Rattle.std.proofs.Common.{◌≡◌, ℕ, Bool, true, false, cond, List, [],
 use Rattle.std.specs.Prelude.{map, filter}
 use Rattle.std.specs.Bool.{Decides, ◌==◌}
 use Rattle.std.specs.Ordering.{nat_cmp}
-use Rattle.std.specs.FinMap as finite
 use Rattle.std.specs.FinMap.{FinMap}
 use Rattle.occ_model.specs.State.{State, Write, apply}
-use Rattle.occ_model.specs.Log.{Case, Audited, Explained, Counts, numbers, is_committed, remaining, rest, after, serial, settled, last_folded}
-use Rattle.occ_model.specs.World.{empty_base}
+use Rattle.occ_model.specs.Log.{Case, Base, Audited, Explained, Counts, numbers, is_committed, remaining, rest, after, serial, settled, last_folded}
 use Rattle.occ_book.specs.Rows.{standing_of, log_row_of, log_of}
 use Rattle.occ_book.specs.declared.rows.Standing as code_standing
 use Rattle.occ_book.specs.declared.rows.Standing.TheVariants as standings
@@ -64,20 +62,20 @@ module _ {Z O : Type 0} (a b : O → ℕ × Case) where
       ap (λ ws. settled (apply table ws) (log_of a log)) (same-remaining a b row.writes row.standing)
       ∙ same-settled (apply table (rest (log_row_of b row))) log
 
-  same-audited : (marks : FinMap nat_cmp ℕ) (table : State) (log : List (code_row.LogRow Z O)) → Audited empty_base marks table (log_of a log) → Audited empty_base marks table (log_of b log)
-  same-audited marks table log audited = record {
+  same-audited : (base : Base) (marks : FinMap nat_cmp ℕ) (table : State) (log : List (code_row.LogRow Z O)) → Audited base marks table (log_of a log) → Audited base marks table (log_of b log)
+  same-audited base marks table log audited = record {
     in_order = record {
-      places = subst (Counts 0) (same-places log) audited.in_order.places;
+      places = subst (Counts base.place) (same-places log) audited.in_order.places;
       numbered = λ session. subst (Counts _) (same-numbers session log) (audited.in_order.numbered session);
-      closed = λ session mark at. audited.in_order.closed session mark at ∙ ap (λ ns. last_folded empty_base session + length ns + 1) (same-numbers session log);
+      closed = λ session mark at. audited.in_order.closed session mark at ∙ ap (λ ns. last_folded base session + length ns + 1) (same-numbers session log);
     };
-    explained = same-explained finite.empty log audited.explained;
-    replayed = sym (same-settled table log) ∙ audited.replayed ∙ same-serial finite.empty log;
+    explained = same-explained base.state log audited.explained;
+    replayed = sym (same-settled table log) ∙ audited.replayed ∙ same-serial base.state log;
   }
 
 -- so what decides of a claim decides of it however that is seen
-pub decides-asked : {Z O : Type 0} (opened : O → ℕ × Case) (marks : FinMap nat_cmp ℕ) (table : State) (log : List (code_row.LogRow Z O)) (test : Bool) → Decides test (Audited empty_base marks table (rows.log_of log)) → Decides test (Audited empty_base marks table (log_of opened log))
-decides-asked opened marks table log test d = (
-  λ e. same-audited unasked opened marks table log (d.0 e),
-  λ audited. d.1 (same-audited opened unasked marks table log audited),
+pub decides-asked : {Z O : Type 0} (opened : O → ℕ × Case) (base : Base) (marks : FinMap nat_cmp ℕ) (table : State) (log : List (code_row.LogRow Z O)) (test : Bool) → Decides test (Audited base marks table (rows.log_of log)) → Decides test (Audited base marks table (log_of opened log))
+decides-asked opened base marks table log test d = (
+  λ e. same-audited unasked opened base marks table log (d.0 e),
+  λ audited. d.1 (same-audited opened unasked base marks table log audited),
 )

@@ -1,14 +1,16 @@
 -- What clauses see of a state that is kept as maps of lent rows, one for each table.
-use Rattle.std.specs.Prelude.{◌≡◌, ℕ, nat_eq, not, List, [], ◌∷◌, map, None}
+use Rattle.std.specs.Prelude.{◌≡◌, ℕ, nat_eq, not, cond, List, [], ◌∷◌, map, Option, None}
 use Rattle.std.specs.Borrow.{Bor}
 use Rattle.std.specs.List.Sorted.{IsStrictlySortedBy}
-use Rattle.std.specs.Map.{keys_of}
+use Rattle.std.specs.Map.{keys_of, lookup}
 use Rattle.std.specs.Map.Iter.{deref_pair}
 use Rattle.std.specs.BTreeMap.{BTreeMap}
-use Rattle.std.specs.FinMap.{empty, insert, retain_keys}
-use Rattle.occ_types.specs.Key.{key_cmp}
+use Rattle.std.specs.FinMap.{empty, get, insert, retain_keys}
+use Rattle.occ_types.specs.Key.{Key, key_cmp}
+use Rattle.occ_types.specs.Object.{Object}
 use Rattle.occ_types.specs.Question.{Span}
 use Rattle.occ_types.specs.Row.{Row}
+use Rattle.occ_types.specs.Same.{key_same}
 use Rattle.occ_types.specs.Seen.{key_of}
 use Rattle.occ_types.specs.declared.keys.Key as code_key
 use Rattle.occ_model.specs.State.{State, answer}
@@ -17,7 +19,19 @@ use Rattle.occ_model.specs.State.{State, answer}
 abbrev pub SameTable : ℕ → State → State → Type 0
 SameTable table s t = answer (Span table None None) s ≡ answer (Span table None None) t
 
+-- a state has the rows of a table that another one has, and elsewhere those that it had
+abbrev pub IsTaken : ℕ → State → State → State → Type 0
+IsTaken table taken old new = (object : Object) → get new object ≡ cond (nat_eq object.0 table) (get taken object) (get old object)
+
 module _ {Z : Type 0} where
+  -- the row under a key, among some rows of one table
+  abbrev pub row_under : List (code_key.Key Z × Row) → Key → Option Row
+  row_under rows key = lookup (λ x. key_same key (key_of x)) rows
+
+  -- some rows are those of a table of a state
+  abbrev pub AreRowsOf : ℕ → State → List (code_key.Key Z × Row) → Type 0
+  AreRowsOf table state rows = (key : Key) → get state (table, key) ≡ row_under rows key
+
   -- the keys and rows behind references
   abbrev pub lent : List (Bor (code_key.Key Z) × Bor Row) → List (code_key.Key Z × Row)
   lent = map deref_pair

@@ -3,7 +3,6 @@ ghost use Rattle.std.specs.Prelude.{◌≡◌, ℕ, IfOk, IfErr};
 ghost use Rattle.std.specs.Bool.{Decides};
 ghost use Rattle.occ_types.specs.declared.fault.Fault.TheVariants.{Memory};
 ghost use Rattle.occ_model.specs.Log.{Audited, Case};
-ghost use Rattle.occ_model.specs.World.{empty_base};
 ghost use Rattle.occ_book.specs.Rows.{log_of};
 
 use crate::order::{are_closed, are_placed, last_numbers};
@@ -13,28 +12,28 @@ use occ_book::BookView;
 use occ_types::Fault;
 use std::alloc::Allocator;
 
-/// Whether the whole claim on a book holds: places and each session's numbers stand without a gap, and none comes after its closing mark; each committed transaction read what serial replay of those before it answers; and the tables, with the rest of each open write phase, are the replay of the whole log from the empty state on. What is held of an open row is not asked for, so the answer is right however that is seen.
+/// Whether the whole claim on a book holds, from its base on: places and each session's numbers stand without a gap, and none comes after its closing mark; each committed transaction read what serial replay of those before it answers; and the tables, with the rest of each open write phase, are the replay of the whole log from the state of the base on. What is held of an open row is not asked for, so the answer is right however that is seen.
 ///
-/// The numbers of the log may be any, and its rows may write to tables that are not there. The time is linear in the log, in what its rows read and write and in the rows of the tables, but for a factor for each search in a map. No key and no row is copied: the memory is that of a map of references to the rows of the replayed state, and of a few words for each session and each write that is still to be done.
+/// The numbers of the base and of the log may be any, and do not have to add up. The rows may be of sessions, and may write to tables, that are not there, and the base may have other sessions and tables than the book. The time is linear in the log, in what its rows read and write and in the rows of the base and of the tables, but for a factor for each search in a map. No key and no row is copied: the memory is that of a map of references to the rows of the replayed state, and of a few words for each session and each write that is still to be done.
 ///
 /// It is refused with `Memory` where there is none.
 pub fn audit_rows<A: Allocator + Copy, O>(
     alloc: A,
     book: &BookView<'_, A, O>,
 ) -> Result<bool, Fault>
-    ensures ok { (opened : O → ℕ × Case) → IfOk result (λ yes. Decides yes (Audited empty_base book.now.marks.now.marks book.now.table.now.state (log_of opened book.now.log.now))) }
+    ensures ok { (opened : O → ℕ × Case) → IfOk result (λ yes. Decides yes (Audited book.now.base.now.base book.now.marks.now.marks book.now.table.now.state (log_of opened book.now.log.now))) }
     ensures err { IfErr result (λ fault. fault ≡ Memory) }
 {
-    if !are_placed(book.log) {
+    if !are_placed(book.base.place(), book.log) {
         return Ok(false);
     }
-    let Some(last) = last_numbers(alloc, book.log)? else {
+    let Some(last) = last_numbers(alloc, book.base, book.log)? else {
         return Ok(false);
     };
-    if !are_closed(book.marks, &last) {
+    if !are_closed(book.base, book.marks, &last) {
         return Ok(false);
     }
-    let Some(replayed) = replay(alloc, book.log)? else {
+    let Some(replayed) = replay(alloc, book.base.state(), book.log)? else {
         return Ok(false);
     };
     let rests = rests_of(alloc, book.log)?;

@@ -1,38 +1,46 @@
-//! The order of a log: its places, the numbers of each session, and the closing marks.
-ghost use Rattle.std.specs.Prelude.{◌≡◌, ℕ, suc, length, IfOk, MatchOption};
+//! The order of a log from its base on: its places, the numbers of each session, and the closing marks.
+ghost use Rattle.std.specs.Prelude.{◌≡◌, ℕ, suc, ◌+◌, length, IfOk, MatchOption};
 ghost use Rattle.std.specs.Bool.{Decides};
-ghost use Rattle.occ_model.specs.Log.{numbers};
+ghost use Rattle.occ_model.specs.Log.{numbers, last_folded};
 ghost use Rattle.occ_audit.specs.Order.{ArePlaced, AreNumbered, AreClosed, last_of};
 ghost use Rattle.occ_audit.specs.Rows.{log_of};
 
-use occ_book::{LogRow, Marks};
+use occ_book::{Base, LogRow, Marks};
 use std::alloc::{AllocError, Allocator};
 use std::collections::BTreeMap;
 
-// Whether the places of the rows count on from 0.
-pub(crate) fn are_placed<A: Allocator, O>(log: &[LogRow<A, O>]) -> bool
-    ensures { Decides result (ArePlaced (log_of log.now)) }
+// Whether a place is so far behind a first one. Both may be any, so no sum is made of them.
+fn is_placed(place: usize, first: usize, before: usize) -> bool
+    ensures { Decides result (place ≡ first + before) }
 {
-    for (place, row) in log.iter().enumerate() {
-        if row.place != place {
+    place >= first && place - first == before
+}
+
+// Whether the places of the rows count on from a first one.
+pub(crate) fn are_placed<A: Allocator, O>(first: usize, log: &[LogRow<A, O>]) -> bool
+    ensures { Decides result (ArePlaced first (log_of log.now)) }
+{
+    for (before, row) in log.iter().enumerate() {
+        if !is_placed(row.place, first, before) {
             return false;
         }
     }
     true
 }
 
-// The last number of each session, or none where some session's numbers don't count on from 1.
+// The last number of each session that has a row, or none where some session's numbers don't count on from its last one in the base.
 pub(crate) fn last_numbers<A: Allocator + Clone, O>(
     alloc: A,
+    base: &Base<A>,
     log: &[LogRow<A, O>],
 ) -> Result<Option<BTreeMap<usize, u64, A>>, AllocError>
     ensures { IfOk result (λ found. MatchOption found
-        (AreNumbered (log_of log.now) → ⊥)
-        (λ last. AreNumbered (log_of log.now) × ((session : ℕ) → last_of last session ≡ length (numbers session (log_of log.now))))) }
+        (AreNumbered base.now.base (log_of log.now) → ⊥)
+        (λ last. AreNumbered base.now.base (log_of log.now) × ((session : ℕ) → last_of base.now.base last session ≡ last_folded base.now.base session + length (numbers session (log_of log.now))))) }
 {
     let mut last = BTreeMap::new(alloc);
     for row in log {
-        if !is_due(&last, row.session, row.number) {
+        if !is_due(base, &last, row.session, row.number) {
             return Ok(None);
         }
         last.insert(row.session, row.number)?;
@@ -40,25 +48,44 @@ pub(crate) fn last_numbers<A: Allocator + Clone, O>(
     Ok(Some(last))
 }
 
+// The last number of a session that was folded, or 0.
+fn last_folded<A: Allocator>(base: &Base<A>, session: usize) -> u64
+    ensures { result ≡ last_folded base.now.base session }
+{
+    match base.last(session) {
+        Some(number) => number,
+        None => 0,
+    }
+}
+
 // Whether a number is the one after a session's last.
-fn is_due<A: Allocator>(last: &BTreeMap<usize, u64, A>, session: usize, number: u64) -> bool
-    ensures { Decides result (number ≡ suc (last_of last.now session)) }
+fn is_due<A: Allocator>(
+    base: &Base<A>,
+    last: &BTreeMap<usize, u64, A>,
+    session: usize,
+    number: u64,
+) -> bool
+    ensures { Decides result (number ≡ suc (last_of base.now.base last.now session)) }
 {
     let before = match last.get(&session) {
         Some(number) => *number,
-        None => 0,
+        None => last_folded(base, session),
     };
     number > 0 && number - 1 == before
 }
 
 // Whether each closing mark is the number after its session's last.
-pub(crate) fn are_closed<A: Allocator>(marks: &Marks<A>, last: &BTreeMap<usize, u64, A>) -> bool
-    ensures { Decides result (AreClosed marks.now.marks last.now) }
+pub(crate) fn are_closed<A: Allocator>(
+    base: &Base<A>,
+    marks: &Marks<A>,
+    last: &BTreeMap<usize, u64, A>,
+) -> bool
+    ensures { Decides result (AreClosed base.now.base marks.now.marks last.now) }
 {
     for before in 0..marks.sessions() {
         let session = before + 1;
         if let Some(mark) = marks.get(session) {
-            if !is_due(last, session, mark) {
+            if !is_due(base, last, session, mark) {
                 return false;
             }
         }

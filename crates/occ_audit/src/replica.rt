@@ -1,5 +1,5 @@
 //! A state that is replayed. It has no row of its own: the log and the tables lend it theirs.
-ghost use Rattle.std.specs.Prelude.{◌≡◌, ◌<◌, ◌≤◌, ℕ, OnOk};
+ghost use Rattle.std.specs.Prelude.{◌≡◌, ◌<◌, ◌≤◌, ℕ, IfOk, OnOk};
 ghost use Rattle.std.specs.Bool.{Decides};
 ghost use Rattle.std.specs.Option.{option_copied};
 ghost use Rattle.std.specs.FinMap as finite;
@@ -9,8 +9,9 @@ ghost use Rattle.occ_types.specs.Question.{Span};
 ghost use Rattle.occ_types.specs.Seen.{end_of, object_of, question_of};
 ghost use Rattle.occ_sets.specs.Seen.{answer_of, rows_of};
 ghost use Rattle.occ_book.specs.Kept.{is_backward, lower_bound, upper_bound};
+ghost use Rattle.occ_model.specs.State as states;
 ghost use Rattle.occ_model.specs.State.{put, apply, answer, Rows};
-ghost use Rattle.occ_audit.specs.Replica.{lent, IsInOrder, SameTable};
+ghost use Rattle.occ_audit.specs.Replica.{lent, IsInOrder, SameTable, IsTaken, AreRowsOf};
 
 use occ_book::Tables;
 use occ_sets::{Answer, WriteSet};
@@ -64,6 +65,33 @@ impl<'a, A: Allocator + Copy> Replica<'a, A> {
         Replica {
             alloc,
             tables: BTreeMap::new(alloc),
+        }
+    }
+
+    // The state of some tables, which lend it their rows.
+    pub(crate) fn of(alloc: A, tables: &'a Tables<A>) -> Result<Replica<'a, A>, AllocError>
+        ensures { IfOk result (λ replica. replica ≡ tables.now.state) }
+    {
+        let mut replica = Replica::new(alloc);
+        for table in 0..tables.count() {
+            replica.take_table(tables, table)?;
+        }
+        Ok(replica)
+    }
+
+    // From now on a table has the rows that it has among these tables.
+    fn take_table(&mut self, tables: &'a Tables<A>, table: usize) -> Result<(), AllocError>
+        requires { table < tables.now.tables }
+        ensures { OnOk result (IsTaken table tables.now.state self.old self.new) }
+    {
+        let Some(kept) = tables.table(table) else {
+            return Ok(());
+        };
+        let rows = lend(self.alloc, kept)?;
+        // without `?`, as in `insert`
+        match self.tables.insert(table, rows) {
+            Ok(_replaced) => Ok(()),
+            Err(_refused) => Err(AllocError),
         }
     }
 
@@ -213,6 +241,20 @@ impl<'a, A: Allocator + Copy> Replica<'a, A> {
             (None, None) => true,
         }
     }
+}
+
+// The rows of a table, lent.
+fn lend<'a, A: Allocator + Copy>(
+    alloc: A,
+    kept: &'a BTreeMap<Key<A>, Row<A>, A>,
+) -> Result<LentRows<'a, A>, AllocError>
+    ensures { IfOk result (λ rows. (table : ℕ) → (state : states.State) → Rows (rows_of kept.now.entries) ≡ answer (Span table None None) state → AreRowsOf table state (lent rows.entries)) }
+{
+    let mut rows = BTreeMap::new(alloc);
+    for (key, row) in kept {
+        rows.insert(key, row)?;
+    }
+    Ok(rows)
 }
 
 // Whether rows are those that were given, in their order.

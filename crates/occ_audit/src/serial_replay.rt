@@ -1,25 +1,25 @@
 //! Serial replay of a log.
 ghost use Rattle.std.specs.Prelude.{◌≡◌, true, IfOk, MatchOption};
 ghost use Rattle.std.specs.Bool.{Decides};
-ghost use Rattle.std.specs.FinMap as finite;
 ghost use Rattle.occ_model.specs.Log.{AreAnswers, Explained, is_committed, after, serial};
 ghost use Rattle.occ_audit.specs.Rows.{log_of, log_row_of, standing_of};
 
 use crate::replica::Replica;
-use occ_book::{LogRow, Standing};
+use occ_book::{LogRow, Standing, Tables};
 use occ_sets::ReadSet;
 use std::alloc::{AllocError, Allocator};
 
-// The state that serial replay of a log makes, or none where some committed row read what the replay of those before it doesn't answer.
+// The state that serial replay of a log makes from that of some tables on, or none where some committed row read what the replay of those before it doesn't answer.
 pub(crate) fn replay<'a, A: Allocator + Copy, O>(
     alloc: A,
+    folded: &'a Tables<A>,
     log: &'a [LogRow<A, O>],
 ) -> Result<Option<Replica<'a, A>>, AllocError>
     ensures { IfOk result (λ found. MatchOption found
-        (Explained finite.empty (log_of log.now) → ⊥)
-        (λ replica. Explained finite.empty (log_of log.now) × (replica ≡ serial finite.empty (log_of log.now)))) }
+        (Explained folded.now.state (log_of log.now) → ⊥)
+        (λ replica. Explained folded.now.state (log_of log.now) × (replica ≡ serial folded.now.state (log_of log.now)))) }
 {
-    let mut replica = Replica::new(alloc);
+    let mut replica = Replica::of(alloc, folded)?;
     for row in log {
         if !play(&mut replica, row)? {
             return Ok(None);

@@ -1,4 +1,4 @@
-//! What a book has: the rows that entered, the tables, the closing marks and the counters.
+//! What a book has: what was folded out of the log, the rows that stand in it, the tables, the closing marks and the counters.
 #![tactic(auto)]
 
 mod base;

@@ -16,7 +16,7 @@ use Rattle.occ_types.specs.Seen.{table_asked}
 use Rattle.occ_text.specs.Spelling.{IsToken}
 use Rattle.occ_text.specs.Reading.{is_token, tokens_of}
 use Rattle.occ_text.specs.Line.{IsLine, HasNoFeed, CannotStand, AtEnd, NoLine, OtherLine, lines_text}
-use Rattle.occ_text.specs.Headers.{TableFits, count_text, key_kind_word, kind_word, table_tokens, table_text}
+use Rattle.occ_text.specs.Headers.{TableFits, key_kind_word, kind_word, table_tokens, table_text}
 use Rattle.occ_text.specs.HeaderReading.{table_of_tokens, table_of_line}
 use Rattle.occ_text.specs.HeaderTaking.{TablesSoFar}
 use Rattle.occ_text.proofs.Escapes.{some_is, bind_value}
@@ -25,14 +25,18 @@ use Rattle.occ_text.proofs.TokenLists.{two_tokens}
 use Rattle.occ_text.proofs.HeaderLines.{count_reads, table_reads}
 use Rattle.occ_text.proofs.SchemaLines.{each_fits}
 use Rattle.occ_print.specs.Books.{Book, book_lines, book_text}
-use Rattle.occ_books.specs.NumberLines.{head_of_line, mark_of_line}
+use Rattle.occ_books.specs.NumberLines.{head_of_line, mark_of_line, began_text, began_of_line}
 use Rattle.occ_books.specs.RowLines.{Asked, AskedOne, AskedSpan, asked_of_line, pair_of_line, write_of_line, at_of_line}
-use Rattle.occ_books.specs.Places.{Frame, InRow, Place, rows_to_come, writes_to_come, reads_to_come, pairs_to_come, marks_to_come, state_to_come, behind_read, Counted, Leads, LeadOn, MayEnd, Stopped}
+use Rattle.occ_books.specs.Places.{Frame, InRow, Place, rows_to_come, writes_to_come, reads_to_come, pairs_to_come, behind_entries, entries_to_come, behind_numbers, numbers_to_come, behind_began, behind_read, Counted, Leads, LeadOn, MayEnd, Stopped}
 use Rattle.occ_books.specs.Places as places
+use Rattle.occ_books.specs.declared.number_lines.Began.{Began}
+use Rattle.occ_books.specs.declared.number_lines.Began.TheVariants as begun
+use Rattle.occ_print.specs.declared.sections.Section.{Section}
+use Rattle.occ_print.specs.declared.sections.Section.TheVariants as sections
 use Rattle.occ_books.specs.WholeBooks.{BookFits, IsEnding}
-use Rattle.occ_books.proofs.LinesAgain.{wide, head_line-again, mark_line-again}
+use Rattle.occ_books.proofs.LinesAgain.{wide, head_line-again, mark_line-again, began_line-again}
 use Rattle.occ_books.proofs.RowLinesAgain.{asked_line-again, pair_line-again, write_line-again, at_line-again}
-use Rattle.occ_books.proofs.LineLengths.{width, joined_width, words_have_no_feed, line_of_words, asked_is_line, pair_is_line, write_is_line, at_is_line, head_is_line, mark_is_line, counts_is_line, count_is_line}
+use Rattle.occ_books.proofs.LineLengths.{width, joined_width, words_have_no_feed, line_of_words, asked_is_line, pair_is_line, write_is_line, at_is_line, head_is_line, mark_is_line, counts_is_line, count_is_line, began_is_line}
 use Rattle.occ_books.proofs.Leading.{lead_on}
 use Rattle.occ_books.proofs.BookLeads.{book_leads, ending_leads}
 
@@ -48,14 +52,15 @@ Sound places.Sessions = Unit {0}
 Sound (places.Queue sessions) = sessions ≤ 64
 Sound (places.Keep sessions) = sessions ≤ 64
 Sound (places.Tables sessions tables) = (sessions ≤ 64) × TablesSoFar tables
+Sound (places.NumberOf section frame rows numbers last) = IsFrame frame
+Sound (places.EntryOf section frame rows last) = IsFrame frame
+Sound (places.Log frame) = IsFrame frame
 Sound (places.LogRow frame rows) = IsFrame frame
 Sound (places.ReadOf row reads) = IsFrame row.frame
 Sound (places.PairOf row reads table pairs last) = IsFrame row.frame
 Sound (places.WriteOf row writes written) = IsFrame row.frame
 Sound (places.Marks frame) = IsFrame frame
-Sound (places.MarkOf frame marks last) = IsFrame frame
 Sound (places.State frame) = IsFrame frame
-Sound (places.RowAt frame rows last) = IsFrame frame
 Sound places.Counter = Unit {0}
 Sound places.Audit = Unit {0}
 Sound places.End = Unit {0}
@@ -80,13 +85,19 @@ sound_behind : (row : InRow) (reads : ℕ) (asked : Asked) → IsFrame row.frame
 sound_behind row reads (AskedOne object found) h = sound_reads row reads h
 sound_behind row reads (AskedSpan question count) h = sound_pairs row reads (table_asked question) count None h
 
-sound_marks : (frame : Frame) (n last : ℕ) → IsFrame frame → Sound (marks_to_come frame n last)
-sound_marks frame zero last h = h
-sound_marks frame (suc n) last h = h
+sound_entries : (section : Section) (frame : Frame) (n : ℕ) (last : Option Object) → IsFrame frame → Sound (entries_to_come section frame n last)
+sound_entries sections.Base frame zero last h = h
+sound_entries sections.Store frame zero last h = tt
+sound_entries section frame (suc n) last h = h
 
-sound_state : (frame : Frame) (n : ℕ) (last : Option Object) → IsFrame frame → Sound (state_to_come frame n last)
-sound_state frame zero last h = tt
-sound_state frame (suc n) last h = h
+sound_numbers : (section : Section) (frame : Frame) (rows n last : ℕ) → IsFrame frame → Sound (numbers_to_come section frame rows n last)
+sound_numbers sections.Base frame rows zero last h = sound_entries sections.Base frame rows None h
+sound_numbers sections.Store frame rows zero last h = h
+sound_numbers section frame rows (suc n) last h = h
+
+sound_began : (frame : Frame) (began : Began) → IsFrame frame → Sound (behind_began frame began)
+sound_began frame (begun.Log rows) h = sound_rows frame rows h
+sound_began frame (begun.Base head) h = sound_numbers sections.Base frame head.rows head.numbers 0 h
 
 -- it holds of the next place too
 sound_next : (p q : Place) (line : List ℕ) → Sound p → Leads p line q → Sound q
@@ -95,15 +106,16 @@ sound_next places.Sessions q line s h = subst Sound (sym h.3) h.1.most_count
 sound_next (places.Queue sessions) q line s h = subst Sound (sym h.3) s
 sound_next (places.Keep sessions) q line s h = subst Sound (sym h.3) (s, record { few = omega arith; each = refl })
 sound_next (places.Tables sessions tables) q line s (inl h) = subst Sound (sym h.3) (s.0, h.1)
-sound_next (places.Tables sessions tables) q line s (inr h) = subst Sound (sym h.1.3) (sound_rows (record { schema = tables; sessions = sessions }) h.1.0 (record { tables = h.0; sessions = s.0 }))
+sound_next (places.Tables sessions tables) q line s (inr h) = subst Sound (sym h.1.3) (sound_began (record { schema = tables; sessions = sessions }) h.1.0 (record { tables = h.0; sessions = s.0 }))
+sound_next (places.NumberOf section frame rows numbers last) q line s h = subst Sound (sym h.4) (sound_numbers section frame rows numbers h.0.session s)
+sound_next (places.EntryOf section frame rows last) q line s h = subst Sound (sym h.4) (sound_entries section frame rows (Some h.0.0) s)
+sound_next (places.Log frame) q line s h = subst Sound (sym h.3) (sound_rows frame h.0 s)
 sound_next (places.LogRow frame rows) q line s h = subst Sound (sym h.3) (sound_reads (record { frame = frame; rows = rows; head = h.0 }) h.0.reads s)
 sound_next (places.ReadOf row reads) q line s h = subst Sound (sym h.3) (sound_behind row reads h.0 s)
 sound_next (places.PairOf row reads table pairs last) q line s h = subst Sound (sym h.4) (sound_pairs row reads table pairs (Some h.0.0) s)
 sound_next (places.WriteOf row writes written) q line s h = subst Sound (sym h.4) (sound_writes row writes (written ++ h.0.0 ∷ []) s)
-sound_next (places.Marks frame) q line s h = subst Sound (sym h.3) (sound_marks frame h.0 0 s)
-sound_next (places.MarkOf frame marks last) q line s h = subst Sound (sym h.4) (sound_marks frame marks h.0.session s)
-sound_next (places.State frame) q line s h = subst Sound (sym h.3) (sound_state frame h.0 None s)
-sound_next (places.RowAt frame rows last) q line s h = subst Sound (sym h.4) (sound_state frame rows (Some h.0.0) s)
+sound_next (places.Marks frame) q line s h = subst Sound (sym h.3) (sound_numbers sections.Store frame 0 h.0 0 s)
+sound_next (places.State frame) q line s h = subst Sound (sym h.3) (sound_entries sections.Store frame h.0 None s)
 sound_next places.Counter q line s h = subst Sound (sym h.3) tt
 sound_next places.Audit q line s h = subst Sound (sym h.1) tt
 sound_next places.End q line s h = absurd h
@@ -169,8 +181,12 @@ later_bytes (byte ∷ bytes) = bytes
 t_is_no_l : ◌≡◌ {A = ℕ} 116 108 → ⊥
 t_is_no_l e = absurd (omega arith)
 
-table_is_no_log : (table : Table) (n : ℕ) → table_text table ≡ count_text (codes "log") n → ⊥
-table_is_no_log table n e = t_is_no_l (ap first_byte e)
+t_is_no_b : ◌≡◌ {A = ℕ} 116 98 → ⊥
+t_is_no_b e = absurd (omega arith)
+
+table_is_no_beginning : (table : Table) (began : Began) → table_text table ≡ began_text began → ⊥
+table_is_no_beginning table (begun.Log rows) e = t_is_no_l (ap first_byte e)
+table_is_no_beginning table (begun.Base head) e = t_is_no_b (ap first_byte e)
 
 small_sessions : (n : ℕ) → n ≤ 64 → n < 2 ^ 64
 small_sessions n le = omega arith
@@ -183,10 +199,19 @@ only_next (places.Keep sessions) q r line s h k = h.3 ∙ sym k.3
 only_next (places.Tables sessions tables) q r line s (inl h) (inl k) =
     let same = one_value table_of_line line (table_text h.0) (table_text k.0) h.0 k.0 h.2 k.2 (table_again h.0 (last_table tables h.0 h.1)) (table_again k.0 (last_table tables k.0 k.1)) in
     h.3 ∙ ap (λ (t : Table). places.Tables sessions (tables ++ t ∷ [])) same ∙ sym k.3
-only_next (places.Tables sessions tables) q r line s (inl h) (inr k) = absurd (table_is_no_log h.0 k.1.0 (sym h.2 ∙ k.1.2))
-only_next (places.Tables sessions tables) q r line s (inr h) (inl k) = absurd (table_is_no_log k.0 h.1.0 (sym k.2 ∙ h.1.2))
+only_next (places.Tables sessions tables) q r line s (inl h) (inr k) = absurd (table_is_no_beginning h.0 k.1.0 (sym h.2 ∙ k.1.2))
+only_next (places.Tables sessions tables) q r line s (inr h) (inl k) = absurd (table_is_no_beginning k.0 h.1.0 (sym k.2 ∙ h.1.2))
 only_next (places.Tables sessions tables) q r line s (inr h) (inr k) =
-    one_count (codes "log") 0 (2 ^ 64 - 1) line q r (rows_to_come (record { schema = tables; sessions = sessions })) IsToken-log wide h.1 k.1
+    let same = one_value began_of_line line _ _ h.1.0 k.1.0 h.1.2 k.1.2 (began_line-again h.1.0 h.1.1) (began_line-again k.1.0 k.1.1) in
+    h.1.3 ∙ ap (behind_began (record { schema = tables; sessions = sessions })) same ∙ sym k.1.3
+only_next (places.NumberOf section frame rows numbers last) q r line s h k =
+    let small = small_sessions frame.sessions s.sessions in
+    let same = one_value (mark_of_line section frame.sessions) line _ _ h.0 k.0 h.3 k.3 (mark_line-again section frame.sessions h.0 small h.1) (mark_line-again section frame.sessions k.0 small k.1) in
+    h.4 ∙ ap (λ mark. numbers_to_come section frame rows numbers mark.session) same ∙ sym k.4
+only_next (places.EntryOf section frame rows last) q r line s h k =
+    let same = one_value (at_of_line section frame.schema) line _ _ h.0 k.0 h.3 k.3 (at_line-again section frame.schema h.0 s.tables h.1) (at_line-again section frame.schema k.0 s.tables k.1) in
+    h.4 ∙ ap (λ entry. entries_to_come section frame rows (Some entry.0)) same ∙ sym k.4
+only_next (places.Log frame) q r line s h k = one_count (codes "log") 0 (2 ^ 64 - 1) line q r (rows_to_come frame) IsToken-log wide h k
 only_next (places.LogRow frame rows) q r line s h k =
     let small = small_sessions frame.sessions s.sessions in
     let same = one_value (head_of_line frame.sessions) line _ _ h.0 k.0 h.2 k.2 (head_line-again frame.sessions h.0 small h.1) (head_line-again frame.sessions k.0 small k.1) in
@@ -200,15 +225,8 @@ only_next (places.PairOf row reads table pairs last) q r line s h k =
 only_next (places.WriteOf row writes written) q r line s h k =
     let same = one_value (write_of_line row.frame.schema) line _ _ h.0 k.0 h.3 k.3 (write_line-again row.frame.schema h.0 s.tables h.1) (write_line-again row.frame.schema k.0 s.tables k.1) in
     h.4 ∙ ap (λ write. writes_to_come row writes (written ++ write.0 ∷ [])) same ∙ sym k.4
-only_next (places.Marks frame) q r line s h k = one_count (codes "marks") 0 (2 ^ 64 - 1) line q r (λ n. marks_to_come frame n 0) IsToken-marks wide h k
-only_next (places.MarkOf frame marks last) q r line s h k =
-    let small = small_sessions frame.sessions s.sessions in
-    let same = one_value (mark_of_line frame.sessions) line _ _ h.0 k.0 h.3 k.3 (mark_line-again frame.sessions h.0 small h.1) (mark_line-again frame.sessions k.0 small k.1) in
-    h.4 ∙ ap (λ mark. marks_to_come frame marks mark.session) same ∙ sym k.4
-only_next (places.State frame) q r line s h k = one_count (codes "state") 0 (2 ^ 64 - 1) line q r (λ n. state_to_come frame n None) IsToken-state wide h k
-only_next (places.RowAt frame rows last) q r line s h k =
-    let same = one_value (at_of_line frame.schema) line _ _ h.0 k.0 h.3 k.3 (at_line-again frame.schema h.0 s.tables h.1) (at_line-again frame.schema k.0 s.tables k.1) in
-    h.4 ∙ ap (λ entry. state_to_come frame rows (Some entry.0)) same ∙ sym k.4
+only_next (places.Marks frame) q r line s h k = one_count (codes "marks") 0 (2 ^ 64 - 1) line q r (λ n. numbers_to_come sections.Store frame 0 n 0) IsToken-marks wide h k
+only_next (places.State frame) q r line s h k = one_count (codes "state") 0 (2 ^ 64 - 1) line q r (λ n. entries_to_come sections.Store frame n None) IsToken-state wide h k
 only_next places.Counter q r line s h k = h.3 ∙ sym k.3
 only_next places.Audit q r line s h k = h.1 ∙ sym k.1
 only_next places.End q r line s h k = absurd h
@@ -264,15 +282,16 @@ is_line places.Sessions q line s h = counted_is_line (codes "sessions") 1 64 lin
 is_line (places.Queue sessions) q line s h = counted_is_line (codes "queue") 1 1024 line q _ IsToken-queue (omega arith) (lit< tt) h
 is_line (places.Keep sessions) q line s h = counted_is_line (codes "keep") 1 4096 line q _ IsToken-keep (omega arith) (lit< tt) h
 is_line (places.Tables sessions tables) q line s (inl h) = subst IsLine (sym h.2) (table_is_line h.0 (last_table tables h.0 h.1))
-is_line (places.Tables sessions tables) q line s (inr h) = counted_is_line (codes "log") 0 (2 ^ 64 - 1) line q _ IsToken-log (omega arith) wide h.1
+is_line (places.Tables sessions tables) q line s (inr h) = subst IsLine (sym h.1.2) (began_is_line h.1.0 h.1.1)
+is_line (places.NumberOf section frame rows numbers last) q line s h = subst IsLine (sym h.3) (mark_is_line section frame.sessions h.0 (small_sessions frame.sessions s.sessions) h.1)
+is_line (places.EntryOf section frame rows last) q line s h = subst IsLine (sym h.3) (at_is_line section frame.schema h.0 s.tables h.1)
+is_line (places.Log frame) q line s h = counted_is_line (codes "log") 0 (2 ^ 64 - 1) line q _ IsToken-log (omega arith) wide h
 is_line (places.LogRow frame rows) q line s h = subst IsLine (sym h.2) (head_is_line frame.sessions h.0 (small_sessions frame.sessions s.sessions) h.1)
 is_line (places.ReadOf row reads) q line s h = subst IsLine (sym h.2) (asked_is_line row.frame.schema h.0 s.tables h.1)
 is_line (places.PairOf row reads table pairs last) q line s h = subst IsLine (sym h.3) (pair_is_line row.frame.schema table h.0 s.tables h.1)
 is_line (places.WriteOf row writes written) q line s h = subst IsLine (sym h.3) (write_is_line row.frame.schema h.0 s.tables h.1)
 is_line (places.Marks frame) q line s h = counted_is_line (codes "marks") 0 (2 ^ 64 - 1) line q _ IsToken-marks (omega arith) wide h
-is_line (places.MarkOf frame marks last) q line s h = subst IsLine (sym h.3) (mark_is_line frame.sessions h.0 (small_sessions frame.sessions s.sessions) h.1)
 is_line (places.State frame) q line s h = counted_is_line (codes "state") 0 (2 ^ 64 - 1) line q _ IsToken-state (omega arith) wide h
-is_line (places.RowAt frame rows last) q line s h = subst IsLine (sym h.3) (at_is_line frame.schema h.0 s.tables h.1)
 is_line places.Counter q line s h = subst IsLine (sym h.2) (counts_is_line h.0 h.1)
 is_line places.Audit q line s h = audit_is_line line h.0
 is_line places.End q line s h = absurd h

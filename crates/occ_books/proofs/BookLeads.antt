@@ -1,6 +1,6 @@
 -- The lines of a book that fits lead from the beginning to where it may end.
 use Rattle.std.proofs.Common.{◌≡◌, ℕ, ◌^◌, ◌-◌, ◌<◌, ◌≤◌, Bool, true, false, cond, ◌&&◌, ◌||◌, not, T, List, [], ◌∷◌, ◌++◌, map, length, Option, Some, None, inl, inr, refl, sym, ap, subst, ◌∙◌, arith, length-append, append_assoc}
-use Rattle.std.specs.Prelude.{nat_eq, nat_le}
+use Rattle.std.specs.Prelude.{nat_eq, nat_le, ◌==◌}
 use Rattle.std.specs.List.{AllByRecursion, flat_map, list_any}
 use Rattle.std.specs.Cmp.{eq_by_cmp_equiv}
 use Rattle.std.specs.Cmp.Lexicographic.{pointwise}
@@ -20,20 +20,25 @@ use Rattle.occ_types.specs.Schema.{Table, Schema, are_tables, is_name}
 use Rattle.occ_model.specs.State.{State, Write, Observation, Found, Rows}
 use Rattle.occ_model.specs.Overlay.{own}
 use Rattle.occ_model.specs.RangeLaws.{IsDistinctWrites}
-use Rattle.occ_model.specs.Log.{LogRow, Standing, Open, Writing, Done, Back}
-use Rattle.occ_text.specs.Headers.{Header, HeaderFits, limits_of, limits_lines, table_text}
+use Rattle.occ_model.specs.Log.{LogRow, Base, Standing, Open, Writing, Done, Back}
+use Rattle.std.proofs.lemmas.Bool.Decides.{nat_tests}
+use Rattle.occ_text.specs.Headers.{Within, Header, HeaderFits, limits_of, limits_lines, table_text}
 use Rattle.occ_text.specs.HeaderTaking.{TablesSoFar}
 use Rattle.occ_text.proofs.Words.{both}
 use Rattle.occ_text.proofs.SchemaLines.{IsSchema-from_check}
-use Rattle.occ_print.specs.Books.{Book, header_lines, pair_line, read_lines, write_line, row_line, row_lines, log_lines, mark_line, mark_lines, at_line, row_count, state_lines, counter_line, book_lines}
+use Rattle.occ_print.specs.Books.{Book, header_lines, pair_line, read_lines, write_line, row_line, row_lines, log_lines, number_line, mark_lines, entry_line, base_line, folded_lines, base_lines, row_count, state_lines, counter_line, book_lines}
+use Rattle.occ_print.specs.declared.sections.Section.{Section}
+use Rattle.occ_print.specs.declared.sections.Section.TheVariants as sections
 use Rattle.occ_books.specs.declared.number_lines.Head.{Head}
+use Rattle.occ_books.specs.declared.number_lines.BaseHead.{BaseHead}
+use Rattle.occ_books.specs.declared.number_lines.Began.TheVariants as begun
 use Rattle.occ_book.specs.declared.rows.Standing.TheVariants as stands
-use Rattle.occ_books.specs.NumberLines.{Stand, head_text, StandFits, HeadFits}
+use Rattle.occ_books.specs.NumberLines.{Stand, head_text, StandFits, HeadFits, BaseHeadFits}
 use Rattle.occ_books.specs.RowLines.{AskedOne, AskedSpan, PairFits, WriteFits, AtFits}
 use Rattle.occ_books.specs.Taking.{is_behind, RisesFrom, ReadFits, StandingFits, LogRowFits, StandsSo}
-use Rattle.occ_books.specs.Places.{Frame, InRow, frame_of, in_row, Place, rows_to_come, writes_to_come, reads_to_come, pairs_to_come, marks_to_come, state_to_come, IsAbove, Leads, LeadOn, MayEnd}
+use Rattle.occ_books.specs.Places.{Frame, InRow, frame_of, in_row, Place, rows_to_come, writes_to_come, reads_to_come, pairs_to_come, behind_entries, entries_to_come, behind_numbers, numbers_to_come, behind_began, IsAbove, Leads, LeadOn, MayEnd}
 use Rattle.occ_books.specs.Places as places
-use Rattle.occ_books.specs.WholeBooks.{EntryFits, BookFits, IsEnding}
+use Rattle.occ_books.specs.WholeBooks.{EntryFits, BaseFits, BookFits, IsEnding}
 use Rattle.occ_books.proofs.Leading.{lead_on}
 use Rattle.occ_books.proofs.PartsLeading.{limits_lead}
 use Rattle.occ_books.proofs.RowTaking.{head_line}
@@ -217,7 +222,7 @@ ahead : {K X : Type 0} (R : K → K → Ordering) (e : K × X) (es : List (K × 
 ahead R e [] sorted = tt
 ahead R e (f ∷ es) sorted = less_is (R e.0 f.0) (first_of _ _ (first_of _ _ sorted))
 
--- ---- closing marks
+-- ---- numbers of sessions
 
 above_number : (a b : ℕ) → nat_cmp a b ≡ Less → a < b
 above_number a b h = ranked a b Less (sym h)
@@ -234,23 +239,24 @@ is_first : (sessions : ℕ) (es : List (ℕ × ℕ)) → AllByRecursion (EntryFi
 is_first sessions [] fits = tt
 is_first sessions (e ∷ es) fits = let first = fits.0.0.first in omega arith
 
-marks_lead : (frame : Frame) (last : ℕ) (es : List (ℕ × ℕ)) → AllByRecursion (EntryFits frame.sessions) es → T (is_sorted nat_cmp es) → IsNext last es → LeadOn (marks_to_come frame (length es) last) (map mark_line es) (places.State frame)
-marks_lead frame last [] fits sorted next = refl
-marks_lead frame last (e ∷ es) fits sorted next = (
-  marks_to_come frame (length es) e.0,
+numbers_lead : (section : Section) (frame : Frame) (rows last : ℕ) (es : List (ℕ × ℕ)) → AllByRecursion (EntryFits frame.sessions) es → T (is_sorted nat_cmp es) → IsNext last es
+    → LeadOn (numbers_to_come section frame rows (length es) last) (map (number_line section) es) (behind_numbers section frame rows)
+numbers_lead section frame rows last [] fits sorted next = refl
+numbers_lead section frame rows last (e ∷ es) fits sorted next = (
+  numbers_to_come section frame rows (length es) e.0,
   (record { session = e.0; number = e.1 }, record { session = fits.0.0; number = fits.0.1 }, next, refl, refl),
-  marks_lead frame e.0 es fits.1 (second_of _ _ sorted) (is_next e.0 es (ahead nat_cmp e es sorted)),
+  numbers_lead section frame rows e.0 es fits.1 (second_of _ _ sorted) (is_next e.0 es (ahead nat_cmp e es sorted)),
 )
 
--- closing marks of sessions are no more than there are sessions
-few_marks : (sessions last : ℕ) (es : List (ℕ × ℕ)) → AllByRecursion (EntryFits sessions) es → T (is_sorted nat_cmp es) → IsNext last es → length es ≤ sessions - last
-few_marks sessions last [] fits sorted next = omega arith
-few_marks sessions last (e ∷ es) fits sorted next =
-    let rest : length es ≤ sessions - e.0 = few_marks sessions e.0 es fits.1 (second_of _ _ sorted) (is_next e.0 es (ahead nat_cmp e es sorted)) in
+-- numbers of sessions are no more than there are sessions
+few_sessions : (sessions last : ℕ) (es : List (ℕ × ℕ)) → AllByRecursion (EntryFits sessions) es → T (is_sorted nat_cmp es) → IsNext last es → length es ≤ sessions - last
+few_sessions sessions last [] fits sorted next = omega arith
+few_sessions sessions last (e ∷ es) fits sorted next =
+    let rest : length es ≤ sessions - e.0 = few_sessions sessions e.0 es fits.1 (second_of _ _ sorted) (is_next e.0 es (ahead nat_cmp e es sorted)) in
     let top = fits.0.0.last in
     omega arith
 
--- ---- the state
+-- ---- rows of tables
 
 comes_behind : (last object : Object) → object_cmp last object ≡ Less → is_behind (Some last) object ≡ true
 comes_behind last object h = ap is_lt h
@@ -267,11 +273,11 @@ nothing_before : (es : List (Object × Row)) → IsBehindAll None es
 nothing_before [] = tt
 nothing_before (e ∷ es) = refl
 
-state_leads : (frame : Frame) (last : Option Object) (es : List (Object × Row)) → AllByRecursion (AtFits frame.schema) es → T (is_sorted object_cmp es) → IsBehindAll last es
-    → LeadOn (state_to_come frame (length es) last) (map (at_line frame.schema) es) places.Counter
-state_leads frame last [] fits sorted behind = refl
-state_leads frame last (e ∷ es) fits sorted behind =
-    (state_to_come frame (length es) (Some e.0), (e, fits.0, behind, refl, refl), state_leads frame (Some e.0) es fits.1 (second_of _ _ sorted) (behind_all e.0 es (ahead object_cmp e es sorted)))
+entries_lead : (section : Section) (frame : Frame) (last : Option Object) (es : List (Object × Row)) → AllByRecursion (AtFits frame.schema) es → T (is_sorted object_cmp es) → IsBehindAll last es
+    → LeadOn (entries_to_come section frame (length es) last) (map (entry_line section frame.schema) es) (behind_entries section frame)
+entries_lead section frame last [] fits sorted behind = refl
+entries_lead section frame last (e ∷ es) fits sorted behind =
+    (entries_to_come section frame (length es) (Some e.0), (e, fits.0, behind, refl, refl), entries_lead section frame (Some e.0) es fits.1 (second_of _ _ sorted) (behind_all e.0 es (ahead object_cmp e es sorted)))
 
 -- ---- the whole
 
@@ -281,30 +287,85 @@ header_leads header fits =
     (limits_lead (limits_of header) (record { sessions = fits.sessions; queue = fits.queue; keep = fits.keep }))
     (tables_lead header.sessions [] header.tables (IsSchema-from_check header.tables fits.tables).so_far)
 
-log_leads : (header : Header) (log : List LogRow) → HeaderFits header → length log ≤ 2 ^ 64 - 1 → AllByRecursion (LogRowFits header.tables header.sessions) log
-    → LeadOn (places.Tables header.sessions header.tables) (log_lines header.tables log) (places.Marks (frame_of header.tables header.sessions))
-log_leads header log fits few rows =
-    let frame = frame_of header.tables header.sessions in
-    (rows_to_come frame (length log), inr (fits.tables, (length log, record { least_count = omega arith; most_count = few }, refl, refl)), rows_lead header.tables header.sessions log rows)
+-- the first line of a base
+abbrev base_head : Base → BaseHead
+base_head base = record { place = base.place; numbers = len base.last; rows = row_count base.state }
+
+log_leads : (header : Header) (base : Base) (log : List LogRow) → HeaderFits header → BaseFits header.tables header.sessions base → length log ≤ 2 ^ 64 - 1 → AllByRecursion (LogRowFits header.tables header.sessions) log
+    → LeadOn (places.Tables header.sessions header.tables) (base_lines header.tables base ++ log_lines header.tables log) (places.Marks (frame_of header.tables header.sessions))
+log_leads header base log fits base_fits few rows = by (base.place == 0) refl
+  where
+    frame : Frame
+    frame = frame_of header.tables header.sessions
+
+    log_counted : Within 0 (2 ^ 64 - 1) (length log)
+    log_counted = record { least_count = omega arith; most_count = few }
+
+    begins_here : LeadOn (places.Tables header.sessions header.tables) (log_lines header.tables log) (places.Marks frame)
+    begins_here = (rows_to_come frame (length log), inr (fits.tables, (begun.Log (length log), log_counted, refl, refl)), rows_lead header.tables header.sessions log rows)
+
+    behind_base : LeadOn (places.Log frame) (log_lines header.tables log) (places.Marks frame)
+    behind_base = (rows_to_come frame (length log), (length log, log_counted, refl, refl), rows_lead header.tables header.sessions log rows)
+
+    numbers : List (List ℕ)
+    numbers = map (number_line sections.Base) (entries base.last)
+
+    entries_told : List (List ℕ)
+    entries_told = map (entry_line sections.Base header.tables) (entries base.state)
+
+    numbers_leads : LeadOn (numbers_to_come sections.Base frame (row_count base.state) (len base.last) 0) numbers (entries_to_come sections.Base frame (row_count base.state) None)
+    numbers_leads = subst (λ (k : ℕ). LeadOn (numbers_to_come sections.Base frame (row_count base.state) k 0) numbers (entries_to_come sections.Base frame (row_count base.state) None)) (sym (len-entries base.last))
+        (numbers_lead sections.Base frame (row_count base.state) 0 (entries base.last) base_fits.last (entries_sorted base.last) (is_first header.sessions (entries base.last) base_fits.last))
+
+    counted : row_count base.state ≡ length (entries base.state)
+    counted = min-eq_left base_fits.objects ∙ len-entries base.state
+
+    entries_leads : LeadOn (entries_to_come sections.Base frame (row_count base.state) None) entries_told (places.Log frame)
+    entries_leads = subst (λ (k : ℕ). LeadOn (entries_to_come sections.Base frame k None) entries_told (places.Log frame)) (sym counted)
+        (entries_lead sections.Base frame None (entries base.state) base_fits.state (entries_sorted base.state) (nothing_before (entries base.state)))
+
+    head_fits_so : (base.place == 0) ≡ false → BaseHeadFits (base_head base)
+    head_fits_so e =
+        let apart : 1 ≤ base.place = grind (arith, nat_tests) in
+        let n = len-entries base.last in
+        let first = is_first header.sessions (entries base.last) base_fits.last in
+        let several = few_sessions header.sessions 0 (entries base.last) base_fits.last (entries_sorted base.last) first in
+        let sessions = fits.sessions.most_count in
+        record {
+          place = record { first = apart; last = base_fits.place };
+          numbers = omega arith;
+          rows = subst (λ (k : ℕ). k ≤ 2 ^ 64 - 1) (sym (min-eq_left base_fits.objects)) base_fits.objects;
+        }
+
+    by : (b : Bool) → (base.place == 0) ≡ b → LeadOn (places.Tables header.sessions header.tables) (base_lines header.tables base ++ log_lines header.tables log) (places.Marks frame)
+    by true e = subst (λ (b : Bool). LeadOn (places.Tables header.sessions header.tables) (cond b [] (folded_lines header.tables base) ++ log_lines header.tables log) (places.Marks frame)) (sym e) begins_here
+    by false e =
+        let start = numbers_to_come sections.Base frame (row_count base.state) (len base.last) 0 in
+        let first : LeadOn (places.Tables header.sessions header.tables) (base_line base.place (len base.last) (row_count base.state) ∷ []) start =
+        one (places.Tables header.sessions header.tables) start (base_line base.place (len base.last) (row_count base.state)) (inr (fits.tables, (begun.Base (base_head base), head_fits_so e, refl, refl))) in
+        let folded = lead_on (base_line base.place (len base.last) (row_count base.state) ∷ []) numbers (places.Tables header.sessions header.tables) start (entries_to_come sections.Base frame (row_count base.state) None) first numbers_leads in
+        let all = lead_on (base_line base.place (len base.last) (row_count base.state) ∷ numbers) entries_told (places.Tables header.sessions header.tables) (entries_to_come sections.Base frame (row_count base.state) None) (places.Log frame) folded entries_leads in
+        subst (λ (b : Bool). LeadOn (places.Tables header.sessions header.tables) (cond b [] (folded_lines header.tables base) ++ log_lines header.tables log) (places.Marks frame)) (sym e)
+        (lead_on (folded_lines header.tables base) (log_lines header.tables log) (places.Tables header.sessions header.tables) (places.Log frame) (places.Marks frame) all behind_base)
 
 closing_leads : (frame : Frame) (marks : FinMap nat_cmp ℕ) → frame.sessions ≤ 64 → AllByRecursion (EntryFits frame.sessions) (entries marks) → LeadOn (places.Marks frame) (mark_lines marks) (places.State frame)
 closing_leads frame marks sessions fits =
     let n = len-entries marks in
     let first = is_first frame.sessions (entries marks) fits in
-    let few = few_marks frame.sessions 0 (entries marks) fits (entries_sorted marks) first in (
-      marks_to_come frame (len marks) 0,
+    let few = few_sessions frame.sessions 0 (entries marks) fits (entries_sorted marks) first in (
+      numbers_to_come sections.Store frame 0 (len marks) 0,
       (len marks, record { least_count = omega arith; most_count = omega arith }, refl, refl),
-      subst (λ (k : ℕ). LeadOn (marks_to_come frame k 0) (map mark_line (entries marks)) (places.State frame)) (sym n) (marks_lead frame 0 (entries marks) fits (entries_sorted marks) first),
+      subst (λ (k : ℕ). LeadOn (numbers_to_come sections.Store frame 0 k 0) (map (number_line sections.Store) (entries marks)) (places.State frame)) (sym n) (numbers_lead sections.Store frame 0 0 (entries marks) fits (entries_sorted marks) first),
     )
 
 table_leads : (frame : Frame) (state : State) → len state ≤ 2 ^ 64 - 1 → AllByRecursion (AtFits frame.schema) (entries state) → LeadOn (places.State frame) (state_lines frame.schema state) places.Counter
 table_leads frame state few fits =
     let n = len-entries state in
     let counted : row_count state ≡ len state = min-eq_left few in (
-      state_to_come frame (row_count state) None,
+      entries_to_come sections.Store frame (row_count state) None,
       (row_count state, record { least_count = omega arith; most_count = subst (λ (k : ℕ). k ≤ 2 ^ 64 - 1) (sym counted) few }, refl, refl),
-      subst (λ (k : ℕ). LeadOn (state_to_come frame k None) (map (at_line frame.schema) (entries state)) places.Counter) (sym (counted ∙ n))
-          (state_leads frame None (entries state) fits (entries_sorted state) (nothing_before (entries state))),
+      subst (λ (k : ℕ). LeadOn (entries_to_come sections.Store frame k None) (map (entry_line sections.Store frame.schema) (entries state)) places.Counter) (sym (counted ∙ n))
+          (entries_lead sections.Store frame None (entries state) fits (entries_sorted state) (nothing_before (entries state))),
     )
 
 -- the lines of a book that fits lead to where it is whole
@@ -313,14 +374,16 @@ book_leads book fits =
     let header = book.header in
     let frame = frame_of header.tables header.sessions in
     let h = header_lines header in
+    let b = base_lines header.tables book.base in
     let l = log_lines header.tables book.log in
     let m = mark_lines book.marks in
     let s = state_lines header.tables book.state in
     let c = counter_line book.counter book.low in
-    let upto_log = lead_on h l places.Version (places.Tables header.sessions header.tables) (places.Marks frame) (header_leads header fits.header) (log_leads header book.log fits.header fits.rows fits.log) in
-    let upto_marks = lead_on (h ++ l) m places.Version (places.Marks frame) (places.State frame) upto_log (closing_leads frame book.marks fits.header.sessions.most_count fits.marks) in
-    let upto_state = lead_on ((h ++ l) ++ m) s places.Version (places.State frame) places.Counter upto_marks (table_leads frame book.state fits.objects fits.state) in
-    lead_on (((h ++ l) ++ m) ++ s) (c ∷ []) places.Version places.Counter places.Audit upto_state
+    let upto_log = lead_on h (b ++ l) places.Version (places.Tables header.sessions header.tables) (places.Marks frame) (header_leads header fits.header) (log_leads header book.base book.log fits.header fits.base fits.rows fits.log) in
+    let turned = subst (λ (ls : List (List ℕ)). LeadOn places.Version ls (places.Marks frame)) (sym (append_assoc h b l)) upto_log in
+    let upto_marks = lead_on ((h ++ b) ++ l) m places.Version (places.Marks frame) (places.State frame) turned (closing_leads frame book.marks fits.header.sessions.most_count fits.marks) in
+    let upto_state = lead_on (((h ++ b) ++ l) ++ m) s places.Version (places.State frame) places.Counter upto_marks (table_leads frame book.state fits.objects fits.state) in
+    lead_on ((((h ++ b) ++ l) ++ m) ++ s) (c ∷ []) places.Version places.Counter places.Audit upto_state
     (one places.Counter places.Audit c (record { counter = book.counter; low = book.low }, fits.counts, refl, refl))
 
 -- what may stand behind a book leads to where a text may end

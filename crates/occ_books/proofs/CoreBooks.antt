@@ -1,23 +1,23 @@
 -- The book of a core fits its header.
-use Rattle.std.proofs.Common.{◌≡◌, ℕ, suc, ◌+◌, ◌-◌, ◌^◌, ◌≤◌, Bool, true, false, cond, List, [], ◌∷◌, map, length, refl, sym, ap, subst, ◌∙◌, arith}
+use Rattle.std.proofs.Common.{◌≡◌, ℕ, suc, ◌+◌, ◌-◌, ◌^◌, ◌<◌, ◌≤◌, Bool, true, false, cond, List, [], ◌∷◌, map, length, Option, Some, None, refl, sym, subst, arith}
 use Rattle.std.specs.Prelude.{◌==◌, filter, unwrap_or}
 use Rattle.std.specs.List.{AllByRecursion}
 use Rattle.std.proofs.lemmas.Bool.Decides.{nat_tests}
-use Rattle.std.specs.FinMap.{entries, get-empty, nat_cmp-IsAntisymmetric}
+use Rattle.std.specs.FinMap.{entries, get, nat_cmp-IsAntisymmetric}
 use Rattle.std.specs.Cmp.{nat_cmp_total}
 use Rattle.std.specs.Ordering.{nat_cmp}
-use Rattle.occ_types.specs.declared.limits.TheConstants.{MAX_COUNTER, MAX_LOG_ROWS, MAX_QUESTIONS}
+use Rattle.occ_types.specs.declared.limits.TheConstants.{MAX_COUNTER, MAX_LOG_ROWS, MAX_NUMBER, MAX_QUESTIONS}
 use Rattle.occ_types.specs.Schema.{Schema}
-use Rattle.occ_model.specs.Log.{LogRow, Standing, Open, Writing, Done, Back, Counts, numbers, last_folded}
+use Rattle.occ_model.specs.Log.{LogRow, Base, Standing, Open, Writing, Done, Back, Counts, numbers, last_folded}
 use Rattle.occ_model.specs.Invariant.{Invariant, NumberIsBelow, NumbersAreBelow}
-use Rattle.occ_model.specs.World.{World, active_count, empty_base}
+use Rattle.occ_model.specs.World.{World, active_count}
 use Rattle.occ_text.specs.Headers.{Header}
 use Rattle.occ_model.specs.Content.{WriteIs, ReadIs, RowIs, QuestionFits, IsInSchema}
 use Rattle.occ_model.specs.Content as content
 use Rattle.occ_books.specs.RowLines.{WriteFits, AtFits}
 use Rattle.occ_books.specs.Taking.{StandingFits, LogRowFits, ReadFits}
-use Rattle.occ_books.specs.WholeBooks.{EntryFits, BookFits}
-use Rattle.occ_books.specs.Cores.{book_in, IsHeaderOf, ReadHasWords, WriteHasWords, RowHasWords, HasWords}
+use Rattle.occ_books.specs.WholeBooks.{EntryFits, BaseFits, BookFits}
+use Rattle.occ_books.specs.Cores.{book_in, IsHeaderOf, IsToldBase, ReadHasWords, WriteHasWords, RowHasWords, HasWords}
 use Rattle.occ_books.proofs.CoreContent.{all_entries, all_both, write_fits, read_fits, table_fits}
 
 -- the places of a log in order lie below the next one
@@ -51,10 +51,10 @@ standing_fits counter writes (Done n) up below done = omega arith
 standing_fits counter writes (Back cause) up below done = tt
 
 -- the rows of a log
-rows_fit : (schema : Schema) (sessions counter bound : ℕ) (log : List LogRow) → counter ≤ 2 ^ 64 - 1 → bound ≤ 2 ^ 64 - 1 → AllByRecursion (λ row. row.place ≤ bound) log → AllByRecursion (λ row. row.number ≤ bound) log → NumbersAreBelow counter log
+rows_fit : (schema : Schema) (sessions counter bound most : ℕ) (log : List LogRow) → counter ≤ 2 ^ 64 - 1 → bound ≤ 2 ^ 64 - 1 → most ≤ 2 ^ 64 - 1 → AllByRecursion (λ row. row.place ≤ bound) log → AllByRecursion (λ row. row.number ≤ most) log → NumbersAreBelow counter log
     → AllByRecursion (RowIs (QuestionFits schema) (content.RowFits schema) sessions counter) log → AllByRecursion RowHasWords log → AllByRecursion (LogRowFits schema sessions) log
-rows_fit schema sessions counter bound [] few up places numbered below fit words = tt
-rows_fit schema sessions counter bound (row ∷ rows) few up places numbered below fit words =
+rows_fit schema sessions counter bound most [] few up high places numbered below fit words = tt
+rows_fit schema sessions counter bound most (row ∷ rows) few up high places numbered below fit words =
     let place = places.0 in
     let number = numbered.0 in
     let fits = fit.0 in
@@ -76,7 +76,7 @@ rows_fit schema sessions counter bound (row ∷ rows) few up places numbered bel
         writes = all_both (WriteIs (QuestionFits schema) (content.RowFits schema)) WriteHasWords (WriteFits schema) (write_fits schema) row.writes fits.writes has.writes;
         distinct = has.distinct;
       },
-      rows_fit schema sessions counter bound rows few up places.1 numbered.1 below.1 fit.1 words.1,
+      rows_fit schema sessions counter bound most rows few up high places.1 numbered.1 below.1 fit.1 words.1,
     )
   where
     few_reads : (reads : ℕ) → reads ≤ MAX_QUESTIONS → reads ≤ 2 ^ 64 - 1
@@ -98,8 +98,11 @@ numbers_within session (row ∷ rows) = go (row.session == session) (numbers_wit
     go true h = one_more _ _ h
     go false h = no_more _ _ h
 
-few_marks : (mark folded count rows : ℕ) → mark ≡ folded + count + 1 → folded ≡ 0 → count ≤ rows → rows ≤ MAX_LOG_ROWS → mark ≤ 2 ^ 64 - 1
-few_marks mark folded count rows is none within few = omega arith
+few_marks : (mark folded count rows : ℕ) → mark ≡ folded + count + 1 → folded ≤ MAX_NUMBER → count ≤ rows → rows ≤ MAX_LOG_ROWS → mark ≤ 2 ^ 64 - 1
+few_marks mark folded count rows is low within few = omega arith
+
+few_numbers : (folded rows : ℕ) → folded ≤ MAX_NUMBER → rows ≤ MAX_LOG_ROWS → folded + rows ≤ MAX_NUMBER + MAX_LOG_ROWS
+few_numbers folded rows low few = omega arith
 
 few_counted : (counter active : ℕ) → counter + active ≤ MAX_COUNTER → counter ≤ 2 ^ 64 - 1
 few_counted counter active h = omega arith
@@ -110,27 +113,51 @@ few_rows rows h = omega arith
 few_below : (counter keep : ℕ) → counter ≤ 2 ^ 64 - 1 → counter - keep ≤ 2 ^ 64 - 1
 few_below counter keep h = omega arith
 
-pub core_book_fits : (header : Header) (world : World) → Invariant world → world.base ≡ empty_base → world.counter + active_count world ≤ MAX_COUNTER → length world.log ≤ MAX_LOG_ROWS → IsInSchema world → IsHeaderOf header world → HasWords world → BookFits (book_in header world)
-core_book_fits header world law base counter rows within own words =
+few_places : (place rows : ℕ) → place + rows < 2 ^ 64 → (place ≤ 2 ^ 64 - 1) × (place + rows ≤ 2 ^ 64 - 1)
+few_places place rows h = (omega arith, omega arith)
+
+small : (number : ℕ) → number ≤ MAX_NUMBER → number ≤ 2 ^ 64 - 1
+small number h = omega arith
+
+-- the last folded number of a session is small, where it has one
+folded_small : (base : Base) (session : ℕ) → ((number : ℕ) → get base.last session ≡ Some number → number ≤ MAX_NUMBER) → last_folded base session ≤ MAX_NUMBER
+folded_small base session each = by (get base.last session) refl
+  where
+    by : (o : Option ℕ) → get base.last session ≡ o → last_folded base session ≤ MAX_NUMBER
+    by None e = subst (λ (o : Option ℕ). unwrap_or o 0 ≤ MAX_NUMBER) (sym e) (omega arith)
+    by (Some number) e = subst (λ (o : Option ℕ). unwrap_or o 0 ≤ MAX_NUMBER) (sym e) (each number e)
+
+pub core_book_fits : (header : Header) (world : World) → Invariant world → IsToldBase world → world.counter + active_count world ≤ MAX_COUNTER → length world.log ≤ MAX_LOG_ROWS → IsInSchema world → IsHeaderOf header world → HasWords world → BookFits (book_in header world)
+core_book_fits header world law told counter rows within own words =
     let few = few_counted world.counter (active_count world) counter in
-    let up = few_rows (length world.log) rows in
+    let up = few_places world.base.place (length world.log) told.places in
     let order = law.in_order in
-    let places = subst (λ b. Counts b.place (map (λ row. row.place) world.log)) base order.places in
-    let unfolded : (session : ℕ) → last_folded world.base session ≡ 0 = λ session. ap (λ b. last_folded b session) base ∙ ap (λ o. unwrap_or o 0) (get-empty nat_cmp session) in
-    let counted : (session : ℕ) → Counts 1 (numbers session world.log) = λ session.
-    subst (λ n. Counts (suc n) (numbers session world.log)) (unfolded session) (order.numbered session) in
+    let folded : (session : ℕ) → last_folded world.base session ≤ MAX_NUMBER = λ session. folded_small world.base session (told.numbers session) in
+    let numbers_fit : AllByRecursion (λ row. row.number ≤ MAX_NUMBER + MAX_LOG_ROWS) world.log =
+    own_below (MAX_NUMBER + MAX_LOG_ROWS) world.log (λ session.
+    session_below session (last_folded world.base session) (MAX_NUMBER + MAX_LOG_ROWS) world.log (order.numbered session) (few_numbers (last_folded world.base session) (length world.log) (folded session) rows)) in
+    let log_fits : AllByRecursion (LogRowFits world.settings.schema world.settings.sessions) world.log =
+    rows_fit world.settings.schema world.settings.sessions world.counter (world.base.place + length world.log) (MAX_NUMBER + MAX_LOG_ROWS) world.log few up.1 (omega arith) (places_below world.base.place (world.base.place + length world.log) world.log order.places (omega arith))
+    numbers_fit law.below within.log words.log in
+    let base_fits : BaseFits world.settings.schema world.settings.sessions world.base = record {
+      place = up.0;
+      last = all_entries nat_cmp nat_cmp_total nat_cmp-IsAntisymmetric (EntryFits world.settings.sessions) world.base.last (λ session number is.
+          let there = within.folded session number is in (record { first = there.first; last = there.last }, small number (told.numbers session number is)));
+      objects = words.folded;
+      state = table_fits world.settings.schema world.base.state within.base words.base;
+      nothing = told.nothing;
+    } in
     record {
       header = own.fits;
-      rows = up;
+      base = subst (λ sessions. BaseFits header.tables sessions world.base) (sym own.sessions) (subst (λ schema. BaseFits schema world.settings.sessions world.base) (sym own.tables) base_fits);
+      rows = few_rows (length world.log) rows;
       log = subst (λ sessions. AllByRecursion (LogRowFits header.tables sessions) world.log) (sym own.sessions)
-          (subst (λ schema. AllByRecursion (LogRowFits schema world.settings.sessions) world.log) (sym own.tables)
-          (rows_fit world.settings.schema world.settings.sessions world.counter (length world.log) world.log few up (places_below 0 (length world.log) world.log places (omega arith))
-          (own_below (length world.log) world.log (λ session. session_below session 0 (length world.log) world.log (counted session) (omega arith))) law.below within.log words.log));
+          (subst (λ schema. AllByRecursion (LogRowFits schema world.settings.sessions) world.log) (sym own.tables) log_fits);
       marks = subst (λ sessions. AllByRecursion (EntryFits sessions) (entries world.marks)) (sym own.sessions)
           (all_entries nat_cmp nat_cmp_total nat_cmp-IsAntisymmetric (EntryFits world.settings.sessions) world.marks (λ session mark is.
           let there = within.marks session mark is in (
             record { first = there.first; last = there.last },
-            few_marks mark (last_folded world.base session) (length (numbers session world.log)) (length world.log) (order.closed session mark is) (unfolded session) (numbers_within session world.log) rows,
+            few_marks mark (last_folded world.base session) (length (numbers session world.log)) (length world.log) (order.closed session mark is) (folded session) (numbers_within session world.log) rows,
           )));
       objects = words.objects;
       state = subst (λ schema. AllByRecursion (AtFits schema) (entries world.table)) (sym own.tables) (table_fits world.settings.schema world.table within.table words.state);

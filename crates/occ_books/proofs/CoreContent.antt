@@ -1,5 +1,5 @@
 -- The content of a core, as a book wants it.
-use Rattle.std.proofs.Common.{◌≡◌, ℕ, zero, suc, ◌+◌, ◌-◌, ◌^◌, ◌≤◌, Bool, true, false, cond, ◌&&◌, T, List, [], ◌∷◌, map, length, Option, None, Some, IfSome, Contains, Ordering, refl, sym, ap, subst, ◌∙◌, suc-le-suc, arith}
+use Rattle.std.proofs.Common.{◌≡◌, ℕ, suc, Bool, true, false, cond, ◌&&◌, T, List, [], ◌∷◌, map, Option, None, Some, IfSome, Contains, Ordering, refl, sym, ap, subst, ◌∙◌, suc-le-suc, arith}
 use Rattle.std.specs.List.{AllByRecursion}
 use Rattle.std.specs.List.Sorted.{IsStrictlySortedBy}
 use Rattle.std.specs.declared.cmp.Ordering.TheVariants.{Less, Equal, Greater}
@@ -9,16 +9,16 @@ use Rattle.std.specs.FinMap.{FinMap, get, entries, entries_sorted, find, is_sort
 use Rattle.std.specs.FinMap.Entries.{below_all}
 use Rattle.occ_types.specs.Key.{Key, key_cmp}
 use Rattle.occ_types.specs.Object.{Object, object_cmp, object_cmp_total, object_cmp-IsAntisymmetric}
-use Rattle.occ_types.specs.Question.{Question, One, Span}
+use Rattle.occ_types.specs.Question.{One, Span}
 use Rattle.occ_types.specs.Row.{Row}
-use Rattle.occ_types.specs.Schema.{Schema, check_key}
+use Rattle.occ_types.specs.Schema.{Schema}
 use Rattle.occ_model.specs.State.{State, Write, Answer, Found, Rows, Observation, answer}
 use Rattle.occ_model.specs.RangeLaws.{IsRangeAnswer}
 use Rattle.occ_model.specs.Content.{StateIs, WriteIs, ReadIs, QuestionFits}
 use Rattle.occ_model.specs.Content as content
 use Rattle.occ_model.proofs.RangeLaws.{answers_range}
 use Rattle.occ_text.specs.Spelling.{KeyFits, RowFits}
-use Rattle.occ_books.specs.RowLines.{ObjectFits, RowFitsIn, FoundFits, EndsFit, SpanFits, PairFits, WriteFits, AtFits}
+use Rattle.occ_books.specs.RowLines.{FoundFits, PairFits, WriteFits, AtFits}
 use Rattle.occ_books.specs.Taking.{RisesFrom, ReadFits}
 use Rattle.occ_books.specs.Cores.{ReadHasWords, WriteHasWords}
 

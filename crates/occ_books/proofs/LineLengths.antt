@@ -1,6 +1,6 @@
 -- The lines of a book are lines: no byte of them is a line feed, and they are short enough to be read.
 use Rattle.std.proofs.Common.{◌≡◌, ◌≢◌, ℕ, suc, pos, negsuc, ◌+◌, ◌*◌, ◌^◌, ◌-◌, ◌<◌, ◌≤◌, Bool, true, false, leb, List, [], ◌∷◌, map, length, not, Option, Some, None, lit<, refl, sym, subst, arith, length-append}
-use Rattle.std.specs.Prelude.{nat_eq, nat_lt}
+use Rattle.std.specs.Prelude.{nat_eq, nat_lt, codes}
 use Rattle.std.specs.List.{All, join_with_byte}
 use Rattle.std.specs.Fmt.{decimal}
 use Rattle.std.specs.Char.{is_ascii_graphic}
@@ -18,7 +18,8 @@ use Rattle.occ_types.specs.Schema.{Table, Schema, fault_if, first_fault, cell_is
 use Rattle.occ_text.specs.Line.{IsLine, HasNoFeed}
 use Rattle.occ_text.specs.Spelling.{line_text, is_plain, escaped_byte, escaped, key_text, cell_text, row_text, IsToken, AreTokens, KeyFits, CellFits, RowFits}
 use Rattle.occ_text.specs.Headers.{TableFits}
-use Rattle.occ_text.proofs.Words.{both}
+use Rattle.occ_text.specs.Reading.{is_token}
+use Rattle.occ_text.proofs.Words.{both, IsToken-from_test}
 use Rattle.occ_text.proofs.Escapes.{plain_spelling, escape_spelling}
 use Rattle.occ_text.proofs.Spelled.{pos_small, negsuc_small}
 use Rattle.occ_types.specs.Object.{Object}
@@ -30,16 +31,21 @@ use Rattle.occ_text.specs.Headers.{Within, count_text}
 use Rattle.occ_text.proofs.Spelled.{IsToken-decimal}
 use Rattle.occ_text.proofs.TokenLists.{two_tokens}
 use Rattle.occ_text.proofs.SchemaLines.{each_fits, IsSchema-from_check}
-use Rattle.occ_print.specs.Books.{table_name, pair_line, write_line, at_line}
+use Rattle.occ_print.specs.Books.{table_name, pair_line, write_line, number_word, entry_word, entry_line}
+use Rattle.occ_print.specs.declared.sections.Section.{Section}
+use Rattle.occ_print.specs.declared.sections.Section.TheVariants as sections
 use Rattle.occ_books.specs.Cursors.{Tokens}
 use Rattle.occ_book.specs.declared.rows.Standing.TheVariants as stands
 use Rattle.occ_books.specs.declared.number_lines.Head.{Head}
 use Rattle.occ_books.specs.declared.number_lines.Mark.{Mark}
 use Rattle.occ_books.specs.declared.number_lines.Counts.{Counts}
-use Rattle.occ_books.specs.NumberLines.{Stand, stand_tokens, head_tokens, head_text, mark_text, counts_text, StandFits, HeadFits, MarkFits, CountsFit}
+use Rattle.occ_books.specs.declared.number_lines.BaseHead.{BaseHead}
+use Rattle.occ_books.specs.declared.number_lines.Began.{Began}
+use Rattle.occ_books.specs.declared.number_lines.Began.TheVariants as begun
+use Rattle.occ_books.specs.NumberLines.{Stand, stand_tokens, head_tokens, head_text, mark_text, base_text, began_text, counts_text, StandFits, HeadFits, MarkFits, BaseHeadFits, BeganFits, CountsFit}
 use Rattle.occ_books.specs.RowLines.{Asked, AskedOne, AskedSpan, asked_text, ObjectFits, RowFitsIn, FoundFits, AskedFits, PairFits, WriteFits, AtFits}
 use Rattle.occ_books.proofs.RowLines.{found_text, asked_tokens, asked_spelling, write_tokens}
-use Rattle.occ_books.proofs.LinesAgain.{small_number, head-AreTokens, mark_tokens, mark_words, counts_tokens, counts_words}
+use Rattle.occ_books.proofs.LinesAgain.{wide, small_number, head-AreTokens, mark_tokens, mark_words, base_tokens, base_words, counts_tokens, counts_words}
 use Rattle.occ_books.proofs.RowLinesAgain.{IsNamed, no_fault, fits_there, checked_table, asked-again, pair_tokens, pair_words, write-again, write_spelling, at_tokens, at_words}
 
 -- ---- tokens have no line feed
@@ -221,12 +227,22 @@ pub write_is_line : (schema : Schema) (write : Write) → check_tables schema �
 write_is_line schema write good fits =
     subst IsLine (write_spelling schema write) (line_of_words (write_tokens schema write) (write-again schema write good fits).words (write_width schema write good fits))
 
-pub at_is_line : (schema : Schema) (entry : Object × Row) → check_tables schema ≡ None → AtFits schema entry → IsLine (at_line schema entry)
-at_is_line schema entry good fits =
+-- the words of a section are short
+entry_word_width : (section : Section) → length (entry_word section) ≤ 4
+entry_word_width sections.Base = omega arith
+entry_word_width sections.Store = omega arith
+
+number_word_width : (section : Section) → length (number_word section) ≤ 4
+number_word_width sections.Base = omega arith
+number_word_width sections.Store = omega arith
+
+pub at_is_line : (section : Section) (schema : Schema) (entry : Object × Row) → check_tables schema ≡ None → AtFits schema entry → IsLine (entry_line section schema entry)
+at_is_line section schema entry good fits =
+    let w = entry_word_width section in
     let n = name_width schema entry.0.0 (checked_table schema entry.0.0 _ good fits.0.checked) in
     let k = object_key_width schema entry.0 fits.0 in
     let r = row_in_width schema entry.0.0 entry.1 good fits.1 in
-    line_of_words (at_tokens schema entry) (at_words schema entry good fits) (omega arith)
+    line_of_words (at_tokens section schema entry) (at_words section schema entry good fits) (omega arith)
 
 -- ---- lines of numbers
 
@@ -249,11 +265,12 @@ head_is_line sessions head small fits =
     let s = stand_width head.writes head.standing fits.writes fits.stand in
     line_of_words (head_tokens head) (head-AreTokens sessions head small fits) (omega arith)
 
-pub mark_is_line : (sessions : ℕ) (mark : Mark) → sessions < 2 ^ 64 → MarkFits sessions mark → IsLine (mark_text mark)
-mark_is_line sessions mark small fits =
+pub mark_is_line : (section : Section) (sessions : ℕ) (mark : Mark) → sessions < 2 ^ 64 → MarkFits sessions mark → IsLine (mark_text section mark)
+mark_is_line section sessions mark small fits =
+    let w = number_word_width section in
     let a = decimal_width mark.session (small_number mark.session sessions fits.session.last small) in
     let b = decimal_width mark.number (count_small mark.number fits.number) in
-    line_of_words (mark_tokens mark) (mark_words sessions mark small fits) (omega arith)
+    line_of_words (mark_tokens section mark) (mark_words section sessions mark small fits) (omega arith)
 
 pub counts_is_line : (counts : Counts) → CountsFit counts → IsLine (counts_text counts)
 counts_is_line counts fits =
@@ -268,3 +285,18 @@ count_is_line word least most n token short small fits =
     let lt = small_number n most fits.most_count small in
     let d = decimal_width n lt in
     line_of_words (word ∷ decimal n ∷ []) (two_tokens token (IsToken-decimal n lt)) (omega arith)
+
+IsToken-log : IsToken (codes "log")
+unfolding is_token
+IsToken-log = IsToken-from_test (codes "log") refl
+
+pub base_is_line : (head : BaseHead) → BaseHeadFits head → IsLine (base_text head)
+base_is_line head fits =
+    let a = decimal_width head.place (count_small head.place fits.place.last) in
+    let b = decimal_width head.numbers (count_small head.numbers fits.numbers) in
+    let c = decimal_width head.rows (count_small head.rows fits.rows) in
+    line_of_words (base_tokens head) (base_words head fits) (omega arith)
+
+pub began_is_line : (began : Began) → BeganFits began → IsLine (began_text began)
+began_is_line (begun.Log rows) fits = count_is_line (codes "log") 0 (2 ^ 64 - 1) rows IsToken-log (omega arith) wide fits
+began_is_line (begun.Base head) fits = base_is_line head fits

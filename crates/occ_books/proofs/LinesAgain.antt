@@ -1,5 +1,5 @@
 -- What is spelled so is read of a line.
-use Rattle.std.proofs.Common.{◌≡◌, ℕ, zero, suc, ◌^◌, ◌-◌, ◌==◌, ◌<◌, ◌≤◌, Bool, true, false, cond, List, [], ◌∷◌, Option, Some, None, lit<, refl, ap, ◌∙◌, arith}
+use Rattle.std.proofs.Common.{◌≡◌, ℕ, zero, suc, ◌^◌, ◌-◌, ◌==◌, ◌<◌, ◌≤◌, Bool, true, false, cond, List, [], ◌∷◌, Option, Some, None, lit<, refl, sym, ap, ◌∙◌, arith}
 use Rattle.std.specs.Prelude.{option_map, option_and_then, codes}
 use Rattle.std.specs.Fmt.{decimal}
 use Rattle.std.proofs.lemmas.Bool.Decides.{Decides-eqb}
@@ -14,9 +14,18 @@ use Rattle.occ_book.specs.declared.rows.Standing.TheVariants.{Open, Writing, Don
 use Rattle.occ_books.specs.declared.number_lines.Head.{Head}
 use Rattle.occ_books.specs.declared.number_lines.Mark.{Mark}
 use Rattle.occ_books.specs.declared.number_lines.Counts.{Counts}
-use Rattle.occ_books.proofs.NumberLines.{head_line-takes, mark_line-takes, counts_line-takes}
+use Rattle.occ_books.specs.declared.number_lines.BaseHead.{BaseHead}
+use Rattle.occ_books.specs.declared.number_lines.Began.{Began}
+use Rattle.occ_books.specs.declared.number_lines.Began.TheVariants as begun
+use Rattle.occ_print.specs.Books.{number_word}
+use Rattle.occ_print.specs.declared.sections.Section.{Section}
+use Rattle.occ_print.specs.declared.sections.Section.TheVariants as sections
+use Rattle.occ_text.specs.Headers.{count_text, Within}
+use Rattle.occ_text.specs.HeaderReading.{count_of_line}
+use Rattle.occ_text.proofs.HeaderLines.{count_reads}
+use Rattle.occ_books.proofs.NumberLines.{head_line-takes, mark_line-takes, base_line-takes, counts_line-takes}
 use Rattle.occ_books.specs.Cursors.{Tokens, before, next_word, next_number}
-use Rattle.occ_books.specs.NumberLines.{Stand, stand_tokens, head_tokens, head_text, mark_text, counts_text, IsSession, StandFits, HeadFits, MarkFits, CountsFit, bare_stand, counted_stand, stand_of, unless_zero, next_session, head_of, head_of_line, mark_of, mark_of_line, counts_of, counts_of_line}
+use Rattle.occ_books.specs.NumberLines.{Stand, stand_tokens, head_tokens, head_text, mark_text, base_text, began_text, counts_text, IsSession, StandFits, HeadFits, MarkFits, BaseHeadFits, BeganFits, CountsFit, bare_stand, counted_stand, stand_of, unless_zero, next_session, head_of, head_of_line, mark_of, mark_of_line, base_of, base_of_line, began_unless, began_of_line, counts_of, counts_of_line}
 
 pub number-again : (limit n : ℕ) (rest : Tokens) → limit < 2 ^ 64 → n ≤ limit → next_number limit (decimal n ∷ rest) ≡ Some (n, rest)
 unfolding next_number
@@ -91,20 +100,51 @@ unfolding head_of_line
 head_line-again sessions head small fits =
     ap (option_and_then (head_of sessions)) (tokens_again (head_tokens head) (head-AreTokens sessions head small fits)) ∙ head-again sessions head small fits
 
-abbrev pub mark_tokens : Mark → Tokens
-mark_tokens mark = codes "mark" ∷ decimal mark.session ∷ decimal mark.number ∷ []
-
-pub mark_words : (sessions : ℕ) (mark : Mark) → sessions < 2 ^ 64 → MarkFits sessions mark → AreTokens (mark_tokens mark)
+-- the words of a section are tokens
+number_word-IsToken : (section : Section) → IsToken (number_word section)
 unfolding is_token
-mark_words sessions mark small fits =
-    more_tokens (codes "mark") _ (IsToken-from_test (codes "mark") refl)
+number_word-IsToken sections.Base = IsToken-from_test (codes "last") refl
+number_word-IsToken sections.Store = IsToken-from_test (codes "mark") refl
+
+-- and the line of a number is read by the word of its own section
+number_word-again : (section : Section) (rest : Tokens) → next_word (number_word section) (number_word section ∷ rest) ≡ Some (tt, rest)
+unfolding next_word
+number_word-again sections.Base rest = refl
+number_word-again sections.Store rest = refl
+
+abbrev pub mark_tokens : Section → Mark → Tokens
+mark_tokens section mark = number_word section ∷ decimal mark.session ∷ decimal mark.number ∷ []
+
+pub mark_words : (section : Section) (sessions : ℕ) (mark : Mark) → sessions < 2 ^ 64 → MarkFits sessions mark → AreTokens (mark_tokens section mark)
+mark_words section sessions mark small fits =
+    more_tokens (number_word section) _ (number_word-IsToken section)
     (more_tokens (decimal mark.session) _ (IsToken-decimal mark.session (small_number mark.session sessions fits.session.last small)) (one_token (token_of mark.number fits.number)))
 
-pub mark_line-again : (sessions : ℕ) (mark : Mark) → sessions < 2 ^ 64 → MarkFits sessions mark → mark_of_line sessions (mark_text mark) ≡ Some mark
-unfolding mark_of_line mark_of next_word
-mark_line-again sessions mark small fits =
-    ap (option_and_then (mark_of sessions)) (tokens_again (mark_tokens mark) (mark_words sessions mark small fits))
-    ∙ rw (session-again sessions mark.session (decimal mark.number ∷ []) small fits.session, number-again (2 ^ 64 - 1) mark.number [] wide fits.number) refl
+pub mark_line-again : (section : Section) (sessions : ℕ) (mark : Mark) → sessions < 2 ^ 64 → MarkFits sessions mark → mark_of_line section sessions (mark_text section mark) ≡ Some mark
+unfolding mark_of_line mark_of
+mark_line-again section sessions mark small fits =
+    ap (option_and_then (mark_of section sessions)) (tokens_again (mark_tokens section mark) (mark_words section sessions mark small fits))
+    ∙ rw (number_word-again section (decimal mark.session ∷ decimal mark.number ∷ []), session-again sessions mark.session (decimal mark.number ∷ []) small fits.session, number-again (2 ^ 64 - 1) mark.number [] wide fits.number) refl
+
+abbrev pub base_tokens : BaseHead → Tokens
+base_tokens head = codes "base" ∷ decimal head.place ∷ decimal head.numbers ∷ decimal head.rows ∷ []
+
+pub base_words : (head : BaseHead) → BaseHeadFits head → AreTokens (base_tokens head)
+unfolding is_token
+base_words head fits =
+    more_tokens (codes "base") _ (IsToken-from_test (codes "base") refl)
+    (more_tokens (decimal head.place) _ (token_of head.place fits.place.last)
+    (more_tokens (decimal head.numbers) _ (token_of head.numbers fits.numbers) (one_token (token_of head.rows fits.rows))))
+
+pub base_line-again : (head : BaseHead) → BaseHeadFits head → base_of_line (base_text head) ≡ Some head
+unfolding base_of_line base_of next_word
+base_line-again head fits =
+    ap (option_and_then base_of) (tokens_again (base_tokens head) (base_words head fits))
+    ∙ rw (
+      session-again (2 ^ 64 - 1) head.place (decimal head.numbers ∷ decimal head.rows ∷ []) wide fits.place,
+      number-again (2 ^ 64 - 1) head.numbers (decimal head.rows ∷ []) wide fits.numbers,
+      number-again (2 ^ 64 - 1) head.rows [] wide fits.rows,
+    ) refl
 
 abbrev pub counts_tokens : Counts → Tokens
 counts_tokens counts = codes "counter" ∷ decimal counts.counter ∷ codes "low" ∷ decimal counts.low ∷ []
@@ -130,11 +170,66 @@ head_reads sessions line small = record {
   again = λ head fits e. ap (head_of_line sessions) e ∙ head_line-again sessions head small fits;
 }
 
-pub mark_reads : (sessions : ℕ) (line : List ℕ) → sessions < 2 ^ 64 → Reads mark_text (MarkFits sessions) line (mark_of_line sessions line)
-mark_reads sessions line small = record {
-  found = some_or_none (mark_of_line sessions line) (λ mark. (line ≡ mark_text mark) × MarkFits sessions mark) (λ mark h. mark_line-takes sessions line mark h);
-  again = λ mark fits e. ap (mark_of_line sessions) e ∙ mark_line-again sessions mark small fits;
+pub mark_reads : (section : Section) (sessions : ℕ) (line : List ℕ) → sessions < 2 ^ 64 → Reads (mark_text section) (MarkFits sessions) line (mark_of_line section sessions line)
+mark_reads section sessions line small = record {
+  found = some_or_none (mark_of_line section sessions line) (λ mark. (line ≡ mark_text section mark) × MarkFits sessions mark) (λ mark h. mark_line-takes section sessions line mark h);
+  again = λ mark fits e. ap (mark_of_line section sessions) e ∙ mark_line-again section sessions mark small fits;
 }
+
+pub base_reads : (line : List ℕ) → Reads base_text BaseHeadFits line (base_of_line line)
+base_reads line = record {
+  found = some_or_none (base_of_line line) (λ head. (line ≡ base_text head) × BaseHeadFits head) (λ head h. base_line-takes line head h);
+  again = λ head fits e. ap base_of_line e ∙ base_line-again head fits;
+}
+
+-- ---- how the log begins
+
+IsToken-log : IsToken (codes "log")
+unfolding is_token
+IsToken-log = IsToken-from_test (codes "log") refl
+
+log_reads : (line : List ℕ) → Reads (count_text (codes "log")) (Within 0 (2 ^ 64 - 1)) line (count_of_line (codes "log") 0 (2 ^ 64 - 1) line)
+log_reads line = count_reads (codes "log") 0 (2 ^ 64 - 1) line wide IsToken-log
+
+abbrev first_byte : List ℕ → ℕ
+first_byte [] = 0
+first_byte (byte ∷ bytes) = byte
+
+log_is_no_base : (rows : ℕ) (head : BaseHead) → count_text (codes "log") rows ≡ base_text head → ⊥
+log_is_no_base rows head e = let f : 108 ≡ 98 = ap first_byte e in absurd (omega (arith, f))
+
+-- what was read of a line as a count of rows, and what as a base, gives how the log begins
+pub began_reads_by : (line : List ℕ) (rows : Option ℕ) (head : Option BaseHead) → Reads (count_text (codes "log")) (Within 0 (2 ^ 64 - 1)) line rows → Reads base_text BaseHeadFits line head → Reads began_text BeganFits line (began_unless rows head)
+began_reads_by line (Some n) head log base = record {
+  found = log.found;
+  again = λ began fits e. by began fits e;
+}
+  where
+    by : (began : Began) → BeganFits began → line ≡ began_text began → Some (begun.Log n) ≡ Some began
+    by (begun.Log m) fits e = ap (option_map begun.Log) (log.again m fits e)
+    by (begun.Base other) fits e = absurd (log_is_no_base n other (sym log.found.0 ∙ e))
+began_reads_by line None (Some head) log base = record {
+  found = base.found;
+  again = λ began fits e. by began fits e;
+}
+  where
+    by : (began : Began) → BeganFits began → line ≡ began_text began → Some (begun.Base head) ≡ Some began
+    by (begun.Log m) fits e = let none : None ≡ Some m = log.again m fits e in cc
+    by (begun.Base other) fits e = ap (option_map begun.Base) (base.again other fits e)
+began_reads_by line None None log base = record {
+  found = tt;
+  again = λ began fits e. by began fits e;
+}
+  where
+    by : (began : Began) → BeganFits began → line ≡ began_text began → None ≡ Some began
+    by (begun.Log m) fits e = ap (option_map begun.Log) (log.again m fits e)
+    by (begun.Base other) fits e = ap (option_map begun.Base) (base.again other fits e)
+
+pub began_reads : (line : List ℕ) → Reads began_text BeganFits line (began_of_line line)
+began_reads line = began_reads_by line _ _ (log_reads line) (base_reads line)
+
+pub began_line-again : (began : Began) → BeganFits began → began_of_line (began_text began) ≡ Some began
+began_line-again began fits = (began_reads (began_text began)).again began fits refl
 
 pub counts_reads : (line : List ℕ) → Reads counts_text CountsFit line (counts_of_line line)
 counts_reads line = record {

@@ -14,8 +14,11 @@ use Rattle.occ_book.specs.declared.rows.Standing.TheVariants.{Open, Writing, Don
 use Rattle.occ_books.specs.declared.number_lines.Head.{Head}
 use Rattle.occ_books.specs.declared.number_lines.Mark.{Mark}
 use Rattle.occ_books.specs.declared.number_lines.Counts.{Counts}
+use Rattle.occ_books.specs.declared.number_lines.BaseHead.{BaseHead}
+use Rattle.occ_print.specs.Books.{number_word}
+use Rattle.occ_print.specs.declared.sections.Section.{Section}
 use Rattle.occ_books.specs.Cursors.{Tokens, next_word, next_number, at_end}
-use Rattle.occ_books.specs.NumberLines.{Stand, stand_tokens, head_tokens, head_text, mark_text, counts_text, IsSession, StandFits, HeadFits, MarkFits, CountsFit, bare_stand, counted_stand, stand_of, unless_zero, next_session, head_of, head_of_line, mark_of, mark_of_line, counts_of, counts_of_line}
+use Rattle.occ_books.specs.NumberLines.{Stand, stand_tokens, head_tokens, head_text, mark_text, base_text, counts_text, IsSession, StandFits, HeadFits, MarkFits, BaseHeadFits, CountsFit, bare_stand, counted_stand, stand_of, unless_zero, next_session, head_of, head_of_line, mark_of, mark_of_line, base_of, base_of_line, counts_of, counts_of_line}
 use Rattle.occ_books.proofs.Lines.{number-takes, word-takes, end-takes}
 
 -- one of two: the first where its test passes
@@ -119,21 +122,39 @@ head_line-takes sessions line head h =
     let r = head-takes sessions t.0 head t.2 in
     ((tokens_takes line t.0 t.1).0 ∙ ap line_text r.spelled, r.fits)
 
-pub mark_line-takes : (sessions : ℕ) (line : List ℕ) (mark : Mark) → mark_of_line sessions line ≡ Some mark → (line ≡ mark_text mark) × MarkFits sessions mark
+pub mark_line-takes : (section : Section) (sessions : ℕ) (line : List ℕ) (mark : Mark) → mark_of_line section sessions line ≡ Some mark → (line ≡ mark_text section mark) × MarkFits sessions mark
 unfolding mark_of_line mark_of
-mark_line-takes sessions line mark h =
-    let t = bind_value (tokens_of line) (mark_of sessions) mark h in
-    let w = bind_value (next_word (codes "mark") t.0) _ mark t.2 in
+mark_line-takes section sessions line mark h =
+    let t = bind_value (tokens_of line) (mark_of section sessions) mark h in
+    let w = bind_value (next_word (number_word section) t.0) _ mark t.2 in
     let a = bind_value (next_session sessions w.0.1) _ mark w.2 in
     let b = bind_value (next_number (2 ^ 64 - 1) a.0.1) _ mark a.2 in
     let e = bind_value (at_end b.0.1) _ mark b.2 in
-    let wt = word-takes (codes "mark") t.0 w.0 w.1 in
+    let wt = word-takes (number_word section) t.0 w.0 w.1 in
     let at = session-takes sessions w.0.1 a.0 a.1 in
     let bt = number-takes (2 ^ 64 - 1) a.0.1 b.0 b.1 in
     let et = end-takes b.0.1 e.0 e.1 in
     let on : (x : List ℕ) (r q : Tokens) → r ≡ q → x ∷ r ≡ x ∷ q = λ x r q i. ap (λ (l : Tokens). x ∷ l) i in
-    subst (λ (m : Mark). (line ≡ mark_text m) × MarkFits sessions m) (some_is _ mark e.2)
+    subst (λ (m : Mark). (line ≡ mark_text section m) × MarkFits sessions m) (some_is _ mark e.2)
     ((tokens_takes line t.0 t.1).0 ∙ ap line_text (wt ∙ on _ _ _ (at.0 ∙ on _ _ _ (bt.0 ∙ on _ _ _ et))), record { session = at.1; number = bt.1 })
+
+pub base_line-takes : (line : List ℕ) (head : BaseHead) → base_of_line line ≡ Some head → (line ≡ base_text head) × BaseHeadFits head
+unfolding base_of_line base_of
+base_line-takes line head h =
+    let t = bind_value (tokens_of line) base_of head h in
+    let w = bind_value (next_word (codes "base") t.0) _ head t.2 in
+    let a = bind_value (next_session (2 ^ 64 - 1) w.0.1) _ head w.2 in
+    let b = bind_value (next_number (2 ^ 64 - 1) a.0.1) _ head a.2 in
+    let r = bind_value (next_number (2 ^ 64 - 1) b.0.1) _ head b.2 in
+    let e = bind_value (at_end r.0.1) _ head r.2 in
+    let wt = word-takes (codes "base") t.0 w.0 w.1 in
+    let at = session-takes (2 ^ 64 - 1) w.0.1 a.0 a.1 in
+    let bt = number-takes (2 ^ 64 - 1) a.0.1 b.0 b.1 in
+    let rt = number-takes (2 ^ 64 - 1) b.0.1 r.0 r.1 in
+    let et = end-takes r.0.1 e.0 e.1 in
+    let on : (x : List ℕ) (r q : Tokens) → r ≡ q → x ∷ r ≡ x ∷ q = λ x r q i. ap (λ (l : Tokens). x ∷ l) i in
+    subst (λ (m : BaseHead). (line ≡ base_text m) × BaseHeadFits m) (some_is _ head e.2)
+    ((tokens_takes line t.0 t.1).0 ∙ ap line_text (wt ∙ on _ _ _ (at.0 ∙ on _ _ _ (bt.0 ∙ on _ _ _ (rt.0 ∙ on _ _ _ et)))), record { place = at.1; numbers = bt.1; rows = rt.1 })
 
 pub counts_line-takes : (line : List ℕ) (counts : Counts) → counts_of_line line ≡ Some counts → (line ≡ counts_text counts) × CountsFit counts
 unfolding counts_of_line counts_of

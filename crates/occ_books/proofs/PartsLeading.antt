@@ -5,7 +5,6 @@ use Rattle.std.specs.Result.{IsErrAnd}
 use Rattle.std.specs.Str.{bytes_eq}
 use Rattle.std.specs.Io.KnownBytes.{Consumes, IsAtEnd}
 use Rattle.std.proofs.KnownBytes.{Consumes-nil}
-use Rattle.std.proofs.Math.Dec.{lit≤}
 use Rattle.std.proofs.lemmas.List.{map-append, append_assoc}
 use Rattle.std.proofs.lemmas.Slice.Eq.{bytes_eq-Decides}
 use Rattle.occ_types.specs.declared.fault.Fault.{Fault}
@@ -24,21 +23,24 @@ use Rattle.occ_text.specs.Line.{Source, LineGives, BeginsNoLine, IsLine, NoLine,
 use Rattle.occ_text.specs.Headers.{Within, LimitsFit, limits_lines, count_text, table_text}
 use Rattle.occ_text.specs.HeaderTaking.{BeginsLimits, LimitsTaken, TablesSoFar, table_behind}
 use Rattle.occ_text.proofs.WholeHeader.{session_line, queue_line, begins_1, begins_2, begins_3, begins_4}
-use Rattle.occ_text.specs.Reading.{Reads, is_token}
-use Rattle.occ_text.proofs.Words.{IsToken-from_test}
+use Rattle.occ_text.specs.Reading.{Reads}
 use Rattle.occ_text.specs.Escapes.{Gives}
 use Rattle.occ_text.proofs.SchemaLines.{check-from_IsSchema}
 use Rattle.occ_text.proofs.SchemaLines as schema_lines
-use Rattle.occ_print.specs.Books.{at_line}
+use Rattle.occ_print.specs.Books.{entry_line}
+use Rattle.occ_print.specs.declared.sections.Section.{Section}
+use Rattle.occ_print.specs.declared.sections.Section.TheVariants as sections
 use Rattle.occ_books.specs.declared.number_lines.Mark.{Mark}
 use Rattle.occ_books.specs.declared.number_lines.Counts.{Counts}
-use Rattle.occ_books.specs.NumberLines.{MarkFits, CountsFit, mark_text, counts_text}
+use Rattle.occ_books.specs.declared.number_lines.BaseHead.{BaseHead}
+use Rattle.occ_books.specs.declared.number_lines.Began.{Began}
+use Rattle.occ_books.specs.declared.number_lines.Began.TheVariants as begun
+use Rattle.occ_books.specs.NumberLines.{MarkFits, CountsFit, BeganFits, mark_text, counts_text, began_text}
 use Rattle.occ_books.specs.RowLines.{AtFits}
-use Rattle.occ_books.specs.Taking.{TakesLines, Further, OneTable, LogOf, further_text, FurtherFits, is_behind}
-use Rattle.occ_books.specs.Places.{Place, Frame, Version, Sessions, Queue, Keep, Tables, Marks, MarkOf, State, RowAt, Counter, Audit, End, rows_to_come, marks_to_come, state_to_come, Counted, Leads, LeadOn, MayEnd, Unended, Led, Stopped, FailsFrom, Ended, EndsFrom}
+use Rattle.occ_books.specs.Taking.{TakesLines, Further, OneTable, Begins, further_text, FurtherFits, is_behind}
+use Rattle.occ_books.specs.Places.{Place, Frame, Version, Sessions, Queue, Keep, Tables, NumberOf, EntryOf, Log, Marks, State, Counter, Audit, End, rows_to_come, behind_began, behind_entries, entries_to_come, behind_numbers, numbers_to_come, Counted, Leads, LeadOn, MayEnd, Unended, Led, Stopped, FailsFrom, Ended, EndsFrom}
 use Rattle.occ_books.proofs.Gathering.{more_lines}
-use Rattle.occ_books.proofs.LinesAgain.{wide}
-use Rattle.occ_books.proofs.LineLengths.{count_is_line}
+use Rattle.occ_books.proofs.LineLengths.{began_is_line}
 use Rattle.occ_books.proofs.Leading.{LeadsOn, lead_on, led_nothing, led_line, led_led, led_stopped, led_fails, none_fails, unread_here, uncounted_here, line_refused}
 
 -- ---- the first lines
@@ -130,22 +132,26 @@ pub count_fails : (word : List ℕ) (least most : ℕ) (from : Place) (to : ℕ 
 count_fails word least most from to fault a b first c t =
     none_fails (IsSpelled (count_text word) (Within least most)) fault from a b first c.more (λ line leads. let q = c.only line leads.0 leads.1 in (q.0, q.1, q.2)) t
 
-pub marks_lead : (frame : Frame) → CountLeads (codes "marks") 0 (2 ^ 64 - 1) (Marks frame) (λ n. marks_to_come frame n 0)
+pub marks_lead : (frame : Frame) → CountLeads (codes "marks") 0 (2 ^ 64 - 1) (Marks frame) (λ n. numbers_to_come sections.Store frame 0 n 0)
 marks_lead frame = record { more = λ may. may; leads = λ line next h. h; only = λ line next h. h }
 
-pub state_leads : (frame : Frame) → CountLeads (codes "state") 0 (2 ^ 64 - 1) (State frame) (λ n. state_to_come frame n None)
+pub state_leads : (frame : Frame) → CountLeads (codes "state") 0 (2 ^ 64 - 1) (State frame) (λ n. entries_to_come sections.Store frame n None)
 state_leads frame = record { more = λ may. may; leads = λ line next h. h; only = λ line next h. h }
+
+pub log_leads : (frame : Frame) → CountLeads (codes "log") 0 (2 ^ 64 - 1) (Log frame) (rows_to_come frame)
+log_leads frame = record { more = λ may. may; leads = λ line next h. h; only = λ line next h. h }
 
 -- ---- tables
 
-log_is_no_table : (n : ℕ) (table : Table) → count_text (codes "log") n ≡ table_text table → ⊥
-log_is_no_table n table e = let f : 108 ≡ 116 = ap (λ (l : List ℕ). get_or l 0 0) e in absurd (omega (arith, f))
+beginning_is_no_table : (began : Began) (table : Table) → began_text began ≡ table_text table → ⊥
+beginning_is_no_table (begun.Log rows) table e = let f : 108 ≡ 116 = ap (λ (l : List ℕ). get_or l 0 0) e in absurd (omega (arith, f))
+beginning_is_no_table (begun.Base head) table e = let f : 98 ≡ 116 = ap (λ (l : List ℕ). get_or l 0 0) e in absurd (omega (arith, f))
 
 -- a line that leads on behind tables is one that goes further
 further_only : (sessions : ℕ) (tables : List Table) (line : List ℕ) → LeadsOn (Tables sessions tables) line → (y : Further) × FurtherFits tables y × (line ≡ further_text y)
 further_only sessions tables line leads = elim leads.1 [
   | inl p ↦ (OneTable p.0, p.1, p.2)
-  | inr p ↦ (LogOf p.1.0, p.1.1, p.1.2)
+  | inr p ↦ (Begins p.1.0, p.1.1, p.1.2)
 ]
 
 pub no_tables_led : {X : Type 0} (view : X → Table) (items : List X) (sessions : ℕ) (a : Option (List ℕ)) (n : ℕ) → items ≡ [] → Led (Tables sessions []) (Tables sessions (map view items)) a a n n
@@ -166,25 +172,25 @@ table_led {X} view items shown now x sessions a b c first mid last is same l t =
     (led_led (Tables sessions []) (Tables sessions (map view items)) (Tables sessions (map view items ++ view x ∷ [])) a b c first mid last l
     (led_line (Tables sessions (map view items)) (Tables sessions (map view items ++ view x ∷ [])) (table_text (view x)) b c mid last (inl (view x, so_far, refl, refl)) t.0 t.2))
 
--- `log K` behind tables that make a schema
-pub opening_led : (tables schema : List Table) (n sessions : ℕ) (a b c : Option (List ℕ)) (first mid last : ℕ) → Led (Tables sessions []) (Tables sessions tables) a b first mid → Took (codes "log") 0 (2 ^ 64 - 1) n b c mid last
-    → (check_tables tables ≡ None) × (schema ≡ tables) → Led (Tables sessions []) (rows_to_come (record { schema = schema; sessions = sessions }) n) a c first last
-opening_led tables schema n sessions a b c first mid last l t good =
-    subst (λ (s : List Table). Led (Tables sessions []) (rows_to_come (record { schema = s; sessions = sessions }) n) a c first last) (sym good.1)
-    (led_led (Tables sessions []) (Tables sessions tables) (rows_to_come (record { schema = tables; sessions = sessions }) n) a b c first mid last l
-    (led_line (Tables sessions tables) (rows_to_come (record { schema = tables; sessions = sessions }) n) (count_text (codes "log") n) b c mid last (inr (good.0, (n, t.1, refl, refl))) t.0 t.2))
+-- the line with which the log begins was taken
+abbrev pub TookBegan : Began → Option (List ℕ) → Option (List ℕ) → ℕ → ℕ → Type 0
+TookBegan began a b first last = Consumes a b (began_text began ++ 10 ∷ []) × BeganFits began × (last ≡ first + 1)
 
-log_is_line : (n : ℕ) → Within 0 (2 ^ 64 - 1) n → IsLine (count_text (codes "log") n)
-unfolding is_token
-log_is_line n within = count_is_line (codes "log") 0 (2 ^ 64 - 1) n (IsToken-from_test (codes "log") refl) (lit≤ tt) wide within
+-- it stands behind tables that make a schema
+pub opening_led : (tables schema : List Table) (began : Began) (sessions : ℕ) (a b c : Option (List ℕ)) (first mid last : ℕ) → Led (Tables sessions []) (Tables sessions tables) a b first mid → TookBegan began b c mid last
+    → (check_tables tables ≡ None) × (schema ≡ tables) → Led (Tables sessions []) (behind_began (record { schema = schema; sessions = sessions }) began) a c first last
+opening_led tables schema began sessions a b c first mid last l t good =
+    subst (λ (s : List Table). Led (Tables sessions []) (behind_began (record { schema = s; sessions = sessions }) began) a c first last) (sym good.1)
+    (led_led (Tables sessions []) (Tables sessions tables) (behind_began (record { schema = tables; sessions = sessions }) began) a b c first mid last l
+    (led_line (Tables sessions tables) (behind_began (record { schema = tables; sessions = sessions }) began) (began_text began) b c mid last (inr (good.0, (began, t.1, refl, refl))) t.0 t.2))
 
--- `log K` can't stand behind tables that make none
-pub opening_barred : (tables : List Table) (fault : Fault) (n sessions : ℕ) (a b c : Option (List ℕ)) (first mid last number : ℕ) → Led (Tables sessions []) (Tables sessions tables) a b first mid → Took (codes "log") 0 (2 ^ 64 - 1) n b c mid last
+-- it can't stand behind tables that make none
+pub opening_barred : (tables : List Table) (fault : Fault) (began : Began) (sessions : ℕ) (a b c : Option (List ℕ)) (first mid last number : ℕ) → Led (Tables sessions []) (Tables sessions tables) a b first mid → TookBegan began b c mid last
     → check_tables tables ≡ Some fault → number ≡ last → Stopped (Tables sessions []) a first number
-opening_barred tables fault n sessions a b c first mid last number l t bad here =
+opening_barred tables fault began sessions a b c first mid last number l t bad here =
     led_stopped (Tables sessions []) (Tables sessions tables) a b first mid number l
-    (line_refused (Tables sessions tables) (count_text (codes "log") n) b c mid last number (λ may. may) (t.0, t.2, log_is_line n t.1) (λ leads. elim leads.1 [
-      | inl p ↦ log_is_no_table n p.0 p.2
+    (line_refused (Tables sessions tables) (began_text began) b c mid last number (λ may. may) (t.0, t.2, began_is_line began t.1) (λ leads. elim leads.1 [
+      | inl p ↦ beginning_is_no_table began p.0 p.2
       | inr p ↦ let e : None ≡ Some fault = sym p.0 ∙ bad in cc e
     ]) here)
 
@@ -196,19 +202,19 @@ opening_fails fault tables shown sessions a b c first mid same l t =
     (none_fails (IsSpelled further_text (FurtherFits tables)) fault (Tables sessions tables) b c mid (λ may. may) (further_only sessions tables)
     (subst (λ (ts : List Table). NoneTaken (IsSpelled further_text (FurtherFits ts)) fault b c mid) same t))
 
--- a line that is read neither as one more table nor as `log K` goes no further
-neither : (tables : List Table) (line : List ℕ) (y : Further) → TablesSoFar tables → table_behind tables line ≡ None → Reads (count_text (codes "log")) (Within 0 (2 ^ 64 - 1)) line None → FurtherFits tables y → line ≡ further_text y → ⊥
+-- a line that is read neither as one more table nor as the beginning of the log goes no further
+neither : (tables : List Table) (line : List ℕ) (y : Further) → TablesSoFar tables → table_behind tables line ≡ None → Reads began_text BeganFits line None → FurtherFits tables y → line ≡ further_text y → ⊥
 neither tables line (OneTable table) so_far none log fits e =
     let all : map table_text (tables ++ table ∷ []) ++ codes "steps" ∷ [] ≡ map table_text tables ++ line ∷ codes "steps" ∷ [] =
     ap (λ (l : List (List ℕ)). l ++ codes "steps" ∷ []) (map-append table_text tables (table ∷ [])) ∙ append_assoc (map table_text tables) (table_text table ∷ []) (codes "steps" ∷ [])
     ∙ ap (λ (l : List ℕ). map table_text tables ++ l ∷ codes "steps" ∷ []) (sym e) in
     schema_lines.line_refused tables line so_far (λ steps. let f : 115 ≡ 116 = ap (λ (l : List ℕ). get_or l 0 0) (sym steps ∙ e) in absurd (omega (arith, f))) none
     (tables ++ table ∷ [], check-from_IsSchema (tables ++ table ∷ []) (omega (arith, length-append tables (table ∷ []))) fits, codes "steps" ∷ [], all)
-neither tables line (LogOf rows) so_far none log fits e = let f = log.again rows fits e in cc f
+neither tables line (Begins began) so_far none log fits e = let f = log.again began fits e in cc f
 
 -- the line behind tables was read as neither
 pub further_unread : {X V : Type 0} (view : X → Table) (seen : V → Further) (read : Result X Unread) (fault : ReadFault) (result : Result V ReadFault) (tables : List Table) (shown again line : List ℕ) (a b : Option (List ℕ)) (n first last : ℕ)
-    → TablesSoFar tables → Consumes a b (line ++ 10 ∷ []) × (last ≡ first + 1) × IsLine line → shown ≡ line → again ≡ line → Reads (count_text (codes "log")) (Within 0 (2 ^ 64 - 1)) shown None
+    → TablesSoFar tables → Consumes a b (line ++ 10 ∷ []) × (last ≡ first + 1) × IsLine line → shown ≡ line → again ≡ line → Reads began_text BeganFits shown None
     → Gives view read (table_behind tables again) → Err fault ≡ told read n → IsErrAnd result (λ e. e ≡ fault) → n ≡ last → Taken seen further_text (FurtherFits tables) result a b first last
 further_unread view seen read fault (Ok x) tables shown again line a b n first last so_far taken same same' log gives told_so is here = absurd is
 further_unread view seen (Ok x) fault (Err e) tables shown again line a b n first last so_far taken same same' log gives told_so is here = absurd cc
@@ -216,46 +222,66 @@ further_unread view seen (Err unread.Malformed) fault (Err e) tables shown again
     let q : e ≡ faults.Malformed n = is ∙ (cc told_so) in
     subst (λ (f : ReadFault). NoneTaken (IsSpelled further_text (FurtherFits tables)) f a b first) (sym q) (
       OtherLine line b taken.0 taken.2 (λ p.
-          neither tables line p.0 so_far (ap (table_behind tables) (sym same') ∙ gives) (subst (λ (l : List ℕ). Reads (count_text (codes "log")) (Within 0 (2 ^ 64 - 1)) l None) same log) p.1 p.2),
+          neither tables line p.0 so_far (ap (table_behind tables) (sym same') ∙ gives) (subst (λ (l : List ℕ). Reads began_text BeganFits l None) same log) p.1 p.2),
       here ∙ taken.1,
     )
 further_unread view seen (Err unread.Memory) fault (Err e) tables shown again line a b n first last so_far taken same same' log gives told_so is here =
     let q : e ≡ faults.Memory = is ∙ (cc told_so) in
     subst (λ (f : ReadFault). NoneTaken (IsSpelled further_text (FurtherFits tables)) f a b first) (sym q) tt
 
--- ---- closing marks
+-- ---- numbers of sessions
 
-pub mark_led : (frame : Frame) (left more last : ℕ) (mark : Mark) (a b c : Option (List ℕ)) (first mid end : ℕ) → left ≡ suc more → Led (Marks frame) (marks_to_come frame left last) a b first mid
-    → Consumes b c (mark_text mark ++ 10 ∷ []) × (MarkFits frame.sessions mark × (last < mark.session)) × (end ≡ mid + 1) → Led (Marks frame) (marks_to_come frame more mark.session) a c first end
-mark_led frame left more last mark a b c first mid end is l t =
-    led_led (Marks frame) (MarkOf frame more last) (marks_to_come frame more mark.session) a b c first mid end (subst (λ (n : ℕ). Led (Marks frame) (marks_to_come frame n last) a b first mid) is l)
-    (led_line (MarkOf frame more last) (marks_to_come frame more mark.session) (mark_text mark) b c mid end (mark, t.1.0, t.1.1, refl, refl) t.0 t.2)
+pub mark_led : (from : Place) (section : Section) (frame : Frame) (rows left more last : ℕ) (mark : Mark) (a b c : Option (List ℕ)) (first mid end : ℕ) → left ≡ suc more → Led from (numbers_to_come section frame rows left last) a b first mid
+    → Consumes b c (mark_text section mark ++ 10 ∷ []) × (MarkFits frame.sessions mark × (last < mark.session)) × (end ≡ mid + 1) → Led from (numbers_to_come section frame rows more mark.session) a c first end
+mark_led from section frame rows left more last mark a b c first mid end is l t =
+    led_led from (NumberOf section frame rows more last) (numbers_to_come section frame rows more mark.session) a b c first mid end (subst (λ (n : ℕ). Led from (numbers_to_come section frame rows n last) a b first mid) is l)
+    (led_line (NumberOf section frame rows more last) (numbers_to_come section frame rows more mark.session) (mark_text section mark) b c mid end (mark, t.1.0, t.1.1, refl, refl) t.0 t.2)
 
-pub mark_fails : (frame : Frame) (left more last : ℕ) (fault : ReadFault) (a b c : Option (List ℕ)) (first mid : ℕ) → left ≡ suc more → Led (Marks frame) (marks_to_come frame left last) a b first mid
-    → NoneTaken (IsSpelled mark_text (λ mark. MarkFits frame.sessions mark × (last < mark.session))) fault b c mid → FailsFrom fault (Marks frame) a c first
-mark_fails frame left more last fault a b c first mid is l t =
-    led_fails fault (Marks frame) (MarkOf frame more last) a b c first mid (subst (λ (n : ℕ). Led (Marks frame) (marks_to_come frame n last) a b first mid) is l)
-    (none_fails (IsSpelled mark_text (λ mark. MarkFits frame.sessions mark × (last < mark.session))) fault (MarkOf frame more last) b c mid (λ may. may) (λ line leads. (leads.1.0, (leads.1.1, leads.1.2), leads.1.3)) t)
+pub mark_fails : (from : Place) (section : Section) (frame : Frame) (rows left more last : ℕ) (fault : ReadFault) (a b c : Option (List ℕ)) (first mid : ℕ) → left ≡ suc more → Led from (numbers_to_come section frame rows left last) a b first mid
+    → NoneTaken (IsSpelled (mark_text section) (λ mark. MarkFits frame.sessions mark × (last < mark.session))) fault b c mid → FailsFrom fault from a c first
+mark_fails from section frame rows left more last fault a b c first mid is l t =
+    led_fails fault from (NumberOf section frame rows more last) a b c first mid (subst (λ (n : ℕ). Led from (numbers_to_come section frame rows n last) a b first mid) is l)
+    (none_fails (IsSpelled (mark_text section) (λ mark. MarkFits frame.sessions mark × (last < mark.session))) fault (NumberOf section frame rows more last) b c mid (λ may. may) (λ line leads. (leads.1.0, (leads.1.1, leads.1.2), leads.1.3)) t)
 
-pub marks_led : (frame : Frame) (left last : ℕ) (a b : Option (List ℕ)) (first mid : ℕ) → left ≡ 0 → Led (Marks frame) (marks_to_come frame left last) a b first mid → Led (Marks frame) (State frame) a b first mid
-marks_led frame left last a b first mid none l = subst (λ (n : ℕ). Led (Marks frame) (marks_to_come frame n last) a b first mid) none l
+pub numbers_led : (from : Place) (section : Section) (frame : Frame) (rows left last : ℕ) (a b : Option (List ℕ)) (first mid : ℕ) → left ≡ 0 → Led from (numbers_to_come section frame rows left last) a b first mid → Led from (behind_numbers section frame rows) a b first mid
+numbers_led from section frame rows left last a b first mid none l = subst (λ (n : ℕ). Led from (numbers_to_come section frame rows n last) a b first mid) none l
 
--- ---- the state
+-- ---- rows of tables
 
-pub at_led : (frame : Frame) (left more : ℕ) (last : Option Object) (entry : Object × Row) (a b c : Option (List ℕ)) (first mid end : ℕ) → left ≡ suc more → Led (State frame) (state_to_come frame left last) a b first mid
-    → Consumes b c (at_line frame.schema entry ++ 10 ∷ []) × (AtFits frame.schema entry × (is_behind last entry.0 ≡ true)) × (end ≡ mid + 1) → Led (State frame) (state_to_come frame more (Some entry.0)) a c first end
-at_led frame left more last entry a b c first mid end is l t =
-    led_led (State frame) (RowAt frame more last) (state_to_come frame more (Some entry.0)) a b c first mid end (subst (λ (n : ℕ). Led (State frame) (state_to_come frame n last) a b first mid) is l)
-    (led_line (RowAt frame more last) (state_to_come frame more (Some entry.0)) (at_line frame.schema entry) b c mid end (entry, t.1.0, t.1.1, refl, refl) t.0 t.2)
+pub at_led : (from : Place) (section : Section) (frame : Frame) (left more : ℕ) (last : Option Object) (entry : Object × Row) (a b c : Option (List ℕ)) (first mid end : ℕ) → left ≡ suc more → Led from (entries_to_come section frame left last) a b first mid
+    → Consumes b c (entry_line section frame.schema entry ++ 10 ∷ []) × (AtFits frame.schema entry × (is_behind last entry.0 ≡ true)) × (end ≡ mid + 1) → Led from (entries_to_come section frame more (Some entry.0)) a c first end
+at_led from section frame left more last entry a b c first mid end is l t =
+    led_led from (EntryOf section frame more last) (entries_to_come section frame more (Some entry.0)) a b c first mid end (subst (λ (n : ℕ). Led from (entries_to_come section frame n last) a b first mid) is l)
+    (led_line (EntryOf section frame more last) (entries_to_come section frame more (Some entry.0)) (entry_line section frame.schema entry) b c mid end (entry, t.1.0, t.1.1, refl, refl) t.0 t.2)
 
-pub at_fails : (frame : Frame) (left more : ℕ) (last : Option Object) (fault : ReadFault) (a b c : Option (List ℕ)) (first mid : ℕ) → left ≡ suc more → Led (State frame) (state_to_come frame left last) a b first mid
-    → NoneTaken (IsSpelled (at_line frame.schema) (λ entry. AtFits frame.schema entry × (is_behind last entry.0 ≡ true))) fault b c mid → FailsFrom fault (State frame) a c first
-at_fails frame left more last fault a b c first mid is l t =
-    led_fails fault (State frame) (RowAt frame more last) a b c first mid (subst (λ (n : ℕ). Led (State frame) (state_to_come frame n last) a b first mid) is l)
-    (none_fails (IsSpelled (at_line frame.schema) (λ entry. AtFits frame.schema entry × (is_behind last entry.0 ≡ true))) fault (RowAt frame more last) b c mid (λ may. may) (λ line leads. (leads.1.0, (leads.1.1, leads.1.2), leads.1.3)) t)
+pub at_fails : (from : Place) (section : Section) (frame : Frame) (left more : ℕ) (last : Option Object) (fault : ReadFault) (a b c : Option (List ℕ)) (first mid : ℕ) → left ≡ suc more → Led from (entries_to_come section frame left last) a b first mid
+    → NoneTaken (IsSpelled (entry_line section frame.schema) (λ entry. AtFits frame.schema entry × (is_behind last entry.0 ≡ true))) fault b c mid → FailsFrom fault from a c first
+at_fails from section frame left more last fault a b c first mid is l t =
+    led_fails fault from (EntryOf section frame more last) a b c first mid (subst (λ (n : ℕ). Led from (entries_to_come section frame n last) a b first mid) is l)
+    (none_fails (IsSpelled (entry_line section frame.schema) (λ entry. AtFits frame.schema entry × (is_behind last entry.0 ≡ true))) fault (EntryOf section frame more last) b c mid (λ may. may) (λ line leads. (leads.1.0, (leads.1.1, leads.1.2), leads.1.3)) t)
 
-pub state_led : (frame : Frame) (left : ℕ) (last : Option Object) (a b : Option (List ℕ)) (first mid : ℕ) → left ≡ 0 → Led (State frame) (state_to_come frame left last) a b first mid → Led (State frame) Counter a b first mid
-state_led frame left last a b first mid none l = subst (λ (n : ℕ). Led (State frame) (state_to_come frame n last) a b first mid) none l
+pub entries_led : (from : Place) (section : Section) (frame : Frame) (left : ℕ) (last : Option Object) (a b : Option (List ℕ)) (first mid : ℕ) → left ≡ 0 → Led from (entries_to_come section frame left last) a b first mid → Led from (behind_entries section frame) a b first mid
+entries_led from section frame left last a b first mid none l = subst (λ (n : ℕ). Led from (entries_to_come section frame n last) a b first mid) none l
+
+-- ---- what stands in front of the rows of the log
+
+pub log_front_led : (frame : Frame) (began : Began) (rows : ℕ) (a : Option (List ℕ)) (n : ℕ) → began ≡ begun.Log rows → Led (behind_began frame began) (rows_to_come frame rows) a a n n
+log_front_led frame began rows a n is = subst (λ (b : Began). Led (behind_began frame b) (rows_to_come frame rows) a a n n) (sym is) (led_nothing (rows_to_come frame rows) a n)
+
+pub base_front_led : (frame : Frame) (began : Began) (head : BaseHead) (rows : ℕ) (a b c : Option (List ℕ)) (n0 n1 n2 : ℕ) → began ≡ begun.Base head → Led (numbers_to_come sections.Base frame head.rows head.numbers 0) (Log frame) a b n0 n1
+    → Took (codes "log") 0 (2 ^ 64 - 1) rows b c n1 n2 → Led (behind_began frame began) (rows_to_come frame rows) a c n0 n2
+base_front_led frame began head rows a b c n0 n1 n2 is l t =
+    subst (λ (k : Began). Led (behind_began frame k) (rows_to_come frame rows) a c n0 n2) (sym is)
+    (led_led (numbers_to_come sections.Base frame head.rows head.numbers 0) (Log frame) (rows_to_come frame rows) a b c n0 n1 n2 l
+    (count_led (codes "log") 0 (2 ^ 64 - 1) (Log frame) (rows_to_come frame) rows b c n1 n2 (log_leads frame) t))
+
+-- the count of the rows wasn't taken behind a base
+pub base_front_fails : (fault : ReadFault) (frame : Frame) (began : Began) (head : BaseHead) (a b c : Option (List ℕ)) (n0 n1 : ℕ) → began ≡ begun.Base head → Led (numbers_to_come sections.Base frame head.rows head.numbers 0) (Log frame) a b n0 n1
+    → NoneTaken (IsSpelled (count_text (codes "log")) (Within 0 (2 ^ 64 - 1))) fault b c n1 → FailsFrom fault (behind_began frame began) a c n0
+base_front_fails fault frame began head a b c n0 n1 is l t =
+    subst (λ (k : Began). FailsFrom fault (behind_began frame k) a c n0) (sym is)
+    (led_fails fault (numbers_to_come sections.Base frame head.rows head.numbers 0) (Log frame) a b c n0 n1 l
+    (count_fails (codes "log") 0 (2 ^ 64 - 1) (Log frame) (rows_to_come frame) fault b c n1 (log_leads frame) t))
 
 -- ---- the counter
 
@@ -354,6 +380,13 @@ part_failed fault (Ok x) p q a b c first mid is l t = absurd is
 part_failed fault (Err e) p q a b c first mid is l t = subst (λ (f : ReadFault). FailsFrom f p a c first) (sym is) (led_fails fault p q a b c first mid l t)
 
 -- ---- up to each part
+
+-- from the tables to the rows of the log
+pub opened_led : (s : ℕ) (frame : Frame) (began : Began) (rows : ℕ) (a b c : Option (List ℕ)) (n0 n1 n2 : ℕ) → Led (Tables s []) (behind_began frame began) a b n0 n1 → Led (behind_began frame began) (rows_to_come frame rows) b c n1 n2 → Led (Tables s []) (rows_to_come frame rows) a c n0 n2
+opened_led s frame began rows a b c n0 n1 n2 l k = led_led (Tables s []) (behind_began frame began) (rows_to_come frame rows) a b c n0 n1 n2 l k
+
+pub upto_front : (s : ℕ) (frame : Frame) (began : Began) (a b c : Option (List ℕ)) (n0 n1 n2 : ℕ) → Led Version (Tables s []) a b n0 n1 → Led (Tables s []) (behind_began frame began) b c n1 n2 → Led Version (behind_began frame began) a c n0 n2
+upto_front s frame began a b c n0 n1 n2 l k = led_led Version (Tables s []) (behind_began frame began) a b c n0 n1 n2 l k
 
 pub upto_log : (s : ℕ) (frame : Frame) (rows : ℕ) (a b c : Option (List ℕ)) (n0 n1 n2 : ℕ) → Led Version (Tables s []) a b n0 n1 → Led (Tables s []) (rows_to_come frame rows) b c n1 n2 → Led Version (rows_to_come frame rows) a c n0 n2
 upto_log s frame rows a b c n0 n1 n2 l k = led_led Version (Tables s []) (rows_to_come frame rows) a b c n0 n1 n2 l k

@@ -12,7 +12,8 @@ use Rattle.occ_model.specs.State.{Write, Found}
 use Rattle.occ_text.specs.Spelling.{line_text, key_text, row_text}
 use Rattle.occ_text.specs.Reading.{tokens_of}
 use Rattle.occ_text.specs.Escapes.{read_key}
-use Rattle.occ_print.specs.Books.{table_name, answer_text, pair_line, write_line, at_line}
+use Rattle.occ_print.specs.Books.{table_name, answer_text, pair_line, write_line, entry_word, entry_line}
+use Rattle.occ_print.specs.declared.sections.Section.{Section}
 use Rattle.occ_text.proofs.Escapes.{some_is, bind_value, map_value}
 use Rattle.occ_text.proofs.Words.{tokens_takes}
 use Rattle.occ_text.proofs.Values.{key_reads}
@@ -244,19 +245,19 @@ write_line-takes schema line write h =
 
 -- ---- rows of the state
 
-pub at_line-takes : (schema : Schema) (line : List ℕ) (entry : Object × Row) → at_of_line schema line ≡ Some entry → (line ≡ at_line schema entry) × AtFits schema entry
+pub at_line-takes : (section : Section) (schema : Schema) (line : List ℕ) (entry : Object × Row) → at_of_line section schema line ≡ Some entry → (line ≡ entry_line section schema entry) × AtFits schema entry
 unfolding at_of_line at_in
-at_line-takes schema line entry h =
-    let t = bind_value (tokens_of line) (at_in schema) entry h in
-    let w = bind_value (next_word (codes "at") t.0) _ entry t.2 in
+at_line-takes section schema line entry h =
+    let t = bind_value (tokens_of line) (at_in section schema) entry h in
+    let w = bind_value (next_word (entry_word section) t.0) _ entry t.2 in
     let o = bind_value (next_object schema w.0.1) _ entry w.2 in
     let r = bind_value (next_row schema o.0.0.0 o.0.1) _ entry o.2 in
     let e = bind_value (at_end r.0.1) _ entry r.2 in
-    let wt = word-takes (codes "at") t.0 w.0 w.1 in
+    let wt = word-takes (entry_word section) t.0 w.0 w.1 in
     let ot = object-takes schema w.0.1 o.0 o.1 in
     let rt = row-takes schema o.0.0.0 o.0.1 r.0 r.1 in
     let et = end-takes r.0.1 e.0 e.1 in
-    subst (λ (p : Object × Row). (line ≡ at_line schema p) × AtFits schema p) (some_is (o.0.0, r.0.0) entry e.2) (
+    subst (λ (p : Object × Row). (line ≡ entry_line section schema p) × AtFits schema p) (some_is (o.0.0, r.0.0) entry e.2) (
       (tokens_takes line t.0 t.1).0 ∙ ap line_text (wt ∙ on _ (ot.0 ∙ on _ (on _ (rt.0 ∙ on _ et)))),
       (record { key = ot.1; checked = ot.2 }, record { cells = rt.1; checked = rt.2 }),
     )

@@ -18,7 +18,7 @@ use Rattle.occ_types.specs.Row.{Row}
 use Rattle.occ_types.specs.Schema.{Table, Schema, check_key, check_tables, are_tables, is_name, in_table}
 use Rattle.occ_types.specs.Fits.{has_name}
 use Rattle.occ_model.specs.State.{Write}
-use Rattle.occ_text.specs.Spelling.{line_text, key_text, row_text, IsName, AreTokens, KeyFits, RowFits}
+use Rattle.occ_text.specs.Spelling.{line_text, key_text, row_text, IsName, IsToken, AreTokens, KeyFits, RowFits}
 use Rattle.occ_text.specs.Headers.{TableFits}
 use Rattle.occ_text.specs.Reading.{is_token, tokens_of, name_of, number_of, decimal_of, is_decimal, int_of}
 use Rattle.occ_text.specs.Escapes.{read_row, read_cell}
@@ -29,7 +29,9 @@ use Rattle.occ_text.proofs.Spelled.{IsToken-name, IsToken-key, IsToken-row}
 use Rattle.occ_text.proofs.Readers.{name_again}
 use Rattle.occ_text.proofs.TokenLists.{one_token, more_tokens}
 use Rattle.occ_text.proofs.SchemaLines.{each_fits, IsSchema-from_check}
-use Rattle.occ_print.specs.Books.{table_name, pair_line, write_line, at_line}
+use Rattle.occ_print.specs.Books.{table_name, pair_line, write_line, entry_word, entry_line}
+use Rattle.occ_print.specs.declared.sections.Section.{Section}
+use Rattle.occ_print.specs.declared.sections.Section.TheVariants as sections
 use Rattle.occ_books.specs.Cursors.{Tokens, before, next_word}
 use Rattle.occ_books.specs.SchemaReaders.{place_of, key_in, row_in, next_table, next_key, next_row, next_object}
 use Rattle.occ_books.specs.RowLines.{Asked, AskedOne, AskedSpan, asked_text, ObjectFits, RowFitsIn, FoundFits, SpanFits, AskedFits, PairFits, WriteFits, AtFits, found_in, next_found, one_behind, next_span, span_behind, asked_in, asked_of_line, pair_in, pair_of_line, put_behind, del_behind, write_in, write_of_line, at_in, at_of_line}
@@ -261,16 +263,24 @@ write_line-again schema write good fits =
 
 -- ---- rows of the state
 
-abbrev pub at_tokens : Schema → Object × Row → Tokens
-at_tokens schema entry = codes "at" ∷ table_name schema entry.0.0 ∷ key_text entry.0.1 ∷ row_text entry.1 ∷ []
-
-pub at_words : (schema : Schema) (entry : Object × Row) → check_tables schema ≡ None → AtFits schema entry → AreTokens (at_tokens schema entry)
+-- the words of a section are tokens
+entry_word-IsToken : (section : Section) → IsToken (entry_word section)
 unfolding is_token
-at_words schema entry good fits =
-    more_tokens (codes "at") _ (IsToken-from_test (codes "at") refl) (object_tokens schema entry.0 (row_text entry.1 ∷ []) good fits.0 (one_token (IsToken-row entry.1 fits.1.cells)))
+entry_word-IsToken sections.Base = IsToken-from_test (codes "from") refl
+entry_word-IsToken sections.Store = IsToken-from_test (codes "at") refl
 
-pub at_line-again : (schema : Schema) (entry : Object × Row) → check_tables schema ≡ None → AtFits schema entry → at_of_line schema (at_line schema entry) ≡ Some entry
+abbrev pub at_tokens : Section → Schema → Object × Row → Tokens
+at_tokens section schema entry = entry_word section ∷ table_name schema entry.0.0 ∷ key_text entry.0.1 ∷ row_text entry.1 ∷ []
+
+pub at_words : (section : Section) (schema : Schema) (entry : Object × Row) → check_tables schema ≡ None → AtFits schema entry → AreTokens (at_tokens section schema entry)
+at_words section schema entry good fits =
+    more_tokens (entry_word section) _ (entry_word-IsToken section) (object_tokens schema entry.0 (row_text entry.1 ∷ []) good fits.0 (one_token (IsToken-row entry.1 fits.1.cells)))
+
+pub at_line-again : (section : Section) (schema : Schema) (entry : Object × Row) → check_tables schema ≡ None → AtFits schema entry → at_of_line section schema (entry_line section schema entry) ≡ Some entry
 unfolding at_of_line at_in next_word
-at_line-again schema entry good fits =
-    ap (option_and_then (at_in schema)) (tokens_again (at_tokens schema entry) (at_words schema entry good fits))
+at_line-again sections.Base schema entry good fits =
+    ap (option_and_then (at_in sections.Base schema)) (tokens_again (at_tokens sections.Base schema entry) (at_words sections.Base schema entry good fits))
+    ∙ rw (object-again schema entry.0 (row_text entry.1 ∷ []) good fits.0, row-again schema entry.0.0 entry.1 [] fits.1) refl
+at_line-again sections.Store schema entry good fits =
+    ap (option_and_then (at_in sections.Store schema)) (tokens_again (at_tokens sections.Store schema entry) (at_words sections.Store schema entry good fits))
     ∙ rw (object-again schema entry.0 (row_text entry.1 ∷ []) good fits.0, row-again schema entry.0.0 entry.1 [] fits.1) refl

@@ -12,7 +12,6 @@ use Rattle.occ_text.specs.declared.trouble.Trouble.{Trouble}
 use Rattle.occ_text.specs.declared.trouble.Trouble.TheVariants as troubles
 use Rattle.std.specs.Bool.{Decides}
 use Rattle.occ_model.specs.Log.{Audited}
-use Rattle.occ_model.specs.World.{empty_base}
 use Rattle.occ_print.specs.Books.{Book}
 use Rattle.occ_text.specs.Line.{Source, HasFailed}
 use Rattle.occ_text.specs.Sending.{Sends, PushGives}
@@ -82,5 +81,5 @@ from_start : (unread : List ℕ) (known : Option (List ℕ)) (book : Book) → u
 from_start unread known book none is = subst (λ (text : Option (List ℕ)). IsBookText text book) (ap (λ (l : List ℕ). prepend_known l known) none ∙ known_nil known) is
 
 -- the verdict on the book that was taken is right of the text
-pub judged : (verdict : Bool) (unread : List ℕ) (known : Option (List ℕ)) (book : Book) → unread ≡ [] → IsBookText (prepend_known unread known) book → Decides verdict (Audited empty_base book.marks book.state book.log) → Judged verdict known
+pub judged : (verdict : Bool) (unread : List ℕ) (known : Option (List ℕ)) (book : Book) → unread ≡ [] → IsBookText (prepend_known unread known) book → Decides verdict (Audited book.base book.marks book.state book.log) → Judged verdict known
 judged verdict unread known book none is right = record { book = book; read = from_start unread known book none is; right = right }

@@ -1,12 +1,13 @@
 -- The book of a core, and what its keys, rows and write sets have to be so that a book has words for them.
-use Rattle.std.specs.Prelude.{◌≡◌, ◌≤◌, ◌^◌, ◌-◌, ℕ, length, IfSome}
+use Rattle.std.specs.Prelude.{◌≡◌, ◌<◌, ◌≤◌, ◌^◌, ◌-◌, ℕ, Some, length, IfSome}
 use Rattle.std.specs.List.{AllByRecursion}
-use Rattle.std.specs.FinMap.{entries, len}
+use Rattle.std.specs.FinMap.{entries, get, len}
+use Rattle.occ_types.specs.declared.limits.TheConstants.{MAX_NUMBER}
 use Rattle.occ_types.specs.Question.{One, Span}
 use Rattle.occ_model.specs.RangeLaws.{IsDistinctWrites}
 use Rattle.occ_model.specs.State.{Observation, Write, Found, Rows}
 use Rattle.occ_model.specs.Log.{LogRow}
-use Rattle.occ_model.specs.World.{World, low}
+use Rattle.occ_model.specs.World.{World, empty_base, next_place, low}
 use Rattle.occ_text.specs.Headers.{Header, HeaderFits}
 use Rattle.occ_text.specs.Spelling.{KeyFits, RowFits}
 use Rattle.occ_print.specs.Books.{Book}
@@ -16,6 +17,7 @@ use Rattle.occ_books.specs.RowLines.{EndsFit}
 abbrev pub book_in : Header → World → Book
 book_in header world = record {
   header = header;
+  base = world.base;
   log = world.log;
   marks = world.marks;
   state = world.table;
@@ -28,6 +30,12 @@ pub record IsHeaderOf (header : Header) (world : World) : Type 0 where
   pub fits : HeaderFits header
   pub sessions : header.sessions ≡ world.settings.sessions
   pub tables : header.tables ≡ world.settings.schema
+
+-- What was folded can be told in numbers of 64 bits: places, and the last number of each session. And a book tells of a base in front of which a row stood.
+pub record IsToldBase (world : World) : Type 0 where
+  pub places : next_place world < 2 ^ 64
+  pub numbers : (session number : ℕ) → get world.base.last session ≡ Some number → number ≤ MAX_NUMBER
+  pub nothing : world.base.place ≡ 0 → world.base ≡ empty_base
 
 -- Words are there for numbers of 64 bits, for texts of UTF-8, and for ranges with both ends. Of a read a book has no more rows than such a number counts.
 abbrev pub ReadHasWords : Observation → Type 0
@@ -49,5 +57,7 @@ pub record RowHasWords (row : LogRow) : Type 0 where
 -- all that a book tells of a world has words
 pub record HasWords (world : World) : Type 0 where
   pub log : AllByRecursion RowHasWords world.log
+  pub folded : len world.base.state ≤ 2 ^ 64 - 1
+  pub base : AllByRecursion (λ entry. KeyFits entry.0.1 × RowFits entry.1) (entries world.base.state)
   pub objects : len world.table ≤ 2 ^ 64 - 1
   pub state : AllByRecursion (λ entry. KeyFits entry.0.1 × RowFits entry.1) (entries world.table)

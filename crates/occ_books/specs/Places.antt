@@ -14,11 +14,15 @@ use Rattle.occ_text.specs.declared.faults.ReadFault.TheVariants as faults
 use Rattle.occ_text.specs.Line.{IsLine, CannotStand, lines_text}
 use Rattle.occ_text.specs.Headers.{Within, count_text, table_text}
 use Rattle.occ_text.specs.HeaderTaking.{TablesSoFar}
-use Rattle.occ_print.specs.Books.{pair_line, write_line, at_line}
+use Rattle.occ_print.specs.Books.{pair_line, write_line, entry_line}
+use Rattle.occ_print.specs.declared.sections.Section.{Section}
+use Rattle.occ_print.specs.declared.sections.Section.TheVariants as sections
 use Rattle.occ_books.specs.declared.number_lines.Head.{Head}
 use Rattle.occ_books.specs.declared.number_lines.Mark.{Mark}
 use Rattle.occ_books.specs.declared.number_lines.Counts.{Counts}
-use Rattle.occ_books.specs.NumberLines.{HeadFits, MarkFits, CountsFit, head_text, mark_text, counts_text}
+use Rattle.occ_books.specs.declared.number_lines.Began.{Began}
+use Rattle.occ_books.specs.declared.number_lines.Began.TheVariants as begun
+use Rattle.occ_books.specs.NumberLines.{HeadFits, MarkFits, CountsFit, BeganFits, head_text, mark_text, counts_text, began_text}
 use Rattle.occ_books.specs.RowLines.{Asked, AskedOne, AskedSpan, AskedFits, PairFits, WriteFits, AtFits, asked_text}
 use Rattle.occ_books.specs.Taking.{is_behind}
 
@@ -46,14 +50,17 @@ pub data Place : Type 0 where
   Queue : (sessions : ℕ) → Place
   Keep : (sessions : ℕ) → Place
   Tables : (sessions : ℕ) → (tables : List Table) → Place
+  -- of the base, with how many of its rows come behind its numbers, or of the store
+  NumberOf : Section → Frame → (rows : ℕ) → (numbers : ℕ) → (last : ℕ) → Place
+  EntryOf : Section → Frame → (rows : ℕ) → (last : Option Object) → Place
+  -- behind a base
+  Log : Frame → Place
   LogRow : Frame → (rows : ℕ) → Place
   ReadOf : InRow → (reads : ℕ) → Place
   PairOf : InRow → (reads : ℕ) → (table : ℕ) → (pairs : ℕ) → (last : Option Key) → Place
   WriteOf : InRow → (writes : ℕ) → (written : List Object) → Place
   Marks : Frame → Place
-  MarkOf : Frame → (marks : ℕ) → (last : ℕ) → Place
   State : Frame → Place
-  RowAt : Frame → (rows : ℕ) → (last : Option Object) → Place
   Counter : Place
   -- the book is whole; the line of an audit may stand behind it
   Audit : Place
@@ -77,13 +84,26 @@ abbrev pub pairs_to_come : InRow → ℕ → ℕ → ℕ → Option Key → Plac
 pairs_to_come row reads table zero last = reads_to_come row reads
 pairs_to_come row reads table (suc more) last = PairOf row reads table more last
 
-abbrev pub marks_to_come : Frame → ℕ → ℕ → Place
-marks_to_come frame zero last = State frame
-marks_to_come frame (suc more) last = MarkOf frame more last
+abbrev pub behind_entries : Section → Frame → Place
+behind_entries sections.Base frame = Log frame
+behind_entries sections.Store frame = Counter
 
-abbrev pub state_to_come : Frame → ℕ → Option Object → Place
-state_to_come frame zero last = Counter
-state_to_come frame (suc more) last = RowAt frame more last
+abbrev pub entries_to_come : Section → Frame → ℕ → Option Object → Place
+entries_to_come section frame zero last = behind_entries section frame
+entries_to_come section frame (suc more) last = EntryOf section frame more last
+
+abbrev pub behind_numbers : Section → Frame → ℕ → Place
+behind_numbers sections.Base frame rows = entries_to_come sections.Base frame rows None
+behind_numbers sections.Store frame rows = State frame
+
+abbrev pub numbers_to_come : Section → Frame → ℕ → ℕ → ℕ → Place
+numbers_to_come section frame rows zero last = behind_numbers section frame rows
+numbers_to_come section frame rows (suc more) last = NumberOf section frame rows more last
+
+-- behind the line with which the log begins
+abbrev pub behind_began : Frame → Began → Place
+behind_began frame (begun.Log rows) = rows_to_come frame rows
+behind_began frame (begun.Base head) = numbers_to_come sections.Base frame head.rows head.numbers 0
 
 -- behind the line of a read
 abbrev pub behind_read : InRow → ℕ → Asked → Place
@@ -110,9 +130,12 @@ Counted word least most line next to = (n : ℕ) × Within least most n × (line
 abbrev pub OneMoreTable : ℕ → List Table → List ℕ → Place → Type 0
 OneMoreTable sessions tables line next = (table : Table) × TablesSoFar (tables ++ table ∷ []) × (line ≡ table_text table) × (next ≡ Tables sessions (tables ++ table ∷ []))
 
+-- the line with which the log of a header begins
+abbrev pub Beginning : Frame → List ℕ → Place → Type 0
+Beginning frame line next = (began : Began) × BeganFits began × (line ≡ began_text began) × (next ≡ behind_began frame began)
+
 abbrev pub LogBegins : ℕ → List Table → List ℕ → Place → Type 0
-LogBegins sessions tables line next =
-    (check_tables tables ≡ None) × Counted (codes "log") 0 (2 ^ 64 - 1) line next (rows_to_come (record { schema = tables; sessions = sessions }))
+LogBegins sessions tables line next = (check_tables tables ≡ None) × Beginning (record { schema = tables; sessions = sessions }) line next
 
 abbrev pub Leads : Place → List ℕ → Place → Type 0
 Leads Version line next = (line ≡ codes "occ 1") × (next ≡ Sessions)
@@ -120,6 +143,11 @@ Leads Sessions line next = Counted (codes "sessions") 1 64 line next Queue
 Leads (Queue sessions) line next = Counted (codes "queue") 1 1024 line next (λ n. Keep sessions)
 Leads (Keep sessions) line next = Counted (codes "keep") 1 4096 line next (λ n. Tables sessions [])
 Leads (Tables sessions tables) line next = OneMoreTable sessions tables line next ⊎ LogBegins sessions tables line next
+Leads (NumberOf section frame rows numbers last) line next = (mark : Mark) × MarkFits frame.sessions mark × (last < mark.session) × (line ≡ mark_text section mark)
+    × (next ≡ numbers_to_come section frame rows numbers mark.session)
+Leads (EntryOf section frame rows last) line next = (entry : Object × Row) × AtFits frame.schema entry × (is_behind last entry.0 ≡ true) × (line ≡ entry_line section frame.schema entry)
+    × (next ≡ entries_to_come section frame rows (Some entry.0))
+Leads (Log frame) line next = Counted (codes "log") 0 (2 ^ 64 - 1) line next (rows_to_come frame)
 Leads (LogRow frame rows) line next = (head : Head) × HeadFits frame.sessions head × (line ≡ head_text head)
     × (next ≡ reads_to_come (record { frame = frame; rows = rows; head = head }) head.reads)
 Leads (ReadOf row reads) line next = (asked : Asked) × AskedFits row.frame.schema asked × (line ≡ asked_text row.frame.schema asked)
@@ -128,12 +156,8 @@ Leads (PairOf row reads table pairs last) line next = (pair : Key × Row) × Pai
     × (next ≡ pairs_to_come row reads table pairs (Some pair.0))
 Leads (WriteOf row writes written) line next = (write : Write) × WriteFits row.frame.schema write × (list_any (eq_by_cmp object_cmp write.0) written ≡ false)
     × (line ≡ write_line row.frame.schema write) × (next ≡ writes_to_come row writes (written ++ write.0 ∷ []))
-Leads (Marks frame) line next = Counted (codes "marks") 0 (2 ^ 64 - 1) line next (λ n. marks_to_come frame n 0)
-Leads (MarkOf frame marks last) line next = (mark : Mark) × MarkFits frame.sessions mark × (last < mark.session) × (line ≡ mark_text mark)
-    × (next ≡ marks_to_come frame marks mark.session)
-Leads (State frame) line next = Counted (codes "state") 0 (2 ^ 64 - 1) line next (λ n. state_to_come frame n None)
-Leads (RowAt frame rows last) line next = (entry : Object × Row) × AtFits frame.schema entry × (is_behind last entry.0 ≡ true) × (line ≡ at_line frame.schema entry)
-    × (next ≡ state_to_come frame rows (Some entry.0))
+Leads (Marks frame) line next = Counted (codes "marks") 0 (2 ^ 64 - 1) line next (λ n. numbers_to_come sections.Store frame 0 n 0)
+Leads (State frame) line next = Counted (codes "state") 0 (2 ^ 64 - 1) line next (λ n. entries_to_come sections.Store frame n None)
 Leads Counter line next = (counts : Counts) × CountsFit counts × (line ≡ counts_text counts) × (next ≡ Audit)
 Leads Audit line next = ((line ≡ codes "audit yes") ⊎ (line ≡ codes "audit no")) × (next ≡ End)
 Leads End line next = ⊥

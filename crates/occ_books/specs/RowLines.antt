@@ -1,4 +1,4 @@
--- Lines that have keys and rows: of a read, of a row that a range answered, of a write, and of a row of the state.
+-- Lines that have keys and rows: of a read, of a row that a range answered, of a write, and of a row of a state.
 use Rattle.std.specs.Prelude.{◌≡◌, ◌≤◌, ◌^◌, ◌-◌, ℕ, List, [], ◌∷◌, Option, Some, None, if◌then◌else◌, option_map, option_and_then, codes}
 use Rattle.std.specs.Str.{bytes_eq}
 use Rattle.std.specs.Fmt.{decimal}
@@ -15,7 +15,8 @@ use Rattle.occ_text.specs.Spelling.{line_text, KeyFits, RowFits}
 use Rattle.occ_text.specs.Reading.{tokens_of}
 use Rattle.occ_text.specs.Escapes.{read_key}
 use Rattle.occ_text.specs.StepReading.{◌>>=◌}
-use Rattle.occ_print.specs.Books.{question_text, read_line}
+use Rattle.occ_print.specs.Books.{question_text, read_line, entry_word}
+use Rattle.occ_print.specs.declared.sections.Section.{Section}
 use Rattle.occ_books.specs.declared.row_lines.Asked as code_asked
 use Rattle.occ_books.specs.declared.row_lines.Asked.TheVariants as asked
 use Rattle.occ_books.specs.Cursors.{Tokens, before, next_token, next_word, next_number, at_end}
@@ -165,14 +166,14 @@ write_in schema tokens = option_and_then (write_behind schema) (next_token token
 unfoldable pub write_of_line : Schema → List ℕ → Option Write
 write_of_line schema line = option_and_then (write_in schema) (tokens_of line)
 
--- at NAME KEY ROW
-unfoldable pub at_in : Schema → Tokens → Option (Object × Row)
-at_in schema tokens = do
-  word ← next_word (codes "at") tokens
+-- at NAME KEY ROW, from NAME KEY ROW
+unfoldable pub at_in : Section → Schema → Tokens → Option (Object × Row)
+at_in section schema tokens = do
+  word ← next_word (entry_word section) tokens
   object ← next_object schema word.1
   row ← next_row schema object.0.0 object.1
   end ← at_end row.1
   Some (object.0, row.0)
 
-unfoldable pub at_of_line : Schema → List ℕ → Option (Object × Row)
-at_of_line schema line = option_and_then (at_in schema) (tokens_of line)
+unfoldable pub at_of_line : Section → Schema → List ℕ → Option (Object × Row)
+at_of_line section schema line = option_and_then (at_in section schema) (tokens_of line)

@@ -1,6 +1,7 @@
 -- Taking the lines of a book from an input.
-use Rattle.std.specs.Prelude.{◌≡◌, ◌≤◌, ◌^◌, ◌-◌, ℕ, Bool, true, List, [], ◌∷◌, ◌++◌, length, Option, Some, None, codes}
+use Rattle.std.specs.Prelude.{◌≡◌, ◌≤◌, ◌^◌, ◌-◌, ℕ, Bool, true, List, [], ◌∷◌, ◌++◌, map, length, Option, Some, None, codes}
 use Rattle.std.specs.List.{AllByRecursion, flat_map}
+use Rattle.std.specs.FinMap.{entries, len}
 use Rattle.std.specs.Io.KnownBytes.{Consumes}
 use Rattle.occ_types.specs.Key.{Key, key_cmp}
 use Rattle.std.specs.Ordering.{is_lt}
@@ -11,15 +12,19 @@ use Rattle.occ_types.specs.Schema.{Table, Schema}
 use Rattle.occ_types.specs.Seen.{table_of}
 use Rattle.occ_model.specs.State.{Observation, Write, Found, Rows}
 use Rattle.occ_model.specs.RangeLaws.{IsDistinctWrites}
-use Rattle.occ_model.specs.Log.{Case, LogRow, Standing, Open, Writing, Done, Back}
+use Rattle.occ_print.specs.Books.{number_line, entry_line, base_line, base_lines, row_count}
+use Rattle.occ_print.specs.declared.sections.Section.TheVariants as sections
+use Rattle.occ_model.specs.Log.{Case, LogRow, Base, Standing, Open, Writing, Done, Back}
 use Rattle.occ_book.specs.declared.rows.Standing.TheVariants as stands
 use Rattle.occ_text.specs.Line.{lines_text}
-use Rattle.occ_text.specs.Headers.{table_text, count_text, Within}
+use Rattle.occ_text.specs.Headers.{table_text, count_text}
 use Rattle.occ_text.specs.HeaderTaking.{TablesSoFar}
 use Rattle.occ_books.specs.declared.number_lines.Head.{Head}
+use Rattle.occ_books.specs.declared.number_lines.Began.{Began}
+use Rattle.occ_books.specs.declared.number_lines.BaseHead.{BaseHead}
 use Rattle.occ_books.specs.declared.whole_books.Behind as code_behind
 use Rattle.occ_books.specs.declared.whole_books.Behind.TheVariants as behind
-use Rattle.occ_books.specs.NumberLines.{IsSession, Stand}
+use Rattle.occ_books.specs.NumberLines.{IsSession, Stand, BeganFits, base_text, began_text}
 use Rattle.occ_books.specs.RowLines.{ObjectFits, FoundFits, SpanFits, PairFits, WriteFits}
 
 -- whole lines were taken, and nothing else
@@ -74,28 +79,28 @@ pub record Gathered {Y : Type 0} (lines : Y → List (List ℕ)) (fits : Y → T
   pub taken : TakesLines before after (flat_map lines ys)
   pub fit : AllByRecursion fits ys
 
--- what the line behind those of tables tells: one table more, or how many rows of the log follow
+-- what the line behind those of tables tells: one table more, or how the log begins
 pub data Further : Type 0 where
   OneTable : Table → Further
-  LogOf : ℕ → Further
+  Begins : Began → Further
 
 abbrev pub further_text : Further → List ℕ
 further_text (OneTable table) = table_text table
-further_text (LogOf rows) = count_text (codes "log") rows
+further_text (Begins began) = began_text began
 
 abbrev pub FurtherFits : List Table → Further → Type 0
 FurtherFits tables (OneTable table) = TablesSoFar (tables ++ table ∷ [])
-FurtherFits tables (LogOf rows) = Within 0 (2 ^ 64 - 1) rows
+FurtherFits tables (Begins began) = BeganFits began
 
 module _ {Z : Type 0} where
   abbrev pub further_of : code_behind.Behind Z → Further
   further_of (behind.Table table) = OneTable (table_of table)
-  further_of (behind.Log rows) = LogOf rows
+  further_of (behind.Began began) = Begins began
 
   -- the line behind those of tables
   abbrev pub BehindTaken : code_behind.Behind Z → List Table → Option (List ℕ) → Option (List ℕ) → Type 0
   BehindTaken (behind.Table table) tables before after = TakesLines before after (table_text (table_of table) ∷ []) × TablesSoFar (tables ++ table_of table ∷ [])
-  BehindTaken (behind.Log rows) tables before after = TakesLines before after (count_text (codes "log") rows ∷ [])
+  BehindTaken (behind.Began began) tables before after = TakesLines before after (began_text began ∷ []) × BeganFits began
 
 -- ---- rows of the log
 
@@ -116,3 +121,17 @@ pub record IsRowOf (head : Head) (reads : List Observation) (writes : List Write
   pub read : row.reads ≡ reads
   pub written : row.writes ≡ writes
   pub stands : StandsSo head.standing row.standing
+
+-- ---- a base
+
+-- the lines behind the first one of a base were taken, and with it they are those of the base
+pub record FoldedTaken (schema : Schema) (head : BaseHead) (base : Base) (before after : Option (List ℕ)) : Type 0 where
+  pub taken : TakesLines before after (map (number_line sections.Base) (entries base.last) ++ map (entry_line sections.Base schema) (entries base.state))
+  pub spelled : base_text head ≡ base_line base.place (len base.last) (row_count base.state)
+  pub place : base.place ≡ head.place
+
+-- behind the line with which the log begins all lines were taken that stand in front of its rows
+pub record FrontTaken (schema : Schema) (began : Began) (base : Base) (rows : ℕ) (before after : Option (List ℕ)) : Type 0 where
+  pub lines : List (List ℕ)
+  pub taken : TakesLines before after lines
+  pub told : ◌≡◌ {A = List (List ℕ)} (began_text began ∷ lines) (base_lines schema base ++ count_text (codes "log") rows ∷ [])

@@ -4,7 +4,8 @@ use Rattle.std.specs.Bool.{Decides}
 use Rattle.std.specs.List.{AllByRecursion}
 use Rattle.std.specs.FinMap.{entries, len}
 use Rattle.std.specs.Io.KnownBytes.{IsAtEnd, Appends, Keeps}
-use Rattle.occ_model.specs.Log.{Audited}
+use Rattle.occ_types.specs.Schema.{Schema}
+use Rattle.occ_model.specs.Log.{Audited, Base}
 use Rattle.occ_model.specs.World.{empty_base}
 use Rattle.occ_text.specs.declared.faults.WriteFault.{WriteFault}
 use Rattle.occ_text.specs.declared.faults.WriteFault.TheVariants as faults
@@ -33,13 +34,22 @@ pub record EndTaken (before : Option (List ℕ)) : Type 0 where
   pub taken : TakesLines before rest lines
   pub whole : IsAtEnd rest
 
--- a closing mark of a session of the header, at a number of 64 bits
+-- a session of the header, with a number of 64 bits
 abbrev pub EntryFits : ℕ → ℕ × ℕ → Type 0
 EntryFits sessions mark = IsSession sessions mark.0 × (mark.1 ≤ 2 ^ 64 - 1)
+
+-- What was folded fits a header, and has numbers of 64 bits. Where no row stood in front of the log, nothing was folded.
+pub record BaseFits (schema : Schema) (sessions : ℕ) (base : Base) : Type 0 where
+  pub place : base.place ≤ 2 ^ 64 - 1
+  pub last : AllByRecursion (EntryFits sessions) (entries base.last)
+  pub objects : len base.state ≤ 2 ^ 64 - 1
+  pub state : AllByRecursion (AtFits schema) (entries base.state)
+  pub nothing : base.place ≡ 0 → base ≡ empty_base
 
 -- all of a book fits its own header, and each count and number has 64 bits
 pub record BookFits (book : Book) : Type 0 where
   pub header : HeaderFits book.header
+  pub base : BaseFits book.header.tables book.header.sessions book.base
   pub rows : length book.log ≤ 2 ^ 64 - 1
   pub log : AllByRecursion (LogRowFits book.header.tables book.header.sessions) book.log
   pub marks : AllByRecursion (EntryFits book.header.sessions) (entries book.marks)
@@ -75,7 +85,7 @@ TellGives (Err faults.Memory) verdict old new = Keeps old new
 pub record Judged (verdict : Bool) (text : Option (List ℕ)) : Type 0 where
   pub book : Book
   pub read : IsBookText text book
-  pub right : Decides verdict (Audited empty_base book.marks book.state book.log)
+  pub right : Decides verdict (Audited book.base book.marks book.state book.log)
 
 -- what the audit of a text leaves, by its outcome, where `after` is what the reader has left, and the writer's bytes were old and are new
 abbrev pub AuditGives : Result Bool Trouble → Option (List ℕ) → Option (List ℕ) → Option (List ℕ) → Option (List ℕ) → Type 0
@@ -93,6 +103,7 @@ module _ {Z : Type 0} where
   abbrev pub printed_book : code_printed.PrintedBook Z → Book
   printed_book printed = record {
     header = header_of printed.header;
+    base = printed.book.base.base;
     log = log_of printed.book.log.items;
     marks = printed.book.marks.marks;
     state = printed.book.table.state;

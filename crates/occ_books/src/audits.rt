@@ -3,7 +3,6 @@
 ghost use Rattle.std.specs.Prelude.{◌≡◌, IfOk, IfErr};
 ghost use Rattle.std.specs.Bool.{Decides};
 ghost use Rattle.occ_model.specs.Log.{Audited};
-ghost use Rattle.occ_model.specs.World.{empty_base};
 ghost use Rattle.occ_text.specs.declared.trouble.Trouble.TheVariants.{Memory};
 ghost use Rattle.occ_books.specs.WholeBooks.{AuditGives, TellGives, printed_book, verdict_text};
 
@@ -18,7 +17,7 @@ use std::alloc::Allocator;
 use std::io::{Read, Write};
 
 /// Reads one book, writes `audit yes` or `audit no` and a line feed, and answers which of them: whether its log is explained by
-/// serial replay in the order of entry, and its state is what that leaves.
+/// serial replay in the order of entry, from what was folded out of it on, and its state is what that leaves.
 ///
 /// An audit line behind the book may say anything. `Malformed` at the first line that can't stand where it stands, or that isn't
 /// there, and at line 2^64 - 1 where that many lines were taken and the book goes on; `Read` where the reader fails: nothing was
@@ -40,7 +39,7 @@ pub fn audit_text<R: Read, W: Write, A: Allocator + Copy>(
 
 /// Whether the audit of a book holds.
 fn judge<A: Allocator + Copy>(alloc: A, printed: &PrintedBook<A>) -> Result<bool, Trouble>
-    ensures ok { IfOk result (λ verdict. Decides verdict (Audited empty_base (printed_book printed.now).marks (printed_book printed.now).state (printed_book printed.now).log)) }
+    ensures ok { IfOk result (λ verdict. Decides verdict (Audited (printed_book printed.now).base (printed_book printed.now).marks (printed_book printed.now).state (printed_book printed.now).log)) }
     ensures err { IfErr result (λ trouble. trouble ≡ Memory) }
 {
     match audit_rows(alloc, &printed.book.view()) {

@@ -4,13 +4,13 @@ ghost use Rattle.std.specs.Prelude.{◌≡◌, ◌≤◌, ◌+◌, ◌++◌, ℕ
 ghost use Rattle.occ_types.specs.declared.limits.TheConstants.{MAX_COUNTER, MAX_LOG_ROWS};
 ghost use Rattle.occ_model.specs.Invariant.{Invariant};
 ghost use Rattle.occ_model.specs.Content.{IsInSchema};
-ghost use Rattle.occ_model.specs.World.{World, active_count, empty_base};
+ghost use Rattle.occ_model.specs.World.{World, active_count};
 ghost use Rattle.occ_text.specs.Headers.{Header};
 ghost use Rattle.occ_text.specs.Line.{lines_text};
 ghost use Rattle.occ_print.specs.Books.{Book, book_lines, book_text};
 ghost use Rattle.occ_books.specs.Places.{Place, Version, Audit, LeadOn, MayEnd, Stopped};
 ghost use Rattle.occ_books.specs.WholeBooks.{BookFits, IsEnding};
-ghost use Rattle.occ_books.specs.Cores.{IsHeaderOf, HasWords, book_in};
+ghost use Rattle.occ_books.specs.Cores.{IsHeaderOf, IsToldBase, HasWords, book_in};
 
 /// Lines lead from the beginning of a text to one place at most.
 pub fn lines_lead_to_one_place()
@@ -30,9 +30,10 @@ pub fn no_text_of_a_book_is_malformed()
 {}
 
 /// The book of a core fits its header where its keys and rows have words. All other premises are what the law of a core ensures, and
-/// that the header is one of the core: so its sessions, its numbers and its counts fit, and all that stands in it fits the tables. A key or
+/// that the header is one of the core: so its sessions, its numbers and its counts fit, and all that stands in it fits the tables, what was
+/// folded out of its log too. A key or
 /// a row has words where its numbers have 64 bits and its texts are UTF-8, and a range where it has both ends.
 pub fn the_book_of_a_core_fits_where_it_has_words()
-    ensures { (header : Header) → (world : World) → Invariant world → world.base ≡ empty_base → world.counter + active_count world ≤ MAX_COUNTER → length world.log ≤ MAX_LOG_ROWS
+    ensures { (header : Header) → (world : World) → Invariant world → IsToldBase world → world.counter + active_count world ≤ MAX_COUNTER → length world.log ≤ MAX_LOG_ROWS
         → IsInSchema world → IsHeaderOf header world → HasWords world → BookFits (book_in header world) }
 {}

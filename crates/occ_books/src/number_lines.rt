@@ -1,13 +1,15 @@
-//! Lines that have numbers alone: the first one of a row of the log, that of a closing mark, and the last one of a book.
+//! Lines that have numbers alone: the first one of the log or of its base, the first one of a row of the log, that of a session, and the last one of a book.
 
 ghost use Rattle.std.specs.Prelude.{◌≡◌};
 ghost use Rattle.occ_text.specs.Reading.{Reads};
 ghost use Rattle.occ_books.specs.Cursors.{before};
-ghost use Rattle.occ_books.specs.NumberLines.{mark_text, counts_text, head_text, HeadFits, MarkFits, CountsFit, bare_stand, counted_stand, stand_of, next_session, mark_of, mark_of_line, counts_of, counts_of_line, head_of, head_of_line};
+ghost use Rattle.occ_books.specs.NumberLines.{mark_text, counts_text, head_text, base_text, began_text, HeadFits, MarkFits, CountsFit, BaseHeadFits, BeganFits, bare_stand, counted_stand, stand_of, next_session, mark_of, mark_of_line, base_of, base_of_line, began_of_line, counts_of, counts_of_line, head_of, head_of_line};
 
 use crate::cursors::{at_end, next_number, next_word};
 use occ_book::Standing;
 use occ_model::Cause;
+use occ_print::sections::{Section, number_word};
+use occ_text::headers::count;
 use occ_text::parts::Parts;
 use occ_text::tokens::{is_word, number, tokens};
 
@@ -32,13 +34,33 @@ pub struct Head {
     pub standing: Standing<()>,
 }
 
-/// A closing mark: `mark S N`.
+/// A session with its number: `mark S N` for its closing mark, or `last S N` for its last folded number.
 #[derive(Clone, Copy, Debug, PartialEq, Eq)]
 pub struct Mark {
     /// The session.
     pub session: usize,
-    /// The number of its mark.
+    /// Its number.
     pub number: u64,
+}
+
+/// The first line of a base: `base P L R`.
+#[derive(Clone, Copy, Debug, PartialEq, Eq)]
+pub struct BaseHead {
+    /// The place behind what was folded. It is not 0.
+    pub place: usize,
+    /// How many `last` lines follow.
+    pub numbers: u64,
+    /// How many `from` lines follow them.
+    pub rows: u64,
+}
+
+/// The line behind those of the tables.
+#[derive(Clone, Copy, Debug, PartialEq, Eq)]
+pub enum Began {
+    /// `log K`: nothing was folded, and so many rows follow.
+    Log(u64),
+    /// `base P L R`: something was folded.
+    Base(BaseHead),
 }
 
 /// The last line of a book: `counter T low L`.
@@ -144,26 +166,65 @@ pub fn read_head(line: &[u8], sessions: usize) -> Option<Head>
     head_of(sessions, &mut parts)
 }
 
-// A closing mark, from the tokens of its line.
+// A session with its number, from the tokens of its line.
 #[tactic(auto, unfolding(crate::specs::NumberLines::mark_of))]
-fn mark_of(sessions: usize, parts: &mut Parts<'_>) -> Option<Mark>
-    ensures { result ≡ mark_of sessions parts.old }
+fn mark_of(section: Section, sessions: usize, parts: &mut Parts<'_>) -> Option<Mark>
+    ensures { result ≡ mark_of section sessions parts.old }
 {
-    next_word(parts, "mark")?;
+    next_word(parts, number_word(section))?;
     let session = next_session(sessions, parts)?;
     let number = next_number(parts, u64::MAX)?;
     at_end(parts)?;
     Some(Mark { session, number })
 }
 
-/// A closing mark, under a header with so many sessions. None where the line is none.
+/// The line of a session in a section, under a header with so many sessions. None where the line is none.
 #[tactic(auto, unfolding(crate::specs::NumberLines::mark_of_line))]
-pub fn read_mark(line: &[u8], sessions: usize) -> Option<Mark>
-    ensures exact { result ≡ mark_of_line sessions line.now }
-    ensures grammar { Reads mark_text (MarkFits sessions) line.now result }
+pub fn read_mark(line: &[u8], section: Section, sessions: usize) -> Option<Mark>
+    ensures exact { result ≡ mark_of_line section sessions line.now }
+    ensures grammar { Reads (mark_text section) (MarkFits sessions) line.now result }
 {
     let mut parts = tokens(line)?;
-    mark_of(sessions, &mut parts)
+    mark_of(section, sessions, &mut parts)
+}
+
+// The first line of a base, from its tokens.
+#[tactic(auto, unfolding(crate::specs::NumberLines::base_of))]
+fn base_of(parts: &mut Parts<'_>) -> Option<BaseHead>
+    ensures { result ≡ base_of parts.old }
+{
+    next_word(parts, "base")?;
+    let place = next_session(usize::MAX, parts)?;
+    let numbers = next_number(parts, u64::MAX)?;
+    let rows = next_number(parts, u64::MAX)?;
+    at_end(parts)?;
+    Some(BaseHead {
+        place,
+        numbers,
+        rows,
+    })
+}
+
+/// The first line of a base. None where the line is none.
+#[tactic(auto, unfolding(crate::specs::NumberLines::base_of_line))]
+pub fn read_base(line: &[u8]) -> Option<BaseHead>
+    ensures exact { result ≡ base_of_line line.now }
+    ensures grammar { Reads base_text BaseHeadFits line.now result }
+{
+    let mut parts = tokens(line)?;
+    base_of(&mut parts)
+}
+
+/// How the log of a book begins. None where the line is neither a count of its rows nor the first one of a base.
+pub fn read_began(line: &[u8]) -> Option<Began>
+    ensures exact { result ≡ began_of_line line.now }
+    ensures grammar { Reads began_text BeganFits line.now result }
+{
+    if let Some(rows) = count(line, "log", 0, u64::MAX) {
+        return Some(Began::Log(rows));
+    }
+    let head = read_base(line)?;
+    Some(Began::Base(head))
 }
 
 // The last line of a book, from its tokens.

@@ -1,4 +1,4 @@
-//! Lines that have keys and rows: of a read, of a row that a range answered, of a write, and of a row of the state.
+//! Lines that have keys and rows: of a read, of a row that a range answered, of a write, and of a row of a state.
 
 ghost use Rattle.std.specs.Prelude.{◌≡◌, IfOk, Some};
 ghost use Rattle.occ_types.specs.Key.{Key as PlainKey};
@@ -7,12 +7,13 @@ ghost use Rattle.occ_types.specs.Row.{Row as PlainRow};
 ghost use Rattle.occ_types.specs.Seen.{question_of};
 ghost use Rattle.occ_model.specs.State.{Write as PlainWrite};
 ghost use Rattle.occ_text.specs.Escapes.{Gives};
-ghost use Rattle.occ_print.specs.Books.{pair_line, write_line, at_line};
+ghost use Rattle.occ_print.specs.Books.{pair_line, write_line, entry_line};
 ghost use Rattle.occ_books.specs.Cursors.{GivesNext};
 ghost use Rattle.occ_books.specs.RowLines.{Asked as PlainAsked, asked_text, AskedFits, PairFits, WriteFits, AtFits, asked_of, pair_of, write_of, at_of, found_in, next_found, one_behind, next_span, span_behind, asked_in, asked_of_line, pair_in, pair_of_line, put_behind, del_behind, write_in, write_of_line, at_in, at_of_line};
 
 use crate::cursors::{at_end, next_number, next_token, next_word};
 use crate::schema_readers::{next_key, next_object, next_row, next_table, row_in, unless_fault};
+use occ_print::sections::{Section, entry_word};
 use occ_text::parts::Parts;
 use occ_text::texts;
 use occ_text::tokens::{Unread, is_word, tokens};
@@ -290,12 +291,13 @@ pub fn read_write<A: Allocator + Copy>(
 #[tactic(auto, unfolding(crate::specs::RowLines::at_in))]
 fn at_in<A: Allocator + Copy>(
     alloc: A,
+    section: Section,
     schema: &Schema<A>,
     parts: &mut Parts<'_>,
 ) -> Result<(Object<A>, Row<A>), Unread>
-    ensures { Gives at_of result (at_in schema.now parts.old) }
+    ensures { Gives at_of result (at_in section schema.now parts.old) }
 {
-    next_word(parts, "at").ok_or(Unread::Malformed)?;
+    next_word(parts, entry_word(section)).ok_or(Unread::Malformed)?;
     let object = next_object(alloc, schema, parts)?;
     let row = next_row(alloc, schema, object.table, parts)?;
     at_end(parts).ok_or(Unread::Malformed)?;
@@ -305,26 +307,28 @@ fn at_in<A: Allocator + Copy>(
 #[tactic(auto, unfolding(crate::specs::RowLines::at_of_line))]
 fn at_value<A: Allocator + Copy>(
     alloc: A,
+    section: Section,
     schema: &Schema<A>,
     line: &[u8],
 ) -> Result<(Object<A>, Row<A>), Unread>
-    ensures { Gives at_of result (at_of_line schema.now line.now) }
+    ensures { Gives at_of result (at_of_line section schema.now line.now) }
 {
     let mut parts = tokens(line).ok_or(Unread::Malformed)?;
-    at_in(alloc, schema, &mut parts)
+    at_in(alloc, section, schema, &mut parts)
 }
 
-/// A row of the state, under a schema: `at NAME KEY ROW`. `Malformed` where the line is none; `Memory` where it was refused.
+/// A row of a state, in a section and under a schema: `at NAME KEY ROW` or `from NAME KEY ROW`. `Malformed` where the line is none; `Memory` where it was refused.
 pub fn read_at<A: Allocator + Copy>(
     alloc: A,
+    section: Section,
     schema: &Schema<A>,
     line: &[u8],
 ) -> Result<(Object<A>, Row<A>), Unread>
-    ensures exact { Gives at_of result (at_of_line schema.now line.now) }
-    ensures found { IfOk result (λ x. (line.now ≡ at_line schema.now (at_of x)) × AtFits schema.now (at_of x)) }
-    ensures again { (entry : PlainObject × PlainRow) → AtFits schema.now entry → line.now ≡ at_line schema.now entry → Gives at_of result (Some entry) }
+    ensures exact { Gives at_of result (at_of_line section schema.now line.now) }
+    ensures found { IfOk result (λ x. (line.now ≡ entry_line section schema.now (at_of x)) × AtFits schema.now (at_of x)) }
+    ensures again { (entry : PlainObject × PlainRow) → AtFits schema.now entry → line.now ≡ entry_line section schema.now entry → Gives at_of result (Some entry) }
 {
     // its tables make a schema, so a table's name finds its place again
     let _tables = schema.tables();
-    at_value(alloc, schema, line)
+    at_value(alloc, section, schema, line)
 }

@@ -6,7 +6,7 @@ ghost use Rattle.occ_types.specs.Seen.{key_of, object_of};
 ghost use Rattle.occ_sets.specs.Seen.{rows_of};
 ghost use Rattle.occ_text.specs.Faults.{widened};
 ghost use Rattle.occ_text.specs.Line.{HasFailed, IsLine, Taken};
-ghost use Rattle.occ_print.specs.Books.{pair_line, write_line, at_line};
+ghost use Rattle.occ_print.specs.Books.{pair_line, write_line, entry_line};
 ghost use Rattle.occ_books.specs.NumberLines.{head_text, mark_text, counts_text, HeadFits, MarkFits, CountsFit};
 ghost use Rattle.occ_books.specs.RowLines.{asked_of, pair_of, write_of, at_of, asked_text, AskedFits, PairFits, WriteFits, AtFits};
 ghost use Rattle.occ_books.specs.Places.{IsAbove, last_key};
@@ -16,6 +16,7 @@ ghost use Rattle.occ_text.specs.declared.faults.ReadFault.TheVariants as read_fa
 
 use crate::number_lines::{Counts, Head, Mark, read_counts, read_head, read_mark};
 use crate::row_lines::{Asked, read_asked, read_at, read_pair, read_write};
+use occ_print::Section;
 use occ_text::faults::{LineFault, ReadFault, read_at_line};
 use occ_text::input::Input;
 use occ_types::{Key, Object, Row, Schema};
@@ -101,19 +102,22 @@ pub(crate) fn take_write<R: Read, A: Allocator + Copy>(
     read_at_line(read_write(alloc, schema, input.line()), input.number())
 }
 
-/// Takes the line of a closing mark, behind that of the session `last`, or none where it is 0.
+/// Takes the line of a session in a section, behind that of the session `last`, or none where it is 0.
 pub(crate) fn take_mark<R: Read, A: Allocator>(
     input: &mut Input<A>,
     reader: &mut R,
+    section: Section,
     sessions: usize,
     last: usize,
 ) -> Result<Mark, LineFault>
-    ensures taken { IfOk result (λ mark. TakesLines (prepend_known input.old.unread (R.remaining reader.old)) (prepend_known input.new.unread (R.remaining reader.new)) (mark_text mark ∷ []) × MarkFits sessions mark × (last < mark.session)) }
-    ensures led { Taken (λ mark. mark) mark_text (λ mark. MarkFits sessions mark × (last < mark.session)) (widened result) (prepend_known input.old.unread (R.remaining reader.old)) (prepend_known input.new.unread (R.remaining reader.new)) input.old.number input.new.number }
+    ensures taken { IfOk result (λ mark. TakesLines (prepend_known input.old.unread (R.remaining reader.old)) (prepend_known input.new.unread (R.remaining reader.new)) (mark_text section mark ∷ []) × MarkFits sessions mark × (last < mark.session)) }
+    ensures led { Taken (λ mark. mark) (mark_text section) (λ mark. MarkFits sessions mark × (last < mark.session)) (widened result) (prepend_known input.old.unread (R.remaining reader.old)) (prepend_known input.new.unread (R.remaining reader.new)) input.old.number input.new.number }
     ensures cause { IfErr result (λ fault. fault ≡ line_faults.Read → HasFailed input.new) }
 {
     input.take_line(reader)?;
-    let mark = read_mark(input.line(), sessions).ok_or(LineFault::Malformed(input.number()))?;
+    let mark = read_mark(input.line(), section, sessions).ok_or(LineFault::Malformed(
+        input.number(),
+    ))?;
     if mark.session <= last {
         return Err(LineFault::Malformed(input.number()));
     }
@@ -130,21 +134,25 @@ fn is_behind<A: Allocator>(last: &Option<Object<A>>, object: &Object<A>) -> bool
     }
 }
 
-/// Takes the line of a row of the state, behind that of the object `last`.
+/// Takes the line of a row in a section, behind that of the object `last`.
 pub(crate) fn take_at<R: Read, A: Allocator + Copy>(
     alloc: A,
     input: &mut Input<A>,
     reader: &mut R,
+    section: Section,
     schema: &Schema<A>,
     last: &Option<Object<A>>,
 ) -> Result<(Object<A>, Row<A>), ReadFault>
-    ensures taken { IfOk result (λ entry. TakesLines (prepend_known input.old.unread (R.remaining reader.old)) (prepend_known input.new.unread (R.remaining reader.new)) (at_line schema.now (at_of entry) ∷ []) × AtFits schema.now (at_of entry)) }
+    ensures taken { IfOk result (λ entry. TakesLines (prepend_known input.old.unread (R.remaining reader.old)) (prepend_known input.new.unread (R.remaining reader.new)) (entry_line section schema.now (at_of entry) ∷ []) × AtFits schema.now (at_of entry)) }
     ensures behind { IfOk result (λ entry. is_behind (option_map object_of last.now) (object_of entry.0) ≡ true) }
-    ensures led { Taken at_of (at_line schema.now) (λ entry. AtFits schema.now entry × (is_behind (option_map object_of last.now) entry.0 ≡ true)) result (prepend_known input.old.unread (R.remaining reader.old)) (prepend_known input.new.unread (R.remaining reader.new)) input.old.number input.new.number }
+    ensures led { Taken at_of (entry_line section schema.now) (λ entry. AtFits schema.now entry × (is_behind (option_map object_of last.now) entry.0 ≡ true)) result (prepend_known input.old.unread (R.remaining reader.old)) (prepend_known input.new.unread (R.remaining reader.new)) input.old.number input.new.number }
     ensures cause { IfErr result (λ fault. fault ≡ read_faults.Read → HasFailed input.new) }
 {
     input.take_line(reader)?;
-    let (object, row) = read_at_line(read_at(alloc, schema, input.line()), input.number())?;
+    let (object, row) = read_at_line(
+        read_at(alloc, section, schema, input.line()),
+        input.number(),
+    )?;
     if !is_behind(last, &object) {
         return Err(ReadFault::Malformed(input.number()));
     }

@@ -1,6 +1,6 @@
 //! Taking a whole book from an input.
 
-ghost use Rattle.std.specs.Prelude.{ℕ, List, ◌≡◌, ◌≤◌, ◌^◌, ◌-◌, ◌++◌, ◌∷◌, [], ◌||◌, IfOk, IfErr, IsOkUnless, Ok, None, map, codes};
+ghost use Rattle.std.specs.Prelude.{ℕ, List, ◌≡◌, ◌≤◌, ◌^◌, ◌-◌, ◌++◌, ◌∷◌, [], ◌||◌, length, IfOk, IfErr, IsOkUnless, Ok, None, map, codes};
 ghost use Rattle.std.specs.FinMap as finite;
 ghost use Rattle.std.specs.List.{AllByRecursion};
 ghost use Rattle.std.specs.Str.{bytes_eq};
@@ -8,23 +8,27 @@ ghost use Rattle.std.specs.Io.KnownBytes.{prepend_known};
 ghost use Rattle.occ_types.specs.declared.fault.Fault.TheVariants.{Memory};
 ghost use Rattle.occ_types.specs.Schema.{Table, check_tables};
 ghost use Rattle.occ_types.specs.Seen.{tables_of};
-ghost use Rattle.occ_text.specs.Headers.{table_text, count_text};
+ghost use Rattle.occ_text.specs.Headers.{table_text};
 ghost use Rattle.occ_text.specs.Faults.{widened};
 ghost use Rattle.occ_text.specs.declared.faults.LineFault.TheVariants as line_faults;
 ghost use Rattle.occ_text.specs.declared.faults.ReadFault.TheVariants as read_faults;
 ghost use Rattle.occ_text.specs.HeaderTaking.{TablesSoFar};
 ghost use Rattle.occ_text.specs.Line.{HasFailed, Taken};
-ghost use Rattle.occ_print.specs.Books.{mark_lines, state_lines};
+ghost use Rattle.occ_print.specs.Books.{number_line, entry_line, mark_lines, state_lines};
+ghost use Rattle.occ_print.specs.declared.sections.Section.TheVariants as sections;
+ghost use Rattle.occ_books.specs.NumberLines.{BaseHeadFits, BeganFits, began_text};
 ghost use Rattle.occ_books.specs.RowLines.{AtFits};
-ghost use Rattle.occ_books.specs.Taking.{TakesLines, BehindTaken, FurtherFits, further_of, further_text};
-ghost use Rattle.occ_books.specs.Places.{Version, Tables as TablesAt, Marks as MarksAt, State, Counter, Audit, rows_to_come, TakesFrom, EndsFrom};
-ghost use Rattle.occ_books.specs.WholeBooks.{EntryFits, EndTaken, IsBookText, printed_book};
+ghost use Rattle.occ_books.specs.Taking.{TakesLines, Gathered, BehindTaken, FoldedTaken, FrontTaken, FurtherFits, further_of, further_text};
+ghost use Rattle.occ_books.specs.Places.{Version, Tables as TablesAt, Log, Marks as MarksAt, State, Counter, Audit, frame_of, rows_to_come, behind_began, numbers_to_come, behind_numbers, entries_to_come, behind_entries, TakesFrom, EndsFrom};
+ghost use Rattle.occ_books.specs.WholeBooks.{EntryFits, BaseFits, EndTaken, IsBookText, printed_book};
 
+use crate::number_lines::{BaseHead, Began, read_began};
 use crate::single_lines::{take_at, take_counts, take_mark};
 use crate::transactions::take_rows;
-use occ_book::{Book, Marks, Tables};
+use occ_book::{Base, Book, Marks, Tables};
+use occ_print::Section;
 use occ_text::faults::{LineFault, ReadFault, read_at_line};
-use occ_text::headers::{Header, count, table_behind, take_count, take_limits};
+use occ_text::headers::{Header, table_behind, take_count, take_limits};
 use occ_text::input::{Input, Next};
 use occ_text::tokens::is_word;
 use occ_types::{Fault, Schema, TableDef};
@@ -40,10 +44,17 @@ pub struct PrintedBook<A: Allocator> {
     pub book: Book<A, ()>,
 }
 
-/// The tables of a header, and how many rows of the log follow.
+/// The tables of a header, and how the log begins.
 #[derive(Drop)]
 struct Opening<A: Allocator> {
     schema: Schema<A>,
+    began: Began,
+}
+
+/// What stands in front of the rows of the log: what was folded, and how many rows follow.
+#[derive(Drop)]
+struct Front<A: Allocator> {
+    base: Base<A>,
     rows: u64,
 }
 
@@ -52,11 +63,11 @@ struct Opening<A: Allocator> {
 enum Behind<A: Allocator> {
     /// One table more.
     Table(TableDef<A>),
-    /// `log K`
-    Log(u64),
+    /// `log K`, or the first line of a base.
+    Began(Began),
 }
 
-/// Takes the line behind those of some tables: one more table, or `log K`.
+/// Takes the line behind those of some tables: one more table, `log K`, or the first line of a base.
 fn take_behind<R: Read, A: Allocator + Copy>(
     alloc: A,
     input: &mut Input<A>,
@@ -69,29 +80,29 @@ fn take_behind<R: Read, A: Allocator + Copy>(
     ensures cause { IfErr result (λ fault. fault ≡ read_faults.Read → HasFailed input.new) }
 {
     input.take_line(reader)?;
-    if let Some(rows) = count(input.line(), "log", 0, u64::MAX) {
-        return Ok(Behind::Log(rows));
+    if let Some(began) = read_began(input.line()) {
+        return Ok(Behind::Began(began));
     }
     let table = read_at_line(table_behind(alloc, tables, input.line()), input.number())?;
     Ok(Behind::Table(table))
 }
 
-/// Takes the lines of the tables, and `log K`.
+/// Takes the lines of the tables, and the one behind them.
 fn take_opening<R: Read, A: Allocator + Copy>(
     alloc: A,
     input: &mut Input<A>,
     reader: &mut R,
 ) -> Result<Opening<A>, ReadFault>
-    ensures taken { IfOk result (λ opening. TakesLines (prepend_known input.old.unread (R.remaining reader.old)) (prepend_known input.new.unread (R.remaining reader.new)) (map table_text opening.schema ++ count_text (codes "log") opening.rows ∷ []) × (check_tables opening.schema ≡ None)) }
-    ensures led { (sessions : ℕ) → TakesFrom result (TablesAt sessions []) (λ opening. rows_to_come (record { schema = opening.schema; sessions = sessions }) opening.rows) (prepend_known input.old.unread (R.remaining reader.old)) (prepend_known input.new.unread (R.remaining reader.new)) input.old.number input.new.number }
+    ensures taken { IfOk result (λ opening. TakesLines (prepend_known input.old.unread (R.remaining reader.old)) (prepend_known input.new.unread (R.remaining reader.new)) (map table_text opening.schema ++ began_text opening.began ∷ []) × (check_tables opening.schema ≡ None) × BeganFits opening.began) }
+    ensures led { (sessions : ℕ) → TakesFrom result (TablesAt sessions []) (λ opening. behind_began (frame_of opening.schema sessions) opening.began) (prepend_known input.old.unread (R.remaining reader.old)) (prepend_known input.new.unread (R.remaining reader.new)) input.old.number input.new.number }
     ensures cause { IfErr result (λ fault. fault ≡ read_faults.Read → HasFailed input.new) }
 {
     let mut tables = Vec::new(alloc);
     loop {
         match take_behind(alloc, input, reader, tables.as_slice())? {
             Behind::Table(table) => tables.push(table)?,
-            Behind::Log(rows) => match Schema::new(tables) {
-                Ok(schema) => return Ok(Opening { schema, rows }),
+            Behind::Began(began) => match Schema::new(tables) {
+                Ok(schema) => return Ok(Opening { schema, began }),
                 Err(_) => return Err(ReadFault::Malformed(input.number())),
             },
         }
@@ -110,6 +121,99 @@ fn unless_refused<T: Drop>(given: Result<T, Fault>) -> Result<T, ReadFault>
     }
 }
 
+/// Takes the lines of so many sessions in a section, in the order of the sessions.
+fn take_numbers<R: Read, A: Allocator + Copy>(
+    alloc: A,
+    input: &mut Input<A>,
+    reader: &mut R,
+    section: Section,
+    sessions: usize,
+    count: u64,
+) -> Result<Marks<A>, ReadFault>
+    ensures taken { IfOk result (λ marks. Gathered (λ mark. number_line section mark ∷ []) (EntryFits sessions) (prepend_known input.old.unread (R.remaining reader.old)) (prepend_known input.new.unread (R.remaining reader.new)) (finite.entries marks.marks) × (length (finite.entries marks.marks) ≡ count)) }
+    ensures sessions { IfOk result (λ marks. marks.sessions ≡ sessions) }
+    ensures led { (schema : List Table) → (rows : ℕ) → TakesFrom result (numbers_to_come section (frame_of schema sessions) rows count 0) (λ _. behind_numbers section (frame_of schema sessions) rows) (prepend_known input.old.unread (R.remaining reader.old)) (prepend_known input.new.unread (R.remaining reader.new)) input.old.number input.new.number }
+    ensures cause { IfErr result (λ fault. fault ≡ read_faults.Read → HasFailed input.new) }
+{
+    let mut marks = unless_refused(Marks::new(alloc, sessions))?;
+    let mut last = 0;
+    for _ in 0..count {
+        let mark = take_mark(input, reader, section, sessions, last)?;
+        marks.set(mark.session, mark.number);
+        last = mark.session;
+    }
+    Ok(marks)
+}
+
+/// Takes the lines of so many rows in a section, in the order of the tables and then of their keys.
+fn take_entries<R: Read, A: Allocator + Copy>(
+    alloc: A,
+    input: &mut Input<A>,
+    reader: &mut R,
+    section: Section,
+    schema: &Schema<A>,
+    count: u64,
+) -> Result<Tables<A>, ReadFault>
+    ensures taken { IfOk result (λ tables. Gathered (λ entry. entry_line section schema.now entry ∷ []) (AtFits schema.now) (prepend_known input.old.unread (R.remaining reader.old)) (prepend_known input.new.unread (R.remaining reader.new)) (finite.entries tables.state) × (length (finite.entries tables.state) ≡ count)) }
+    ensures led { (sessions : ℕ) → TakesFrom result (entries_to_come section (frame_of schema.now sessions) count None) (λ _. behind_entries section (frame_of schema.now sessions)) (prepend_known input.old.unread (R.remaining reader.old)) (prepend_known input.new.unread (R.remaining reader.new)) input.old.number input.new.number }
+    ensures cause { IfErr result (λ fault. fault ≡ read_faults.Read → HasFailed input.new) }
+{
+    let mut tables = unless_refused(Tables::new(alloc, schema.tables().len()))?;
+    let mut last = None;
+    for _ in 0..count {
+        let (object, row) = take_at(alloc, input, reader, section, schema, &last)?;
+        unless_refused(tables.put(object.table, &object.key, Some(&row)))?;
+        last = Some(object);
+    }
+    Ok(tables)
+}
+
+/// Takes the lines of a base behind its first one.
+fn take_folded<R: Read, A: Allocator + Copy>(
+    alloc: A,
+    input: &mut Input<A>,
+    reader: &mut R,
+    schema: &Schema<A>,
+    sessions: usize,
+    head: BaseHead,
+) -> Result<Base<A>, ReadFault>
+    requires { BaseHeadFits head }
+    ensures taken { IfOk result (λ base. FoldedTaken schema.now head base.base (prepend_known input.old.unread (R.remaining reader.old)) (prepend_known input.new.unread (R.remaining reader.new)) × BaseFits schema.now sessions base.base) }
+    ensures led { TakesFrom result (numbers_to_come sections.Base (frame_of schema.now sessions) head.rows head.numbers 0) (λ _. Log (frame_of schema.now sessions)) (prepend_known input.old.unread (R.remaining reader.old)) (prepend_known input.new.unread (R.remaining reader.new)) input.old.number input.new.number }
+    ensures cause { IfErr result (λ fault. fault ≡ read_faults.Read → HasFailed input.new) }
+{
+    let last = take_numbers(alloc, input, reader, Section::Base, sessions, head.numbers)?;
+    let state = take_entries(alloc, input, reader, Section::Base, schema, head.rows)?;
+    Ok(Base::from_parts(state, last, head.place))
+}
+
+/// Takes the lines behind the one with which the log begins, up to the first row.
+fn take_front<R: Read, A: Allocator + Copy>(
+    alloc: A,
+    input: &mut Input<A>,
+    reader: &mut R,
+    schema: &Schema<A>,
+    sessions: usize,
+    began: Began,
+) -> Result<Front<A>, ReadFault>
+    requires { BeganFits began }
+    ensures taken { IfOk result (λ front. FrontTaken schema.now began front.base.base front.rows (prepend_known input.old.unread (R.remaining reader.old)) (prepend_known input.new.unread (R.remaining reader.new)) × BaseFits schema.now sessions front.base.base) }
+    ensures led { TakesFrom result (behind_began (frame_of schema.now sessions) began) (λ front. rows_to_come (frame_of schema.now sessions) front.rows) (prepend_known input.old.unread (R.remaining reader.old)) (prepend_known input.new.unread (R.remaining reader.new)) input.old.number input.new.number }
+    ensures cause { IfErr result (λ fault. fault ≡ read_faults.Read → HasFailed input.new) }
+{
+    match began {
+        Began::Log(rows) => {
+            let base = unless_refused(Base::new(alloc, schema.tables().len(), sessions))?;
+            Ok(Front { base, rows })
+        }
+        Began::Base(head) => {
+            let base = take_folded(alloc, input, reader, schema, sessions, head)?;
+            let rows = take_count(input, reader, "log", 0, u64::MAX)?;
+            Ok(Front { base, rows })
+        }
+    }
+}
+
 /// Takes the closing marks, in the order of their sessions.
 fn take_marks<R: Read, A: Allocator + Copy>(
     alloc: A,
@@ -123,13 +227,7 @@ fn take_marks<R: Read, A: Allocator + Copy>(
     ensures cause { IfErr result (λ fault. fault ≡ read_faults.Read → HasFailed input.new) }
 {
     let count = take_count(input, reader, "marks", 0, u64::MAX)?;
-    let mut marks = unless_refused(Marks::new(alloc, sessions))?;
-    let mut last = 0;
-    for _ in 0..count {
-        let mark = take_mark(input, reader, sessions, last)?;
-        marks.set(mark.session, mark.number);
-        last = mark.session;
-    }
+    let marks = take_numbers(alloc, input, reader, Section::Store, sessions, count)?;
     Ok(marks)
 }
 
@@ -145,13 +243,7 @@ fn take_state<R: Read, A: Allocator + Copy>(
     ensures cause { IfErr result (λ fault. fault ≡ read_faults.Read → HasFailed input.new) }
 {
     let count = take_count(input, reader, "state", 0, u64::MAX)?;
-    let mut tables = unless_refused(Tables::new(alloc, schema.tables().len()))?;
-    let mut last = None;
-    for _ in 0..count {
-        let (object, row) = take_at(alloc, input, reader, schema, &last)?;
-        unless_refused(tables.put(object.table, &object.key, Some(&row)))?;
-        last = Some(object);
-    }
+    let tables = take_entries(alloc, input, reader, Section::Store, schema, count)?;
     Ok(tables)
 }
 
@@ -199,7 +291,9 @@ pub fn take_book<R: Read, A: Allocator + Copy>(
     let limits = take_limits(input, reader)?;
     let opening = take_opening(alloc, input, reader)?;
     let schema = opening.schema;
-    let log = take_rows(alloc, input, reader, &schema, limits.sessions, opening.rows)?;
+    let began = opening.began;
+    let front = take_front(alloc, input, reader, &schema, limits.sessions, began)?;
+    let log = take_rows(alloc, input, reader, &schema, limits.sessions, front.rows)?;
     let marks = take_marks(alloc, input, reader, limits.sessions)?;
     let table = take_state(alloc, input, reader, &schema)?;
     let counts = take_counts(input, reader)?;
@@ -207,6 +301,7 @@ pub fn take_book<R: Read, A: Allocator + Copy>(
     Ok(PrintedBook {
         header: Header { limits, schema },
         book: Book {
+            base: front.base,
             log,
             table,
             marks,

@@ -3,6 +3,8 @@
 #![tactic(auto)]
 
 #[cfg(test)]
+mod base_tests;
+#[cfg(test)]
 mod count_tests;
 #[cfg(test)]
 mod tests;

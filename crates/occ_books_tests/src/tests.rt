@@ -23,7 +23,10 @@ row 3 3 1 1 1 1 1 open\none note 3 none\nput note 4 'x\n\
 marks 1\nmark 3 2\nstate 1\nat stock 'nut%20mix 2,'\ncounter 1 low 0\n";
 
 /// What an audit of a text answers, and what it wrote.
-fn audited(alloc: Global, text: &str) -> Result<(Result<bool, Trouble>, Vec<u8>), AllocError> {
+pub(crate) fn audited(
+    alloc: Global,
+    text: &str,
+) -> Result<(Result<bool, Trouble>, Vec<u8>), AllocError> {
     let bytes = Vec::from_slice(alloc, text.as_bytes())?;
     let mut reader = Device::new(bytes, 4096, usize::MAX);
     let mut writer = Device::new(Vec::new(alloc), 4096, usize::MAX);
@@ -32,7 +35,12 @@ fn audited(alloc: Global, text: &str) -> Result<(Result<bool, Trouble>, Vec<u8>)
 }
 
 /// The first text with one part replaced.
-fn changed(alloc: Global, text: &str, old: &str, new: &str) -> Result<String, AllocError> {
+pub(crate) fn changed(
+    alloc: Global,
+    text: &str,
+    old: &str,
+    new: &str,
+) -> Result<String, AllocError> {
     let mut made = String::new(alloc);
     match text.find(old) {
         Some(at) => {

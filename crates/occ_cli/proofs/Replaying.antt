@@ -145,6 +145,7 @@ module _ {C : Type 0} (old new : Replayed) (answer : Answer) (stays : new.world 
   plays_by (steps.Alone session list) h =
       client_by session (λ client next. HandsIn old.world.settings.schema (operations_named old.world.settings.schema list) client answer next) h
   plays_by steps.Show h = stays (ap (λ (r : Replayed). r.world) h.1)
+  plays_by steps.Checkpoint h = tells_by events.Checkpoint h.0
 
 -- whatever is played, the store does at most one step
 pub plays_steps : (old : Replayed) (step : steps.Step) (answer : Answer) (new : Replayed) → Plays old step answer new → AtMostOneStep old.world new.world
@@ -344,6 +345,7 @@ module _ {Z : Type 0} where
   write_stepped old session (replies.BackedUp number) next (inr off) = absurd off
   write_stepped old session (replies.EndedBack cause) next (inr off) = absurd off
   write_stepped old session (replies.RanAlone number given) next (inr off) = absurd off
+  write_stepped old session (replies.Folded rows) next (inr off) = absurd off
   write_stepped old session (replies.RefusedItem given) next (inr off) = absurd off
 
   by_call : (old : Replayed) (call : code_step.Step Z) (reply : code_reply.Reply Z) (next : World) → Answers (record { world = old.world }) call reply (record { world = next }) → CalledBy (PutOff call old (record old { world = next })) old (event_of call) reply (record old { world = next })
@@ -357,6 +359,7 @@ module _ {Z : Type 0} where
   by_call old (calls.BackUp session) reply next h = stepped _ old (events.BackUp session) reply next h.0
   by_call old (calls.SerialEnd session item) reply next h = stepped _ old (events.SerialEnd session (item_of item)) reply next h.0
   by_call old (calls.RunAlone session number operations) reply next h = stepped _ old (events.RunAlone session number (ops_of operations.items)) reply next h.0
+  by_call old calls.Checkpoint reply next h = stepped _ old events.Checkpoint reply next h.0
 
   -- the same of a replay that is seen so
   pub by_calling : (world : World) (clients : List Client) (self : Replayed) → record { world = world; clients = clients } ≡ self → (call : code_step.Step Z) (reply : code_reply.Reply Z) (next : World) → Answers (record { world = world }) call reply (record { world = next })

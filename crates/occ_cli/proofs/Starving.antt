@@ -189,3 +189,4 @@ plays_starved old (steps.RawRead session number start name key) new same h =
     ((starved_told old.world new.world (events.Read session number start (One (place_named old.world.settings.schema name) key)) h.0).0, unchanged old new same h.1)
 plays_starved old (steps.Alone session list) new same h = absurd (and_none (client_of old.clients session) _ (λ client m. no_list old.world.settings.schema (operations_named old.world.settings.schema list) client m.0 m.1) (met (client_of old.clients session) old new _ (client_other old.clients session) h))
 plays_starved old steps.Show new same h = let is = h.0 in cc is
+plays_starved old steps.Checkpoint new same h = ((starved_told old.world new.world events.Checkpoint h.0).0, unchanged old new same h.1)

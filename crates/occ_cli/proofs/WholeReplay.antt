@@ -157,6 +157,12 @@ all_cut fault (Err e) quiet header start last a b c w v u held mid keeps is bega
     subst (λ (r : Trouble). ReplayGives quiet a (Pushed w u held keeps) (PushedFront w u held keeps) {T = Unit {0}} (Err r) c) (sym is)
     (all_closed {T = Unit {0}} (Err fault) quiet header start last a b c w v u held mid keeps began taken fits t k)
 
+-- a failed write and a want of memory are no failed read
+pub no_read : {T : Type 0} (P : Type 0) (fault : WriteFault) (result : Result T Trouble) → IsErrAnd result (λ e. e ≡ write_trouble fault) → IfErr result (λ e. e ≡ troubles.Read → P)
+no_read P fault (Ok done) is = absurd is
+no_read P write_faults.Write (Err e) is = λ (read : e ≡ troubles.Read). absurd cc
+no_read P write_faults.Memory (Err e) is = λ (read : e ≡ troubles.Read). absurd cc
+
 -- ---- from what was pushed to what was written
 
 -- all that was pushed was sent

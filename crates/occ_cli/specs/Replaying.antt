@@ -31,7 +31,7 @@ use Rattle.occ_core.specs.declared.steps.Step as code_step
 use Rattle.occ_core.specs.declared.steps.Step.TheVariants as calls
 use Rattle.occ_cli.specs.declared.answers.Answer as code_answer
 use Rattle.occ_text.specs.Operations as texts
-use Rattle.occ_text.specs.Steps.{Step, Does, Get, Scan, Put, Delete, Forge, RawRead, Alone, Show}
+use Rattle.occ_text.specs.Steps.{Step, Does, Get, Scan, Put, Delete, Forge, RawRead, Alone, Show, Checkpoint}
 use Rattle.occ_cli.specs.Answers.{Answer, answer_of}
 use Rattle.occ_cli.specs.Answers as says
 use Rattle.occ_cli.specs.declared.answers.Counts.{Counts}
@@ -325,6 +325,7 @@ Plays old (RawRead session number start name key) answer new = ByStore old (even
 Plays old (Alone session list) answer new =
     ByClient old session answer new (λ client next. HandsIn old.world.settings.schema (operations_named old.world.settings.schema list) client answer next)
 Plays old Show answer new = (answer ≡ says.Counted (counts_of old.world)) × (new ≡ old)
+Plays old Checkpoint answer new = ByStore old events.Checkpoint answer new
 
 -- an event that nothing refuses and that takes memory
 abbrev pub Wants : World → Event → Type 0
@@ -390,6 +391,7 @@ Starved old (RawRead session number start name key) new =
     Wants old.world (events.Read session number start (One (place_named old.world.settings.schema name) key)) × (new ≡ old)
 Starved old (Alone session list) new =
     IsOkAnd (client_of old.clients session) (WantsList old.world.settings.schema (operations_named old.world.settings.schema list)) × (new ≡ old)
+Starved old Checkpoint new = Wants old.world events.Checkpoint × (new ≡ old)
 Starved old step new = ⊥
 
 module _ {Z : Type 0} where

@@ -4,7 +4,7 @@ use Rattle.std.specs.Io.KnownBytes.{Consumes, Keeps, Appends, IsAtEnd}
 use Rattle.occ_types.specs.Schema.{Schema}
 use Rattle.occ_types.specs.declared.fault.Fault.TheVariants as faults
 use Rattle.occ_model.specs.Log.{Audited}
-use Rattle.occ_model.specs.World.{World, empty_base, low}
+use Rattle.occ_model.specs.World.{World, low}
 use Rattle.occ_text.specs.declared.trouble.Trouble.{Trouble}
 use Rattle.occ_text.specs.declared.trouble.Trouble.TheVariants.{Read, Write, Memory, Malformed}
 use Rattle.occ_cli.specs.Answers.{Answer, answer_text}
@@ -55,6 +55,7 @@ answer_lines false schema turns = map (λ turn. answer_text schema turn.1) turns
 abbrev pub book_at : Header → World → Book
 book_at header world = record {
   header = header;
+  base = world.base;
   log = world.log;
   marks = world.marks;
   state = world.table;
@@ -68,7 +69,7 @@ book_after schedule = book_at schedule.header schedule.state.world
 
 -- the audit of that book
 abbrev pub IsAudited : Book → Type 0
-IsAudited book = Audited empty_base book.marks book.state book.log
+IsAudited book = Audited book.base book.marks book.state book.log
 
 -- what is written behind the answers
 abbrev pub closing_lines : Book → List (List ℕ)

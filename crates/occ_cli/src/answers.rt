@@ -128,6 +128,7 @@ pub fn write_answer<A: Allocator>(
 /// - `wrote NAME KEY`: a single write is done, or `nomore`: none is left;
 /// - `finished TN`: a transaction finished under this transaction number; where operations ran alone, a token for each answer follows;
 /// - `backed N`: the transaction of this number is backed up;
+/// - `folded K`: so many rows of the log went into the base;
 /// - `refused Fn`: the step is refused.
 fn write_reply<A: Allocator>(
     line: &mut String<A>,
@@ -147,6 +148,7 @@ fn write_reply<A: Allocator>(
         Reply::NoMore => line.push_str("nomore"),
         Reply::Finished(number) => write!(line, "finished {number}"),
         Reply::BackedUp(number) => write!(line, "backed {number}"),
+        Reply::Folded(count) => write!(line, "folded {count}"),
         Reply::EndedBack(cause) => line.push_str(verdict_text(Verdict::BackUp(*cause))),
         Reply::RanAlone { number, answers } => write_ran_alone(line, *number, answers.as_slice()),
         Reply::Refused(fault) => write_refused(line, *fault),

@@ -7,7 +7,7 @@ ghost use Rattle.occ_types.specs.declared.fault.Fault.TheVariants as faults;
 ghost use Rattle.occ_core.specs.Runs.{event_of};
 ghost use Rattle.occ_cli.specs.Answers.{answer_of};
 ghost use Rattle.occ_cli.specs.Answers as says;
-ghost use Rattle.occ_text.specs.Steps.{step_of, Does, Get, Scan, Forge, RawRead, Alone, Show};
+ghost use Rattle.occ_text.specs.Steps.{step_of, Does, Get, Scan, Forge, RawRead, Alone, Show, Checkpoint};
 ghost use Rattle.occ_text.specs.Operations.{operation_of};
 ghost use Rattle.occ_cli.specs.Replaying.{started, client_of, counts_of, ByClient, ByStore, Writes, Plays, Played, PlayedIn, PutOff, Starved, WantsWrite, played};
 
@@ -128,6 +128,7 @@ impl<A: Allocator + Copy> Replay<A> {
                 operations,
             } => self.alone(session, operations),
             Step::Show => Ok(Answer::Counted(self.counts())),
+            Step::Checkpoint => self.checkpoint(),
         }
     }
 
@@ -277,6 +278,12 @@ impl<A: Allocator + Copy> Replay<A> {
             table,
             key,
         })
+    }
+
+    fn checkpoint(&mut self) -> Result<Answer<A>, Fault>
+        ensures { Plays self.old Checkpoint (played result) self.new }
+    {
+        self.call(Call::Checkpoint)
     }
 
     // A step of the store alone.

@@ -3,7 +3,6 @@
 ghost use Rattle.std.specs.Prelude.{◌≡◌, ◌<◌, ◌^◌, ◌∷◌, [], true, IfOk, IfErr};
 ghost use Rattle.std.specs.Io.KnownBytes.{Appends, prepend_known};
 ghost use Rattle.occ_model.specs.Log.{Audited};
-ghost use Rattle.occ_model.specs.World.{empty_base};
 ghost use Rattle.occ_log.specs.Rows.{log_of};
 ghost use Rattle.occ_cli.specs.Answers.{answer_of, answer_text};
 ghost use Rattle.occ_text.specs.Line.{lines_text, HasFailed};
@@ -206,7 +205,7 @@ fn write_audit<W: Write, A: Allocator + Copy>(
 ) -> Result<(), WriteFault>
     ensures gives { AuditGives (Pushed (W.contents writer.old) (W.contents writer.new) output.old.held output.new.held)
         (PushedFront (W.contents writer.old) (W.contents writer.new) output.old.held output.new.held) result
-        (Audited empty_base book.now.marks.now.marks book.now.table.now.state (log_of book.now.log.now)) }
+        (Audited book.now.base.now.base book.now.marks.now.marks book.now.table.now.state (log_of book.now.log.now)) }
     ensures cause { IfErr result (λ fault. fault ≡ write_faults.Write → output.new.failed ≡ true) }
 {
     let Ok(holds) = audit_rows(alloc, book) else {

@@ -9,7 +9,7 @@ use Rattle.occ_types.specs.declared.limits.TheConstants.{MAX_LOG_ROWS, MAX_COUNT
 use Rattle.occ_model.specs.State.{State, Write, Observation, apply}
 use Rattle.occ_model.specs.Log.{LogRow, Writing, Done, Back, is_active, last_folded}
 use Rattle.occ_model.specs.Validity.{finished_opponents, AreSame, window_low}
-use Rattle.occ_model.specs.World.{World, ReadPhase, phase_cmp, empty_base, latest, active_count, is_held}
+use Rattle.occ_model.specs.World.{World, ReadPhase, phase_cmp, latest, active_count, is_held}
 use Rattle.occ_model.specs.Invariant.{NumbersAreBelow}
 use Rattle.occ_model.specs.Content.{IsLawful}
 use Rattle.occ_model.specs.Step.{entering}
@@ -23,8 +23,9 @@ use Rattle.occ_log.specs.Window.{Window, advanced}
 use Rattle.occ_core.specs.Parts.{Parts, world_of, low_of, AreSound}
 use Rattle.occ_core.proofs.Calls.{held_world}
 use Rattle.occ_core.proofs.Moves.{each_slot}
+use Rattle.occ_core.proofs.Placed.{has_push}
 use Rattle.occ_log.proofs.Opponents.{finished-push}
-use Rattle.occ_log.proofs.Places.{slice_get-below, held-push-other, count-push, length-set}
+use Rattle.occ_log.proofs.Places.{slice_get-below, count-push, length-set}
 use Rattle.occ_core.proofs.Reading.{there}
 use Rattle.occ_log.proofs.WindowMoves.{advanced-moved}
 use Rattle.occ_log.proofs.Windows.{window_moved, moved_size, moved_window}
@@ -76,7 +77,7 @@ module _ (old : Parts) (place : ℕ) (slot : Slot) (row : LogRow) (sound : AreSo
     each_session = length-set old.slots place _ ∙ sound.each_session;
     slots_true = each_slot (passed_parts table counter phases window) old.slots place _ (slice_get-below old.slots place slot at)
         (record {
-          last_is = sym (ap (λ l. elim l as (λ _. ℕ) [ None ↦ last_folded empty_base (suc place) | Some r ↦ r.number ])
+          last_is = sym (ap (λ l. elim l as (λ _. ℕ) [ None ↦ last_folded old.base (suc place) | Some r ↦ r.number ])
               (latest-push (suc place) row old.log ∙ ap (λ b. if b then Some row else latest (suc place) old.log) (eq-eqb row.session (suc place) own)));
           last_fits = omega arith;
           row_is = λ hold (e : None ≡ Some hold). cc e;
@@ -84,14 +85,16 @@ module _ (old : Parts) (place : ℕ) (slot : Slot) (row : LogRow) (sound : AreSo
         (λ q other ne there. let s = sound.slots_true q other there in
         let apart : row.session ≡ suc q → ⊥ = λ e. ne (let f : suc q ≡ suc place = sym e ∙ own in omega arith) in
         record {
-          last_is = s.last_is ∙ sym (ap (λ l. elim l as (λ _. ℕ) [ None ↦ last_folded empty_base (suc q) | Some r ↦ r.number ])
+          last_is = s.last_is ∙ sym (ap (λ l. elim l as (λ _. ℕ) [ None ↦ last_folded old.base (suc q) | Some r ↦ r.number ])
               (latest-push (suc q) row old.log ∙ ap (λ b. if b then Some row else latest (suc q) old.log) (unlike row.session (suc q) apart)));
           last_fits = s.last_fits;
-          row_is = λ hold h. let r = s.row_is hold h in (r.0, held-push-other (suc q) hold.place old.log r.0 row apart r.1, r.2);
+          row_is = λ hold h. has_push old.base.place (suc q) hold old.log row apart (s.row_is hold h);
         });
     window_size = size;
     window_is = is;
     log_room = let e = length-append old.log (row ∷ []) in omega arith;
+    place_room = sound.place_room;
+    base_begins = sound.base_begins;
     counter_room = room counter (active_count (world_of old)) (active_count (world_of (passed_parts table counter phases window))) (cond (is_active row.standing) 1 0) (count-push old.log row) (ap (λ b. cond b 1 0) idle) counter_left;
   }
     where
@@ -102,6 +105,7 @@ module _ (old : Parts) (place : ℕ) (slot : Slot) (row : LogRow) (sound : AreSo
 abbrev pub ended_parts : Parts → List LogRow → State → ℕ → FinMap phase_cmp ReadPhase → List Slot → Window → Parts
 ended_parts parts log table counter phases slots window = record {
   settings = record { schema = parts.settings.schema; sessions = length slots; keep = window.keep };
+  base = parts.base;
   log = log;
   table = table;
   counter = counter;
@@ -196,6 +200,7 @@ commit_done parts sound session number start reads writes may lawful row row_is 
         let sets' : sets_now ≡ window.sets = sym (advanced-moved (record { keep = parts.settings.keep; sets = parts.window }) parts.counter writes sound.window_size) ∙ sym (ap (λ (w : Window). w.sets) window_is) in
         λ i. record {
           settings = record { schema = parts.settings.schema; sessions = count i; keep = keeps i };
+          base = parts.base;
           log = log' i;
           table = sym table_is i;
           counter = parts.counter + 1;
@@ -260,6 +265,7 @@ back_done parts sound session number start reads writes cause may lawful row row
         let count : parts.settings.sessions ≡ length slots = sym (ap length (sym slots') ∙ length-set parts.slots s.place _ ∙ sound.each_session) in
         λ i. record {
           settings = record { schema = parts.settings.schema; sessions = count i; keep = parts.settings.keep };
+          base = parts.base;
           log = log' i;
           table = parts.table;
           counter = parts.counter;

@@ -1,5 +1,5 @@
 -- What each call of the core has to show, over plain parts.
-use Rattle.std.proofs.Common.{◌≡◌, ℕ, zero, suc, ◌+◌, ◌-◌, ◌<◌, ◌≤◌, Bool, true, false, not, ◌&&◌, List, [], ◌∷◌, length, Option, None, Some, Result, Ok, Err, refl, sym, ap, subst, ◌∙◌, arith}
+use Rattle.std.proofs.Common.{◌≡◌, ℕ, zero, suc, ◌+◌, ◌-◌, ◌<◌, ◌≤◌, Bool, true, false, not, ◌&&◌, List, [], ◌∷◌, length, Option, None, Some, Result, Ok, Err, refl, sym, ap, subst, ◌∙◌, arith, inl, inr}
 use Rattle.std.specs.Prelude.{is_some, slice_get, slice_set, nat_le}
 use Rattle.std.proofs.lemmas.Bool.{le-leb, leb-true}
 use Rattle.occ_types.specs.Schema.{fault_if, first_fault}
@@ -16,14 +16,16 @@ use Rattle.occ_model.specs.declared.verdict.Verdict.{Verdict}
 use Rattle.occ_model.proofs.Tests as tests
 use Rattle.occ_core.specs.Replies.{decision, backing}
 use Rattle.occ_log.specs.Slots.{Slot, Hold, IsHeldAt, row_under_way, last_of, back_fault}
-use Rattle.occ_core.specs.Parts.{Parts, world_of, AreSound}
+use Rattle.occ_core.specs.Parts.{Parts, world_of, found_at, HasRow, AreSound}
+use Rattle.occ_core.specs.Folding.{under_way_fault, back_fault_of}
+use Rattle.occ_core.proofs.Placed.{from_index, before_first}
 use Rattle.occ_log.proofs.Holding.{is_held_at, contains-held}
 use Rattle.occ_log.proofs.Opponents.{held-get}
 use Rattle.occ_log.proofs.Places.{held_latest, slice_get-below, length-set}
 use Rattle.occ_core.proofs.Moves as moves
 
--- the row that a session has under way
-pub record UnderWay (parts : Parts) (session place : ℕ) : Type 0 where
+-- the slot of a session that has a row under way
+pub record HeldSlot (parts : Parts) (session place : ℕ) : Type 0 where
   pub slot_at : ℕ
   pub session_is : session ≡ suc slot_at
   pub slot : Slot
@@ -31,23 +33,76 @@ pub record UnderWay (parts : Parts) (session place : ℕ) : Type 0 where
   pub hold : Hold
   pub holds : slot.hold ≡ Some hold
   pub place_is : place ≡ hold.place
-  pub row : LogRow
-  pub row_there : IsHeldAt (suc slot_at) hold.place parts.log row
-  pub writes_are : hold.writes ≡ row.writes
 
-pub found_row : (parts : Parts) (session place : ℕ) → AreSound parts → row_under_way parts.slots session ≡ Ok place → UnderWay parts session place
-found_row parts zero place sound found = cc
-found_row parts (suc k) place sound found = at_slot (slice_get parts.slots k) refl found
+pub held_slot : (parts : Parts) (session place : ℕ) → row_under_way parts.slots session ≡ Ok place → HeldSlot parts session place
+held_slot parts zero place found = cc
+held_slot parts (suc k) place found = at_slot (slice_get parts.slots k) refl found
   where
-    at_hold : (slot : Slot) → slice_get parts.slots k ≡ Some slot → (h : Option Hold) → slot.hold ≡ h → (elim h as (λ _. Result ℕ Fault) [ None ↦ Err faults.NothingEntered | Some hold ↦ Ok hold.place ]) ≡ Ok place → UnderWay parts (suc k) place
+    at_hold : (slot : Slot) → slice_get parts.slots k ≡ Some slot → (h : Option Hold) → slot.hold ≡ h → (elim h as (λ _. Result ℕ Fault) [ None ↦ Err faults.NothingEntered | Some hold ↦ Ok hold.place ]) ≡ Ok place → HeldSlot parts (suc k) place
     at_hold slot there None e found = cc
-    at_hold slot there (Some hold) e found =
-        let r = (sound.slots_true k slot there).row_is hold e in
-        record { slot_at = k; session_is = refl; slot = slot; there = there; hold = hold; holds = e; place_is = cc; row = r.0; row_there = r.1; writes_are = r.2 }
+    at_hold slot there (Some hold) e found = record { slot_at = k; session_is = refl; slot = slot; there = there; hold = hold; holds = e; place_is = cc }
 
-    at_slot : (o : Option Slot) → slice_get parts.slots k ≡ o → (elim o as (λ _. Result ℕ Fault) [ None ↦ Err faults.NoSession | Some slot ↦ elim slot.hold [ None ↦ Err faults.NothingEntered | Some hold ↦ Ok hold.place ] ]) ≡ Ok place → UnderWay parts (suc k) place
+    at_slot : (o : Option Slot) → slice_get parts.slots k ≡ o → (elim o as (λ _. Result ℕ Fault) [ None ↦ Err faults.NoSession | Some slot ↦ elim slot.hold [ None ↦ Err faults.NothingEntered | Some hold ↦ Ok hold.place ] ]) ≡ Ok place → HeldSlot parts (suc k) place
     at_slot None e found = cc
     at_slot (Some slot) e found = at_hold slot e slot.hold refl found
+
+-- the row that a session has under way, which stands in the log
+pub record UnderWay (parts : Parts) (session place : ℕ) : Type 0 where
+  pub slot_at : ℕ
+  pub session_is : session ≡ suc slot_at
+  pub slot : Slot
+  pub there : slice_get parts.slots slot_at ≡ Some slot
+  pub hold : Hold
+  pub holds : slot.hold ≡ Some hold
+  pub index : ℕ
+  pub place_is : place ≡ parts.base.place + index
+  pub index_is : index ≡ place - parts.base.place
+  pub row : LogRow
+  pub row_there : IsHeldAt (suc slot_at) index parts.log row
+  pub writes_are : hold.writes ≡ row.writes
+
+pub found_row : (parts : Parts) (session place : ℕ) → AreSound parts → row_under_way parts.slots session ≡ Ok place → (row : LogRow) → found_at parts place ≡ Some row → UnderWay parts session place
+found_row parts session place sound found row at =
+    let h = held_slot parts session place found in
+    go h ((sound.slots_true h.slot_at h.slot h.there).row_is h.hold h.holds)
+  where
+    go : (h : HeldSlot parts session place) → HasRow parts.base.place parts.log (suc h.slot_at) h.hold → UnderWay parts session place
+    go h (inl s) =
+        let is : place ≡ parts.base.place + s.index = h.place_is ∙ s.place_is in
+        record {
+          slot_at = h.slot_at;
+          session_is = h.session_is;
+          slot = h.slot;
+          there = h.there;
+          hold = h.hold;
+          holds = h.holds;
+          index = s.index;
+          place_is = is;
+          index_is = omega arith;
+          row = s.row;
+          row_there = s.there;
+          writes_are = s.writes_are;
+        }
+    go h (inr g) =
+        let before : place < parts.base.place = subst (λ p. p < parts.base.place) (sym h.place_is) g.before in
+        let none : None ≡ Some row = sym (before_first parts.base.place place parts.log before) ∙ at in
+        cc
+
+-- the row under way is the one that was found
+pub found_is : (parts : Parts) (session place : ℕ) (u : UnderWay parts session place) (row : LogRow) → found_at parts place ≡ Some row → u.row ≡ row
+found_is parts session place u row at =
+    let e : Some u.row ≡ Some row = sym (held-get (suc u.slot_at) u.index parts.log u.row u.row_there) ∙ sym (from_index parts.base.place u.index parts.log) ∙ ap (found_at parts) (sym u.place_is) ∙ at in
+    cc
+
+-- a session whose row under way is not found has none in the log
+pub gone_none : (parts : Parts) (session place : ℕ) → AreSound parts → (h : HeldSlot parts session place) → found_at parts place ≡ None → latest (suc h.slot_at) parts.log ≡ None
+gone_none parts session place sound h away = go ((sound.slots_true h.slot_at h.slot h.there).row_is h.hold h.holds)
+  where
+    go : HasRow parts.base.place parts.log (suc h.slot_at) h.hold → latest (suc h.slot_at) parts.log ≡ None
+    go (inl s) =
+        let e : Some s.row ≡ None = sym (held-get (suc h.slot_at) s.index parts.log s.row s.there) ∙ sym (from_index parts.base.place s.index parts.log) ∙ ap (found_at parts) (sym (h.place_is ∙ s.place_is)) ∙ away in
+        cc
+    go (inr g) = g.none
 
 pub past_end : {X : Type 0} (xs : List X) (k : ℕ) → slice_get xs k ≡ None → length xs ≤ k
 past_end [] k e = omega arith
@@ -107,70 +162,93 @@ let_through parts k slot hold others sound at holds =
     ap (λ b. first_fault (fault_if (not b) faults.NoSession ∷ refusals.nothing_entered (world_of parts) (suc k) ∷ others)) (exists parts k slot sound at)
     ∙ ap (λ b. first_fault (fault_if (not b) faults.NothingEntered ∷ others)) (held_world parts k slot at ∙ ap is_some holds)
 
+-- a row under way that is not found was decided, where the guards say so of a session without a row
+pub told_gone : (parts : Parts) (session : ℕ) (fault : Fault) (others : ℕ → List (Option Fault)) → AreSound parts → under_way_fault parts.slots (found_at parts) session ≡ Some fault
+    → ((s : ℕ) → latest s parts.log ≡ None → first_fault (others s) ≡ Some faults.AlreadyDecided)
+    → first_fault (refusals.no_session (world_of parts) session ∷ refusals.nothing_entered (world_of parts) session ∷ others session) ≡ Some fault
+told_gone parts session fault others sound found told_so = at (row_under_way parts.slots session) refl found
+  where
+    gone : (place : ℕ) → row_under_way parts.slots session ≡ Ok place → found_at parts place ≡ None → faults.AlreadyDecided ≡ fault
+        → first_fault (refusals.no_session (world_of parts) session ∷ refusals.nothing_entered (world_of parts) session ∷ others session) ≡ Some fault
+    gone place is away e =
+        let h = held_slot parts session place is in
+        ap (λ s. first_fault (refusals.no_session (world_of parts) s ∷ refusals.nothing_entered (world_of parts) s ∷ others s)) h.session_is
+        ∙ let_through parts h.slot_at h.slot h.hold (others (suc h.slot_at)) sound h.there h.holds
+        ∙ told_so (suc h.slot_at) (gone_none parts session place sound h away) ∙ ap Some e
+
+    at_place : (place : ℕ) → row_under_way parts.slots session ≡ Ok place → (o : Option LogRow) → found_at parts place ≡ o → (elim o as (λ _. Option Fault) [ None ↦ Some faults.AlreadyDecided | Some row ↦ None ]) ≡ Some fault
+        → first_fault (refusals.no_session (world_of parts) session ∷ refusals.nothing_entered (world_of parts) session ∷ others session) ≡ Some fault
+    at_place place is None away e = gone place is away cc
+    at_place place is (Some row) away e = cc
+
+    at : (r : Result ℕ Fault) → row_under_way parts.slots session ≡ r
+        → (elim r as (λ _. Option Fault) [ Ok place ↦ elim (found_at parts place) [ None ↦ Some faults.AlreadyDecided | Some row ↦ None ] | Err fault ↦ Some fault ]) ≡ Some fault
+        → first_fault (refusals.no_session (world_of parts) session ∷ refusals.nothing_entered (world_of parts) session ∷ others session) ≡ Some fault
+    at (Ok place) is e = at_place place is (found_at parts place) refl e
+    at (Err f) is e = let same : f ≡ fault = cc in told parts session fault (others session) sound (is ∙ ap Err same)
+
 -- what a guard on the latest row reads
 pub latest_reads : (log : List LogRow) (session : ℕ) (row : LogRow) (none : Bool) (of : LogRow → Bool) → latest session log ≡ Some row → (elim (latest session log) as (λ _. Bool) [ None ↦ none | Some r ↦ of r ]) ≡ of row
 latest_reads log session row none of is = ap (λ l. elim l as (λ _. Bool) [ None ↦ none | Some r ↦ of r ]) is
 
+pub latest_none : (log : List LogRow) (session : ℕ) (none : Bool) (of : LogRow → Bool) → latest session log ≡ None → (elim (latest session log) as (λ _. Bool) [ None ↦ none | Some r ↦ of r ]) ≡ none
+latest_none log session none of is = ap (λ l. elim l as (λ _. Bool) [ None ↦ none | Some r ↦ of r ]) is
+
 -- The decision.
 
-pub decide_refused : (parts : Parts) (session : ℕ) (fault : Fault) → AreSound parts → row_under_way parts.slots session ≡ Err fault → Step (world_of parts) (Decide session) (Refused fault) (world_of parts)
-decide_refused parts session fault sound found = refused fault (told parts session fault _ sound found) refl refl
+pub decide_refused : (parts : Parts) (session : ℕ) (fault : Fault) → AreSound parts → under_way_fault parts.slots (found_at parts) session ≡ Some fault → Step (world_of parts) (Decide session) (Refused fault) (world_of parts)
+decide_refused parts session fault sound found = refused fault (told_gone parts session fault (λ s. fault_if (not (refusals.row_is_open (world_of parts) s)) faults.AlreadyDecided ∷ []) sound found
+    (λ s none. ap (λ b. first_fault (fault_if (not b) faults.AlreadyDecided ∷ [])) (latest_none parts.log s false (λ r. is_open r.standing) none))) refl refl
 
-pub decide_late : (parts : Parts) (session place : ℕ) (row : LogRow) → AreSound parts → row_under_way parts.slots session ≡ Ok place → slice_get parts.log place ≡ Some row → is_open row.standing ≡ false → Step (world_of parts) (Decide session) (Refused faults.AlreadyDecided) (world_of parts)
+pub decide_late : (parts : Parts) (session place : ℕ) (row : LogRow) → AreSound parts → row_under_way parts.slots session ≡ Ok place → found_at parts place ≡ Some row → is_open row.standing ≡ false → Step (world_of parts) (Decide session) (Refused faults.AlreadyDecided) (world_of parts)
 decide_late parts session place row sound found at closed =
-    let u = found_row parts session place sound found in
-    let same : u.row ≡ row = let e : Some u.row ≡ Some row = sym (held-get (suc u.slot_at) u.hold.place parts.log u.row u.row_there) ∙ ap (slice_get parts.log) (sym u.place_is) ∙ at in cc in
+    let u = found_row parts session place sound found row at in
+    let same = found_is parts session place u row at in
     subst (λ s. Step (world_of parts) (Decide s) (Refused faults.AlreadyDecided) (world_of parts)) (sym u.session_is)
     (refused faults.AlreadyDecided (
     let_through parts u.slot_at u.slot u.hold _ sound u.there u.holds
     ∙ ap (λ b. first_fault (fault_if (not b) faults.AlreadyDecided ∷ []))
-    (latest_reads parts.log (suc u.slot_at) u.row false (λ r. is_open r.standing) (held_latest (suc u.slot_at) u.hold.place parts.log u.row u.row_there) ∙ ap (λ r. is_open r.standing) same ∙ closed)) refl refl)
+    (latest_reads parts.log (suc u.slot_at) u.row false (λ r. is_open r.standing) (held_latest (suc u.slot_at) u.index parts.log u.row u.row_there) ∙ ap (λ r. is_open r.standing) same ∙ closed)) refl refl)
 
 pub record Decides (parts : Parts) (session : ℕ) (v : Verdict) (next : Parts) : Type 0 where
   pub step : Step (world_of parts) (Decide session) (Decided v) (world_of next)
   pub sound : AreSound next
 
-pub decide_done : (parts : Parts) (session place : ℕ) (row : LogRow) (index : ℕ) (case : Case) → AreSound parts → row_under_way parts.slots session ≡ Ok place → slice_get parts.log place ≡ Some row → row.standing ≡ Open index case
-    → (log : List LogRow) → log ≡ slice_set parts.log place (record row { standing = decided (verdict case) }) → Decides parts session (verdict case) (record parts { log = log })
+pub decide_done : (parts : Parts) (session place : ℕ) (row : LogRow) (index : ℕ) (case : Case) → AreSound parts → row_under_way parts.slots session ≡ Ok place → found_at parts place ≡ Some row → row.standing ≡ Open index case
+    → (log : List LogRow) → log ≡ slice_set parts.log (place - parts.base.place) (record row { standing = decided (verdict case) }) → Decides parts session (verdict case) (record parts { log = log })
 decide_done parts session place row index case sound found at stands log is =
-    let u = found_row parts session place sound found in
-    let same : u.row ≡ row = let e : Some u.row ≡ Some row = sym (held-get (suc u.slot_at) u.hold.place parts.log u.row u.row_there) ∙ ap (slice_get parts.log) (sym u.place_is) ∙ at in cc in
+    let u = found_row parts session place sound found row at in
+    let same = found_is parts session place u row at in
     let own : u.row.standing ≡ Open index case = ap (λ r. r.standing) same ∙ stands in
     let none : refusal (world_of parts) (Decide (suc u.slot_at)) ≡ None =
     let_through parts u.slot_at u.slot u.hold _ sound u.there u.holds
     ∙ ap (λ b. first_fault (fault_if (not b) faults.AlreadyDecided ∷ []))
-    (latest_reads parts.log (suc u.slot_at) u.row false (λ r. is_open r.standing) (held_latest (suc u.slot_at) u.hold.place parts.log u.row u.row_there) ∙ ap is_open own) in
-    let log_is : moves.decided_parts parts u.slot_at u.slot u.hold u.row sound u.there u.holds u.row_there u.writes_are index case own none ≡ record parts { log = log } =
-    ap (λ l. record parts { log = l }) (ap (λ r. slice_set parts.log u.hold.place (record r { standing = decided (verdict case) })) same
-    ∙ ap (λ p. slice_set parts.log p (record row { standing = decided (verdict case) })) (sym u.place_is) ∙ sym is) in
+    (latest_reads parts.log (suc u.slot_at) u.row false (λ r. is_open r.standing) (held_latest (suc u.slot_at) u.index parts.log u.row u.row_there) ∙ ap is_open own) in
+    let log_is : moves.decided_parts parts u.slot_at u.slot u.index u.row sound u.there u.row_there index case own none ≡ record parts { log = log } =
+    ap (λ l. record parts { log = l }) (ap (λ r. slice_set parts.log u.index (record r { standing = decided (verdict case) })) same
+    ∙ ap (λ p. slice_set parts.log p (record row { standing = decided (verdict case) })) u.index_is ∙ sym is) in
     subst (λ s. Decides parts s (verdict case) (record parts { log = log })) (sym u.session_is)
     (subst (Decides parts (suc u.slot_at) (verdict case)) log_is (record {
-      step = moves.decided_step parts u.slot_at u.slot u.hold u.row sound u.there u.holds u.row_there u.writes_are index case own none;
-      sound = moves.decided_sound parts u.slot_at u.slot u.hold u.row sound u.there u.holds u.row_there u.writes_are index case own none;
+      step = moves.decided_step parts u.slot_at u.slot u.index u.row sound u.there u.row_there index case own none;
+      sound = moves.decided_sound parts u.slot_at u.slot u.index u.row sound u.there u.row_there index case own none;
     }))
 
 -- The exits of the decision, seen from outside.
 
-pub decide_exit : (parts : Parts) (world : World) → world_of parts ≡ world → AreSound parts → (session : ℕ) (reply : Result Verdict Fault) (fault : Fault) → reply ≡ Err fault → row_under_way parts.slots session ≡ Err fault → Step world (Decide session) (decision reply) world
+pub decide_exit : (parts : Parts) (world : World) → world_of parts ≡ world → AreSound parts → (session : ℕ) (reply : Result Verdict Fault) (fault : Fault) → reply ≡ Err fault → under_way_fault parts.slots (found_at parts) session ≡ Some fault → Step world (Decide session) (decision reply) world
 decide_exit parts world seen sound session reply fault is found =
     subst (λ r. Step world (Decide session) (decision r) world) (sym is) (subst (λ w. Step w (Decide session) (Refused fault) w) seen (decide_refused parts session fault sound found))
 
-pub decide_exit_late : (parts : Parts) (world : World) → world_of parts ≡ world → AreSound parts → (session place : ℕ) (row : LogRow) → row_under_way parts.slots session ≡ Ok place → slice_get parts.log place ≡ Some row → is_open row.standing ≡ false
+pub decide_exit_late : (parts : Parts) (world : World) → world_of parts ≡ world → AreSound parts → (session place : ℕ) (row : LogRow) → row_under_way parts.slots session ≡ Ok place → found_at parts place ≡ Some row → is_open row.standing ≡ false
     → Step world (Decide session) (Refused faults.AlreadyDecided) world
 decide_exit_late parts world seen sound session place row found at closed =
     subst (λ w. Step w (Decide session) (Refused faults.AlreadyDecided) w) seen (decide_late parts session place row sound found at closed)
 
--- the row under way stands in the log
-pub stands_there : (parts : Parts) (session : ℕ) → AreSound parts → (place : ℕ) → row_under_way parts.slots session ≡ Ok place → is_some (slice_get parts.log place) ≡ true
-stands_there parts session sound place found =
-    let u = found_row parts session place sound found in
-    ap (λ p. is_some (slice_get parts.log p)) u.place_is ∙ ap is_some (held-get (suc u.slot_at) u.hold.place parts.log u.row u.row_there)
-
-pub decide_whole : (parts : Parts) (world : World) → world_of parts ≡ world → AreSound parts → (session place : ℕ) (row : LogRow) (index : ℕ) (case : Case) → row_under_way parts.slots session ≡ Ok place → slice_get parts.log place ≡ Some row → row.standing ≡ Open index case
-    → (v : Verdict) → v ≡ verdict case → (log : List LogRow) → log ≡ slice_set parts.log place (record row { standing = decided v })
+pub decide_whole : (parts : Parts) (world : World) → world_of parts ≡ world → AreSound parts → (session place : ℕ) (row : LogRow) (index : ℕ) (case : Case) → row_under_way parts.slots session ≡ Ok place → found_at parts place ≡ Some row → row.standing ≡ Open index case
+    → (v : Verdict) → v ≡ verdict case → (log : List LogRow) → log ≡ slice_set parts.log (place - parts.base.place) (record row { standing = decided v })
     → Step world (Decide session) (Decided v) (world_of (record parts { log = log })) × AreSound (record parts { log = log })
 decide_whole parts world seen sound session place row index case found at stands v right log is =
-    let d = decide_done parts session place row index case sound found at stands log (is ∙ ap (λ w. slice_set parts.log place (record row { standing = decided w })) right) in (
+    let d = decide_done parts session place row index case sound found at stands log (is ∙ ap (λ w. slice_set parts.log (place - parts.base.place) (record row { standing = decided w })) right) in (
       subst (λ w. Step w (Decide session) (Decided v) (world_of (record parts { log = log }))) seen
           (subst (λ w. Step (world_of parts) (Decide session) (Decided w) (world_of (record parts { log = log }))) (sym right) d.step),
       d.sound,
@@ -195,30 +273,51 @@ back_guards (Writing done) = refl
 back_guards (Done number) = refl
 back_guards (Back cause) = refl
 
-back_refusal : (parts : Parts) (sound : AreSound parts) (session place : ℕ) (u : UnderWay parts session place) (row : LogRow) → slice_get parts.log place ≡ Some row
-    → refusal (world_of parts) (BackUp (suc u.slot_at)) ≡ back_fault row.standing
-back_refusal parts sound session place u row at =
-    let same : u.row ≡ row = let e : Some u.row ≡ Some row = sym (held-get (suc u.slot_at) u.hold.place parts.log u.row u.row_there) ∙ ap (slice_get parts.log) (sym u.place_is) ∙ at in cc in
-    let_through parts u.slot_at u.slot u.hold _ sound u.there u.holds
-    ∙ back_told parts u.slot_at u.hold.place u.row u.row_there ∙ back_guards u.row.standing ∙ ap (λ r. back_fault r.standing) same
+-- a row that is not found may be backed up, since it was decided so
+back_refusal : (parts : Parts) (sound : AreSound parts) (session place : ℕ) (h : HeldSlot parts session place) → refusal (world_of parts) (BackUp (suc h.slot_at)) ≡ back_fault_of (found_at parts place)
+back_refusal parts sound session place h =
+    let_through parts h.slot_at h.slot h.hold _ sound h.there h.holds ∙ at (found_at parts place) refl
+  where
+    none_told : latest (suc h.slot_at) parts.log ≡ None
+        → first_fault (refusals.not_decided (world_of parts) (suc h.slot_at) ∷ fault_if (not (refusals.row_is_back (world_of parts) (suc h.slot_at))) faults.AlreadyDecided ∷ []) ≡ None
+    none_told none =
+        ap (λ b. first_fault (fault_if b faults.NotDecided ∷ fault_if (not (refusals.row_is_back (world_of parts) (suc h.slot_at))) faults.AlreadyDecided ∷ []))
+        (latest_none parts.log (suc h.slot_at) false (λ r. is_open r.standing) none)
+        ∙ ap (λ b. first_fault (fault_if (not b) faults.AlreadyDecided ∷ [])) (latest_none parts.log (suc h.slot_at) true (λ r. is_back r.standing) none)
+
+    at_row : (row : LogRow) → found_at parts place ≡ Some row → HasRow parts.base.place parts.log (suc h.slot_at) h.hold
+        → first_fault (refusals.not_decided (world_of parts) (suc h.slot_at) ∷ fault_if (not (refusals.row_is_back (world_of parts) (suc h.slot_at))) faults.AlreadyDecided ∷ []) ≡ back_fault row.standing
+    at_row row there (inl s) =
+        let e : Some s.row ≡ Some row = sym (held-get (suc h.slot_at) s.index parts.log s.row s.there) ∙ sym (from_index parts.base.place s.index parts.log) ∙ ap (found_at parts) (sym (h.place_is ∙ s.place_is)) ∙ there in
+        let same : s.row ≡ row = cc in
+        back_told parts h.slot_at s.index s.row s.there ∙ back_guards s.row.standing ∙ ap (λ r. back_fault r.standing) same
+    at_row row there (inr g) =
+        let before : place < parts.base.place = subst (λ p. p < parts.base.place) (sym h.place_is) g.before in
+        let none : None ≡ Some row = sym (before_first parts.base.place place parts.log before) ∙ there in
+        cc
+
+    at : (o : Option LogRow) → found_at parts place ≡ o
+        → first_fault (refusals.not_decided (world_of parts) (suc h.slot_at) ∷ fault_if (not (refusals.row_is_back (world_of parts) (suc h.slot_at))) faults.AlreadyDecided ∷ []) ≡ back_fault_of o
+    at None away = none_told (gone_none parts session place sound h away)
+    at (Some row) there = at_row row there ((sound.slots_true h.slot_at h.slot h.there).row_is h.hold h.holds)
 
 pub back_exit : (parts : Parts) (world : World) → world_of parts ≡ world → AreSound parts → (session : ℕ) (reply : Result ℕ Fault) (fault : Fault) → reply ≡ Err fault → row_under_way parts.slots session ≡ Err fault → Step world (BackUp session) (backing reply) world
 back_exit parts world seen sound session reply fault is found =
     subst (λ r. Step world (BackUp session) (backing r) world) (sym is)
     (subst (λ w. Step w (BackUp session) (Refused fault) w) seen (refused fault (told parts session fault _ sound found) refl refl))
 
-pub back_kept : (parts : Parts) (world : World) → world_of parts ≡ world → AreSound parts → (session place : ℕ) (row : LogRow) (fault : Fault) → row_under_way parts.slots session ≡ Ok place → slice_get parts.log place ≡ Some row → back_fault row.standing ≡ Some fault
+pub back_kept : (parts : Parts) (world : World) → world_of parts ≡ world → AreSound parts → (session place : ℕ) (fault : Fault) → row_under_way parts.slots session ≡ Ok place → back_fault_of (found_at parts place) ≡ Some fault
     → Step world (BackUp session) (Refused fault) world
-back_kept parts world seen sound session place row fault found at why =
-    let u = found_row parts session place sound found in
+back_kept parts world seen sound session place fault found why =
+    let u = held_slot parts session place found in
     subst (λ w. Step w (BackUp session) (Refused fault) w) seen
     (subst (λ s. Step (world_of parts) (BackUp s) (Refused fault) (world_of parts)) (sym u.session_is)
-    (refused fault (back_refusal parts sound session place u row at ∙ why) refl refl))
+    (refused fault (back_refusal parts sound session place u ∙ why) refl refl))
 
 -- the place of a session whose row is under way
 pub slot_below : (parts : Parts) (session place : ℕ) → AreSound parts → row_under_way parts.slots session ≡ Ok place → session - 1 < length parts.slots
 slot_below parts session place sound found =
-    let u = found_row parts session place sound found in
+    let u = held_slot parts session place found in
     let less = slice_get-below parts.slots u.slot_at u.slot u.there in
     let is = u.session_is in
     omega arith
@@ -227,25 +326,25 @@ slot_below parts session place sound found =
 abbrev pub with_slots : Parts → List Slot → Parts
 with_slots parts slots = record parts { slots = slots; settings = record parts.settings { sessions = length slots } }
 
-pub back_whole : (parts : Parts) (world : World) → world_of parts ≡ world → AreSound parts → (session place : ℕ) (row : LogRow) → row_under_way parts.slots session ≡ Ok place → slice_get parts.log place ≡ Some row → back_fault row.standing ≡ None
+pub back_whole : (parts : Parts) (world : World) → world_of parts ≡ world → AreSound parts → (session place : ℕ) → row_under_way parts.slots session ≡ Ok place → back_fault_of (found_at parts place) ≡ None
     → (last : ℕ) → last ≡ last_of parts.slots (session - 1) → (slots : List Slot) → slots ≡ slice_set parts.slots (session - 1) (record { last = last_of parts.slots (session - 1); hold = None })
     → Step world (BackUp session) (BackedUp last) (world_of (with_slots parts slots)) × AreSound (with_slots parts slots)
-back_whole parts world seen sound session place row found at free last last_is slots is =
-    let u = found_row parts session place sound found in
+back_whole parts world seen sound session place found free last last_is slots is =
+    let u = held_slot parts session place found in
     let k = u.slot_at in
     let there : session - 1 ≡ u.slot_at = let e = u.session_is in omega arith in
     let own : last_of parts.slots (session - 1) ≡ u.slot.last = ap (last_of parts.slots) there ∙ ap (λ o. elim o as (λ _. ℕ) [ None ↦ 0 | Some slot ↦ slot.last ]) u.there in
-    let none : refusal (world_of parts) (BackUp (suc u.slot_at)) ≡ None = back_refusal parts sound session place u row at ∙ free in
+    let none : refusal (world_of parts) (BackUp (suc u.slot_at)) ≡ None = back_refusal parts sound session place u ∙ free in
     let slots_is : slice_set parts.slots u.slot_at (record { last = u.slot.last; hold = None }) ≡ slots =
     sym (is ∙ ap (λ p. slice_set parts.slots p (record { last = last_of parts.slots (session - 1); hold = None })) there
     ∙ ap (λ n. slice_set parts.slots u.slot_at (record { last = n; hold = None })) own) in
     let count : parts.settings.sessions ≡ length slots = sym (ap length (sym slots_is) ∙ length-set parts.slots u.slot_at _ ∙ sound.each_session) in
-    let moved : moves.backed_parts parts u.slot_at u.slot u.hold u.row sound u.there u.holds u.row_there u.writes_are none ≡ with_slots parts slots =
+    let moved : moves.backed_parts parts u.slot_at u.slot sound u.there none ≡ with_slots parts slots =
     ap (λ s. record parts { slots = s }) slots_is ∙ ap (λ n. record parts { slots = slots; settings = record parts.settings { sessions = n } }) count in
     let step = subst (λ p. Step (world_of parts) (BackUp (suc u.slot_at)) (BackedUp u.slot.last) (world_of p)) moved
-    (moves.backed_step parts u.slot_at u.slot u.hold u.row sound u.there u.holds u.row_there u.writes_are none) in (
+    (moves.backed_step parts u.slot_at u.slot sound u.there none) in (
       subst (λ w. Step w (BackUp session) (BackedUp last) (world_of (with_slots parts slots))) seen
           (subst (λ n. Step (world_of parts) (BackUp session) (BackedUp n) (world_of (with_slots parts slots))) (sym (last_is ∙ own))
           (subst (λ s. Step (world_of parts) (BackUp s) (BackedUp u.slot.last) (world_of (with_slots parts slots))) (sym u.session_is) step)),
-      subst AreSound moved (moves.backed_sound parts u.slot_at u.slot u.hold u.row sound u.there u.holds u.row_there u.writes_are none),
+      subst AreSound moved (moves.backed_sound parts u.slot_at u.slot sound u.there none),
     )

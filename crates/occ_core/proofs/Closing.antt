@@ -77,10 +77,12 @@ close_sound : (parts : Parts) (session number : ℕ) → AreSound parts → refu
 close_sound parts session number sound none = record {
   law = keeps_lawful (world_of parts) (Enter session (Close number)) Closed (world_of (closed_parts parts session number)) sound.law (close_step parts session number none);
   each_session = sound.each_session;
-  slots_true = λ place slot at. slot_same parts (closed_parts parts session number) refl place slot (sound.slots_true place slot at);
+  slots_true = λ place slot at. slot_same parts (closed_parts parts session number) refl refl place slot (sound.slots_true place slot at);
   window_size = sound.window_size;
   window_is = sound.window_is;
   log_room = sound.log_room;
+  place_room = sound.place_room;
+  base_begins = sound.base_begins;
   counter_room = sound.counter_room;
 }
 

@@ -1,5 +1,5 @@
 -- How many transactions are active: counted through the sessions, and in the log.
-use Rattle.std.proofs.Common.{◌≡◌, ℕ, zero, suc, ◌+◌, ◌-◌, ◌<◌, ◌≤◌, Bool, true, false, cond, List, [], ◌∷◌, ◌++◌, drop, length, Option, None, Some, refl, sym, ap, subst, ◌∙◌, arith, length-append, append_assoc, eqb-true, eq-eqb}
+use Rattle.std.proofs.Common.{◌≡◌, ℕ, zero, suc, ◌+◌, ◌-◌, ◌<◌, ◌≤◌, Bool, true, false, cond, List, [], ◌∷◌, ◌++◌, drop, length, Option, None, Some, refl, sym, ap, subst, ◌∙◌, arith, length-append, append_assoc, eqb-true, eq-eqb, inl, inr}
 use Rattle.std.specs.Prelude.{◌==◌, is_some, slice_get, if◌then◌else◌, filter, option_map}
 use Rattle.std.specs.Ordering.{nat_cmp}
 use Rattle.std.specs.FinSet as sets
@@ -15,7 +15,8 @@ use Rattle.occ_types.specs.declared.fault.Fault.TheVariants.{CounterExhausted}
 use Rattle.occ_types.specs.declared.limits.TheConstants.{MAX_COUNTER}
 use Rattle.occ_types.specs.Schema.{fault_if}
 use Rattle.occ_core.specs.Entries.{active_at, counter_fault}
-use Rattle.occ_core.specs.Parts.{Parts, world_of, AreSound}
+use Rattle.occ_core.specs.Parts.{Parts, world_of, found_at, HasRow, AreSound}
+use Rattle.occ_core.proofs.Placed.{from_index, before_first}
 use Rattle.occ_log.proofs.Holding.{is_held_at, contains-held, held_place}
 use Rattle.occ_log.proofs.Opponents.{held-get, held-latest}
 use Rattle.occ_log.proofs.Places.{slice_get-below}
@@ -208,12 +209,12 @@ counted n (row ∷ rows) one range =
     (λ no. let z : cond (is_active row.standing) 1 0 ≡ 0 = ap (λ b. cond b 1 0) no in ap (hit row.session 1 n) z ∙ hit_none row.session 1 n ∙ sym z) in
     omega arith
 
-slots_tally : (log : List LogRow) (slots : List Slot) (from : ℕ) → ((k : ℕ) (slot : Slot) → slice_get slots k ≡ Some slot → length (active_of (slice_get log) slot) ≡ act (latest (from + k) log)) → length (active_from (slice_get log) slots) ≡ tally log from (length slots)
-slots_tally log [] from each = refl
-slots_tally log (slot ∷ slots) from each =
-    let l = length-append (active_of (slice_get log) slot) (active_from (slice_get log) slots) in
+slots_tally : (log : List LogRow) (find : ℕ → Option LogRow) (slots : List Slot) (from : ℕ) → ((k : ℕ) (slot : Slot) → slice_get slots k ≡ Some slot → length (active_of find slot) ≡ act (latest (from + k) log)) → length (active_from find slots) ≡ tally log from (length slots)
+slots_tally log find [] from each = refl
+slots_tally log find (slot ∷ slots) from each =
+    let l = length-append (active_of find slot) (active_from find slots) in
     let h = each 0 slot refl ∙ ap (λ s. act (latest s log)) (let e : from + 0 ≡ from = omega arith in e) in
-    let t = slots_tally log slots (suc from) (λ k s at. each (suc k) s at ∙ ap (λ q. act (latest q log)) (let e : from + suc k ≡ suc from + k = omega arith in e)) in
+    let t = slots_tally log find slots (suc from) (λ k s at. each (suc k) s at ∙ ap (λ q. act (latest q log)) (let e : from + suc k ≡ suc from + k = omega arith in e)) in
     omega arith
 
 -- no active row is of a session that has none under way
@@ -229,9 +230,9 @@ idle slots (row ∷ rows) held s out = at (idle slots rows held.1 s out) (latest
     at again (Some later) e b f = ap act (sym e) ∙ again
 
 -- the active transactions are as many as are found through the sessions
-pub active_counted : (parts : Parts) → AreSound parts → length (active_from (slice_get parts.log) parts.slots) ≡ active_count (world_of parts)
+pub active_counted : (parts : Parts) → AreSound parts → length (active_from (found_at parts) parts.slots) ≡ active_count (world_of parts)
 active_counted parts sound =
-    slots_tally parts.log parts.slots 1 each
+    slots_tally parts.log (found_at parts) parts.slots 1 each
     ∙ counted (length parts.slots) parts.log sound.law.invariant.one_under_way (in_range parts.slots parts.log sound.law.invariant.active_held)
   where
     row_counts : (row : LogRow) → length (cond (is_active row.standing) (row.writes ∷ []) []) ≡ cond (is_active row.standing) 1 0
@@ -241,10 +242,10 @@ active_counted parts sound =
         at true = refl
         at false = refl
 
-    each : (k : ℕ) (slot : Slot) → slice_get parts.slots k ≡ Some slot → length (active_of (slice_get parts.log) slot) ≡ act (latest (1 + k) parts.log)
+    each : (k : ℕ) (slot : Slot) → slice_get parts.slots k ≡ Some slot → length (active_of (found_at parts) slot) ≡ act (latest (1 + k) parts.log)
     each k slot at = of_hold' slot.hold refl
       where
-        of_hold' : (h : Option Hold) → slot.hold ≡ h → length (elim h as (λ _. List (List Write)) [ None ↦ [] | Some hold ↦ elim (slice_get parts.log hold.place) [ None ↦ [] | Some row ↦ cond (is_active row.standing) (row.writes ∷ []) [] ] ]) ≡ act (latest (1 + k) parts.log)
+        of_hold' : (h : Option Hold) → slot.hold ≡ h → length (elim h as (λ _. List (List Write)) [ None ↦ [] | Some hold ↦ elim (found_at parts hold.place) [ None ↦ [] | Some row ↦ cond (is_active row.standing) (row.writes ∷ []) [] ] ]) ≡ act (latest (1 + k) parts.log)
         of_hold' None e =
             let out : sets.contains (held_from 1 parts.slots) (1 + k) ≡ false = contains-held 1 parts.slots k ∙ not_held parts.slots k slot at e in
             sym (idle parts.slots parts.log sound.law.invariant.active_held (1 + k) out)
@@ -253,10 +254,19 @@ active_counted parts sound =
             not_held [] k slot at e = cc
             not_held (x ∷ xs) zero slot at e = let same : x ≡ slot = cc in ap (λ (s : Slot). is_some s.hold) same ∙ ap is_some e
             not_held (x ∷ xs) (suc k) slot at e = not_held xs k slot at e
-        of_hold' (Some hold) e =
-            let r = (sound.slots_true k slot at).row_is hold e in
-            ap (λ o. length (elim o as (λ _. List (List Write)) [ None ↦ [] | Some row ↦ cond (is_active row.standing) (row.writes ∷ []) [] ])) (held-get (suc k) hold.place parts.log r.0 r.1)
-            ∙ row_counts r.0 ∙ sym (ap act (ap (λ s. latest s parts.log) (let e : 1 + k ≡ suc k = omega arith in e) ∙ held-latest (suc k) hold.place parts.log r.0 r.1))
+        of_hold' (Some hold) e = of_row' hold ((sound.slots_true k slot at).row_is hold e)
+          where
+            here : (1 + k) ≡ suc k
+            here = omega arith
+
+            of_row' : (hold : Hold) → HasRow parts.base.place parts.log (suc k) hold → length (elim (found_at parts hold.place) as (λ _. List (List Write)) [ None ↦ [] | Some row ↦ cond (is_active row.standing) (row.writes ∷ []) [] ]) ≡ act (latest (1 + k) parts.log)
+            of_row' hold (inl s) =
+                ap (λ o. length (elim o as (λ _. List (List Write)) [ None ↦ [] | Some row ↦ cond (is_active row.standing) (row.writes ∷ []) [] ]))
+                (ap (found_at parts) s.place_is ∙ from_index parts.base.place s.index parts.log ∙ held-get (suc k) s.index parts.log s.row s.there)
+                ∙ row_counts s.row ∙ sym (ap act (ap (λ s. latest s parts.log) here ∙ held-latest (suc k) s.index parts.log s.row s.there))
+            of_row' hold (inr g) =
+                ap (λ o. length (elim o as (λ _. List (List Write)) [ None ↦ [] | Some row ↦ cond (is_active row.standing) (row.writes ∷ []) [] ])) (before_first parts.base.place hold.place parts.log g.before)
+                ∙ sym (ap act (ap (λ s. latest s parts.log) here ∙ g.none))
 
 -- What a loop over the sessions keeps.
 

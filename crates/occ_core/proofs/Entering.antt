@@ -11,7 +11,7 @@ use Rattle.occ_types.specs.Schema.{Schema, fault_if, first_fault, check_key, che
 use Rattle.occ_model.specs.State.{Write, Observation}
 use Rattle.occ_model.specs.Log.{LogRow, Standing, Open, Writing, Done, Back, Case}
 use Rattle.occ_model.specs.Validity.{finished_within, finished_opponents, writes_of}
-use Rattle.occ_model.specs.World.{World, ReadPhase, phase_cmp, active_count, reads_under, is_held, low}
+use Rattle.occ_model.specs.World.{World, ReadPhase, phase_cmp, next_place, active_count, reads_under, is_held, low}
 use Rattle.std.specs.Prelude.{Result, Err}
 use Rattle.occ_model.specs.Event.{Event, Item, Reply, Enter, Request, Entered, Refused}
 use Rattle.occ_model.specs.Refusal as refusals
@@ -28,7 +28,8 @@ use Rattle.occ_log.specs.Slots.{Slot, Hold, last_of, active_from, HoldsArePlaced
 use Rattle.occ_book.specs.Undo.{ArePlaced}
 use Rattle.occ_core.specs.declared.core_entries.Entry as code_entry
 use Rattle.occ_core.specs.Replies.{entry}
-use Rattle.occ_core.specs.Parts.{Parts, world_of, low_of, AreSound}
+use Rattle.occ_core.specs.Parts.{Parts, world_of, low_of, found_at, AreSound}
+use Rattle.occ_core.proofs.Placed.{finds_standing, row_found}
 use Rattle.occ_core.proofs.Calls.{held_world}
 use Rattle.occ_log.proofs.Changes.{placed-set}
 use Rattle.occ_core.proofs.Counting.{active_counted}
@@ -116,7 +117,7 @@ busy_is parts session sound free =
     ap (λ s. fault_if (is_held (world_of parts) s) faults.SessionBusy) same
     ∙ ap (λ b. fault_if b faults.SessionBusy) (held_world parts (session - 1) found.0 found.1) ∙ sym (ap busy_fault found.1)
 
-pub counter_is : (parts : Parts) → AreSound parts → refusals.counter_exhausted (world_of parts) ≡ counter_fault parts.counter (length (active_from (slice_get parts.log) parts.slots))
+pub counter_is : (parts : Parts) → AreSound parts → refusals.counter_exhausted (world_of parts) ≡ counter_fault parts.counter (length (active_from (found_at parts) parts.slots))
 counter_is parts sound =
     ap (λ b. fault_if b faults.CounterExhausted) (
     upto MAX_COUNTER parts.counter (active_count (world_of parts)))
@@ -131,7 +132,7 @@ counter_is parts sound =
 
 pub entry_refusal : (parts : Parts) (session number start : ℕ) (writes : List Write) → AreSound parts
     → refusal (world_of parts) (Enter session (Request number start writes))
-    ≡ first_fault (turn_to_enter parts.slots parts.marks parts.phases parts.counter session number start ∷ room_to_enter parts.settings.schema parts.slots (length parts.log) (slice_get parts.log) parts.counter writes ∷ [])
+    ≡ first_fault (turn_to_enter parts.slots parts.marks parts.phases parts.counter session number start ∷ room_to_enter parts.settings.schema parts.slots (length parts.log) (found_at parts) parts.counter writes ∷ [])
 entry_refusal parts session number start writes sound =
     ap (λ o. first_fault (o ∷ refusals.session_closed w session ∷ refusals.not_due w session number ∷ refusals.session_busy w session ∷ None ∷ rest)) (session_is parts session sound)
     ∙ at (session_fault parts.slots session) refl
@@ -140,7 +141,7 @@ entry_refusal parts session number start writes sound =
     w = world_of parts
 
     room : List (Option Fault)
-    room = check_writes parts.settings.schema writes ∷ log_fault (length parts.log) ∷ counter_fault parts.counter (length (active_from (slice_get parts.log) parts.slots)) ∷ []
+    room = check_writes parts.settings.schema writes ∷ log_fault (length parts.log) ∷ counter_fault parts.counter (length (active_from (found_at parts) parts.slots)) ∷ []
 
     closed : Option Fault
     closed = closed_fault parts.marks session
@@ -194,7 +195,7 @@ low_same (row ∷ rows) counter low start less =
 
 pub open_case : (parts : Parts) (world : World) → world_of parts ≡ world → AreSound parts → (session number start : ℕ) (writes : List Write) (case : Case)
     → case.start ≡ start → case.low ≡ low world → case.reads ≡ map (λ o. o.0) (reads_of (finite.get parts.phases (session, number))) → case.writes ≡ writes
-    → case.finished ≡ drop (start - low world) parts.window → case.active ≡ active_from (slice_get parts.log) parts.slots → IsCaseOf world session number start writes case
+    → case.finished ≡ drop (start - low world) parts.window → case.active ≡ active_from (found_at parts) parts.slots → IsCaseOf world session number start writes case
 open_case parts world seen sound session number start writes case start_is low_is reads_is writes_is finished_is active_is =
     subst (λ w. IsCaseOf w session number start writes case) seen (record {
       start_is = start_is;
@@ -202,8 +203,8 @@ open_case parts world seen sound session number start writes case start_is low_i
       reads_are = reads_is ∙ ap (map (λ (o : Observation). o.0)) (sym (reads_are (finite.get parts.phases (session, number))));
       writes_are = writes_is;
       finished = λ test. ap (list_any test) (finished_is ∙ ap (λ w. drop (start - low w) parts.window) (sym seen)) ∙ in_window test;
-      active = λ test. ap (list_any test) active_is ∙ active_same parts.log parts.slots sound.law.invariant.one_under_way sound.law.invariant.active_held
-          (λ place slot hold at holds. let r = (sound.slots_true place slot at).row_is hold holds in (r.0, r.1)) test;
+      active = λ test. ap (list_any test) active_is ∙ active_same parts.log (found_at parts) parts.slots (finds_standing parts.base.place parts.log) sound.law.invariant.one_under_way sound.law.invariant.active_held
+          (λ place slot hold at holds. row_found parts.base.place parts.log (suc place) hold ((sound.slots_true place slot at).row_is hold holds)) test;
     })
   where
     in_window : (test : List Write → Bool) → list_any test (drop (start - low_of parts) parts.window) ≡ list_any test (finished_opponents parts.log parts.counter (low_of parts) start)
@@ -215,27 +216,26 @@ open_case parts world seen sound session number start writes case start_is low_i
         ∙ ap (list_any test) (sym (low_same parts.log parts.counter (low_of parts) start (omega arith))))
 
 pub open_row : (parts : Parts) (world : World) → world_of parts ≡ world → (session number start : ℕ) (reads : List Observation) → reads ≡ reads_of (finite.get parts.phases (session, number))
-    → (writes theirs : List Write) → theirs ≡ writes → (place : ℕ) → place ≡ length parts.log → (case : Case) (standing : Standing) → standing ≡ Open place case
-    → record { place = place; session = session; number = number; start = start; finish = parts.counter; reads = reads; writes = theirs; standing = standing } ≡ entering world session number start (reads_under world session number) writes (Open (length world.log) case)
+    → (writes theirs : List Write) → theirs ≡ writes → (place : ℕ) → place ≡ parts.base.place + length parts.log → (case : Case) (standing : Standing) → standing ≡ Open place case
+    → record { place = place; session = session; number = number; start = start; finish = parts.counter; reads = reads; writes = theirs; standing = standing } ≡ entering world session number start (reads_under world session number) writes (Open (next_place world) case)
 open_row parts world seen session number start reads reads_is writes theirs same place place_is case standing stands =
     ap (λ s. record { place = place; session = session; number = number; start = start; finish = parts.counter; reads = reads; writes = theirs; standing = s }) stands
     ∙ (λ i. record { place = place_is i; session = session; number = number; start = start; finish = parts.counter; reads = reads_is i; writes = same i; standing = Open (place_is i) case })
-    ∙ ap (λ r. record { place = length parts.log; session = session; number = number; start = start; finish = parts.counter; reads = r; writes = writes; standing = Open (length parts.log) case }) (sym (reads_are (finite.get parts.phases (session, number))))
-    ∙ ap (λ n. record { place = n; session = session; number = number; start = start; finish = parts.counter; reads = reads_under (world_of parts) session number; writes = writes; standing = Open (length parts.log) case }) (let e : length parts.log ≡ 0 + length parts.log = omega arith in e)
-    ∙ ap (λ w. entering w session number start (reads_under w session number) writes (Open (length w.log) case)) seen
+    ∙ ap (λ r. record { place = next_place (world_of parts); session = session; number = number; start = start; finish = parts.counter; reads = r; writes = writes; standing = Open (next_place (world_of parts)) case }) (sym (reads_are (finite.get parts.phases (session, number))))
+    ∙ ap (λ w. entering w session number start (reads_under w session number) writes (Open (next_place w) case)) seen
 
 pub entry_turned : (parts : Parts) (world : World) → world_of parts ≡ world → (session number start : ℕ) (writes : List Write) → AreSound parts → (fault : Fault) → turn_to_enter parts.slots parts.marks parts.phases parts.counter session number start ≡ Some fault
     → refusal world (Enter session (Request number start writes)) ≡ Some fault
 entry_turned parts world seen session number start writes sound fault told =
     ap (λ w. refusal w (Enter session (Request number start writes))) (sym seen) ∙ entry_refusal parts session number start writes sound
-    ∙ ap (λ o. first_fault (o ∷ room_to_enter parts.settings.schema parts.slots (length parts.log) (slice_get parts.log) parts.counter writes ∷ [])) told
+    ∙ ap (λ o. first_fault (o ∷ room_to_enter parts.settings.schema parts.slots (length parts.log) (found_at parts) parts.counter writes ∷ [])) told
 
 pub entry_roomed : (parts : Parts) (world : World) → world_of parts ≡ world → (session number start : ℕ) (writes : List Write) → AreSound parts → turn_to_enter parts.slots parts.marks parts.phases parts.counter session number start ≡ None
-    → refusal world (Enter session (Request number start writes)) ≡ room_to_enter parts.settings.schema parts.slots (length parts.log) (slice_get parts.log) parts.counter writes
+    → refusal world (Enter session (Request number start writes)) ≡ room_to_enter parts.settings.schema parts.slots (length parts.log) (found_at parts) parts.counter writes
 entry_roomed parts world seen session number start writes sound free =
     ap (λ w. refusal w (Enter session (Request number start writes))) (sym seen) ∙ entry_refusal parts session number start writes sound
-    ∙ ap (λ o. first_fault (o ∷ room_to_enter parts.settings.schema parts.slots (length parts.log) (slice_get parts.log) parts.counter writes ∷ [])) free
-    ∙ nest_last [] (check_writes parts.settings.schema writes ∷ log_fault (length parts.log) ∷ counter_fault parts.counter (length (active_from (slice_get parts.log) parts.slots)) ∷ [])
+    ∙ ap (λ o. first_fault (o ∷ room_to_enter parts.settings.schema parts.slots (length parts.log) (found_at parts) parts.counter writes ∷ [])) free
+    ∙ nest_last [] (check_writes parts.settings.schema writes ∷ log_fault (length parts.log) ∷ counter_fault parts.counter (length (active_from (found_at parts) parts.slots)) ∷ [])
 
 -- The entry.
 
@@ -263,7 +263,7 @@ free_writes w session number start writes none =
     (passed (refusals.check_writes w.settings.schema writes) _ g.1).0
 
 enter_done : (parts : Parts) (sound : AreSound parts) (session number start : ℕ) (writes : List Write) (none : refusal (world_of parts) (Enter session (Request number start writes)) ≡ None) (row : LogRow) (case : Case)
-    → IsCaseOf (world_of parts) session number start writes case → row ≡ entering (world_of parts) session number start (reads_under (world_of parts) session number) writes (Open (length parts.log) case)
+    → IsCaseOf (world_of parts) session number start writes case → row ≡ entering (world_of parts) session number start (reads_under (world_of parts) session number) writes (Open (next_place (world_of parts)) case)
     → (log : List LogRow) → log ≡ parts.log ++ row ∷ [] → (phases : FinMap phase_cmp ReadPhase) → phases ≡ finite.remove parts.phases (session, number)
     → (slots : List Slot) → slots ≡ slice_set parts.slots (session - 1) (record { last = number; hold = Some (record { place = row.place; writes = writes }) })
     → Step (world_of parts) (Enter session (Request number start writes)) (Entered row.place row.place) (world_of (taken_in parts log phases slots)) × AreSound (taken_in parts log phases slots)
@@ -278,42 +278,42 @@ enter_done parts sound session number start writes none row case is_case row_is 
   where
     at : (k : ℕ) → suc k ≡ session → (slot : Slot) → slice_get parts.slots k ≡ Some slot
         → refusal (world_of parts) (Enter session (Request number start writes)) ≡ None
-        → IsCaseOf (world_of parts) session number start writes case → row ≡ entering (world_of parts) session number start (reads_under (world_of parts) session number) writes (Open (length parts.log) case)
+        → IsCaseOf (world_of parts) session number start writes case → row ≡ entering (world_of parts) session number start (reads_under (world_of parts) session number) writes (Open (next_place (world_of parts)) case)
         → phases ≡ finite.remove parts.phases (session, number)
         → slots ≡ slice_set parts.slots k (record { last = number; hold = Some (record { place = row.place; writes = writes }) })
         → Step (world_of parts) (Enter session (Request number start writes)) (Entered row.place row.place) (world_of (taken_in parts log phases slots)) × AreSound (taken_in parts log phases slots)
     at k same slot there none is_case row_is phases_is slots_is =
         let none' = subst (λ s. refusal (world_of parts) (Enter s (Request number start writes)) ≡ None) (sym same) none in
         let case' = subst (λ s. IsCaseOf (world_of parts) s number start writes case) (sym same) is_case in
-        let place_is : row.place ≡ length parts.log = ap (λ (r : LogRow). r.place) row_is ∙ (let e : 0 + length parts.log ≡ length parts.log = omega arith in e) in
-        let row' : row ≡ moves.entered_row parts k number start writes (length parts.log) case slot sound there none' case' =
-        row_is ∙ ap (λ s. entering (world_of parts) s number start (reads_under (world_of parts) s number) writes (Open (length parts.log) case)) (sym same) in
+        let place_is : row.place ≡ next_place (world_of parts) = ap (λ (r : LogRow). r.place) row_is in
+        let row' : row ≡ moves.entered_row parts k number start writes (next_place (world_of parts)) case slot sound there none' case' =
+        row_is ∙ ap (λ s. entering (world_of parts) s number start (reads_under (world_of parts) s number) writes (Open (next_place (world_of parts)) case)) (sym same) in
         let log' = sym (log_is ∙ ap (λ r. parts.log ++ r ∷ []) row') in
         let phases' = sym (phases_is ∙ ap (λ s. finite.remove parts.phases (s, number)) (sym same)) in
-        let slots' : slice_set parts.slots k (record { last = number; hold = Some (record { place = length parts.log; writes = writes }) }) ≡ slots =
+        let slots' : slice_set parts.slots k (record { last = number; hold = Some (record { place = next_place (world_of parts); writes = writes }) }) ≡ slots =
         sym (slots_is ∙ ap (λ p. slice_set parts.slots k (record { last = number; hold = Some (record { place = p; writes = writes }) })) place_is) in
         let count : parts.settings.sessions ≡ length slots = sym (ap length (sym slots') ∙ length-set parts.slots k _ ∙ sound.each_session) in
-        let moved : moves.entered_parts parts k number start writes (length parts.log) case slot sound there none' case' ≡ taken_in parts log phases slots =
-        ap (λ l. record (moves.entered_parts parts k number start writes (length parts.log) case slot sound there none' case') { log = l }) log'
-        ∙ ap (λ p. record (moves.entered_parts parts k number start writes (length parts.log) case slot sound there none' case') { log = log; phases = p }) phases'
+        let moved : moves.entered_parts parts k number start writes (next_place (world_of parts)) case slot sound there none' case' ≡ taken_in parts log phases slots =
+        ap (λ l. record (moves.entered_parts parts k number start writes (next_place (world_of parts)) case slot sound there none' case') { log = l }) log'
+        ∙ ap (λ p. record (moves.entered_parts parts k number start writes (next_place (world_of parts)) case slot sound there none' case') { log = log; phases = p }) phases'
         ∙ ap (λ s. record parts { log = log; phases = phases; slots = s }) slots'
         ∙ ap (λ n. record (taken_in parts log phases slots) { settings = record parts.settings { sessions = n } }) count in
-        let replied : Entered (0 + length parts.log) (length parts.log) ≡ Entered row.place row.place =
-        ap (λ n. Entered n (length parts.log)) (let e : 0 + length parts.log ≡ length parts.log = omega arith in e) ∙ sym (λ i. Entered (place_is i) (place_is i)) in
-        let step = moves.entered_step parts k number start writes (length parts.log) case slot sound there none' case' in (
+        let next : ℕ = next_place (world_of parts) in
+        let replied : Entered next next ≡ Entered row.place row.place = sym (λ i. Entered (place_is i) (place_is i)) in
+        let step = moves.entered_step parts k number start writes (next_place (world_of parts)) case slot sound there none' case' in (
           subst (λ r. Step (world_of parts) (Enter session (Request number start writes)) r (world_of (taken_in parts log phases slots))) replied
-              (subst (λ s. Step (world_of parts) (Enter s (Request number start writes)) (Entered (0 + length parts.log) (length parts.log)) (world_of (taken_in parts log phases slots))) same
-              (subst (λ p. Step (world_of parts) (Enter (suc k) (Request number start writes)) (Entered (0 + length parts.log) (length parts.log)) (world_of p)) moved step)),
-          subst AreSound moved (moves.entered_sound parts k number start writes (length parts.log) case slot sound there none' case'),
+              (subst (λ s. Step (world_of parts) (Enter s (Request number start writes)) (Entered next next) (world_of (taken_in parts log phases slots))) same
+              (subst (λ p. Step (world_of parts) (Enter (suc k) (Request number start writes)) (Entered next next) (world_of p)) moved step)),
+          subst AreSound moved (moves.entered_sound parts k number start writes (next_place (world_of parts)) case slot sound there none' case'),
         )
 
 pub enter_whole : (parts : Parts) (world : World) → world_of parts ≡ world → AreSound parts → (session number start : ℕ) (writes : List Write) → refusal world (Enter session (Request number start writes)) ≡ None → (row : LogRow) (case : Case)
-    → IsCaseOf world session number start writes case → row ≡ entering world session number start (reads_under world session number) writes (Open (length world.log) case)
+    → IsCaseOf world session number start writes case → row ≡ entering world session number start (reads_under world session number) writes (Open (next_place world) case)
     → (log : List LogRow) → log ≡ parts.log ++ row ∷ [] → (phases : FinMap phase_cmp ReadPhase) → phases ≡ finite.remove parts.phases (session, number)
     → (slots : List Slot) → slots ≡ slice_set parts.slots (session - 1) (record { last = number; hold = Some (record { place = row.place; writes = writes }) })
     → Step world (Enter session (Request number start writes)) (Entered row.place row.place) (world_of (taken_in parts log phases slots)) × AreSound (taken_in parts log phases slots)
 enter_whole parts world seen sound session number start writes none row case is_case row_is log log_is phases phases_is slots slots_is =
-    subst (λ w. refusal w (Enter session (Request number start writes)) ≡ None → IsCaseOf w session number start writes case → row ≡ entering w session number start (reads_under w session number) writes (Open (length w.log) case)
+    subst (λ w. refusal w (Enter session (Request number start writes)) ≡ None → IsCaseOf w session number start writes case → row ≡ entering w session number start (reads_under w session number) writes (Open (next_place w) case)
     → Step w (Enter session (Request number start writes)) (Entered row.place row.place) (world_of (taken_in parts log phases slots)) × AreSound (taken_in parts log phases slots)) seen
     (λ n c r. enter_done parts sound session number start writes n row case c r log log_is phases phases_is slots slots_is)
     none is_case row_is
@@ -344,15 +344,13 @@ sound_kept parts sound log still phases same =
 
 -- the place of the row of an entry
 pub entering_place : (parts : Parts) (world : World) → world_of parts ≡ world → (session number start : ℕ) (reads : List Observation) (writes : List Write) (standing : Standing)
-    → (entering world session number start reads writes standing).place ≡ length parts.log
-entering_place parts world seen session number start reads writes standing =
-    let first : 0 + length parts.log ≡ length parts.log = omega arith in
-    subst (λ w. (entering w session number start reads writes standing).place ≡ length parts.log) seen first
+    → (entering world session number start reads writes standing).place ≡ parts.base.place + length parts.log
+entering_place parts world seen session number start reads writes standing = ap next_place (sym seen)
 
 -- the row of an entry, open, with its case
 abbrev pub IsOpenRow : World → ℕ → ℕ → ℕ → List Write → LogRow → Type 0
 IsOpenRow world session number start writes row =
-    (case : Case) × IsCaseOf world session number start writes case × (row ≡ entering world session number start (reads_under world session number) writes (Open (length world.log) case))
+    (case : Case) × IsCaseOf world session number start writes case × (row ≡ entering world session number start (reads_under world session number) writes (Open (next_place world) case))
 
 -- it is the same where the read phases are, and the writes
 pub open_row_kept : (parts : Parts) (world : World) → world_of parts ≡ world → (session number start : ℕ) (writes theirs : List Write) → theirs ≡ writes → (phases : FinMap phase_cmp ReadPhase) → phases ≡ parts.phases → (row : LogRow)

@@ -14,3 +14,5 @@ pub mod AtOnce
 pub mod Staying
 pub mod SerialEnding
 pub mod RunsAlone
+pub mod Placed
+pub mod Checkpoints

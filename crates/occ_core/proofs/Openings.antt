@@ -7,7 +7,8 @@ use Rattle.std.specs.Ordering.{nat_cmp}
 use Rattle.occ_types.specs.Schema.{Schema}
 use Rattle.std.specs.FinMap.{FinMap}
 use Rattle.occ_model.specs.Log.{LogRow}
-use Rattle.occ_model.specs.World.{ReadPhase, phase_cmp, opened}
+use Rattle.occ_model.specs.World.{ReadPhase, phase_cmp, empty_base, opened}
+use Rattle.occ_book.specs.Base.{BaseContent}
 use Rattle.occ_book.specs.Kept.{Content}
 use Rattle.occ_log.specs.Window.{Window}
 use Rattle.occ_model.specs.Content.{IsLawful}
@@ -36,6 +37,7 @@ drop-nothing (suc n) = refl
 abbrev pub opened_parts : Schema → ℕ → ℕ → Parts
 opened_parts schema sessions keep = record {
   settings = record { schema = schema; sessions = length (idle_slots sessions); keep = keep };
+  base = empty_base;
   log = [];
   table = finite.empty;
   counter = 0;
@@ -62,12 +64,15 @@ opened_sound schema sessions keep = record {
   window_size = omega arith;
   window_is = λ start above test. ap (Rattle.std.specs.List.list_any test) (drop-nothing (start - Rattle.occ_core.specs.Parts.low_of (opened_parts schema sessions keep)));
   log_room = omega arith;
+  place_room = omega arith;
+  base_begins = λ _. refl;
   counter_room = omega arith;
 }
 
 -- the fields of a core that was just opened are these parts
 pub opened_is : (schema : Schema) (sessions keep : ℕ) (tables : Content) (count : ℕ) → tables ≡ record { tables = count; state = finite.empty } → (slots : List Slot) → slots ≡ idle_slots sessions
     → (window : Window) → window ≡ record { keep = keep; sets = [] } → (log : List LogRow) → log ≡ [] → (phases : FinMap phase_cmp ReadPhase) → phases ≡ finite.empty → (marks : FinMap nat_cmp ℕ) → marks ≡ finite.empty
-    → ◌≡◌ {A = Parts} (record { settings = record { schema = schema; sessions = length slots; keep = window.keep }; log = log; table = tables.state; counter = 0; marks = marks; phases = phases; slots = slots; window = window.sets }) (opened_parts schema sessions keep)
-opened_is schema sessions keep tables count t slots s window w log l phases p marks m =
-    λ i. record { settings = record { schema = schema; sessions = length (s i); keep = (w i).keep }; log = l i; table = (t i).state; counter = 0; marks = m i; phases = p i; slots = s i; window = (w i).sets }
+    → (base : BaseContent) → base ≡ record { tables = count; sessions = sessions; base = empty_base }
+    → ◌≡◌ {A = Parts} (record { settings = record { schema = schema; sessions = length slots; keep = window.keep }; base = base.base; log = log; table = tables.state; counter = 0; marks = marks; phases = phases; slots = slots; window = window.sets }) (opened_parts schema sessions keep)
+opened_is schema sessions keep tables count t slots s window w log l phases p marks m base b =
+    λ i. record { settings = record { schema = schema; sessions = length (s i); keep = (w i).keep }; base = (b i).base; log = l i; table = (t i).state; counter = 0; marks = m i; phases = p i; slots = s i; window = (w i).sets }

@@ -39,10 +39,12 @@ forget_moves : (old : Parts) (session number : ℕ) → AreSound old → refusal
 forget_moves old session number sound none = record {
   law = keeps_lawful (world_of old) (Forget session number) (Forgotten (finite.contains_key old.phases (session, number))) (world_of (record old { phases = finite.remove old.phases (session, number) })) sound.law (taken none (refl, refl));
   each_session = sound.each_session;
-  slots_true = λ place slot at. slot_same old (record old { phases = finite.remove old.phases (session, number) }) refl place slot (sound.slots_true place slot at);
+  slots_true = λ place slot at. slot_same old (record old { phases = finite.remove old.phases (session, number) }) refl refl place slot (sound.slots_true place slot at);
   window_size = sound.window_size;
   window_is = sound.window_is;
   log_room = sound.log_room;
+  place_room = sound.place_room;
+  base_begins = sound.base_begins;
   counter_room = sound.counter_room;
 }
 

@@ -76,6 +76,7 @@ module _ {Z : Type 0} where
   put_off old (steps.BackUp session) reply new off = absurd off
   put_off old (steps.SerialEnd session item) reply new off = absurd off
   put_off old (steps.RunAlone session number operations) reply new off = absurd off
+  put_off old steps.Checkpoint reply new off = absurd off
   put_off old (steps.WriteOne session) (replies.Found row) new off = absurd off
   put_off old (steps.WriteOne session) (replies.Rows rows) new off = absurd off
   put_off old (steps.WriteOne session) (replies.Forgotten there) new off = absurd off
@@ -88,6 +89,7 @@ module _ {Z : Type 0} where
   put_off old (steps.WriteOne session) (replies.BackedUp number) new off = absurd off
   put_off old (steps.WriteOne session) (replies.EndedBack cause) new off = absurd off
   put_off old (steps.WriteOne session) (replies.RanAlone number answers) new off = absurd off
+  put_off old (steps.WriteOne session) (replies.Folded count) new off = absurd off
   put_off old (steps.WriteOne session) (replies.Refused fault) new off = off.3
   put_off old (steps.WriteOne session) (replies.RefusedItem refused) new off = absurd off
 

@@ -28,7 +28,7 @@ use Rattle.occ_model.proofs.InSchema.{keeps_lawful}
 use Rattle.occ_model.proofs.Tests as tests
 use Rattle.occ_core.specs.AtOnce.{committed, MayEnd, quiet_fault}
 use Rattle.occ_core.specs.Entries.{spare_fault, turn_to_close, log_fault, counter_fault}
-use Rattle.occ_core.specs.Parts.{Parts, world_of, AreSound}
+use Rattle.occ_core.specs.Parts.{Parts, world_of, found_at, AreSound}
 use Rattle.occ_core.specs.RunningAlone.{read_open_fault, count_fault, turn_to_run, room_to_run}
 use Rattle.occ_log.specs.Slots.{active_from}
 use Rattle.occ_book.specs.Undo.{ArePlaced}
@@ -42,12 +42,12 @@ use Rattle.occ_core.proofs.SerialEnding.{quiet_is}
 
 alone_refusal : (parts : Parts) (session number : ℕ) (operations : List Operation) → AreSound parts
     → refusal_of_alone (world_of parts) session number operations
-    ≡ first_fault (turn_to_run parts.slots parts.marks (slice_get parts.log) parts.phases session number ∷ room_to_run parts.settings.schema parts.slots (length parts.log) (slice_get parts.log) parts.counter operations ∷ [])
+    ≡ first_fault (turn_to_run parts.slots parts.marks (found_at parts) parts.phases session number ∷ room_to_run parts.settings.schema parts.slots (length parts.log) (found_at parts) parts.counter operations ∷ [])
 alone_refusal parts session number operations sound =
     sym (nested (refusals.no_session w session) (refusals.session_closed w session) (refusals.not_due w session number) (refusals.session_busy w session) (refusals.read_open w session number ∷ store_busy w ∷ others (refusals.counter_exhausted w)))
     ∙ ap (λ o. first_fault (o ∷ refusals.read_open w session number ∷ store_busy w ∷ others (refusals.counter_exhausted w))) (close_refusal parts session number sound)
     ∙ ap (λ o. first_fault (turn_to_close parts.slots parts.marks session number ∷ refusals.read_open w session number ∷ o ∷ others (refusals.counter_exhausted w))) (quiet_is parts sound)
-    ∙ ap (λ o. first_fault (turn_to_close parts.slots parts.marks session number ∷ refusals.read_open w session number ∷ quiet_fault (length (active_from (slice_get parts.log) parts.slots)) ∷ others o)) (counter_is parts sound)
+    ∙ ap (λ o. first_fault (turn_to_close parts.slots parts.marks session number ∷ refusals.read_open w session number ∷ quiet_fault (length (active_from (found_at parts) parts.slots)) ∷ others o)) (counter_is parts sound)
     ∙ sym (nest_last turn room) ∙ sym (nest turn (first_fault room ∷ []))
   where
     w : World
@@ -57,29 +57,29 @@ alone_refusal parts session number operations sound =
     others o = spare_fault number ∷ count_fault (length operations) ∷ check_operations parts.settings.schema operations ∷ log_fault (length parts.log) ∷ o ∷ []
 
     turn : List (Option Fault)
-    turn = turn_to_close parts.slots parts.marks session number ∷ read_open_fault parts.phases session number ∷ quiet_fault (length (active_from (slice_get parts.log) parts.slots)) ∷ spare_fault number ∷ []
+    turn = turn_to_close parts.slots parts.marks session number ∷ read_open_fault parts.phases session number ∷ quiet_fault (length (active_from (found_at parts) parts.slots)) ∷ spare_fault number ∷ []
 
     room : List (Option Fault)
-    room = count_fault (length operations) ∷ check_operations parts.settings.schema operations ∷ log_fault (length parts.log) ∷ counter_fault parts.counter (length (active_from (slice_get parts.log) parts.slots)) ∷ []
+    room = count_fault (length operations) ∷ check_operations parts.settings.schema operations ∷ log_fault (length parts.log) ∷ counter_fault parts.counter (length (active_from (found_at parts) parts.slots)) ∷ []
 
 pub alone_turned : (parts : Parts) (world : World) → world_of parts ≡ world → (session number : ℕ) (operations : List Operation) → AreSound parts → (fault : Fault)
-    → turn_to_run parts.slots parts.marks (slice_get parts.log) parts.phases session number ≡ Some fault
+    → turn_to_run parts.slots parts.marks (found_at parts) parts.phases session number ≡ Some fault
     → refusal world (RunAlone session number operations) ≡ Some fault
 alone_turned parts world seen session number operations sound fault told =
     ap (λ w. refusal w (RunAlone session number operations)) (sym seen) ∙ alone_refusal parts session number operations sound
-    ∙ ap (λ o. first_fault (o ∷ room_to_run parts.settings.schema parts.slots (length parts.log) (slice_get parts.log) parts.counter operations ∷ [])) told
+    ∙ ap (λ o. first_fault (o ∷ room_to_run parts.settings.schema parts.slots (length parts.log) (found_at parts) parts.counter operations ∷ [])) told
 
 pub alone_roomed : (parts : Parts) (world : World) → world_of parts ≡ world → (session number : ℕ) (operations : List Operation) → AreSound parts
-    → turn_to_run parts.slots parts.marks (slice_get parts.log) parts.phases session number ≡ None
-    → refusal world (RunAlone session number operations) ≡ room_to_run parts.settings.schema parts.slots (length parts.log) (slice_get parts.log) parts.counter operations
+    → turn_to_run parts.slots parts.marks (found_at parts) parts.phases session number ≡ None
+    → refusal world (RunAlone session number operations) ≡ room_to_run parts.settings.schema parts.slots (length parts.log) (found_at parts) parts.counter operations
 alone_roomed parts world seen session number operations sound free =
     ap (λ w. refusal w (RunAlone session number operations)) (sym seen) ∙ alone_refusal parts session number operations sound
-    ∙ ap (λ o. first_fault (o ∷ room_to_run parts.settings.schema parts.slots (length parts.log) (slice_get parts.log) parts.counter operations ∷ [])) free
-    ∙ nest_last [] (count_fault (length operations) ∷ check_operations parts.settings.schema operations ∷ log_fault (length parts.log) ∷ counter_fault parts.counter (length (active_from (slice_get parts.log) parts.slots)) ∷ [])
+    ∙ ap (λ o. first_fault (o ∷ room_to_run parts.settings.schema parts.slots (length parts.log) (found_at parts) parts.counter operations ∷ [])) free
+    ∙ nest_last [] (count_fault (length operations) ∷ check_operations parts.settings.schema operations ∷ log_fault (length parts.log) ∷ counter_fault parts.counter (length (active_from (found_at parts) parts.slots)) ∷ [])
 
 -- Its writes are of tables that there are.
 
-key_placed : (schema : Schema) (table : ℕ) (key : Key) → check_key schema table key ≡ None → table < length schema
+pub key_placed : (schema : Schema) (table : ℕ) (key : Key) → check_key schema table key ≡ None → table < length schema
 key_placed schema table key e = at (slice_get schema table) refl e
   where
     at : (o : Option Table) → slice_get schema table ≡ o → (elim o as (λ _. Option Fault) [ None ↦ Some faults.NoTable | Some t ↦ check_key_in t key ]) ≡ None → table < length schema

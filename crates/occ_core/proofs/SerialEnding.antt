@@ -26,7 +26,7 @@ use Rattle.occ_model.proofs.Steps.{passed, admitted}
 use Rattle.occ_model.proofs.InSchema.{keeps_lawful}
 use Rattle.occ_core.specs.AtOnce.{committed, backed, MayEnd, quiet_fault, turn_to_end, ending}
 use Rattle.occ_core.specs.Entries.{spare_fault, turn_to_close, log_fault, counter_fault, room_to_enter}
-use Rattle.occ_core.specs.Parts.{Parts, world_of, AreSound}
+use Rattle.occ_core.specs.Parts.{Parts, world_of, found_at, AreSound}
 use Rattle.occ_core.specs.Reads.{start_fault}
 use Rattle.occ_log.specs.Slots.{active_from}
 use Rattle.occ_book.specs.Undo.{ArePlaced}
@@ -47,18 +47,18 @@ any_counted (row ∷ rows) = at (is_active row.standing) (any_counted rows)
     at false rest = rest
 
 -- no transaction is active where none is found through the sessions
-pub quiet_is : (parts : Parts) → AreSound parts → store_busy (world_of parts) ≡ quiet_fault (length (active_from (slice_get parts.log) parts.slots))
+pub quiet_is : (parts : Parts) → AreSound parts → store_busy (world_of parts) ≡ quiet_fault (length (active_from (found_at parts) parts.slots))
 quiet_is parts sound =
     ap (λ b. fault_if b faults.StoreBusy) (any_counted parts.log) ∙ sym (ap quiet_fault (active_counted parts sound))
 
 serial_refusal : (parts : Parts) (session number start : ℕ) (writes : List Write) → AreSound parts
     → refusal (world_of parts) (SerialEnd session (Request number start writes))
-    ≡ first_fault (turn_to_end parts.slots parts.marks (slice_get parts.log) parts.phases parts.counter session number start ∷ room_to_enter parts.settings.schema parts.slots (length parts.log) (slice_get parts.log) parts.counter writes ∷ [])
+    ≡ first_fault (turn_to_end parts.slots parts.marks (found_at parts) parts.phases parts.counter session number start ∷ room_to_enter parts.settings.schema parts.slots (length parts.log) (found_at parts) parts.counter writes ∷ [])
 serial_refusal parts session number start writes sound =
     sym (nested (refusals.no_session w session) (refusals.session_closed w session) (refusals.not_due w session number) (refusals.session_busy w session) (store_busy w ∷ others (refusals.counter_exhausted w)))
     ∙ ap (λ o. first_fault (o ∷ store_busy w ∷ others (refusals.counter_exhausted w))) (close_refusal parts session number sound)
     ∙ ap (λ o. first_fault (turn_to_close parts.slots parts.marks session number ∷ o ∷ others (refusals.counter_exhausted w))) (quiet_is parts sound)
-    ∙ ap (λ o. first_fault (turn_to_close parts.slots parts.marks session number ∷ quiet_fault (length (active_from (slice_get parts.log) parts.slots)) ∷ others o)) (counter_is parts sound)
+    ∙ ap (λ o. first_fault (turn_to_close parts.slots parts.marks session number ∷ quiet_fault (length (active_from (found_at parts) parts.slots)) ∷ others o)) (counter_is parts sound)
     ∙ sym (nest_last turn room) ∙ sym (nest turn (first_fault room ∷ []))
   where
     w : World
@@ -68,31 +68,31 @@ serial_refusal parts session number start writes sound =
     others o = spare_fault number ∷ start_fault parts.phases parts.counter session number start ∷ check_writes parts.settings.schema writes ∷ log_fault (length parts.log) ∷ o ∷ []
 
     turn : List (Option Fault)
-    turn = turn_to_close parts.slots parts.marks session number ∷ quiet_fault (length (active_from (slice_get parts.log) parts.slots)) ∷ spare_fault number ∷ start_fault parts.phases parts.counter session number start ∷ []
+    turn = turn_to_close parts.slots parts.marks session number ∷ quiet_fault (length (active_from (found_at parts) parts.slots)) ∷ spare_fault number ∷ start_fault parts.phases parts.counter session number start ∷ []
 
     room : List (Option Fault)
-    room = check_writes parts.settings.schema writes ∷ log_fault (length parts.log) ∷ counter_fault parts.counter (length (active_from (slice_get parts.log) parts.slots)) ∷ []
+    room = check_writes parts.settings.schema writes ∷ log_fault (length parts.log) ∷ counter_fault parts.counter (length (active_from (found_at parts) parts.slots)) ∷ []
 
 pub serial_turned : (parts : Parts) (world : World) → world_of parts ≡ world → (session number start : ℕ) (writes : List Write) → AreSound parts → (fault : Fault)
-    → turn_to_end parts.slots parts.marks (slice_get parts.log) parts.phases parts.counter session number start ≡ Some fault
+    → turn_to_end parts.slots parts.marks (found_at parts) parts.phases parts.counter session number start ≡ Some fault
     → refusal world (SerialEnd session (Request number start writes)) ≡ Some fault
 serial_turned parts world seen session number start writes sound fault told =
     ap (λ w. refusal w (SerialEnd session (Request number start writes))) (sym seen) ∙ serial_refusal parts session number start writes sound
-    ∙ ap (λ o. first_fault (o ∷ room_to_enter parts.settings.schema parts.slots (length parts.log) (slice_get parts.log) parts.counter writes ∷ [])) told
+    ∙ ap (λ o. first_fault (o ∷ room_to_enter parts.settings.schema parts.slots (length parts.log) (found_at parts) parts.counter writes ∷ [])) told
 
 pub serial_roomed : (parts : Parts) (world : World) → world_of parts ≡ world → (session number start : ℕ) (writes : List Write) → AreSound parts
-    → turn_to_end parts.slots parts.marks (slice_get parts.log) parts.phases parts.counter session number start ≡ None
-    → refusal world (SerialEnd session (Request number start writes)) ≡ room_to_enter parts.settings.schema parts.slots (length parts.log) (slice_get parts.log) parts.counter writes
+    → turn_to_end parts.slots parts.marks (found_at parts) parts.phases parts.counter session number start ≡ None
+    → refusal world (SerialEnd session (Request number start writes)) ≡ room_to_enter parts.settings.schema parts.slots (length parts.log) (found_at parts) parts.counter writes
 serial_roomed parts world seen session number start writes sound free =
     ap (λ w. refusal w (SerialEnd session (Request number start writes))) (sym seen) ∙ serial_refusal parts session number start writes sound
-    ∙ ap (λ o. first_fault (o ∷ room_to_enter parts.settings.schema parts.slots (length parts.log) (slice_get parts.log) parts.counter writes ∷ [])) free
-    ∙ nest_last [] (check_writes parts.settings.schema writes ∷ log_fault (length parts.log) ∷ counter_fault parts.counter (length (active_from (slice_get parts.log) parts.slots)) ∷ [])
+    ∙ ap (λ o. first_fault (o ∷ room_to_enter parts.settings.schema parts.slots (length parts.log) (found_at parts) parts.counter writes ∷ [])) free
+    ∙ nest_last [] (check_writes parts.settings.schema writes ∷ log_fault (length parts.log) ∷ counter_fault parts.counter (length (active_from (found_at parts) parts.slots)) ∷ [])
 
 -- What it is tested against.
 
-none_active : (parts : Parts) → AreSound parts → store_busy (world_of parts) ≡ None → [] ≡ active_from (slice_get parts.log) parts.slots
+none_active : (parts : Parts) → AreSound parts → store_busy (world_of parts) ≡ None → [] ≡ active_from (found_at parts) parts.slots
 none_active parts sound quiet =
-    empty (active_from (slice_get parts.log) parts.slots) (ltb-false 0 (length (active_from (slice_get parts.log) parts.slots)) (not_refused _ faults.StoreBusy (sym (quiet_is parts sound) ∙ quiet)))
+    empty (active_from (found_at parts) parts.slots) (ltb-false 0 (length (active_from (found_at parts) parts.slots)) (not_refused _ faults.StoreBusy (sym (quiet_is parts sound) ∙ quiet)))
   where
     empty : (l : List (List Write)) → length l ≤ 0 → [] ≡ l
     empty [] up = refl

@@ -8,8 +8,7 @@ use Rattle.occ_model.specs.Log.{remaining, rest}
 use Rattle.occ_model.specs.World.{World}
 use Rattle.occ_model.specs.Event.{Reply, WriteOne, Refused, Wrote, NoMore}
 use Rattle.occ_model.specs.Step.{Step, refused, starved, taken}
-use Rattle.occ_log.specs.Slots.{written_in}
-use Rattle.occ_core.specs.Replies.{single, first_object, next_object, writing}
+use Rattle.occ_core.specs.Replies.{single, written_in, first_object, next_object, writing}
 use Rattle.occ_core.specs.declared.core_turns.SingleWrite.{SingleWrite}
 use Rattle.occ_core.specs.declared.core_turns.SingleWrite.TheVariants as writes
 use Rattle.occ_core.proofs.Nexts.{first_dropped}
@@ -36,7 +35,7 @@ taken_is old session o new (taken free t) =
     ∙ ap of_object (sym (ap (λ l. elim l as (λ _. Option Object) [ None ↦ None | Some row ↦ first_object (rest row) ]) t.2
     ∙ ap (λ s. first_object (remaining t.0.writes s)) t.3 ∙ first_dropped t.1 t.0.writes))
 
-pub single_is : (old : World) (session : ℕ) (called : Result SingleWrite Fault) (new : World) → Step old (WriteOne session) (single new.log called) new → single new.log called ≡ writing (next_object old session) called
+pub single_is : (old : World) (session : ℕ) (called : Result SingleWrite Fault) (new : World) → Step old (WriteOne session) (single new called) new → single new called ≡ writing (next_object old session) called
 single_is old session (Err fault) new stepped = refl
 single_is old session (Ok writes.NoMore) new stepped = taken_is old session None new stepped ∙ same (next_object old session)
   where
@@ -44,7 +43,7 @@ single_is old session (Ok writes.NoMore) new stepped = taken_is old session None
     same None = refl
     same (Some object) = refl
 single_is old session (Ok (writes.Wrote row write)) new stepped =
-    go (written_in new.log row write) stepped
+    go (written_in new row write) stepped
   where
     same : (o : Option Object) → of_object o ≡ writing o (Ok (writes.Wrote row write))
     same None = refl

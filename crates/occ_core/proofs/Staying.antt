@@ -5,6 +5,8 @@ use Rattle.std.specs.Result.{OnErr}
 use Rattle.occ_model.specs.State.{State, Write}
 use Rattle.occ_model.specs.Log.{LogRow}
 use Rattle.occ_log.specs.Logs.{Kept, IsLogOf}
+use Rattle.occ_book.specs.Base.{BaseContent}
+use Rattle.occ_core.specs.Core.{IsBaseOf}
 use Rattle.occ_core.specs.Parts.{Parts}
 use Rattle.occ_log.specs.Slots.{Slot, HoldsArePlaced}
 use Rattle.occ_book.specs.Undo.{ArePlaced}
@@ -26,6 +28,9 @@ log_kept log after slots next place first slot begins knows is match = record {
   begins = begins ∙ match.begins;
   knows = knows ∙ match.knows ∙ sym (ap length is ∙ length-set slots place slot);
 }
+
+pub base_kept : (base : BaseContent) (tables : ℕ) (slots next : List Slot) (place : ℕ) (slot : Slot) → next ≡ slice_set slots place slot → IsBaseOf base tables (length slots) → IsBaseOf base tables (length next)
+base_kept base tables slots next place slot is match = record { holds = match.holds; knows = match.knows ∙ sym (ap length is ∙ length-set slots place slot) }
 
 pub still_placed : (tables : ℕ) (slots next : List Slot) (place number : ℕ) → next ≡ slice_set slots place (record { last = number; hold = None }) → HoldsArePlaced tables slots → HoldsArePlaced tables next
 still_placed tables slots next place number is placed = subst (HoldsArePlaced tables) (sym is) (placed-free tables slots place number placed)

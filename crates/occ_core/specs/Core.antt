@@ -1,8 +1,9 @@
 -- What clauses see of a core, what a call does to it, and what holds of its parts.
-use Rattle.std.specs.Prelude.{◌≡◌, length}
+use Rattle.std.specs.Prelude.{◌≡◌, ℕ, length}
 use Rattle.occ_model.specs.World.{World}
 use Rattle.occ_model.specs.Event.{Event, Reply}
 use Rattle.occ_model.specs.Step.{Step}
+use Rattle.occ_book.specs.Base.{BaseContent}
 use Rattle.occ_log.specs.Slots.{HoldsArePlaced}
 use Rattle.occ_log.specs.Logs.{IsLogOf}
 use Rattle.occ_core.specs.Parts.{Parts, world_of, AreSound}
@@ -16,11 +17,17 @@ pub record Seen : Type 0 where
 abbrev pub Transition : Seen → Event → Reply → Seen → Type 0
 Transition old event reply new = Step old.world event reply new.world
 
+-- the base has room for so many tables and sessions
+pub record IsBaseOf (content : BaseContent) (tables sessions : ℕ) : Type 0 where
+  pub holds : content.tables ≡ tables
+  pub knows : content.sessions ≡ sessions
+
 module _ {Z : Type 0} where
   -- the parts of a core, as plain data
   abbrev pub parts_of : Inside Z → Parts
   parts_of c = record {
     settings = record { schema = c.schema; sessions = length c.sessions; keep = c.window.keep };
+    base = c.base.base;
     log = c.log.rows;
     table = c.tables.state;
     counter = c.counter;
@@ -38,5 +45,6 @@ module _ {Z : Type 0} where
     pub sound : AreSound (parts_of c)
     pub tables_match : c.tables.tables ≡ length c.schema
     pub marks_match : c.marks.sessions ≡ length c.sessions
-    pub log_match : IsLogOf c.log (world_of (parts_of c)).base.place (length c.sessions)
+    pub log_match : IsLogOf c.log c.base.base.place (length c.sessions)
+    pub base_match : IsBaseOf c.base (length c.schema) (length c.sessions)
     pub placed : HoldsArePlaced c.tables.tables c.sessions

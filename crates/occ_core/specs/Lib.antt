@@ -6,3 +6,4 @@ pub mod Entries
 pub mod AtOnce
 pub mod RunningAlone
 pub mod Runs
+pub mod Folding

@@ -1,17 +1,23 @@
 -- What the parts of a core say together: a world of the model, and what ties the parts to it.
-use Rattle.std.specs.Prelude.{◌≡◌, ℕ, suc, ◌+◌, ◌-◌, ◌≤◌, List, length, drop, Some, slice_get}
+use Rattle.std.specs.Prelude.{◌≡◌, ◌⊎◌, ℕ, suc, ◌+◌, ◌-◌, ◌<◌, ◌≤◌, List, length, drop, Option, None, Some, if◌then◌else◌, nat_lt, slice_get}
 use Rattle.std.specs.FinMap.{FinMap}
 use Rattle.std.specs.Ordering.{nat_cmp}
 use Rattle.occ_types.specs.declared.limits.TheConstants.{MAX_LOG_ROWS, MAX_COUNTER, MAX_NUMBER}
 use Rattle.occ_model.specs.State.{State, Write}
-use Rattle.occ_model.specs.Log.{LogRow}
+use Rattle.occ_model.specs.Log.{LogRow, Base}
 use Rattle.occ_model.specs.Validity.{AreSame, finished_opponents}
-use Rattle.occ_model.specs.World.{Settings, World, ReadPhase, phase_cmp, empty_base, low, last_entered, active_count}
+use Rattle.occ_model.specs.World.{Settings, World, ReadPhase, phase_cmp, empty_base, low, latest, last_entered, active_count}
 use Rattle.occ_model.specs.Content.{IsLawful}
 use Rattle.occ_log.specs.Slots.{Slot, Hold, held_from, IsHeldAt}
+use Rattle.occ_core.specs.declared.core_checkpoint.TheConstants.{MAX_PLACE}
+
+-- The row at a place in the order of entry, in a log whose first row has this place. A row before it does not stand there.
+unfoldable pub row_placed : ℕ → List LogRow → ℕ → Option LogRow
+row_placed first log place = if nat_lt place first then None else slice_get log (place - first)
 
 pub record Parts : Type 0 where
   pub settings : Settings
+  pub base : Base
   pub log : List LogRow
   pub table : State
   pub counter : ℕ
@@ -25,7 +31,7 @@ pub record Parts : Type 0 where
 abbrev pub world_of : Parts → World
 world_of parts = record {
   settings = parts.settings;
-  base = empty_base;
+  base = parts.base;
   log = parts.log;
   table = parts.table;
   counter = parts.counter;
@@ -37,11 +43,32 @@ world_of parts = record {
 abbrev pub low_of : Parts → ℕ
 low_of parts = low (world_of parts)
 
+-- the row at a place in the order of entry
+abbrev pub found_at : Parts → ℕ → Option LogRow
+found_at parts = row_placed parts.base.place parts.log
+
+-- the row that a session has under way stands in a log whose first row has this place
+pub record Stands (first : ℕ) (log : List LogRow) (session : ℕ) (hold : Hold) : Type 0 where
+  pub index : ℕ
+  pub place_is : hold.place ≡ first + index
+  pub row : LogRow
+  pub there : IsHeldAt session index log row
+  pub writes_are : hold.writes ≡ row.writes
+
+-- It was backed up and folded, and no row of its session stands in the log.
+pub record IsGone (first : ℕ) (log : List LogRow) (session : ℕ) (hold : Hold) : Type 0 where
+  pub before : hold.place < first
+  pub none : latest session log ≡ None
+
+-- one or the other holds of the row that a session has under way
+abbrev pub HasRow : ℕ → List LogRow → ℕ → Hold → Type 0
+HasRow first log session hold = Stands first log session hold ⊎ IsGone first log session hold
+
 -- what holds of each session's slot
 pub record SlotIsTrue (parts : Parts) (place : ℕ) (slot : Slot) : Type 0 where
   pub last_is : slot.last ≡ last_entered (world_of parts) (suc place)
   pub last_fits : slot.last ≤ MAX_NUMBER
-  pub row_is : (hold : Hold) → slot.hold ≡ Some hold → (row : LogRow) × IsHeldAt (suc place) hold.place parts.log row × (hold.writes ≡ row.writes)
+  pub row_is : (hold : Hold) → slot.hold ≡ Some hold → HasRow parts.base.place parts.log (suc place) hold
 
 -- What holds of the parts of every core.
 pub record AreSound (parts : Parts) : Type 0 where
@@ -51,4 +78,7 @@ pub record AreSound (parts : Parts) : Type 0 where
   pub window_size : length parts.window ≡ parts.counter - low_of parts
   pub window_is : (start : ℕ) → low_of parts ≤ start → AreSame (drop (start - low_of parts) parts.window) (finished_opponents parts.log parts.counter (low_of parts) start)
   pub log_room : length parts.log ≤ MAX_LOG_ROWS
+  pub place_room : parts.base.place ≤ MAX_PLACE
+  -- a log that begins at the first place of all was never folded
+  pub base_begins : parts.base.place ≡ 0 → parts.base ≡ empty_base
   pub counter_room : parts.counter + active_count (world_of parts) ≤ MAX_COUNTER

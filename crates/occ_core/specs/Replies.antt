@@ -1,5 +1,5 @@
 -- What the calls of a core reply, as replies of the model.
-use Rattle.std.specs.Prelude.{◌≡◌, ◌<◌, ℕ, Bool, List, [], ◌∷◌, map, length, slice_get, Option, None, Some, Result, Ok, Err, Vec}
+use Rattle.std.specs.Prelude.{◌≡◌, ◌<◌, ℕ, Bool, List, [], ◌∷◌, map, length, Option, None, Some, Result, Ok, Err, Vec}
 use Rattle.occ_types.specs.declared.fault.Fault.{Fault}
 use Rattle.occ_types.specs.declared.keys.Key as code_key
 use Rattle.occ_types.specs.Object.{Object}
@@ -7,10 +7,11 @@ use Rattle.occ_types.specs.Row.{Row}
 use Rattle.occ_model.specs.State.{Write, Found, Rows}
 use Rattle.occ_model.specs.Log.{LogRow, Writing, rest}
 use Rattle.occ_model.specs.World.{World, latest}
-use Rattle.occ_model.specs.Event.{Reply, Refused, Answered, Forgotten, Entered, Closed, Decided, Wrote, NoMore, Finished, BackedUp, RanAlone}
+use Rattle.occ_model.specs.Event.{Reply, Refused, Answered, Forgotten, Entered, Closed, Decided, Wrote, NoMore, Finished, BackedUp, RanAlone, Folded}
 use Rattle.occ_model.specs.declared.verdict.Verdict.{Verdict}
 use Rattle.occ_sets.specs.Seen.{rows_of, answer_of}
-use Rattle.occ_log.specs.Slots.{written_in}
+use Rattle.occ_log.specs.Slots.{written_at}
+use Rattle.occ_core.specs.Parts.{row_placed}
 use Rattle.occ_core.specs.declared.core_entries.Entry as code_entry
 use Rattle.occ_core.specs.declared.core_entries.Entry.TheVariants as entries
 use Rattle.occ_queue.specs.declared.items.Item as items
@@ -45,6 +46,19 @@ abbrev pub backing : Result ℕ Fault → Reply
 backing (Ok last) = BackedUp last
 backing (Err fault) = Refused fault
 
+-- what a checkpoint replies
+abbrev pub folding : Result ℕ Fault → Reply
+folding (Ok count) = Folded count
+folding (Err fault) = Refused fault
+
+-- the row at a place in the order of entry, where it stands in the log
+abbrev pub row_in : World → ℕ → Option LogRow
+row_in world = row_placed world.base.place world.log
+
+-- the object of a write of that row, by its place among the row's writes
+abbrev pub written_in : World → ℕ → ℕ → Option Object
+written_in world = written_at (row_in world)
+
 -- the object of the first of some writes
 abbrev pub first_object : List Write → Option Object
 first_object [] = None
@@ -54,19 +68,19 @@ first_object (write ∷ writes) = Some write.0
 abbrev pub next_object : World → ℕ → Option Object
 next_object world session = elim (latest session world.log) [ None ↦ None | Some row ↦ first_object (rest row) ]
 
--- the places of a session's next single write: that of its latest row, which is in its write phase, and that of the first write of it that isn't done
+-- the places of a session's next single write: that of its latest row in the order of entry, which is in its write phase, and that of the first write of it that isn't done
 pub record IsNextWrite (world : World) (session row write : ℕ) : Type 0 where
   pub found : LogRow
-  pub there : slice_get world.log row ≡ Some found
+  pub there : row_in world row ≡ Some found
   pub own : latest session world.log ≡ Some found
   pub standing : found.standing ≡ Writing write
   pub left : write < length found.writes
 
--- a single write is named by its places in the log
-abbrev pub single : List LogRow → Result SingleWrite Fault → Reply
-single log (Ok (writes.Wrote row write)) = elim (written_in log row write) [ None ↦ NoMore | Some object ↦ Wrote object ]
-single log (Ok writes.NoMore) = NoMore
-single log (Err fault) = Refused fault
+-- a single write is named by its places: that of its row in the order of entry, and its own in the row
+abbrev pub single : World → Result SingleWrite Fault → Reply
+single world (Ok (writes.Wrote row write)) = elim (written_in world row write) [ None ↦ NoMore | Some object ↦ Wrote object ]
+single world (Ok writes.NoMore) = NoMore
+single world (Err fault) = Refused fault
 
 -- what a single write replies whose object is known beforehand, if one is left
 abbrev pub writing : Option Object → Result SingleWrite Fault → Reply

@@ -4,7 +4,7 @@ use Rattle.occ_types.specs.declared.fault.Fault.TheVariants.{Memory}
 use Rattle.occ_types.specs.Question.{One, Span}
 use Rattle.occ_types.specs.Seen.{key_of, end_of, object_of}
 use Rattle.occ_model.specs.State.{Found, Rows}
-use Rattle.occ_model.specs.Event.{Event, Item, Alone, Read, Forget, Enter, Decide, WriteOne, Finish, BackUp, SerialEnd, RunAlone, Reply, Refused, Answered, Forgotten, Entered, Closed, Decided, Wrote, NoMore, Finished, BackedUp, EndedBack, RanAlone}
+use Rattle.occ_model.specs.Event.{Event, Item, Alone, Read, Forget, Enter, Decide, WriteOne, Finish, BackUp, SerialEnd, RunAlone, Checkpoint, Reply, Refused, Answered, Forgotten, Entered, Closed, Decided, Wrote, NoMore, Finished, BackedUp, EndedBack, RanAlone, Folded}
 use Rattle.occ_model.specs.Refusal.{refusal, has_writes_left}
 use Rattle.occ_core.specs.Core.{Seen, Transition}
 use Rattle.occ_sets.specs.Seen.{rows_of, answer_of}
@@ -28,6 +28,7 @@ module _ {Z : Type 0} where
   event_of (steps.BackUp session) = BackUp session
   event_of (steps.SerialEnd session item) = SerialEnd session (item_of item)
   event_of (steps.RunAlone session number operations) = RunAlone session number (ops_of operations.items)
+  event_of steps.Checkpoint = Checkpoint
 
   -- the plain reply
   abbrev pub reply_of : code_reply.Reply Z → Reply
@@ -43,6 +44,7 @@ module _ {Z : Type 0} where
   reply_of (replies.BackedUp number) = BackedUp number
   reply_of (replies.EndedBack cause) = EndedBack cause
   reply_of (replies.RanAlone number answers) = RanAlone number (map answer_of answers.items)
+  reply_of (replies.Folded count) = Folded count
   reply_of (replies.Refused fault) = Refused fault
   reply_of (replies.RefusedItem refused) = Refused refused.fault
 

@@ -13,6 +13,9 @@ use std::alloc::Allocator;
 impl<A: Allocator> Core<A> {
     /// All that the core shows now, lent. It takes no memory.
     pub fn view(&self) -> BookView<'_, A, OpenCase<A>>
+        ensures base { result.base.now.base ≡ self.now.world.base }
+        ensures base_tables { result.base.now.tables ≡ length self.now.world.settings.schema }
+        ensures base_sessions { result.base.now.sessions ≡ self.now.world.settings.sessions }
         ensures log { log_of result.log.now ≡ self.now.world.log }
         ensures state { result.table.now.state ≡ self.now.world.table }
         ensures count { result.table.now.tables ≡ length self.now.world.settings.schema }
@@ -22,6 +25,7 @@ impl<A: Allocator> Core<A> {
         ensures tnc { result.tnc ≡ self.now.world.counter }
     {
         BookView {
+            base: self.base(),
             log: self.log(),
             table: self.table(),
             marks: self.marks(),
@@ -35,6 +39,9 @@ impl<A: Allocator + Copy> Core<A> {
     /// All that the core shows now, as values of its own. It stays as it is while the core goes on, and its write sets and read sets
     /// are shared with the core. Refused with `Memory` where there is none for it, or a set has too many owners to be counted.
     pub fn book(&self) -> Result<Book<A, OpenCase<A>>, Fault>
+        ensures base { IfOk result (λ book. book.base.base ≡ self.now.world.base) }
+        ensures base_tables { IfOk result (λ book. book.base.tables ≡ length self.now.world.settings.schema) }
+        ensures base_sessions { IfOk result (λ book. book.base.sessions ≡ self.now.world.settings.sessions) }
         ensures log { IfOk result (λ book. log_of book.log.items ≡ self.now.world.log) }
         ensures state { IfOk result (λ book. book.table.state ≡ self.now.world.table) }
         ensures count { IfOk result (λ book. book.table.tables ≡ length self.now.world.settings.schema) }
@@ -46,6 +53,7 @@ impl<A: Allocator + Copy> Core<A> {
     {
         let lent = self.view();
         Ok(Book {
+            base: lent.base.clone()?,
             log: self.log.share_rows()?,
             table: lent.table.clone()?,
             marks: lent.marks.clone()?,

@@ -1,8 +1,8 @@
 //! The entry of what a session hands in.
-ghost use Rattle.std.specs.Prelude.{◌≡◌, length, IfOk, IfErr};
+ghost use Rattle.std.specs.Prelude.{◌≡◌, IfOk, IfErr};
 ghost use Rattle.std.specs.Result.{result_err};
 ghost use Rattle.occ_model.specs.Log.{Case as PlainCase, Open};
-ghost use Rattle.occ_model.specs.World.{reads_under};
+ghost use Rattle.occ_model.specs.World.{next_place, reads_under};
 ghost use Rattle.occ_model.specs.Event.{Enter, Request, Alone};
 ghost use Rattle.occ_model.specs.Refusal.{refusal};
 ghost use Rattle.occ_model.specs.Step.{IsCaseOf, entering as entering_row};
@@ -29,7 +29,7 @@ use std::alloc::{AllocError, Allocator};
 pub enum Entry<A: Allocator> {
     /// A transaction entered.
     Entered {
-        /// The place of its row in the log.
+        /// The place of its row in the order of entry.
         place: usize,
         /// The index that names its case.
         index: u64,
@@ -170,7 +170,7 @@ impl<A: Allocator + Copy> Core<A> {
         writes: &WriteSet<A>,
     ) -> Result<LogRow<A, OpenCase<A>>, AllocError>
         requires { reads ≡ reads_under self.now.world transaction.session transaction.number }
-        ensures { IfOk result (λ row. (case : PlainCase) × IsCaseOf self.now.world transaction.session transaction.number transaction.start writes.now case × (log_row_of row ≡ entering_row self.now.world transaction.session transaction.number transaction.start (reads_under self.now.world transaction.session transaction.number) writes.now (Open (length self.now.world.log) case))) }
+        ensures { IfOk result (λ row. (case : PlainCase) × IsCaseOf self.now.world transaction.session transaction.number transaction.start writes.now case × (log_row_of row ≡ entering_row self.now.world transaction.session transaction.number transaction.start (reads_under self.now.world transaction.session transaction.number) writes.now (Open (next_place self.now.world) case))) }
     {
         let start = transaction.start;
         let low = self.low();

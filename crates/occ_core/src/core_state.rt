@@ -1,5 +1,5 @@
 //! The core of the store: the world of the model, kept.
-ghost use Rattle.std.specs.Prelude.{◌≡◌, ◌≤◌, ◌+◌, ℕ, [], length, IfOk, IfErr, IsOkUnless, true, option_map};
+ghost use Rattle.std.specs.Prelude.{◌≡◌, ◌<◌, ◌≤◌, ◌+◌, ◌^◌, ℕ, [], length, IfOk, IfErr, IsOkUnless, true, Some, option_map};
 ghost use Rattle.std.specs.FinMap as finite;
 ghost use Rattle.occ_types.specs.declared.fault.Fault.TheVariants.{Memory};
 ghost use Rattle.occ_types.specs.Seen.{object_of};
@@ -8,12 +8,13 @@ ghost use Rattle.occ_model.specs.Invariant.{Invariant};
 ghost use Rattle.occ_model.specs.Content.{IsInSchema};
 ghost use Rattle.occ_model.specs.Log.{Audited};
 ghost use Rattle.occ_model.specs.Poll.{row_numbered};
-ghost use Rattle.occ_model.specs.World.{opened, low, empty_base, active_count, has_session, last_entered};
+ghost use Rattle.occ_model.specs.World.{opened, low, empty_base, active_count, has_session, last_entered, next_place};
+ghost use Rattle.occ_core.specs.Replies.{written_in};
 ghost use Rattle.occ_log.specs.Logs.{IsBegun};
-ghost use Rattle.occ_log.specs.Slots.{idle_slots, written_in};
+ghost use Rattle.occ_log.specs.Slots.{idle_slots};
 ghost use Rattle.occ_log.specs.Rows.{log_of, log_row_of};
 
-use occ_book::{LogRow, Marks, Tables};
+use occ_book::{Base, LogRow, Marks, Tables};
 use occ_case::OpenCase;
 use occ_log::{Log, ReadPhases, Sessions, Window};
 use occ_types::{Fault, Object, Refused, Schema};
@@ -26,6 +27,7 @@ pub struct Core<A: Allocator> {
     pub(crate) alloc: A,
     pub(crate) schema: Schema<A>,
     pub(crate) tables: Tables<A>,
+    pub(crate) base: Base<A>,
     pub(crate) log: Log<A>,
     pub(crate) counter: u64,
     pub(crate) phases: ReadPhases<A>,
@@ -61,7 +63,7 @@ impl<A: Allocator + Copy> Core<A> {
         ensures handed_back { IfErr result (λ refused. (refused.value ≡ schema) × (refused.fault ≡ Memory)) }
     {
         let count = schema.tables().len();
-        let (tables, states, window, marks, log) = match room(alloc, count, sessions, keep) {
+        let (tables, states, window, marks, log, base) = match room(alloc, count, sessions, keep) {
             Ok(parts) => parts,
             Err(fault) => {
                 return Err(Refused {
@@ -74,6 +76,7 @@ impl<A: Allocator + Copy> Core<A> {
             alloc,
             schema,
             tables,
+            base,
             log,
             counter: 0,
             phases: ReadPhases::new(alloc),
@@ -87,15 +90,18 @@ impl<A: Allocator + Copy> Core<A> {
 impl<A: Allocator> Core<A> {
     /// What holds of every core, between any two of its calls, for a caller to rest on: its world has the invariant that each step
     /// keeps, so its log and tables pass the audit; what stands in it fits its tables and sessions; each active transaction can still
-    /// take a number; and the log, and the numbers of each session, are within their limits. It computes nothing.
+    /// take a number; and the log, its places, and the numbers of each session, those that were folded too, are within their limits. A
+    /// log that begins at the place 0 was never folded. It computes nothing.
     pub fn law(&self)
         ensures invariant { Invariant self.now.world }
         ensures content { IsInSchema self.now.world }
-        ensures base { self.now.world.base ≡ empty_base }
-        ensures audited { Audited empty_base self.now.world.marks self.now.world.table self.now.world.log }
+        ensures audited { Audited self.now.world.base self.now.world.marks self.now.world.table self.now.world.log }
         ensures counter { self.now.world.counter + active_count self.now.world ≤ MAX_COUNTER }
         ensures numbers { (session : ℕ) → has_session self.now.world session ≡ true → last_entered self.now.world session ≤ MAX_NUMBER }
         ensures rows { length self.now.world.log ≤ MAX_LOG_ROWS }
+        ensures places { next_place self.now.world < 2 ^ 64 }
+        ensures begins { self.now.world.base.place ≡ 0 → self.now.world.base ≡ empty_base }
+        ensures folded { (session number : ℕ) → finite.get self.now.world.base.last session ≡ Some number → number ≤ MAX_NUMBER }
     {
         // A core is opened by a look at its fields, and what its type says is known then.
         let _opened = self.counter;
@@ -115,7 +121,7 @@ impl<A: Allocator> Core<A> {
         self.counter.saturating_sub(self.window.keep() as u64)
     }
 
-    /// The decision log, in the order of entry.
+    /// The decision log: the rows that stand in it, in the order of entry.
     pub fn log(&self) -> &[LogRow<A, OpenCase<A>>]
         ensures { log_of result.now ≡ self.now.world.log }
     {
@@ -138,33 +144,36 @@ impl<A: Allocator> Core<A> {
         &self.marks
     }
 
-    /// The object of a write in the log: by the place of its row, and by its own place in the order of the first writes.
+    /// The object of a write in the log: by the place of its row in the order of entry, and by its own place in the order of the first
+    /// writes. None where the row does not stand in the log any more, or has no such write.
     pub fn written(&self, row: usize, write: usize) -> Option<&Object<A>>
-        ensures { option_map (λ o. object_of o.now) result ≡ written_in self.now.world.log row write }
+        ensures { option_map (λ o. object_of o.now) result ≡ written_in self.now.world row write }
     {
         self.log.written(row, write)
     }
 }
 
-// The parts of an empty store that take memory: so many tables, so many sessions with a slot for a mark each and a log for their rows, and a window
-// of so many write sets.
+// The parts of an empty store that take memory: so many tables, so many sessions with a slot for a mark each and a log for their rows, a window
+// of so many write sets, and a base of which nothing was folded.
 fn room<A: Allocator + Copy>(
     alloc: A,
     tables: usize,
     sessions: usize,
     keep: usize,
-) -> Result<(Tables<A>, Sessions<A>, Window<A>, Marks<A>, Log<A>), Fault>
+) -> Result<(Tables<A>, Sessions<A>, Window<A>, Marks<A>, Log<A>, Base<A>), Fault>
     ensures tables { IfOk result (λ parts. parts.0 ≡ record { tables = tables; state = finite.empty }) }
     ensures sessions { IfOk result (λ parts. parts.1 ≡ idle_slots sessions) }
     ensures window { IfOk result (λ parts. parts.2 ≡ record { keep = keep; sets = [] }) }
     ensures marks { IfOk result (λ parts. parts.3 ≡ record { sessions = sessions; marks = finite.empty }) }
     ensures log { IfOk result (λ parts. IsBegun sessions parts.4) }
+    ensures base { IfOk result (λ parts. parts.5 ≡ record { tables = tables; sessions = sessions; base = empty_base }) }
     ensures memory { IsOkUnless result Memory }
 {
+    let base = Base::new(alloc, tables, sessions)?;
     let tables = Tables::new(alloc, tables)?;
     let states = Sessions::new(alloc, sessions)?;
     let window = Window::new(alloc, keep)?;
     let marks = Marks::new(alloc, sessions)?;
     let log = Log::new(alloc, sessions)?;
-    Ok((tables, states, window, marks, log))
+    Ok((tables, states, window, marks, log, base))
 }

@@ -5,10 +5,11 @@ ghost use Rattle.occ_model.specs.Event.{Decide, WriteOne, Finish, BackUp};
 ghost use Rattle.occ_model.specs.Refusal.{refusal};
 ghost use Rattle.occ_model.specs.Step.{decided};
 ghost use Rattle.occ_log.specs.Logs.{row_at};
-ghost use Rattle.occ_log.specs.Slots.{row_under_way, written_in, back_fault, writes_done, finish_fault};
+ghost use Rattle.occ_log.specs.Slots.{row_under_way, back_fault, writes_done, finish_fault};
 ghost use Rattle.occ_log.specs.Rows.{log_row_of, standing_of};
 ghost use Rattle.occ_core.specs.Core.{Transition};
-ghost use Rattle.occ_core.specs.Replies.{decision, single, next_object, IsNextWrite, finishing, backing};
+ghost use Rattle.occ_core.specs.Folding.{under_way_fault, back_fault_of};
+ghost use Rattle.occ_core.specs.Replies.{decision, single, written_in, next_object, IsNextWrite, finishing, backing};
 ghost use Rattle.occ_core.specs.declared.core_turns.SingleWrite.TheVariants.{Wrote};
 
 use crate::core_state::Core;
@@ -23,7 +24,7 @@ use std::alloc::Allocator;
 pub enum SingleWrite {
     /// It put or deleted the row of the object that `Core::written` shows under these places.
     Wrote {
-        /// The place in the log of the transaction that the session has under way.
+        /// The place in the order of entry of the transaction that the session has under way.
         row: usize,
         /// The place of the write in the order of its first writes, which is how many of them were done before.
         write: usize,
@@ -37,8 +38,8 @@ impl<A: Allocator + Copy> Core<A> {
     /// left. Refused where there is no such session, where nothing of it is under way, where that is not decided, where it is to
     /// be backed up, and where there is no memory for the row to be put. A deletion takes no memory.
     pub fn write_one(&mut self, session: usize) -> Result<SingleWrite, Fault>
-        ensures step { Transition self.old (WriteOne session) (single self.new.world.log result) self.new }
-        ensures named { (row write : ℕ) → result ≡ Ok (Wrote row write) → is_some (written_in self.new.world.log row write) ≡ true }
+        ensures step { Transition self.old (WriteOne session) (single self.new.world result) self.new }
+        ensures named { (row write : ℕ) → result ≡ Ok (Wrote row write) → is_some (written_in self.new.world row write) ≡ true }
         ensures own { (row write : ℕ) → result ≡ Ok (Wrote row write) → IsNextWrite self.old.world session row write }
     {
         let (place, row) = under_way(&self.sessions, &self.log, session)?;
@@ -108,13 +109,13 @@ impl<A: Allocator> Core<A> {
     }
 
     /// Lets the session go on after its transaction was decided to be backed up, and answers the number of that transaction. Its
-    /// row stays in the log. Refused where there is no such session, where nothing of it is under way, where that is not decided,
-    /// and where it commits. It takes no memory.
+    /// row stays in the log, if it was not folded since. Refused where there is no such session, where nothing of it is under way,
+    /// where that is not decided, and where it commits. It takes no memory.
     pub fn back_up(&mut self, session: usize) -> Result<u64, Fault>
         ensures { Transition self.old (BackUp session) (backing result) self.new }
     {
-        let (place, row) = under_way(&self.sessions, &self.log, session)?;
-        if let Some(fault) = back_fault(&row.standing) {
+        let place = row_under_way(&self.sessions, session)?;
+        if let Some(fault) = back_fault_at(&self.log, place) {
             return Err(fault);
         }
         let last = self.sessions.last(session - 1);
@@ -123,25 +124,26 @@ impl<A: Allocator> Core<A> {
     }
 }
 
-// The place in the log of the row that a session has under way, and the row. Refused where there is no such session, and where nothing of it is
-// under way.
+// The place in the order of entry of the row that a session has under way, and the row. Refused where there is no such session, where nothing of
+// it is under way, and where the row does not stand in the log any more: it was decided then, and folded.
 fn under_way<'a, A: Allocator>(
     sessions: &Sessions<A>,
     log: &'a Log<A>,
     session: usize,
 ) -> Result<(usize, &'a LogRow<A, OpenCase<A>>), Fault>
-    requires { (place : ℕ) → row_under_way sessions.now session ≡ Ok place → is_some (row_at log.now place) ≡ true }
     ensures session { OnOk result (1 ≤ session) }
     ensures place { IfOk result (λ found. row_under_way sessions.now session ≡ Ok found.0) }
     ensures row { IfOk result (λ found. row_at log.now found.0 ≡ Some (log_row_of found.1.now)) }
-    ensures err { IfErr result (λ fault. row_under_way sessions.now session ≡ Err fault) }
+    ensures err { IfErr result (λ fault. under_way_fault sessions.now (row_at log.now) session ≡ Some fault) }
 {
     let place = row_under_way(sessions, session)?;
-    let row = log.row(place).unwrap();
-    Ok((place, row))
+    match log.row(place) {
+        None => Err(Fault::AlreadyDecided),
+        Some(row) => Ok((place, row)),
+    }
 }
 
-// The place in the log of the session's row that is under way.
+// The place in the order of entry of the session's row that is under way.
 fn row_under_way<A: Allocator>(sessions: &Sessions<A>, session: usize) -> Result<usize, Fault>
     ensures { result ≡ row_under_way sessions.now session }
 {
@@ -195,6 +197,14 @@ fn finish_fault<A: Allocator>(standing: &Standing<OpenCase<A>>, writes: usize) -
         Standing::Done(_) => Some(Fault::AlreadyDecided),
         Standing::Back(_) => Some(Fault::AlreadyDecided),
     }
+}
+
+// Why a row can't be backed up. One that does not stand in the log any more was decided to be.
+fn back_fault_at<A: Allocator>(log: &Log<A>, place: usize) -> Option<Fault>
+    ensures { result ≡ back_fault_of (row_at log.now place) }
+{
+    let row = log.row(place)?;
+    back_fault(&row.standing)
 }
 
 // Why a row that stands so can't be backed up.

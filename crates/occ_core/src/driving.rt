@@ -8,8 +8,8 @@ ghost use Rattle.occ_core.specs.Runs.{Answers, Runs};
 
 use crate::core_state::Core;
 use crate::replies::{
-    Reply, to_back_up, to_decision, to_entry, to_finish, to_forget, to_no_write, to_read,
-    to_run_alone, to_scan, to_serial_end, to_write,
+    Reply, to_back_up, to_checkpoint, to_decision, to_entry, to_finish, to_forget, to_no_write,
+    to_read, to_run_alone, to_scan, to_serial_end, to_write,
 };
 use crate::steps::Step;
 use occ_types::{Fault, Refused};
@@ -78,6 +78,7 @@ impl<A: Allocator + Copy> Core<A> {
                 number,
                 operations,
             } => to_run_alone(self.take_alone(session, number, operations)),
+            Step::Checkpoint => to_checkpoint(self.checkpoint()),
         }
     }
 

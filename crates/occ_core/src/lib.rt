@@ -6,6 +6,7 @@ mod actives;
 mod at_once;
 mod core_alone;
 mod core_book;
+mod core_checkpoint;
 mod core_closing;
 mod core_entries;
 mod core_reads;
@@ -17,6 +18,7 @@ mod entry_checks;
 mod replies;
 mod steps;
 
+pub use core_checkpoint::MAX_PLACE;
 pub use core_entries::Entry;
 pub use core_serial::Ended;
 pub use core_state::Core;

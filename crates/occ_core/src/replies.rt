@@ -2,7 +2,7 @@
 ghost use Rattle.std.specs.Prelude.{◌≡◌, None, Some, option_map};
 ghost use Rattle.std.specs.Result.{result_err};
 ghost use Rattle.occ_types.specs.Seen.{object_of};
-ghost use Rattle.occ_core.specs.Replies.{reading, scanning, forgetting, entering, decision, finishing, backing, writing};
+ghost use Rattle.occ_core.specs.Replies.{reading, scanning, forgetting, entering, decision, finishing, backing, writing, folding};
 ghost use Rattle.occ_core.specs.AtOnce.{ending_item};
 ghost use Rattle.occ_core.specs.RunningAlone.{running_item};
 ghost use Rattle.occ_core.specs.Runs.{reply_of, handed_back};
@@ -28,7 +28,7 @@ pub enum Reply<A: Allocator> {
     Forgotten(bool),
     /// To the entry of a transaction.
     Entered {
-        /// The place of its row in the log.
+        /// The place of its row in the order of entry.
         place: usize,
         /// The index that names its case.
         index: u64,
@@ -54,6 +54,8 @@ pub enum Reply<A: Allocator> {
         /// What the questions were answered, in their order.
         answers: Vec<Answer<A>, A>,
     },
+    /// To a checkpoint: how many rows were folded.
+    Folded(usize),
     /// To a step that was refused and was handed no item: why. The core is as it was.
     Refused(Fault),
     /// To an entry, a serial end or a run alone that was refused: why, and what was handed in. Operations come back as the item that
@@ -163,6 +165,17 @@ pub(crate) fn to_back_up<A: Allocator>(called: Result<u64, Fault>) -> Reply<A>
 {
     match called {
         Ok(number) => Reply::BackedUp(number),
+        Err(fault) => Reply::Refused(fault),
+    }
+}
+
+// The reply to a checkpoint.
+pub(crate) fn to_checkpoint<A: Allocator>(called: Result<usize, Fault>) -> Reply<A>
+    ensures reply { reply_of result ≡ folding called }
+    ensures none { handed_back result ≡ None }
+{
+    match called {
+        Ok(count) => Reply::Folded(count),
         Err(fault) => Reply::Refused(fault),
     }
 }

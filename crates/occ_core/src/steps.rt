@@ -73,4 +73,6 @@ pub enum Step<A: Allocator> {
         /// What it does, one operation after another.
         operations: Vec<Op<A>, A>,
     },
+    /// Folds the settled beginning of the log into the base.
+    Checkpoint,
 }

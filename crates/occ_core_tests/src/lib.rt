@@ -3,6 +3,8 @@
 #![tactic(auto)]
 
 #[cfg(test)]
+mod checkpoint_tests;
+#[cfg(test)]
 mod life_tests;
 #[cfg(test)]
 mod stores;

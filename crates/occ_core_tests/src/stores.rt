@@ -7,13 +7,18 @@ use std::alloc::Global;
 
 /// A store of two sessions with one table, whose keys are numbers and whose rows are one number. It keeps eight write sets.
 pub(crate) fn store(alloc: Global) -> Result<Core<Global>, Fault> {
+    store_keeping(alloc, 8)
+}
+
+/// One that keeps so many write sets.
+pub(crate) fn store_keeping(alloc: Global, keep: usize) -> Result<Core<Global>, Fault> {
     let table = TableDef {
         name: Text::new(alloc, "t")?,
         key: KeyKind::Num,
         columns: vec![in alloc; Kind::Int]?,
     };
     let schema = Schema::new(vec![in alloc; table]?)?;
-    let core = Core::open(alloc, schema, 2, 8)?;
+    let core = Core::open(alloc, schema, 2, keep)?;
     Ok(core)
 }
 

@@ -39,6 +39,7 @@ fn tell(words: &mut String<Global>, reply: &Reply<Global>) -> Result<(), AllocEr
             let count = answers.len();
             write!(words, "ran alone as {number} with {count}; ")
         }
+        Reply::Folded(count) => write!(words, "folded {count}; "),
         Reply::Refused(fault) => write!(words, "refused {fault:?}; "),
         Reply::RefusedItem(refused) => tell_refusal(words, refused),
     }

@@ -1,4 +1,4 @@
-//! The store in a program of one's own: two sessions pay into one account at the same time, and one of them has to try again.
+//! The store in a program of one's own: two sessions pay into one account at the same time, and one of them has to try again. Then the log is shortened.
 #![tactic(auto)]
 
 use occ_core::{Core, Ended};
@@ -24,7 +24,7 @@ fn main(rt: HostRuntime) -> ExitCode {
     }
 }
 
-/// Two payments that overlap, the second one tried again, then one in a single step, and the balance.
+/// Two payments that overlap, the second one tried again, then one in a single step, a checkpoint, and the balance.
 fn pay(alloc: Global) -> Result<String, Fault> {
     let mut lines = String::new(alloc);
     let mut store = open(alloc)?;
@@ -32,6 +32,7 @@ fn pay(alloc: Global) -> Result<String, Fault> {
     let again = begin(alloc, &mut store, 2, 2, 12)?;
     tell(&mut lines, 2, commit(&mut store, 2, again)?)?;
     tell(&mut lines, 1, Some(pay_alone(&mut store, 1, 2, 8)?))?;
+    shorten(&mut store, &mut lines)?;
     let balance = balance(&mut store, 1, 3)?;
     writeln!(lines, "the account has {balance}").or(Err(Fault::Memory))?;
     Ok(lines)
@@ -45,7 +46,7 @@ fn pay_both(alloc: Global, store: &mut Core<Global>, lines: &mut String) -> Resu
     tell(lines, 2, commit(store, 2, second)?)
 }
 
-/// A store of two sessions that keeps the last 8 write sets for testing. Its one table has balances under the numbers of accounts.
+/// A store of two sessions that keeps the last 2 write sets for testing. Its one table has balances under the numbers of accounts.
 fn open(alloc: Global) -> Result<Core<Global>, Fault> {
     let accounts = TableDef {
         name: Text::new(alloc, "accounts")?,
@@ -53,7 +54,7 @@ fn open(alloc: Global) -> Result<Core<Global>, Fault> {
         columns: vec![in alloc; Kind::Int]?,
     };
     let schema = Schema::new(vec![in alloc; accounts]?)?;
-    let store = Core::open(alloc, schema, 2, 8)?;
+    let store = Core::open(alloc, schema, 2, 2)?;
     Ok(store)
 }
 
@@ -116,6 +117,17 @@ fn pay_alone(
     }];
     let (number, _answers) = store.run_alone(session, number, &payment)?;
     Ok(number)
+}
+
+/// Folds the settled beginning of the log, as a service does every so often. What was paid stays.
+fn shorten(store: &mut Core<Global>, lines: &mut String) -> Result<(), Fault> {
+    let folded = store.checkpoint()?;
+    let standing = store.log().len();
+    writeln!(
+        lines,
+        "{folded} rows are folded, {standing} stand in the log"
+    )
+    .or(Err(Fault::Memory))
 }
 
 fn tell(lines: &mut String, session: usize, committed: Option<u64>) -> Result<(), Fault> {

@@ -21,7 +21,7 @@ use std::process::ExitCode;
 use std::{fs, io};
 
 /// The schedules, each in a file `NAME.occ` with its text in `NAME.out`.
-const EXAMPLES: [&str; 34] = [
+const EXAMPLES: [&str; 36] = [
     "abandoned-and-begun-anew",
     "alone-reads-its-own-writes",
     "alone-while-another-writes",
@@ -31,6 +31,7 @@ const EXAMPLES: [&str; 34] = [
     "entry-between-two-writes",
     "entry-order",
     "first-commit",
+    "folded-twice",
     "forged-and-refused",
     "full-queue",
     "full-read-set",
@@ -49,6 +50,7 @@ const EXAMPLES: [&str; 34] = [
     "refused-alone",
     "refused-serial-ends",
     "serial-ends",
+    "settled-rows-are-folded",
     "text-keys",
     "text-lengths",
     "too-old",
@@ -59,7 +61,7 @@ const EXAMPLES: [&str; 34] = [
 ];
 
 /// The books, each in a file `NAME.book`.
-const BOOKS: [&str; 2] = ["changed-book", "unchanged-book"];
+const BOOKS: [&str; 3] = ["changed-base", "changed-book", "unchanged-book"];
 
 fn main(rt: HostRuntime) -> ExitCode {
     match tell_all(&rt) {

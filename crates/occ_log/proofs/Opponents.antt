@@ -1,6 +1,6 @@
 -- The opponents of an entry, found without a scan of the log: the active ones through their sessions, the finished ones through the window.
-use Rattle.std.proofs.Common.{◌≡◌, ℕ, zero, suc, ◌+◌, ◌≤◌, Bool, true, false, cond, ◌&&◌, ◌||◌, List, [], ◌∷◌, ◌++◌, Option, None, Some, refl, sym, ap, subst, ◌∙◌, arith, eq-eqb}
-use Rattle.std.specs.Prelude.{slice_get, ◌==◌, filter, nat_lt, nat_le, if◌then◌else◌}
+use Rattle.std.proofs.Common.{◌≡◌, ℕ, zero, suc, ◌+◌, ◌≤◌, Bool, true, false, cond, ◌&&◌, ◌||◌, List, [], ◌∷◌, ◌++◌, Option, None, Some, refl, sym, ap, subst, ◌∙◌, arith, eq-eqb, inl, inr}
+use Rattle.std.specs.Prelude.{◌⊎◌, slice_get, ◌==◌, filter, nat_lt, nat_le, if◌then◌else◌}
 use Rattle.std.specs.List.{list_any}
 use Rattle.std.specs.Cmp.{both_ways}
 use Rattle.std.proofs.lemmas.Bool.{ltb-true, le-leb, lt-ltb}
@@ -75,37 +75,45 @@ any-append test (x ∷ xs) ys = ap (λ b. test x || b) (any-append test xs ys) �
     or_assoc true b c = refl
     or_assoc false b c = refl
 
+-- each row that is found by its place stands in the log
+abbrev pub FindsStanding : (ℕ → Option LogRow) → List LogRow → Type 0
+FindsStanding find log = (place : ℕ) (row : LogRow) → find place ≡ Some row → (index : ℕ) × (slice_get log index ≡ Some row)
+
+-- the row that a session has under way is found, or none of its rows stands in the log
+abbrev pub IsFoundOrNone : (ℕ → Option LogRow) → List LogRow → ℕ → Hold → Type 0
+IsFoundOrNone find log session hold = ((row : LogRow) × (find hold.place ≡ Some row) × (latest session log ≡ Some row)) ⊎ (latest session log ≡ None)
+
 -- what a session's row gives, some active row is
-from_session : (test : List Write → Bool) (log : List LogRow) (session : Slot) → list_any test (active_of (slice_get log) session) ≡ true → some_active test log ≡ true
-from_session test log session some = at_held session.hold some
+from_session : (test : List Write → Bool) (log : List LogRow) (find : ℕ → Option LogRow) → FindsStanding find log → (session : Slot) → list_any test (active_of find session) ≡ true → some_active test log ≡ true
+from_session test log find stands session some = at_held session.hold some
   where
-    at_row : (place : ℕ) (row : LogRow) → slice_get log place ≡ Some row → (b : Bool) → is_active row.standing ≡ b → list_any test (cond b (row.writes ∷ []) []) ≡ true → some_active test log ≡ true
-    at_row place row there true e some = active_at test log place row there e (or-false (test row.writes) some)
+    at_row : (index : ℕ) (row : LogRow) → slice_get log index ≡ Some row → (b : Bool) → is_active row.standing ≡ b → list_any test (cond b (row.writes ∷ []) []) ≡ true → some_active test log ≡ true
+    at_row index row there true e some = active_at test log index row there e (or-false (test row.writes) some)
       where
         or-false : (a : Bool) → (a || false) ≡ true → a ≡ true
         or-false true e = refl
         or-false false e = cc
-    at_row place row there false e some = cc
+    at_row index row there false e some = cc
 
-    at_place : (place : ℕ) (o : Option LogRow) → slice_get log place ≡ o → list_any test (elim o as (λ _. List (List Write)) [ None ↦ [] | Some row ↦ cond (is_active row.standing) (row.writes ∷ []) [] ]) ≡ true → some_active test log ≡ true
+    at_place : (place : ℕ) (o : Option LogRow) → find place ≡ o → list_any test (elim o as (λ _. List (List Write)) [ None ↦ [] | Some row ↦ cond (is_active row.standing) (row.writes ∷ []) [] ]) ≡ true → some_active test log ≡ true
     at_place place None e some = cc
-    at_place place (Some row) e some = at_row place row e (is_active row.standing) refl some
+    at_place place (Some row) e some = let s = stands place row e in at_row s.0 row s.1 (is_active row.standing) refl some
 
-    at_held : (h : Option Hold) → list_any test (elim h as (λ _. List (List Write)) [ None ↦ [] | Some hold ↦ elim (slice_get log hold.place) [ None ↦ [] | Some row ↦ cond (is_active row.standing) (row.writes ∷ []) [] ] ]) ≡ true → some_active test log ≡ true
+    at_held : (h : Option Hold) → list_any test (elim h as (λ _. List (List Write)) [ None ↦ [] | Some hold ↦ elim (find hold.place) [ None ↦ [] | Some row ↦ cond (is_active row.standing) (row.writes ∷ []) [] ] ]) ≡ true → some_active test log ≡ true
     at_held None some = cc
-    at_held (Some hold) some = at_place hold.place (slice_get log hold.place) refl some
+    at_held (Some hold) some = at_place hold.place (find hold.place) refl some
 
-from_sessions : (test : List Write → Bool) (log : List LogRow) (sessions : List Slot) → list_any test (active_from (slice_get log) sessions) ≡ true → some_active test log ≡ true
-from_sessions test log [] some = cc
-from_sessions test log (session ∷ sessions) some = tests.decided (list_any test (active_of (slice_get log) session))
-    (λ here. from_session test log session here)
-    (λ away. from_sessions test log sessions (sym (ap (λ b. b || list_any test (active_from (slice_get log) sessions)) away) ∙ sym (any-append test (active_of (slice_get log) session) (active_from (slice_get log) sessions)) ∙ some))
+from_sessions : (test : List Write → Bool) (log : List LogRow) (find : ℕ → Option LogRow) → FindsStanding find log → (sessions : List Slot) → list_any test (active_from find sessions) ≡ true → some_active test log ≡ true
+from_sessions test log find stands [] some = cc
+from_sessions test log find stands (session ∷ sessions) some = tests.decided (list_any test (active_of find session))
+    (λ here. from_session test log find stands session here)
+    (λ away. from_sessions test log find stands sessions (sym (ap (λ b. b || list_any test (active_from find sessions)) away) ∙ sym (any-append test (active_of find session) (active_from find sessions)) ∙ some))
 
 -- a session at a place gives its row
-to_sessions : (test : List Write → Bool) (log : List LogRow) (sessions : List Slot) (k : ℕ) (session : Slot) → slice_get sessions k ≡ Some session → list_any test (active_of (slice_get log) session) ≡ true → list_any test (active_from (slice_get log) sessions) ≡ true
-to_sessions test log [] k session there some = cc
-to_sessions test log (x ∷ xs) zero session there some = let e : x ≡ session = cc in any-append test (active_of (slice_get log) x) (active_from (slice_get log) xs) ∙ tests.or_left _ _ (ap (λ s. list_any test (active_of (slice_get log) s)) e ∙ some)
-to_sessions test log (x ∷ xs) (suc k) session there some = any-append test (active_of (slice_get log) x) (active_from (slice_get log) xs) ∙ tests.or_right _ _ (to_sessions test log xs k session there some)
+to_sessions : (test : List Write → Bool) (find : ℕ → Option LogRow) (sessions : List Slot) (k : ℕ) (session : Slot) → slice_get sessions k ≡ Some session → list_any test (active_of find session) ≡ true → list_any test (active_from find sessions) ≡ true
+to_sessions test find [] k session there some = cc
+to_sessions test find (x ∷ xs) zero session there some = let e : x ≡ session = cc in any-append test (active_of find x) (active_from find xs) ∙ tests.or_left _ _ (ap (λ s. list_any test (active_of find s)) e ∙ some)
+to_sessions test find (x ∷ xs) (suc k) session there some = any-append test (active_of find x) (active_from find xs) ∙ tests.or_right _ _ (to_sessions test find xs k session there some)
 
 -- the row that is held stands at its place, and is the latest of its session
 pub held-get : (session place : ℕ) (log : List LogRow) (row : LogRow) → IsHeldAt session place log row → slice_get log place ≡ Some row
@@ -121,21 +129,38 @@ held-latest session zero (first ∷ rows) row at =
 held-latest session (suc place) (first ∷ rows) row at =
     ap (λ l. elim l as (λ _. Option LogRow) [ None ↦ if first.session == session then Some first else None | Some l ↦ Some l ]) (held-latest session place rows row at)
 
-pub active_same : (log : List LogRow) (slots : List Slot) → OneUnderWay log → ActiveAreHeld (held_from 1 slots) log
-    → ((place : ℕ) (slot : Slot) (hold : Hold) → slice_get slots place ≡ Some slot → slot.hold ≡ Some hold → (row : LogRow) × IsHeldAt (suc place) hold.place log row)
-    → AreSame (active_from (slice_get log) slots) (active_opponents log)
-active_same log slots one are rows test = both_ways _ _ (from_sessions test log slots) (λ some.
+-- the row of a slot, found by its place
+slot_row : (test : List Write → Bool) (find : ℕ → Option LogRow) (slots : List Slot) (place : ℕ) (slot : Slot) (hold : Hold) (row : LogRow) → slice_get slots place ≡ Some slot → slot.hold ≡ Some hold → find hold.place ≡ Some row
+    → is_active row.standing ≡ true → test row.writes ≡ true → list_any test (active_from find slots) ≡ true
+slot_row test find slots place slot hold row there held found active passes = to_sessions test find slots place slot there (
+    ap (λ h. list_any test (elim h as (λ _. List (List Write)) [ None ↦ [] | Some hold ↦ elim (find hold.place) [ None ↦ [] | Some row ↦ cond (is_active row.standing) (row.writes ∷ []) [] ] ])) held
+    ∙ ap (λ o. list_any test (elim o as (λ _. List (List Write)) [ None ↦ [] | Some row ↦ cond (is_active row.standing) (row.writes ∷ []) [] ])) found
+    ∙ ap (λ b. list_any test (cond b (row.writes ∷ []) [])) active
+    ∙ tests.or_left _ _ passes)
+
+-- an active row is found through its session
+row_found : (test : List Write → Bool) (log : List LogRow) (find : ℕ → Option LogRow) (slots : List Slot) → OneUnderWay log → ActiveAreHeld (held_from 1 slots) log
+    → ((place : ℕ) (slot : Slot) (hold : Hold) → slice_get slots place ≡ Some slot → slot.hold ≡ Some hold → IsFoundOrNone find log (suc place) hold)
+    → (place : ℕ) (row : LogRow) → slice_get log place ≡ Some row → is_active row.standing ≡ true → test row.writes ≡ true → list_any test (active_from find slots) ≡ true
+row_found test log find slots one are rows place row there active passes =
+    let slot = held_place slots row.session (held_active (held_from 1 slots) log place row are there active) in
+    let is : latest (suc slot.place) log ≡ Some row = ap (λ s. latest s log) (sym slot.is_number) ∙ latest_active log place row one there active in
+    go slot.place slot.session slot.at slot.there slot.held is (rows slot.place slot.session slot.at slot.there slot.held)
+  where
+    go : (k : ℕ) (slot : Slot) (hold : Hold) → slice_get slots k ≡ Some slot → slot.hold ≡ Some hold → latest (suc k) log ≡ Some row → IsFoundOrNone find log (suc k) hold → list_any test (active_from find slots) ≡ true
+    go k slot hold there held is (inl at) =
+        let e : Some at.0 ≡ Some row = sym at.2 ∙ is in
+        let same : at.0 ≡ row = cc in
+        slot_row test find slots k slot hold row there held (at.1 ∙ ap Some same) active passes
+    go k slot hold there held is (inr none) = let e : None ≡ Some row = sym none ∙ is in cc
+
+-- Where rows are found by their places, the active ones are those that are found through their sessions.
+pub active_same : (log : List LogRow) (find : ℕ → Option LogRow) (slots : List Slot) → FindsStanding find log → OneUnderWay log → ActiveAreHeld (held_from 1 slots) log
+    → ((place : ℕ) (slot : Slot) (hold : Hold) → slice_get slots place ≡ Some slot → slot.hold ≡ Some hold → IsFoundOrNone find log (suc place) hold)
+    → AreSame (active_from find slots) (active_opponents log)
+active_same log find slots stands one are rows test = both_ways _ _ (from_sessions test log find stands slots) (λ some.
     let found = find_active test log some in
-    let held = held_active (held_from 1 slots) log found.place found.row are found.there found.active in
-    let slot = held_place slots found.row.session held in
-    let at = rows slot.place slot.session slot.at slot.there slot.held in
-    let same : at.0 ≡ found.row =
-    let e : Some at.0 ≡ Some found.row = sym (held-latest (suc slot.place) slot.at.place log at.0 at.1) ∙ ap (λ s. latest s log) (sym slot.is_number) ∙ latest_active log found.place found.row one found.there found.active in cc in
-    to_sessions test log slots slot.place slot.session slot.there (
-    ap (λ h. list_any test (elim h as (λ _. List (List Write)) [ None ↦ [] | Some hold ↦ elim (slice_get log hold.place) [ None ↦ [] | Some row ↦ cond (is_active row.standing) (row.writes ∷ []) [] ] ])) slot.held
-    ∙ ap (λ o. list_any test (elim o as (λ _. List (List Write)) [ None ↦ [] | Some row ↦ cond (is_active row.standing) (row.writes ∷ []) [] ])) (held-get (suc slot.place) slot.at.place log at.0 at.1 ∙ ap Some same)
-    ∙ ap (λ b. list_any test (cond b (found.row.writes ∷ []) [])) found.active
-    ∙ tests.or_left _ _ found.passes))
+    row_found test log find slots one are rows found.place found.row found.there found.active found.passes)
 
 -- The finished ones.
 

@@ -1,5 +1,5 @@
 -- The book of a store: all that it keeps, line by line (our own choice).
-use Rattle.std.specs.Prelude.{ℕ, Bool, true, false, ◌-◌, ◌^◌, min, nat_eq, List, [], ◌∷◌, ◌++◌, map, filter, length, Option, None, Some, slice_get, codes}
+use Rattle.std.specs.Prelude.{ℕ, Bool, true, false, ◌-◌, ◌^◌, ◌==◌, if◌then◌else◌, min, nat_eq, List, [], ◌∷◌, ◌++◌, map, filter, length, Option, None, Some, slice_get, codes}
 use Rattle.std.specs.Ordering.{nat_cmp}
 use Rattle.std.specs.List.{flat_map}
 use Rattle.std.specs.Fmt.{decimal}
@@ -10,7 +10,7 @@ use Rattle.occ_types.specs.Question.{Question, One, Span}
 use Rattle.occ_types.specs.Row.{Row}
 use Rattle.occ_types.specs.Schema.{Schema}
 use Rattle.occ_model.specs.State.{State, Write, Answer, Found, Rows, Observation}
-use Rattle.occ_model.specs.Log.{Case, LogRow, Standing, Open, Writing, Done, Back}
+use Rattle.occ_model.specs.Log.{Case, LogRow, Base, Standing, Open, Writing, Done, Back}
 use Rattle.occ_model.specs.declared.verdict.Cause.TheVariants.{Conflict, TooOld}
 use Rattle.occ_book.specs.Rows.{log_of}
 use Rattle.occ_book.specs.declared.books.BookView as code_view
@@ -18,10 +18,13 @@ use Rattle.occ_text.specs.Spelling.{line_text, key_text, row_text}
 use Rattle.occ_text.specs.declared.headers.Limits.{Limits}
 use Rattle.occ_text.specs.Headers.{Header, limits_of, limits_lines, count_text, table_text}
 use Rattle.occ_text.specs.Line.{lines_text}
+use Rattle.occ_print.specs.declared.sections.Section.{Section}
+use Rattle.occ_print.specs.declared.sections.Section.TheVariants as sections
 
 -- what a book tells: how its store was opened, and all that the store keeps
 pub record Book : Type 0 where
   pub header : Header
+  pub base : Base
   pub log : List LogRow
   pub marks : FinMap nat_cmp ℕ
   pub state : State
@@ -101,23 +104,46 @@ row_lines schema row = row_line row ∷ flat_map (read_lines schema) row.reads +
 abbrev pub log_lines : Schema → List LogRow → List (List ℕ)
 log_lines schema log = count_text (codes "log") (length log) ∷ flat_map (row_lines schema) log
 
+-- the first word of the line of a session with its number, and that of the line of a row
+abbrev pub number_word : Section → List ℕ
+number_word sections.Base = codes "last"
+number_word sections.Store = codes "mark"
+
+abbrev pub entry_word : Section → List ℕ
+entry_word sections.Base = codes "from"
+entry_word sections.Store = codes "at"
+
+abbrev pub number_line : Section → ℕ × ℕ → List ℕ
+number_line section number = line_text (number_word section ∷ decimal number.0 ∷ decimal number.1 ∷ [])
+
+abbrev pub entry_line : Section → Schema → Object × Row → List ℕ
+entry_line section schema entry = line_text (entry_word section ∷ table_name schema entry.0.0 ∷ key_text entry.0.1 ∷ row_text entry.1 ∷ [])
+
 -- the closing marks, by session
-abbrev pub mark_line : ℕ × ℕ → List ℕ
-mark_line mark = line_text (codes "mark" ∷ decimal mark.0 ∷ decimal mark.1 ∷ [])
-
 abbrev pub mark_lines : FinMap nat_cmp ℕ → List (List ℕ)
-mark_lines marks = count_text (codes "marks") (len marks) ∷ map mark_line (entries marks)
-
--- the rows of all tables, by table and then by key
-abbrev pub at_line : Schema → Object × Row → List ℕ
-at_line schema entry = line_text (codes "at" ∷ table_name schema entry.0.0 ∷ key_text entry.0.1 ∷ row_text entry.1 ∷ [])
+mark_lines marks = count_text (codes "marks") (len marks) ∷ map (number_line sections.Store) (entries marks)
 
 -- how many rows a state has; a text has no number above 2 ^ 64 - 1
 abbrev pub row_count : State → ℕ
 row_count state = min (len state) (2 ^ 64 - 1)
 
 abbrev pub state_lines : Schema → State → List (List ℕ)
-state_lines schema state = count_text (codes "state") (row_count state) ∷ map (at_line schema) (entries state)
+state_lines schema state = count_text (codes "state") (row_count state) ∷ map (entry_line sections.Store schema) (entries state)
+
+-- the place behind what was folded, and how many sessions and rows follow
+abbrev pub base_line : ℕ → ℕ → ℕ → List ℕ
+base_line place numbers rows = line_text (codes "base" ∷ decimal place ∷ decimal numbers ∷ decimal rows ∷ [])
+
+-- what was folded: the last number of each session, and the rows of its state, by table and then by key
+abbrev pub folded_lines : Schema → Base → List (List ℕ)
+folded_lines schema base =
+    base_line base.place (len base.last) (row_count base.state)
+    ∷ map (number_line sections.Base) (entries base.last)
+    ++ map (entry_line sections.Base schema) (entries base.state)
+
+-- nothing is told of a base in front of which no row stood
+abbrev pub base_lines : Schema → Base → List (List ℕ)
+base_lines schema base = if base.place == 0 then [] else folded_lines schema base
 
 -- the rows of the table at a place
 abbrev pub rows_at : ℕ → State → List (Object × Row)
@@ -129,6 +155,7 @@ counter_line counter low = line_text (codes "counter" ∷ decimal counter ∷ co
 abbrev pub book_lines : Book → List (List ℕ)
 book_lines book =
     header_lines book.header
+    ++ base_lines book.header.tables book.base
     ++ log_lines book.header.tables book.log
     ++ mark_lines book.marks
     ++ state_lines book.header.tables book.state
@@ -147,6 +174,7 @@ module _ {Z O : Type 0} where
   abbrev pub book_of : (O → ℕ × Case) → Limits → Schema → code_view.BookView Z O → Book
   book_of opened limits schema book = record {
     header = header_of limits schema;
+    base = book.base.now.base;
     log = log_of opened book.log.now;
     marks = book.marks.now.marks;
     state = book.table.now.state;

@@ -14,13 +14,14 @@ ghost use Rattle.occ_text.specs.Line.{lines_text};
 ghost use Rattle.occ_text.specs.Printing.{PrintGives};
 ghost use Rattle.occ_text.specs.declared.faults.WriteFault.TheVariants as write_faults;
 ghost use Rattle.occ_text.specs.Headers.{count_text, limits_lines, table_text};
-ghost use Rattle.occ_print.specs.Books.{book_of, header_of, header_lines, pair_line, pair_lines, read_lines, write_line, row_lines, log_lines, mark_line, mark_lines, at_line, rows_at, state_lines, counter_line, book_text};
+ghost use Rattle.occ_print.specs.Books.{book_of, header_of, header_lines, pair_line, pair_lines, read_lines, write_line, row_lines, log_lines, number_line, mark_lines, entry_line, rows_at, row_count, state_lines, base_line, folded_lines, base_lines, counter_line, book_text};
 
 use crate::lines::{
-    at_line, count_line, counter_line, mark_line, pair_line, read_line, row_line, table_line,
-    version_line, write_line,
+    base_line, count_line, counter_line, entry_line, number_line, pair_line, read_line, row_line,
+    table_line, version_line, write_line,
 };
-use occ_book::{BookView, LogRow, Marks, Tables};
+use crate::sections::Section;
+use occ_book::{Base, BookView, LogRow, Marks, Tables};
 use occ_sets::{Answer, Observation, WriteSet};
 use occ_text::faults::WriteFault;
 use occ_text::headers::Limits;
@@ -295,48 +296,51 @@ fn print_log<W: Write, A: Allocator, O>(
     print_rows(output, writer, line, schema, log)
 }
 
-fn print_mark<W: Write, A: Allocator>(
+fn print_number<W: Write, A: Allocator>(
     output: &mut Output<A>,
     writer: &mut W,
     line: &mut String<A>,
+    section: Section,
     session: usize,
     number: u64,
 ) -> Result<(), WriteFault>
-    ensures printed { PrintGives result (W.contents writer.old) (W.contents writer.new) output.old.held output.new.held (lines_text (mark_line (session, number) ∷ [])) }
+    ensures printed { PrintGives result (W.contents writer.old) (W.contents writer.new) output.old.held output.new.held (lines_text (number_line section (session, number) ∷ [])) }
     ensures cause { IfErr result (λ fault. fault ≡ write_faults.Write → output.new.failed ≡ true) }
 {
-    mark_line(line, session, number)?;
+    number_line(line, section, session, number)?;
     push_line(output, writer, line)
 }
 
-// Nothing for a session without a mark.
-fn print_mark_of<W: Write, A: Allocator>(
+// Nothing for a session without a number.
+fn print_number_of<W: Write, A: Allocator>(
     output: &mut Output<A>,
     writer: &mut W,
     line: &mut String<A>,
-    marks: &Marks<A>,
+    section: Section,
+    numbers: &Marks<A>,
     session: usize,
 ) -> Result<(), WriteFault>
-    ensures printed { PrintGives result (W.contents writer.old) (W.contents writer.new) output.old.held output.new.held (lines_text (map mark_line (mark_at session (finite.get marks.now.marks session)))) }
+    ensures printed { PrintGives result (W.contents writer.old) (W.contents writer.new) output.old.held output.new.held (lines_text (map (number_line section) (mark_at session (finite.get numbers.now.marks session)))) }
     ensures cause { IfErr result (λ fault. fault ≡ write_faults.Write → output.new.failed ≡ true) }
 {
-    match marks.get(session) {
-        Some(number) => print_mark(output, writer, line, session, number),
+    match numbers.get(session) {
+        Some(number) => print_number(output, writer, line, section, session, number),
         None => Ok(()),
     }
 }
 
-fn print_each_mark<W: Write, A: Allocator>(
+fn print_each_number<W: Write, A: Allocator>(
     output: &mut Output<A>,
     writer: &mut W,
     line: &mut String<A>,
-    marks: &Marks<A>,
+    section: Section,
+    numbers: &Marks<A>,
 ) -> Result<(), WriteFault>
-    ensures printed { PrintGives result (W.contents writer.old) (W.contents writer.new) output.old.held output.new.held (lines_text (map mark_line (finite.entries marks.now.marks))) }
+    ensures printed { PrintGives result (W.contents writer.old) (W.contents writer.new) output.old.held output.new.held (lines_text (map (number_line section) (finite.entries numbers.now.marks))) }
     ensures cause { IfErr result (λ fault. fault ≡ write_faults.Write → output.new.failed ≡ true) }
 {
-    for done in 0..marks.sessions() {
-        print_mark_of(output, writer, line, marks, done + 1)?;
+    for done in 0..numbers.sessions() {
+        print_number_of(output, writer, line, section, numbers, done + 1)?;
     }
     Ok(())
 }
@@ -351,22 +355,23 @@ fn print_marks<W: Write, A: Allocator>(
     ensures cause { IfErr result (λ fault. fault ≡ write_faults.Write → output.new.failed ≡ true) }
 {
     print_count(output, writer, line, "marks", marks.len() as u128)?;
-    print_each_mark(output, writer, line, marks)
+    print_each_number(output, writer, line, Section::Store, marks)
 }
 
-fn print_at<W: Write, A: Allocator>(
+fn print_entry<W: Write, A: Allocator>(
     output: &mut Output<A>,
     writer: &mut W,
     line: &mut String<A>,
+    section: Section,
     schema: &Schema<A>,
     place: usize,
     key: &Key<A>,
     row: &Row<A>,
 ) -> Result<(), WriteFault>
-    ensures printed { PrintGives result (W.contents writer.old) (W.contents writer.new) output.old.held output.new.held (lines_text (at_line schema.now ((place, key_of key.now), row.now) ∷ [])) }
+    ensures printed { PrintGives result (W.contents writer.old) (W.contents writer.new) output.old.held output.new.held (lines_text (entry_line section schema.now ((place, key_of key.now), row.now) ∷ [])) }
     ensures cause { IfErr result (λ fault. fault ≡ write_faults.Write → output.new.failed ≡ true) }
 {
-    at_line(line, schema, place, key, row)?;
+    entry_line(line, section, schema, place, key, row)?;
     push_line(output, writer, line)
 }
 
@@ -374,15 +379,16 @@ fn print_map<W: Write, A: Allocator>(
     output: &mut Output<A>,
     writer: &mut W,
     line: &mut String<A>,
+    section: Section,
     schema: &Schema<A>,
     place: usize,
     rows: &BTreeMap<Key<A>, Row<A>, A>,
 ) -> Result<(), WriteFault>
-    ensures printed { PrintGives result (W.contents writer.old) (W.contents writer.new) output.old.held output.new.held (lines_text (map (at_line schema.now) (placed place rows.now.entries))) }
+    ensures printed { PrintGives result (W.contents writer.old) (W.contents writer.new) output.old.held output.new.held (lines_text (map (entry_line section schema.now) (placed place rows.now.entries))) }
     ensures cause { IfErr result (λ fault. fault ≡ write_faults.Write → output.new.failed ≡ true) }
 {
     for (key, row) in rows {
-        print_at(output, writer, line, schema, place, key, row)?;
+        print_entry(output, writer, line, section, schema, place, key, row)?;
     }
     Ok(())
 }
@@ -391,16 +397,17 @@ fn print_rows_at<W: Write, A: Allocator>(
     output: &mut Output<A>,
     writer: &mut W,
     line: &mut String<A>,
+    section: Section,
     schema: &Schema<A>,
     tables: &Tables<A>,
     place: usize,
 ) -> Result<(), WriteFault>
     requires { place < tables.now.tables }
-    ensures printed { PrintGives result (W.contents writer.old) (W.contents writer.new) output.old.held output.new.held (lines_text (map (at_line schema.now) (rows_at place tables.now.state))) }
+    ensures printed { PrintGives result (W.contents writer.old) (W.contents writer.new) output.old.held output.new.held (lines_text (map (entry_line section schema.now) (rows_at place tables.now.state))) }
     ensures cause { IfErr result (λ fault. fault ≡ write_faults.Write → output.new.failed ≡ true) }
 {
     match tables.table(place) {
-        Some(rows) => print_map(output, writer, line, schema, place, rows),
+        Some(rows) => print_map(output, writer, line, section, schema, place, rows),
         None => Ok(()),
     }
 }
@@ -409,14 +416,15 @@ fn print_all_rows<W: Write, A: Allocator + Clone>(
     output: &mut Output<A>,
     writer: &mut W,
     line: &mut String<A>,
+    section: Section,
     schema: &Schema<A>,
     tables: &Tables<A>,
 ) -> Result<(), WriteFault>
-    ensures printed { PrintGives result (W.contents writer.old) (W.contents writer.new) output.old.held output.new.held (lines_text (map (at_line schema.now) (finite.entries tables.now.state))) }
+    ensures printed { PrintGives result (W.contents writer.old) (W.contents writer.new) output.old.held output.new.held (lines_text (map (entry_line section schema.now) (finite.entries tables.now.state))) }
     ensures cause { IfErr result (λ fault. fault ≡ write_faults.Write → output.new.failed ≡ true) }
 {
     for place in 0..tables.count() {
-        print_rows_at(output, writer, line, schema, tables, place)?;
+        print_rows_at(output, writer, line, section, schema, tables, place)?;
     }
     Ok(())
 }
@@ -432,7 +440,69 @@ fn print_state<W: Write, A: Allocator + Clone>(
     ensures cause { IfErr result (λ fault. fault ≡ write_faults.Write → output.new.failed ≡ true) }
 {
     print_count(output, writer, line, "state", tables.len() as u128)?;
-    print_all_rows(output, writer, line, schema, tables)
+    print_all_rows(output, writer, line, Section::Store, schema, tables)
+}
+
+fn print_base_line<W: Write, A: Allocator>(
+    output: &mut Output<A>,
+    writer: &mut W,
+    line: &mut String<A>,
+    base: &Base<A>,
+) -> Result<(), WriteFault>
+    ensures printed { PrintGives result (W.contents writer.old) (W.contents writer.new) output.old.held output.new.held (lines_text (base_line base.now.base.place (finite.len base.now.base.last) (row_count base.now.base.state) ∷ [])) }
+    ensures cause { IfErr result (λ fault. fault ≡ write_faults.Write → output.new.failed ≡ true) }
+{
+    let numbers = base.numbers().len();
+    let rows = base.state().len();
+    base_line(line, base.place(), numbers, rows)?;
+    push_line(output, writer, line)
+}
+
+fn print_folded<W: Write, A: Allocator + Clone>(
+    output: &mut Output<A>,
+    writer: &mut W,
+    line: &mut String<A>,
+    schema: &Schema<A>,
+    base: &Base<A>,
+) -> Result<(), WriteFault>
+    ensures printed { PrintGives result (W.contents writer.old) (W.contents writer.new) output.old.held output.new.held (lines_text (folded_lines schema.now base.now.base)) }
+    ensures cause { IfErr result (λ fault. fault ≡ write_faults.Write → output.new.failed ≡ true) }
+{
+    print_base_line(output, writer, line, base)?;
+    print_each_number(output, writer, line, Section::Base, base.numbers())?;
+    print_all_rows(output, writer, line, Section::Base, schema, base.state())
+}
+
+// Nothing where nothing was folded.
+fn print_base<W: Write, A: Allocator + Clone>(
+    output: &mut Output<A>,
+    writer: &mut W,
+    line: &mut String<A>,
+    schema: &Schema<A>,
+    base: &Base<A>,
+) -> Result<(), WriteFault>
+    ensures printed { PrintGives result (W.contents writer.old) (W.contents writer.new) output.old.held output.new.held (lines_text (base_lines schema.now base.now.base)) }
+    ensures cause { IfErr result (λ fault. fault ≡ write_faults.Write → output.new.failed ≡ true) }
+{
+    if base.place() == 0 {
+        return Ok(());
+    }
+    print_folded(output, writer, line, schema, base)
+}
+
+fn print_opening<W: Write, A: Allocator + Clone>(
+    output: &mut Output<A>,
+    writer: &mut W,
+    line: &mut String<A>,
+    limits: Limits,
+    schema: &Schema<A>,
+    base: &Base<A>,
+) -> Result<(), WriteFault>
+    ensures printed { PrintGives result (W.contents writer.old) (W.contents writer.new) output.old.held output.new.held (lines_text (header_lines (header_of limits schema.now) ++ base_lines schema.now base.now.base)) }
+    ensures cause { IfErr result (λ fault. fault ≡ write_faults.Write → output.new.failed ≡ true) }
+{
+    print_header(output, writer, line, limits, schema)?;
+    print_base(output, writer, line, schema, base)
 }
 
 fn print_counter<W: Write, A: Allocator>(
@@ -449,7 +519,7 @@ fn print_counter<W: Write, A: Allocator>(
     push_line(output, writer, line)
 }
 
-/// Prints the book of a store that was opened with these limits and this schema. It ends with its `counter` line.
+/// Prints the book of a store that was opened with these limits and this schema. It ends with its `counter` line. What was folded out of the log is told behind the header, where the base has a place that isn't 0; the book of a log that was never shortened has no such line.
 ///
 /// It is for a book whose ranges have both ends, as those that a schedule asks for have them. Of another it prints `*` for a missing end, which no reader of this version takes; `write_readable_book` refuses such a book.
 ///
@@ -466,7 +536,7 @@ pub fn write_book<W: Write, A: Allocator + Clone, O>(
     ensures cause { IfErr result (λ fault. fault ≡ write_faults.Write → output.new.failed ≡ true) }
 {
     let mut line = String::new(alloc);
-    print_header(output, writer, &mut line, limits, schema)?;
+    print_opening(output, writer, &mut line, limits, schema, book.base)?;
     print_log(output, writer, &mut line, schema, book.log)?;
     print_marks(output, writer, &mut line, book.marks)?;
     print_state(output, writer, &mut line, schema, book.table)?;

@@ -4,5 +4,7 @@
 pub mod books;
 pub mod ends;
 pub mod lines;
+pub mod sections;
 
 pub use ends::{BookFault, write_readable_book};
+pub use sections::Section;

@@ -10,8 +10,9 @@ ghost use Rattle.occ_sets.specs.Seen.{answer_of, observation_of};
 ghost use Rattle.occ_model.specs.Log.{Case};
 ghost use Rattle.occ_book.specs.Rows.{log_row_of, standing_of};
 ghost use Rattle.occ_text.specs.Headers.{count_text, table_text, kind_word, key_kind_word};
-ghost use Rattle.occ_print.specs.Books.{table_name, end_text, question_text, answer_text, read_line, pair_line, write_line, row_line, standing_text, mark_line, at_line, counter_line, audit_line};
+ghost use Rattle.occ_print.specs.Books.{table_name, end_text, question_text, answer_text, read_line, pair_line, write_line, row_line, standing_text, number_line, entry_line, base_line, counter_line, audit_line};
 
+use crate::sections::{Section, entry_word, number_word};
 use occ_book::{LogRow, Standing};
 use occ_case::Cause;
 use occ_sets::{Answer, Observation};
@@ -231,31 +232,48 @@ fn write_standing<A: Allocator, O>(
     }
 }
 
-/// `mark S N`, for the mark of a session.
-pub fn mark_line<A: Allocator>(
+/// `base P L R`: the place behind what was folded, and how many sessions and rows follow.
+pub fn base_line<A: Allocator>(
     line: &mut String<A>,
+    place: usize,
+    numbers: usize,
+    rows: usize,
+) -> Result<(), AllocError>
+    ensures { OnOk result (string_bytes line.new ≡ base_line place numbers rows) }
+{
+    line.clear();
+    write!(line, "base {place} {numbers} {rows}")
+}
+
+/// The number of a session, in a section: `last S N` or `mark S N`.
+pub fn number_line<A: Allocator>(
+    line: &mut String<A>,
+    section: Section,
     session: usize,
     number: u64,
 ) -> Result<(), AllocError>
-    ensures { OnOk result (string_bytes line.new ≡ mark_line (session, number)) }
+    ensures { OnOk result (string_bytes line.new ≡ number_line section (session, number)) }
 {
     line.clear();
-    write!(line, "mark {session} {number}")
+    let word = number_word(section);
+    write!(line, "{word} {session} {number}")
 }
 
-/// `at NAME KEY ROW`, for a row of the table at a place.
-pub fn at_line<A: Allocator>(
+/// A row of the table at a place, in a section: `from NAME KEY ROW` or `at NAME KEY ROW`.
+pub fn entry_line<A: Allocator>(
     line: &mut String<A>,
+    section: Section,
     schema: &Schema<A>,
     place: usize,
     key: &Key<A>,
     row: &Row<A>,
 ) -> Result<(), AllocError>
-    ensures { OnOk result (string_bytes line.new ≡ at_line schema.now ((place, key_of key.now), row.now)) }
+    ensures { OnOk result (string_bytes line.new ≡ entry_line section schema.now ((place, key_of key.now), row.now)) }
 {
     line.clear();
+    let word = entry_word(section);
     let name = table_name(schema, place);
-    write!(line, "at {name} ")?;
+    write!(line, "{word} {name} ")?;
     write_key(line, key)?;
     line.push(' ')?;
     write_row(line, row)

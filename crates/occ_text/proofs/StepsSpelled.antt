@@ -8,7 +8,7 @@ use Rattle.occ_text.specs.declared.steps.Act.{Act}
 use Rattle.occ_text.specs.declared.steps.Act.TheVariants as acts
 use Rattle.occ_text.specs.Spelling.{IsToken, AreTokens}
 use Rattle.occ_text.specs.Reading.{is_token}
-use Rattle.occ_text.specs.Steps.{Step, Does, Get, Scan, Put, Delete, Forge, RawRead, Alone, Show, act_word, step_tokens, StepFits}
+use Rattle.occ_text.specs.Steps.{Step, Does, Get, Scan, Put, Delete, Forge, RawRead, Alone, Show, Checkpoint, act_word, step_tokens, StepFits}
 use Rattle.occ_text.specs.StepReading.{act_of, likely_act, bare_step, act_step, get_step, delete_step, forge_step, scan_step, put_step, raw_step, short_step, last_step, long_step, counted_step, alone_step, alone_of_tokens, step_of_tokens}
 use Rattle.occ_text.proofs.Numbers.{number_again}
 use Rattle.occ_text.proofs.Words.{IsToken-from_test}
@@ -61,6 +61,7 @@ tokens_again_of (RawRead session number start table key) fits =
     rw (number_again 255 session (lit< tt) fits.0, number_again (2 ^ 32 - 1) number (lit< tt) fits.1, number_again (2 ^ 64 - 1) start (lit< tt) fits.2, name_again table fits.3, key_again key fits.4) refl
 tokens_again_of (Alone session operations) fits = rw (number_again 255 session (lit< tt) fits.0, operations_again operations fits.1 fits.2) refl
 tokens_again_of Show fits = refl
+tokens_again_of Checkpoint fits = refl
 
 IsToken-act : (act : Act) → IsToken (act_word act)
 unfolding is_token
@@ -103,3 +104,4 @@ step_AreTokens (Alone session operations) fits =
     more_tokens (codes "alone") (decimal session ∷ map operation_text operations) (IsToken-from_test (codes "alone") refl)
     (record { some = omega arith; each = All-cons IsToken (decimal session) (map operation_text operations) (IsToken-session session fits.0) (AreTokens-operations operations fits.2) })
 step_AreTokens Show fits = one_token (IsToken-from_test (codes "show") refl)
+step_AreTokens Checkpoint fits = one_token (IsToken-from_test (codes "checkpoint") refl)

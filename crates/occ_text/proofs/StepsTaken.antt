@@ -6,7 +6,7 @@ use Rattle.occ_text.specs.declared.steps.Act.{Act}
 use Rattle.occ_text.specs.Reading.{number_of, name_of}
 use Rattle.occ_text.specs.declared.tokens.Unread.{Unread}
 use Rattle.occ_text.specs.Escapes.{Gives, read_key, read_row}
-use Rattle.occ_text.specs.Steps.{Step, Does, Get, Scan, Put, Delete, Forge, RawRead, Alone, Show, act_word, step_tokens, StepFits}
+use Rattle.occ_text.specs.Steps.{Step, Does, Get, Scan, Put, Delete, Forge, RawRead, Alone, Show, Checkpoint, act_word, step_tokens, StepFits}
 use Rattle.occ_text.specs.StepReading.{act_of, likely_act, bare_step, act_step, get_step, delete_step, transaction_of, start_of, forge_step, scan_step, put_step, raw_step, short_step, last_step, long_step, counted_step, alone_step, alone_of_tokens, step_of_tokens}
 use Rattle.occ_text.proofs.Numbers.{number_takes}
 use Rattle.occ_text.proofs.Escapes.{some_is, bind_value}
@@ -32,10 +32,12 @@ pub record Read (tokens : List (List ℕ)) (step : Step) : Type 0 where
   pub spelled : tokens ≡ step_tokens step
   pub fits : StepFits step
 
-bare_takes : (word : List ℕ) (b : Bool) (step : Step) → bytes_eq word (codes "show") ≡ b → cond b (Some Show) None ≡ Some step → Read (word ∷ []) step
-bare_takes word true step h e =
+bare_takes : (word : List ℕ) (b d : Bool) (step : Step) → bytes_eq word (codes "show") ≡ b → bytes_eq word (codes "checkpoint") ≡ d → cond b (Some Show) (cond d (Some Checkpoint) None) ≡ Some step → Read (word ∷ []) step
+bare_takes word true d step h k e =
     subst (Read (word ∷ [])) (some_is Show step e) (record { spelled = ap (λ (w : List ℕ). w ∷ []) (word_is word (codes "show") h); fits = tt })
-bare_takes word false step h e = absurd cc
+bare_takes word false true step h k e =
+    subst (Read (word ∷ [])) (some_is Checkpoint step e) (record { spelled = ap (λ (w : List ℕ). w ∷ []) (word_is word (codes "checkpoint") k); fits = tt })
+bare_takes word false false step h k e = absurd cc
 
 does_takes : (word session : List ℕ) (step : Step) → act_step word session ≡ Some step → Read (word ∷ session ∷ []) step
 unfolding act_step
@@ -161,7 +163,7 @@ long_takes word session number start table key step h =
 
 bare_step_takes : (word : List ℕ) (step : Step) → bare_step word ≡ Some step → Read (word ∷ []) step
 unfolding bare_step
-bare_step_takes word step h = bare_takes word (bytes_eq word (codes "show")) step refl h
+bare_step_takes word step h = bare_takes word (bytes_eq word (codes "show")) (bytes_eq word (codes "checkpoint")) step refl refl h
 
 counted_takes : (word : List ℕ) (tokens : List (List ℕ)) (step : Step) → counted_step word tokens ≡ Some step → Read (word ∷ tokens) step
 unfolding counted_step

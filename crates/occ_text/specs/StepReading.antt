@@ -7,7 +7,7 @@ pub use Rattle.occ_text.specs.Reading.{◌>>=◌}
 use Rattle.occ_text.specs.Reading.{tokens_of, number_of, name_of}
 use Rattle.occ_text.specs.Escapes.{read_key, read_row}
 use Rattle.occ_text.specs.OperationReading.{operations_of}
-use Rattle.occ_text.specs.Steps.{Step, Does, Get, Scan, Put, Delete, Forge, RawRead, Alone, Show, act_word}
+use Rattle.occ_text.specs.Steps.{Step, Does, Get, Scan, Put, Delete, Forge, RawRead, Alone, Show, Checkpoint, act_word}
 
 -- the one act whose word may begin with these two bytes
 unfoldable pub likely_act : ℕ → ℕ → Act
@@ -32,7 +32,7 @@ act_of (a ∷ b ∷ cs) = act_if (a ∷ b ∷ cs) (likely_act a b)
 
 -- WORD
 unfoldable pub bare_step : List ℕ → Option Step
-bare_step word = if bytes_eq word (codes "show") then Some Show else None
+bare_step word = if bytes_eq word (codes "show") then Some Show else (if bytes_eq word (codes "checkpoint") then Some Checkpoint else None)
 
 -- WORD S
 unfoldable pub act_step : List ℕ → List ℕ → Option Step

@@ -24,6 +24,7 @@ pub data Step : Type 0 where
   -- its operations, in their order
   Alone : ℕ → List Operation → Step
   Show : Step
+  Checkpoint : Step
 
 module _ {Z : Type 0} where
   -- the plain step
@@ -37,6 +38,7 @@ module _ {Z : Type 0} where
   step_of (steps.RawRead session number start table key) = RawRead session number start table.now (key_of key)
   step_of (steps.Alone session operations) = Alone session (map operation_of operations.items)
   step_of steps.Show = Show
+  step_of steps.Checkpoint = Checkpoint
 
 -- the word of what names a session and nothing else
 abbrev pub act_word : Act → List ℕ
@@ -62,6 +64,7 @@ step_tokens (Forge session number start) = codes "forge" ∷ decimal session ∷
 step_tokens (RawRead session number start table key) = codes "rawread" ∷ decimal session ∷ decimal number ∷ decimal start ∷ table ∷ key_text key ∷ []
 step_tokens (Alone session operations) = codes "alone" ∷ decimal session ∷ map operation_text operations
 step_tokens Show = codes "show" ∷ []
+step_tokens Checkpoint = codes "checkpoint" ∷ []
 
 -- the line of a step, without its line feed
 abbrev pub step_text : Step → List ℕ
@@ -78,3 +81,4 @@ StepFits (Forge session number start) = (session ≤ 255) × (number ≤ 2 ^ 32 
 StepFits (RawRead session number start table key) = (session ≤ 255) × (number ≤ 2 ^ 32 - 1) × (start ≤ 2 ^ 64 - 1) × IsName table × KeyFits key
 StepFits (Alone session operations) = (session ≤ 255) × (0 < length operations) × All OperationFits operations
 StepFits Show = Unit {0}
+StepFits Checkpoint = Unit {0}

@@ -15,13 +15,15 @@ use crate::steps::Step;
 use crate::tokens::{Unread, is_word, tokens};
 use std::alloc::Allocator;
 
-/// `show`.
+/// `show` or `checkpoint`.
 #[tactic(auto, unfolding(crate::specs::StepReading::bare_step))]
 fn bare_step<'a, A: Allocator>(word: &[u8]) -> Option<Step<'a, A>>
     ensures { option_map step_of result ≡ bare_step word.now }
 {
     if is_word(word, "show") {
         Some(Step::Show)
+    } else if is_word(word, "checkpoint") {
+        Some(Step::Checkpoint)
     } else {
         None
     }

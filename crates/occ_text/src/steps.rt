@@ -111,4 +111,6 @@ pub enum Step<'a, A: Allocator> {
     },
     /// `show`: counts what there is.
     Show,
+    /// `checkpoint`: folds the settled beginning of the log.
+    Checkpoint,
 }

@@ -61,6 +61,7 @@ fn lines_with_a_table(rt: HostRuntime) -> Result<(), Fail> {
         if *table == "stock" && *key == Key::Num(7))
     );
     assert!(rt; matches!(read_step(alloc, b"show"), Ok(Step::Show)));
+    assert!(rt; matches!(read_step(alloc, b"checkpoint"), Ok(Step::Checkpoint)));
     Ok(())
 }
 
@@ -95,6 +96,7 @@ fn lines_that_are_no_step(rt: HostRuntime) -> Result<(), Fail> {
     for line in [
         "",
         "show 1",
+        "checkpoint 1",
         "begin",
         "begin 256",
         "begin 01",

@@ -1,6 +1,6 @@
 //! Worked books, built row by row, and books on devices that fail.
 
-use occ_book::{BookView, LogRow, Marks, Standing, Tables};
+use occ_book::{Base, BookView, LogRow, Marks, Standing, Tables};
 use occ_print::{BookFault, write_readable_book};
 use occ_sets::{Answer, ReadSet, WriteSet};
 use occ_text::headers::Limits;
@@ -126,6 +126,14 @@ fn marks(alloc: Global, closed: &[(usize, u64)]) -> Result<Marks<Global>, AllocE
     Ok(marks)
 }
 
+/// Nothing was folded out of the log of one table and two sessions.
+fn nothing_folded(alloc: Global) -> Result<Base<Global>, AllocError> {
+    match Base::new(alloc, 1, 2) {
+        Ok(base) => Ok(base),
+        Err(_) => Err(AllocError),
+    }
+}
+
 /// Prints a book of two sessions, with queues of four and eight write sets kept.
 fn printed(
     alloc: Global,
@@ -134,9 +142,22 @@ fn printed(
     closed: &[(usize, u64)],
     fails: usize,
 ) -> Result<(Vec<u8>, Result<(), BookFault>), AllocError> {
+    printed_on(alloc, &nothing_folded(alloc)?, log, rows, closed, fails)
+}
+
+/// The same on a base.
+fn printed_on(
+    alloc: Global,
+    base: &Base<Global>,
+    log: &[LogRow<Global, ()>],
+    rows: &[(u64, i64)],
+    closed: &[(usize, u64)],
+    fails: usize,
+) -> Result<(Vec<u8>, Result<(), BookFault>), AllocError> {
     let tables = tables(alloc, rows)?;
     let marks = marks(alloc, closed)?;
     let book = BookView {
+        base,
         log,
         table: &tables,
         marks: &marks,
@@ -263,5 +284,25 @@ fn marks_are_printed_by_session(rt: HostRuntime) -> Result<(), Fail> {
     let both =
         b"occ 1\nsessions 2\nqueue 4\nkeep 8\ntable t num int\nlog 0\nmarks 2\nmark 1 7\nmark 2 5\nstate 0\ncounter 2 low 0\n";
     assert!(rt; bytes.as_slice() == both.as_slice());
+    Ok(())
+}
+
+#[test]
+fn a_base_is_printed_behind_the_header(rt: HostRuntime) -> Result<(), Fail> {
+    let alloc = rt.alloc();
+    let state = tables(alloc, &[(9, 3), (4, -1)])?;
+    let base = Base::from_parts(state, marks(alloc, &[(2, 6), (1, 2)])?, 8);
+    let (bytes, ended) = printed_on(alloc, &base, &[], &[(4, -1)], &[(2, 7)], usize::MAX)?;
+    assert!(rt; ended == Ok(()));
+    let text =
+        b"occ 1\nsessions 2\nqueue 4\nkeep 8\ntable t num int\nbase 8 2 2\nlast 1 2\nlast 2 6\nfrom t 4 -1\nfrom t 9 3\nlog 0\nmarks 1\nmark 2 7\nstate 1\nat t 4 -1\ncounter 2 low 0\n";
+    assert!(rt; bytes.as_slice() == text.as_slice());
+    // rows that were backed up alone were folded
+    let base = Base::from_parts(tables(alloc, &[])?, marks(alloc, &[(2, 1)])?, 1);
+    let (bytes, ended) = printed_on(alloc, &base, &[], &[], &[], usize::MAX)?;
+    assert!(rt; ended == Ok(()));
+    let text =
+        b"occ 1\nsessions 2\nqueue 4\nkeep 8\ntable t num int\nbase 1 1 0\nlast 2 1\nlog 0\nmarks 0\nstate 0\ncounter 2 low 0\n";
+    assert!(rt; bytes.as_slice() == text.as_slice());
     Ok(())
 }

@@ -1,6 +1,6 @@
 //! Short logs, and what the audit says of them.
 use occ_audit::audit_rows;
-use occ_book::{Book, LogRow, Marks, Standing, Tables};
+use occ_book::{Base, Book, LogRow, Marks, Standing, Tables};
 use occ_sets::{Answer, ReadSet, WriteSet};
 use occ_types::{Fault, Key, Object, Question, Row};
 use std::alloc::Global;
@@ -56,9 +56,19 @@ fn entered(
     transaction(alloc, (place, 1), read, write, standing)
 }
 
-// What the audit says of some rows beside one table without rows, where session 1 may have a closing mark.
+// What the audit says of some rows beside one table without rows, where session 1 may have a closing mark, and nothing was folded.
 fn says(
     alloc: Global,
+    log: Vec<LogRow<Global, ()>, Global>,
+    mark: Option<u64>,
+) -> Result<bool, Fault> {
+    says_from(alloc, Base::new(alloc, 1, 2)?, log, mark)
+}
+
+// The same on a base.
+fn says_from(
+    alloc: Global,
+    base: Base<Global>,
     log: Vec<LogRow<Global, ()>, Global>,
     mark: Option<u64>,
 ) -> Result<bool, Fault> {
@@ -67,6 +77,7 @@ fn says(
         marks.set(1, number);
     }
     let book = Book {
+        base,
         log,
         table: Tables::new(alloc, 1)?,
         marks,
@@ -148,5 +159,74 @@ fn a_closing_mark_is_audited(rt: HostRuntime) -> Result<(), Fail> {
         log.push(entered(alloc, 0, false, Standing::Writing(0))?)?;
         assert_eq!(rt; says(alloc, log, Some(mark))?, is_due);
     }
+    Ok(())
+}
+
+// A base of three tables and one session, whose last folded row had this number and stood before this place. The state may have the row that `entered` writes.
+fn base(alloc: Global, place: usize, number: u64, has_row: bool) -> Result<Base<Global>, Fault> {
+    let mut state = Tables::new(alloc, 3)?;
+    if has_row && state.count() == 3 {
+        state.put(0, &Key::Num(7), Some(&Row::from_cells(Vec::new(alloc))))?;
+    }
+    let mut last = Marks::new(alloc, 1)?;
+    if last.sessions() == 1 {
+        last.set(1, number);
+    }
+    Ok(Base::from_parts(state, last, place))
+}
+
+// What the audit says of one row on a base with its row.
+fn says_on(
+    alloc: Global,
+    base: Base<Global>,
+    (place, number): (usize, u64),
+    mark: Option<u64>,
+) -> Result<bool, Fault> {
+    let row = || Row::from_cells(Vec::new(alloc));
+    let read = (Question::One(object()), Answer::Found(Some(row())));
+    let write = (object(), Some(row()));
+    let mut log = Vec::new(alloc);
+    let standing = Standing::Writing(0);
+    log.push(transaction(alloc, (place, number), read, write, standing)?)?;
+    says_from(alloc, base, log, mark)
+}
+
+#[test]
+fn a_row_on_a_base_is_audited(rt: HostRuntime) -> Result<(), Fail> {
+    let alloc = rt.alloc();
+    assert!(rt; says_on(alloc, base(alloc, 5, 3, true)?, (5, 4), Some(5))?);
+    // the base has no row, or the place, the number or the mark begins anew
+    assert!(rt; !says_on(alloc, base(alloc, 5, 3, false)?, (5, 4), Some(5))?);
+    assert!(rt; !says_on(alloc, base(alloc, 5, 3, true)?, (0, 4), Some(5))?);
+    assert!(rt; !says_on(alloc, base(alloc, 5, 3, true)?, (5, 1), Some(2))?);
+    assert!(rt; !says_on(alloc, base(alloc, 5, 3, true)?, (5, 4), Some(2))?);
+    Ok(())
+}
+
+#[test]
+fn nothing_is_counted_past_the_last_number(rt: HostRuntime) -> Result<(), Fail> {
+    let alloc = rt.alloc();
+    let last = base(alloc, usize::MAX, u64::MAX - 1, true)?;
+    assert!(rt; says_on(alloc, last, (usize::MAX, u64::MAX), None)?);
+    for mark in [0, u64::MAX] {
+        let last = base(alloc, usize::MAX, u64::MAX - 1, true)?;
+        assert!(rt; !says_on(alloc, last, (usize::MAX, u64::MAX), Some(mark))?);
+    }
+    for number in [0, 1, u64::MAX] {
+        let last = base(alloc, usize::MAX, u64::MAX, true)?;
+        assert!(rt; !says_on(alloc, last, (usize::MAX, number), None)?);
+    }
+    Ok(())
+}
+
+#[test]
+fn a_base_alone_is_audited(rt: HostRuntime) -> Result<(), Fail> {
+    let alloc = rt.alloc();
+    assert!(rt; says_from(alloc, base(alloc, 2, 2, false)?, Vec::new(alloc), None)?);
+    // the tables lack the row of the base
+    assert!(rt; !says_from(alloc, base(alloc, 2, 2, true)?, Vec::new(alloc), None)?);
+    // a mark counts the rows that were folded
+    assert!(rt; !says_from(alloc, base(alloc, 2, 2, false)?, Vec::new(alloc), Some(1))?);
+    assert!(rt; says_from(alloc, base(alloc, 2, 2, false)?, Vec::new(alloc), Some(3))?);
     Ok(())
 }

@@ -165,7 +165,9 @@ fn books(rt: HostRuntime) -> Result<(), Fail> {
         assert!(rt; false, "there is memory");
         return Ok(());
     };
+    let base = Base::from_parts(Tables::new(alloc, 1)?, Marks::new(alloc, 2)?, 3);
     let book = Book {
+        base,
         log: vec![in alloc; row(alloc), row(alloc).clone()?]?,
         table,
         marks,
@@ -173,6 +175,7 @@ fn books(rt: HostRuntime) -> Result<(), Fail> {
         tnc: 1,
     };
     let lent = book.view();
+    assert_eq!(rt; lent.base.place(), 3);
     assert_eq!(rt; lent.log.len(), 2);
     assert!(rt; lent.log[1].standing == Standing::Back(Cause::Conflict));
     assert_eq!(rt; lent.table.len(), 2);

@@ -3,4 +3,4 @@ use Rattle.occ_audit.proofs.order.are_closed.Given as goal
 
 -- the marks of the sessions so far are due
 abbrev pub invariant-loop-before : goal.invariant-loop-before
-invariant-loop-before g l = AreClosedTo l.before l.marks.marks l.last
+invariant-loop-before g l = AreClosedTo l.before l.base.base l.marks.marks l.last

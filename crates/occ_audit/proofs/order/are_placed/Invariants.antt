@@ -1,4 +1,4 @@
-use Rattle.std.proofs.Common.{drop}
+use Rattle.std.proofs.Common.{◌+◌, drop}
 use Rattle.occ_audit.specs.Rows.{log_of}
 use Rattle.occ_model.specs.Log.{Counts}
 use Rattle.occ_audit.specs.Order.{ArePlaced}
@@ -6,6 +6,6 @@ use Rattle.occ_audit.proofs.Walks.{Iff}
 use Rattle.occ_audit.proofs.Orders.{places}
 use Rattle.occ_audit.proofs.order.are_placed.Given as goal
 
--- the places count on from 0 where those that are left count on from here
-abbrev pub invariant-loop-place : goal.invariant-loop-place
-invariant-loop-place g l = Iff (ArePlaced (log_of l.log)) (Counts l.place (places (log_of (drop l.place l.log))))
+-- the places count on from the first one where those that are left count on from here
+abbrev pub invariant-loop-before : goal.invariant-loop-before
+invariant-loop-before g l = Iff (ArePlaced l.first (log_of l.log)) (Counts (l.first + l.before) (places (log_of (drop l.before l.log))))

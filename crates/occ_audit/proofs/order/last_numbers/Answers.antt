@@ -6,16 +6,16 @@ use Rattle.occ_audit.proofs.Orders.{counted-none, counted-all, rows-counted, row
 use Rattle.occ_audit.proofs.order.last_numbers.Goals as goal
 
 pub loop-row-init : goal.loop-row-init
-loop-row-init g c = counted-none (log_of c.args.log.now) c.new-last.result c.new-last.ensures.empty
+loop-row-init g c = counted-none c.args.base.now.base (log_of c.args.log.now) c.new-last.result c.new-last.ensures.empty
 
 pub returns-then-not-is_due : goal.returns-then-not-is_due
 returns-then-not-is_due g c =
-    rows-uncounted (log_of c.args.log.now) c.args.log.now c.loop-row.row-index c.row-item.result c.loop-row.last c.loop-row-test.true c.row-item.is c.loop-row.invariant (λ e. clash c.is_due.result (c.is_due.ensures.1 e) c.if-not-is_due.true)
+    rows-uncounted c.args.base.now.base (log_of c.args.log.now) c.args.log.now c.loop-row.row-index c.row-item.result c.loop-row.last c.loop-row-test.true c.row-item.is c.loop-row.invariant (λ e. clash c.is_due.result (c.is_due.ensures.1 e) c.if-not-is_due.true)
 
 pub loop-row-preserved : goal.loop-row-preserved
 loop-row-preserved g c =
-    rows-counted (log_of c.args.log.now) c.args.log.now c.loop-row.row-index c.row-item.result c.loop-row.last c.insert.new.self c.loop-row-test.true c.row-item.is c.loop-row.invariant (c.is_due.ensures.0 c.if-not-is_due.false) c.in_ok-insert.ensures.updates.0
+    rows-counted c.args.base.now.base (log_of c.args.log.now) c.args.log.now c.loop-row.row-index c.row-item.result c.loop-row.last c.insert.new.self c.loop-row-test.true c.row-item.is c.loop-row.invariant (c.is_due.ensures.0 c.if-not-is_due.false) c.in_ok-insert.ensures.updates.0
 
 pub returns : goal.returns
 returns g c =
-    counted-all (log_of c.args.log.now) (log_of (drop c.loop-row.row-index c.args.log.now)) c.loop-row.last (at_drop_all log_of c.args.log.now c.loop-row.row-index c.loop-row-test.false) c.loop-row.invariant
+    counted-all c.args.base.now.base (log_of c.args.log.now) (log_of (drop c.loop-row.row-index c.args.log.now)) c.loop-row.last (at_drop_all log_of c.args.log.now c.loop-row.row-index c.loop-row-test.false) c.loop-row.invariant

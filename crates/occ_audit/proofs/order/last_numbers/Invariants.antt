@@ -5,4 +5,4 @@ use Rattle.occ_audit.proofs.order.last_numbers.Given as goal
 
 -- each session's numbers so far are counted
 abbrev pub invariant-loop-row : goal.invariant-loop-row
-invariant-loop-row g l = AreCounted (log_of l.log) (log_of (drop l.row-index l.log)) l.last
+invariant-loop-row g l = AreCounted l.base.base (log_of l.log) (log_of (drop l.row-index l.log)) l.last

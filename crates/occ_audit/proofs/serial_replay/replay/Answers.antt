@@ -1,4 +1,5 @@
-use Rattle.std.proofs.Common.{◌+◌, drop, sym, ap, ◌∙◌}
+use Rattle.std.proofs.Common.{◌+◌, drop, sym, ap, subst, ◌∙◌}
+use Rattle.std.proofs.lemmas.List.{at_drop_all}
 use Rattle.occ_audit.specs.Rows.{log_of}
 use Rattle.occ_model.specs.Log.{Explained, serial}
 use Rattle.occ_model.proofs.Tests.{clash}
@@ -23,3 +24,8 @@ loop-row-preserved g c =
           (via (λ h. h.1, λ h. (explained, h)) (along (λ s. Explained s rest) _ _ (sym after)))),
       ap (λ s. serial s rest) after ∙ ap (λ rows. serial state (log_of rows)) (sym left) ∙ c.loop-row.invariant.1,
     )
+
+pub returns : goal.returns
+returns g c =
+    let none = at_drop_all log_of c.args.log.now c.loop-row.row-index c.loop-row-test.false in
+    (c.loop-row.invariant.0.1 (subst (Explained c.loop-row.replica) (sym none) tt), ap (serial c.loop-row.replica) (sym none) ∙ c.loop-row.invariant.1)

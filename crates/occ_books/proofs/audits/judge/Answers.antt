@@ -1,7 +1,7 @@
 use Rattle.std.proofs.Common.{List, subst}
 use Rattle.std.specs.Bool.{Decides}
 use Rattle.occ_model.specs.Log.{Audited}
-use Rattle.occ_model.specs.World.{empty_base}
+use Rattle.occ_book.specs.Base.{BaseContent}
 use Rattle.occ_book.specs.Kept.{Content}
 use Rattle.occ_book.specs.Marks.{Marked}
 use Rattle.occ_book.specs.declared.rows.LogRow.{LogRow}
@@ -13,6 +13,7 @@ returns-in-Ok-clause-ok g c =
     let book = c.args.printed.now.book in
     let lent = c.view.result in
     let verdict = c.in-Ok.verdict in
-    subst (λ (marks : Marked). Decides verdict (Audited empty_base marks.marks book.table.state (log_of book.log.items))) c.view.ensures.marks
-    (subst (λ (table : Content). Decides verdict (Audited empty_base lent.marks.now.marks table.state (log_of book.log.items))) c.view.ensures.table
-    (subst (λ (log : List (LogRow g.row.A.Denot (Unit {0}))). Decides verdict (Audited empty_base lent.marks.now.marks lent.table.now.state (log_of log))) c.view.ensures.log (c.in-Ok.ensures.ok untold)))
+    subst (λ (base : BaseContent). Decides verdict (Audited base.base book.marks.marks book.table.state (log_of book.log.items))) c.view.ensures.base
+    (subst (λ (marks : Marked). Decides verdict (Audited lent.base.now.base marks.marks book.table.state (log_of book.log.items))) c.view.ensures.marks
+    (subst (λ (table : Content). Decides verdict (Audited lent.base.now.base lent.marks.now.marks table.state (log_of book.log.items))) c.view.ensures.table
+    (subst (λ (log : List (LogRow g.row.A.Denot (Unit {0}))). Decides verdict (Audited lent.base.now.base lent.marks.now.marks lent.table.now.state (log_of log))) c.view.ensures.log (c.in-Ok.ensures.ok untold))))

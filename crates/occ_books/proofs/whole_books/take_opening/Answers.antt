@@ -1,7 +1,6 @@
-use Rattle.std.proofs.Common.{[], ap, codes}
+use Rattle.std.proofs.Common.{[], ap}
 use Rattle.occ_types.specs.Seen.{table_of, tables_of}
-use Rattle.occ_text.specs.Headers.{count_text}
-use Rattle.occ_books.specs.Places.{Tables, rows_to_come}
+use Rattle.occ_books.specs.Places.{Tables, frame_of, behind_began}
 use Rattle.occ_books.proofs.Leading.{failed}
 use Rattle.occ_books.proofs.Sections.{tables_next, tables_end}
 use Rattle.occ_books.proofs.PartsLeading.{no_tables_led, no_tables_taken, table_led, opening_led, opening_barred, opening_fails}
@@ -25,20 +24,20 @@ loop-tables-preserved g c =
 
 pub returns-in-Ok-clause-taken : goal.returns-in-Ok-clause-taken
 returns-in-Ok-clause-taken g c =
-    let n = rw c.in-Log.is at c.in_ok-table.ensures in
-    tables_end (tables_of c.loop-tables.tables.items) c.in-Ok.schema (count_text (codes "log") c.in-Log.rows) _ _ _ c.loop-tables.invariant.taken n.taken c.in-Ok.ensures
+    let n = rw c.in-Began.is at c.in_ok-table.ensures in
+    tables_end (tables_of c.loop-tables.tables.items) c.in-Ok.schema c.in-Began.began _ _ _ c.loop-tables.invariant.taken n.taken c.in-Ok.ensures
 
 pub returns-in-Ok-clause-led : goal.returns-in-Ok-clause-led
 returns-in-Ok-clause-led g c = λ sessions.
-    let n = rw c.in-Log.is at c.in_ok-table.ensures in
-    opening_led (tables_of c.loop-tables.tables.items) c.in-Ok.schema c.in-Log.rows sessions _ _ _ _ _ _ (c.loop-tables.invariant.led sessions) n.led c.in-Ok.ensures
+    let n = rw c.in-Began.is at c.in_ok-table.ensures in
+    opening_led (tables_of c.loop-tables.tables.items) c.in-Ok.schema c.in-Began.began sessions _ _ _ _ _ _ (c.loop-tables.invariant.led sessions) n.led c.in-Ok.ensures
 
 pub returns-in_err-table-clause-led : goal.returns-in_err-table-clause-led
 returns-in_err-table-clause-led g c = λ sessions.
-    failed c.in_err-table.field-0.0 c.from_residual.result (Tables sessions []) (λ opening. rows_to_come (record { schema = opening.schema; sessions = sessions }) opening.rows) _ _ _ _ c.from_residual.ensures.1
+    failed c.in_err-table.field-0.0 c.from_residual.result (Tables sessions []) (λ opening. behind_began (frame_of opening.schema sessions) opening.began) _ _ _ _ c.from_residual.ensures.1
     (opening_fails c.in_err-table.field-0.0 (tables_of c.loop-tables.tables.items) (tables_of c.as_slice.result.now) sessions _ _ _ _ _ (ap tables_of c.as_slice.ensures.value) (c.loop-tables.invariant.led sessions) c.in_err-table.ensures.led)
 
 pub returns-in-Err-clause-led : goal.returns-in-Err-clause-led
 returns-in-Err-clause-led g c = λ sessions.
-    let n = rw c.in-Log.is at c.in_ok-table.ensures in
-    opening_barred (tables_of c.loop-tables.tables.items) c.in-Err.field-0.fault c.in-Log.rows sessions _ _ _ _ _ _ c.number.result (c.loop-tables.invariant.led sessions) n.led c.in-Err.ensures.0 c.number.ensures
+    let n = rw c.in-Began.is at c.in_ok-table.ensures in
+    opening_barred (tables_of c.loop-tables.tables.items) c.in-Err.field-0.fault c.in-Began.began sessions _ _ _ _ _ _ c.number.result (c.loop-tables.invariant.led sessions) n.led c.in-Err.ensures.0 c.number.ensures

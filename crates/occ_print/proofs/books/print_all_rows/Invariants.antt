@@ -4,7 +4,7 @@ use Rattle.occ_types.specs.Object.{Object}
 use Rattle.occ_types.specs.Row.{Row}
 use Rattle.occ_text.specs.Line.{lines_text}
 use Rattle.occ_text.specs.Printing.{Pushed}
-use Rattle.occ_print.specs.Books.{at_line}
+use Rattle.occ_print.specs.Books.{entry_line}
 use Rattle.occ_print.proofs.TableRows.{rows_from}
 use Rattle.occ_print.proofs.books.print_all_rows.Given as goal
 
@@ -13,5 +13,5 @@ abbrev pub invariant-loop-place : goal.invariant-loop-place
 invariant-loop-place g l = record {
   done : List (Object × Row);
   whole : entries l.tables.state ≡ done ++ rows_from l.place l.tables.state;
-  printed : Pushed (g.W.Write.contents l.fn.writer) (g.W.Write.contents l.writer) l.fn.output.held l.output.held (lines_text (map (at_line l.schema) done));
+  printed : Pushed (g.W.Write.contents l.fn.writer) (g.W.Write.contents l.writer) l.fn.output.held l.output.held (lines_text (map (entry_line l.section l.schema) done));
 }

@@ -3,7 +3,7 @@ use Rattle.occ_model.specs.World.{active_count}
 use Rattle.occ_log.specs.Slots.{active_from}
 use Rattle.occ_core.specs.Core.{parts_of}
 use Rattle.occ_core.proofs.Counting.{active_counted}
-use Rattle.occ_log.proofs.Listed.{rows_found}
+use Rattle.occ_core.proofs.Placed.{rows_found}
 use Rattle.occ_core.proofs.core_state.Core.active.Goals as goal
 
 pub returns : goal.returns

@@ -1,10 +1,10 @@
-use Rattle.std.proofs.Common.{ap, ◌∙◌, ◌∷◌, [], ◌++◌}
+use Rattle.std.proofs.Common.{ap, ◌∙◌, length, ◌∷◌, [], ◌++◌}
 use Rattle.occ_model.specs.Log.{Back}
 use Rattle.occ_model.specs.Step.{entering}
 use Rattle.occ_core.specs.Core.{parts_of}
 use Rattle.occ_log.specs.Rows.{log_row_of}
 use Rattle.occ_core.proofs.AtOnce.{back_whole}
-use Rattle.occ_core.proofs.Staying.{session_passed, marks_kept, log_kept, still_placed}
+use Rattle.occ_core.proofs.Staying.{session_passed, marks_kept, log_kept, base_kept, still_placed}
 use Rattle.occ_core.proofs.core_state.Core.back_up_at_once.Goals as goal
 
 pub invariant_of-self-2 : goal.invariant_of-self-2
@@ -17,6 +17,7 @@ invariant_of-self-2 g c =
       tables_match = c.self.invariant.tables_match;
       marks_match = marks_kept c.self.inside.sessions c.settle.new.sessions _ _ _ slots c.self.invariant.marks_match;
       log_match = log_kept c.self.inside.log c.settle.new.log c.self.inside.sessions c.settle.new.sessions _ _ _ (c.settle.ensures.first ∙ c.in_ok-reserve.ensures.first) (c.settle.ensures.sessions ∙ c.in_ok-reserve.ensures.sessions) slots c.self.invariant.log_match;
+      base_match = base_kept c.self.inside.base (length c.self.inside.schema) c.self.inside.sessions c.settle.new.sessions _ _ slots c.self.invariant.base_match;
       placed = still_placed c.self.inside.tables.tables c.self.inside.sessions c.settle.new.sessions _ _ slots c.self.invariant.placed;
     }
 

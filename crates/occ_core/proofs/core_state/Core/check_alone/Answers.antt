@@ -4,7 +4,7 @@ use Rattle.std.proofs.lemmas.Result.{err_from_is_err_and}
 use Rattle.occ_sets.specs.Operations.{ops_of}
 use Rattle.occ_core.specs.RunningAlone.{turn_to_run, room_to_run}
 use Rattle.occ_core.specs.Core.{parts_of}
-use Rattle.occ_log.proofs.Listed.{rows_found}
+use Rattle.occ_core.proofs.Placed.{rows_found}
 use Rattle.occ_core.proofs.RunsAlone.{alone_turned, alone_roomed}
 use Rattle.occ_core.proofs.core_state.Core.check_alone.Goals as goal
 

@@ -4,7 +4,7 @@ use Rattle.std.proofs.lemmas.Result.{err_from_is_err_and}
 use Rattle.occ_core.specs.AtOnce.{turn_to_end}
 use Rattle.occ_core.specs.Entries.{room_to_enter}
 use Rattle.occ_core.specs.Core.{parts_of}
-use Rattle.occ_log.proofs.Listed.{rows_found}
+use Rattle.occ_core.proofs.Placed.{rows_found}
 use Rattle.occ_core.proofs.SerialEnding.{serial_turned, serial_roomed}
 use Rattle.occ_core.proofs.core_state.Core.check_serial.Goals as goal
 

@@ -8,7 +8,7 @@ use Rattle.occ_log.specs.Rows.{log_row_of}
 use Rattle.occ_log.specs.Slots.{HoldsArePlaced}
 use Rattle.occ_log.specs.Window.{advanced}
 use Rattle.occ_core.proofs.AtOnce.{commit_whole}
-use Rattle.occ_core.proofs.Staying.{session_passed, marks_kept, log_kept, still_placed, at_err, unmoved, same_log, placed_all}
+use Rattle.occ_core.proofs.Staying.{session_passed, marks_kept, log_kept, base_kept, still_placed, at_err, unmoved, same_log, placed_all}
 use Rattle.occ_core.proofs.core_state.Core.commit_at_once.Goals as goal
 
 pub take_room-requires-clause-placed : goal.take_room-requires-clause-placed
@@ -25,6 +25,7 @@ invariant_of-self g c =
       tables_match = ap (λ t. t.tables) kept ∙ c.self.invariant.tables_match;
       marks_match = c.self.invariant.marks_match;
       log_match = same_log c.self.inside.log c.take_room.new.log _ _ c.in_err-take_room.ensures.first c.in_err-take_room.ensures.sessions c.self.invariant.log_match;
+      base_match = c.self.invariant.base_match;
       placed = subst (λ n. HoldsArePlaced n c.self.inside.sessions) (sym (ap (λ t. t.tables) kept)) c.self.invariant.placed;
     }
 
@@ -50,6 +51,7 @@ invariant_of-self-2 g c =
       tables_match = ap (λ t. t.tables) done ∙ c.self.invariant.tables_match;
       marks_match = marks_kept c.self.inside.sessions c.settle.new.sessions _ _ _ slots c.self.invariant.marks_match;
       log_match = log_kept c.self.inside.log c.settle.new.log c.self.inside.sessions c.settle.new.sessions _ _ _ (c.settle.ensures.first ∙ c.in_ok-take_room.ensures.first) (c.settle.ensures.sessions ∙ c.in_ok-take_room.ensures.sessions) slots c.self.invariant.log_match;
+      base_match = base_kept c.self.inside.base (length c.self.inside.schema) c.self.inside.sessions c.settle.new.sessions _ _ slots c.self.invariant.base_match;
       placed = subst (λ n. HoldsArePlaced n c.settle.new.sessions) (sym (ap (λ t. t.tables) done)) (still_placed c.self.inside.tables.tables c.self.inside.sessions c.settle.new.sessions _ _ slots c.self.invariant.placed);
     }
 

@@ -27,6 +27,7 @@ invariant_of-self g c = record {
   tables_match = c.self.invariant.tables_match;
   marks_match = ap (λ m. m.sessions) c.set.ensures ∙ c.self.invariant.marks_match;
   log_match = c.self.invariant.log_match;
+  base_match = c.self.invariant.base_match;
   placed = c.self.invariant.placed;
 }
 

@@ -4,15 +4,16 @@ use Rattle.std.specs.FinMap as finite
 use Rattle.std.proofs.lemmas.Result.{err_from_is_err_and}
 use Rattle.occ_model.specs.Event.{Enter, Request, Refused}
 use Rattle.occ_model.specs.Log.{LogRow, Open}
-use Rattle.occ_model.specs.World.{reads_under}
+use Rattle.occ_model.specs.World.{next_place, reads_under}
 use Rattle.occ_model.specs.Step.{Step, refused}
 use Rattle.occ_core.specs.Core.{parts_of}
 use Rattle.occ_core.specs.Parts.{world_of}
 use Rattle.occ_log.specs.Logs.{HasRoom}
 use Rattle.occ_log.specs.Rows.{log_row_of}
 use Rattle.occ_log.proofs.Places.{length-set}
+use Rattle.occ_core.proofs.Staying.{base_kept}
 use Rattle.occ_core.proofs.Entering.{entry_err, entry_starved, entry_roomless, sound_kept, entering_place, open_row_kept, enter_from, enter_below, enter_whole, enter_placed, held_placed}
-use Rattle.occ_log.proofs.Listed.{next_kept}
+use Rattle.occ_core.proofs.Placed.{next_kept}
 use Rattle.occ_core.proofs.core_state.Core.enter_request.Goals as goal
 
 pub returns-in_err-check_entry-clause-step : goal.returns-in_err-check_entry-clause-step
@@ -64,7 +65,7 @@ pub push-requires-clause-place : goal.push-requires-clause-place
 push-requires-clause-place g c =
     let seen = ap (λ s. s.world) c.self.view_is in
     let row = open_row_kept (parts_of c.self.inside) c.args.self.now.world seen c.args.transaction.session c.args.transaction.number c.args.transaction.start c.args.writes.now c.share.new.self c.share.ensures.kept c.share-2.new.self c.share-2.ensures.kept (log_row_of c.in_ok-row.row) c.in_ok-row.ensures in
-    ap (λ (r : LogRow). r.place) row.2 ∙ entering_place (parts_of c.self.inside) c.args.self.now.world seen c.args.transaction.session c.args.transaction.number c.args.transaction.start (reads_under c.args.self.now.world c.args.transaction.session c.args.transaction.number) c.args.writes.now (Open (length c.args.self.now.world.log) row.0)
+    ap (λ (r : LogRow). r.place) row.2 ∙ entering_place (parts_of c.self.inside) c.args.self.now.world seen c.args.transaction.session c.args.transaction.number c.args.transaction.start (reads_under c.args.self.now.world c.args.transaction.session c.args.transaction.number) c.args.writes.now (Open (next_place c.args.self.now.world) row.0)
     ∙ next_kept c.self.inside.log c.reserve.new.self c.self.invariant.log_match.begins c.in_ok-reserve.ensures.first c.in_ok-reserve.ensures.rows
 
 pub overflow_sub-session : goal.overflow_sub-session
@@ -81,6 +82,7 @@ invariant_of-self-in_err-reserve g c = record {
   tables_match = c.self.invariant.tables_match;
   marks_match = c.self.invariant.marks_match;
   log_match = record { begins = c.in_err-reserve.ensures.first ∙ c.self.invariant.log_match.begins; knows = c.in_err-reserve.ensures.sessions ∙ c.self.invariant.log_match.knows };
+  base_match = c.self.invariant.base_match;
   placed = c.self.invariant.placed;
 }
 
@@ -105,6 +107,7 @@ invariant_of-self-3 g c =
         begins = c.push.ensures.first ∙ c.in_ok-reserve.ensures.first ∙ c.self.invariant.log_match.begins;
         knows = c.push.ensures.sessions ∙ c.in_ok-reserve.ensures.sessions ∙ c.self.invariant.log_match.knows ∙ sym (ap length slots ∙ length-set c.self.inside.sessions (c.args.transaction.session - 1) _);
       };
+      base_match = base_kept c.self.inside.base (length c.self.inside.schema) c.self.inside.sessions c.hold.new.self _ _ slots c.self.invariant.base_match;
       placed = held_placed c.self.inside.tables.tables (length c.self.inside.schema) c.self.invariant.tables_match c.self.inside.sessions (c.args.transaction.session - 1) number c.in_ok-row.row.place writes c.self.invariant.placed
           (enter_placed parts world seen c.args.transaction.session number c.args.transaction.start writes none) c.hold.new.self slots;
     }

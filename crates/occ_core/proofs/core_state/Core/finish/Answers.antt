@@ -1,23 +1,21 @@
-use Rattle.std.proofs.Common.{ap, sym, subst, ◌∙◌, ◌-◌, length, Some, Err}
+use Rattle.std.proofs.Common.{ap, sym, subst, ◌∙◌, ◌-◌, length, Some}
 use Rattle.std.specs.Prelude.{is_some, option_map}
 use Rattle.std.proofs.lemmas.Result.{err_from_is_err_and}
 use Rattle.occ_core.specs.Core.{parts_of}
 use Rattle.occ_log.specs.Slots.{HoldsArePlaced, last_of, finish_fault}
 use Rattle.occ_log.specs.Rows.{log_row_of, standing_of, hold_of}
-use Rattle.occ_core.proofs.Calls.{stands_there, slot_below}
+use Rattle.occ_core.proofs.Calls.{slot_below}
 use Rattle.occ_log.proofs.Changes.{placed-free}
 use Rattle.occ_log.proofs.Places.{length-set}
+use Rattle.occ_core.proofs.Staying.{base_kept}
 use Rattle.occ_core.proofs.Finishes.{finish_exit, finish_kept, finish_whole}
-use Rattle.occ_log.proofs.Listed.{found_in, in_log, stood_in}
+use Rattle.occ_core.proofs.Placed.{fault_in, in_log, stood_in}
 use Rattle.occ_core.proofs.core_state.Core.finish.Goals as goal
-
-pub under_way-requires : goal.under_way-requires
-under_way-requires g c = λ place under. ap is_some (found_in c.self.inside.log place c.self.invariant.log_match.begins) ∙ stands_there (parts_of c.self.inside) c.args.session c.self.invariant.sound place under
 
 pub returns-in_err-place : goal.returns-in_err-place
 returns-in_err-place g c =
     let p = err_from_is_err_and c.from_residual.result c.from_residual.ensures.1 in
-    finish_exit (parts_of c.self.inside) c.args.self.now.world (ap (λ s. s.world) c.self.view_is) c.self.invariant.sound c.args.session c.from_residual.result p.0 p.1 (c.in_err-place.ensures.err ∙ ap Err (sym p.2))
+    finish_exit (parts_of c.self.inside) c.args.self.now.world (ap (λ s. s.world) c.self.view_is) c.self.invariant.sound c.args.session c.from_residual.result p.0 p.1 (fault_in c.self.inside.log c.self.inside.sessions c.args.session c.self.invariant.log_match.begins c.in_err-place.ensures.err ∙ ap Some (sym p.2))
 
 pub returns-in-Some : goal.returns-in-Some
 returns-in-Some g c =
@@ -38,6 +36,7 @@ invariant_of-self g c = record {
   tables_match = c.self.invariant.tables_match;
   marks_match = c.self.invariant.marks_match ∙ sym (ap length c.release.ensures.released ∙ length-set c.self.inside.sessions (c.args.session - 1) _);
   log_match = record { begins = c.stand.ensures.first ∙ c.self.invariant.log_match.begins; knows = c.stand.ensures.sessions ∙ c.self.invariant.log_match.knows ∙ sym (ap length c.release.ensures.released ∙ length-set c.self.inside.sessions (c.args.session - 1) _) };
+  base_match = base_kept c.self.inside.base (length c.self.inside.schema) c.self.inside.sessions c.release.new.self _ _ c.release.ensures.released c.self.invariant.base_match;
   placed = subst (HoldsArePlaced c.self.inside.tables.tables) (sym c.release.ensures.released) (placed-free c.self.inside.tables.tables c.self.inside.sessions (c.args.session - 1) (last_of c.self.inside.sessions (c.args.session - 1)) c.self.invariant.placed);
 }
 

@@ -6,4 +6,4 @@ use Rattle.occ_core.proofs.core_state.Core.law.Goals as goal
 pub returns : goal.returns
 returns g c =
     let law = lawful (parts_of c.self.inside) c.args.self.now.world (ap (λ s. s.world) c.self.view_is) c.self.invariant.sound in
-    record { invariant = law.invariant; content = law.content; base = law.base; audited = law.audited; counter = law.counter; numbers = law.numbers; rows = law.rows }
+    record { invariant = law.invariant; content = law.content; audited = law.audited; counter = law.counter; numbers = law.numbers; rows = law.rows; places = law.places; begins = law.begins; folded = law.folded }

@@ -1,18 +1,14 @@
 use Rattle.std.proofs.Common.{ap, sym, ◌∙◌}
-use Rattle.std.specs.Prelude.{is_some, option_map}
+use Rattle.std.specs.Prelude.{option_map}
 use Rattle.occ_core.specs.Core.{parts_of}
 use Rattle.occ_log.specs.Rows.{log_row_of}
-use Rattle.occ_core.proofs.Calls.{stands_there}
 use Rattle.occ_core.proofs.Nexts.{next_none, next_idle, next_at, next_free}
-use Rattle.occ_log.proofs.Listed.{found_in, in_log}
+use Rattle.occ_core.proofs.Placed.{fault_in, in_log}
 use Rattle.occ_core.proofs.core_state.Core.next_write.Goals as goal
-
-pub under_way-requires : goal.under_way-requires
-under_way-requires g c = λ place under. ap is_some (found_in c.self.inside.log place c.self.invariant.log_match.begins) ∙ stands_there (parts_of c.self.inside) c.args.session c.self.invariant.sound place under
 
 pub returns-in-Err-clause-object : goal.returns-in-Err-clause-object
 returns-in-Err-clause-object g c =
-    sym (next_none (parts_of c.self.inside) c.args.self.now.world (ap (λ s. s.world) c.self.view_is) c.self.invariant.sound c.args.session c.in-Err._fault c.in-Err.ensures.err)
+    sym (next_none (parts_of c.self.inside) c.args.self.now.world (ap (λ s. s.world) c.self.view_is) c.self.invariant.sound c.args.session c.in-Err._fault (fault_in c.self.inside.log c.self.inside.sessions c.args.session c.self.invariant.log_match.begins c.in-Err.ensures.err))
 
 pub returns-in-Err-writes_done-clause-object : goal.returns-in-Err-writes_done-clause-object
 returns-in-Err-writes_done-clause-object g c =

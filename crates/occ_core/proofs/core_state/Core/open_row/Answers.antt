@@ -7,7 +7,7 @@ use Rattle.occ_log.specs.Slots.{active_from}
 use Rattle.occ_core.specs.Core.{parts_of}
 use Rattle.occ_core.proofs.Reading.{reads_are}
 use Rattle.occ_core.proofs.Entering.{open_case, open_row}
-use Rattle.occ_log.proofs.Listed.{rows_found, next_is}
+use Rattle.occ_core.proofs.Placed.{rows_found, next_is}
 use Rattle.occ_core.proofs.core_state.Core.open_row.Goals as goal
 
 pub returns : goal.returns
@@ -29,4 +29,5 @@ pub next_place-place-requires : goal.next_place-place-requires
 next_place-place-requires g c =
     let begins = c.self.invariant.log_match.begins in
     let room = c.self.invariant.sound.log_room in
+    let place = c.self.invariant.sound.place_room in
     omega arith

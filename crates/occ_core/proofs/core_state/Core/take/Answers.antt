@@ -43,6 +43,10 @@ returns-in-SerialEnd g c =
     (c.to_serial_end.ensures.back ∙ end_owed c.in-SerialEnd.session c.in-SerialEnd.item c.serial_end.result c.serial_end.ensures.handed_back
     ∙ ap (owed {Z = g.row.A.Denot} (steps.SerialEnd c.in-SerialEnd.session c.in-SerialEnd.item)) (sym c.to_serial_end.ensures.reply))
 
+pub returns-in-Checkpoint : goal.returns-in-Checkpoint
+returns-in-Checkpoint g c =
+    answered_as c.args.self.now c.args.step steps.Checkpoint c.to_checkpoint.result _ c.checkpoint.new.self c.in-Checkpoint.is c.to_checkpoint.ensures.reply c.checkpoint.ensures c.to_checkpoint.ensures.none
+
 pub returns-in-RunAlone : goal.returns-in-RunAlone
 returns-in-RunAlone g c =
     answered_as c.args.self.now c.args.step (steps.RunAlone c.in-RunAlone.session c.in-RunAlone.number c.in-RunAlone.operations) c.to_run_alone.result _ c.take_alone.new.self c.in-RunAlone.is c.to_run_alone.ensures.reply c.take_alone.ensures.step

@@ -1,0 +1,30 @@
+-- Which rows a base has room for, and what is said of rows that may be folded.
+use Rattle.std.specs.Prelude.{ℕ, List, Option, None, Some, Ok, Err}
+use Rattle.std.specs.List.{AllByRecursion}
+use Rattle.occ_model.specs.Content.{IsSession}
+use Rattle.occ_model.specs.Log.{LogRow}
+use Rattle.occ_book.specs.Undo.{ArePlaced}
+use Rattle.occ_log.specs.Slots.{Slot, row_under_way, back_fault}
+use Rattle.occ_types.specs.declared.fault.Fault.{Fault}
+use Rattle.occ_types.specs.declared.fault.Fault.TheVariants.{AlreadyDecided}
+
+-- a base with so many tables and sessions has room for a row
+pub record Fits (tables sessions : ℕ) (row : LogRow) : Type 0 where
+  pub session : IsSession sessions row.session
+  pub placed : ArePlaced tables row.writes
+
+-- and for each of some rows
+abbrev pub AllFit : ℕ → ℕ → List LogRow → Type 0
+AllFit tables sessions = AllByRecursion (Fits tables sessions)
+
+-- why a session's row that is under way is not found: there may be no such session, nothing may have entered, or the row may be folded, which was decided then
+abbrev pub under_way_fault : List Slot → (ℕ → Option LogRow) → ℕ → Option Fault
+under_way_fault slots log session = elim (row_under_way slots session) [
+  | Ok place ↦ elim (log place) [ None ↦ Some AlreadyDecided | Some row ↦ None ]
+  | Err fault ↦ Some fault
+]
+
+-- why a row can't be backed up, where one that was folded can
+abbrev pub back_fault_of : Option LogRow → Option Fault
+back_fault_of None = None
+back_fault_of (Some row) = back_fault row.standing
