@@ -7,7 +7,7 @@ use occ_types::{Cell, Fault, Key, KeyKind, Kind, Row, Schema, TableDef, Text};
 use std::alloc::{AllocError, Global};
 
 /// A store of two sessions with one table, whose keys are numbers and whose rows are one number. It keeps so many write sets.
-pub(crate) fn store(alloc: Global, keep: usize) -> Result<Core<Global>, Fault> {
+pub(crate) fn store(alloc: Global, keep: usize) -> Result<Box<Core<Global>>, Fault> {
     let table = TableDef {
         name: Text::new(alloc, "t")?,
         key: KeyKind::Num,
@@ -15,7 +15,7 @@ pub(crate) fn store(alloc: Global, keep: usize) -> Result<Core<Global>, Fault> {
     };
     let schema = Schema::new(vec![in alloc; table]?)?;
     let core = Core::open(alloc, schema, 2, keep)?;
-    Ok(core)
+    Ok(Box::new(alloc, core)?)
 }
 
 /// A request that starts at 0 and puts one number under the key 1, or one that writes nothing.
@@ -153,7 +153,7 @@ fn tell_rows(
 fn tell_key(words: &mut String<Global>, key: &Key<Global>) -> Result<(), AllocError> {
     match key {
         Key::Num(number) => write!(words, "{number} is "),
-        Key::Text(_) => words.push_str("a text is "),
+        Key::Text(_) | Key::Pair(_) => words.push_str("another key is "),
     }
 }
 

@@ -7,7 +7,7 @@ use Rattle.std.specs.BTreeMap.{BTreeMap}
 use Rattle.std.specs.Ordering.{nat_cmp, is_eq}
 use Rattle.std.specs.Cmp.{eq_by_cmp_equiv, nat_cmp_total, unsigned_tied, unsigned_Decides}
 use Rattle.std.specs.FinMap.{get, get-empty, get-insert, get-retain_keys}
-use Rattle.occ_types.specs.Key.{Key, Num, Text as KeyText, key_cmp_total}
+use Rattle.occ_types.specs.Key.{Key, Num, Text as KeyText, Pair, key_cmp_total}
 use Rattle.occ_types.specs.Object.{Object, object_cmp, object_cmp_total, object_cmp-IsAntisymmetric}
 use Rattle.occ_types.specs.Row.{Row}
 use Rattle.occ_types.specs.Same.{key_same}
@@ -89,6 +89,7 @@ module _ {Z : Type 0} where
   pub code_of : (k : Key) → (x : Bor (code_key.Key Z)) × (key_of x.now ≡ k)
   code_of (Num n) = (record { ref_ptr = (0, 0); now = keys.Num n }, refl)
   code_of (KeyText s) = (record { ref_ptr = (0, 0); now = keys.Text s }, refl)
+  code_of (Pair a b) = (record { ref_ptr = (0, 0); now = keys.Pair (a, b) }, refl)
 
   -- n has these references, or none, at a key, and elsewhere what m has
   abbrev pub Changes : Lent Z → Lent Z → code_key.Key Z → Option (Bor Row) → Type 0

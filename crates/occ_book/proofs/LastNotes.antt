@@ -11,7 +11,7 @@ use Rattle.std.specs.declared.cmp.Ordering.TheVariants.{Less}
 use Rattle.std.specs.Ordering.{is_eq}
 use Rattle.std.specs.Cmp.{eq_by_cmp_equiv, tied_itself}
 use Rattle.std.specs.FinMap.{get}
-use Rattle.occ_types.specs.Key.{Num, Text as KeyText}
+use Rattle.occ_types.specs.Key.{Num, Text as KeyText, Pair}
 use Rattle.occ_types.specs.Object.{Object, object_cmp, object_cmp_total}
 use Rattle.occ_types.specs.Question.{One}
 use Rattle.occ_types.specs.Row.{Row}
@@ -114,6 +114,7 @@ module _ {Z : Type 0} where
   code_of : (o : Object) → (x : Bor (code_object.Object Z)) × (object_of x.now ≡ o)
   code_of (t, Num n) = (record { ref_ptr = (0, 0); now = record { table = t; key = keys.Num n } }, refl)
   code_of (t, KeyText s) = (record { ref_ptr = (0, 0); now = record { table = t; key = keys.Text s } }, refl)
+  code_of (t, Pair a b) = (record { ref_ptr = (0, 0); now = record { table = t; key = keys.Pair (a, b) } }, refl)
 
   module _ (m n : BTreeMap (Bor (code_object.Object Z)) (Option (Bor Row))) (x : Bor (code_object.Object Z)) (row : Option (Bor Row))
       (is : (q : Bor (code_object.Object Z)) → lookup (λ y. same (object_of q.now) (object_of y.now)) n.entries ≡ cond (same (object_of x.now) (object_of q.now)) (Some row) (lookup (λ y. same (object_of q.now) (object_of y.now)) m.entries)) where

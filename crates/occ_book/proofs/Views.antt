@@ -23,7 +23,7 @@ use Rattle.std.specs.Cmp.{eq_by_cmp_equiv, Equal-is, tied_itself, nat_cmp_total,
 use Rattle.std.specs.FinMap as finite
 use Rattle.std.specs.FinMap.{get, empty, entries, retain_keys, from_sorted, find, is_sorted, get-from_entries, get-from_sorted, get-retain_keys, entries-from_sorted}
 use Rattle.std.specs.FinMap.Entries.{below_all, is_sorted-where_key}
-use Rattle.occ_types.specs.Key.{Key, Num, Text as KeyText, key_cmp, key_cmp_total, key_cmp-IsAntisymmetric}
+use Rattle.occ_types.specs.Key.{Key, Num, Text as KeyText, Pair, key_cmp, key_cmp_total, key_cmp-IsAntisymmetric}
 use Rattle.occ_types.specs.Object.{Object, object_cmp, object_cmp_total, object_cmp-IsAntisymmetric}
 use Rattle.occ_types.specs.Question.{Span, asks}
 use Rattle.occ_types.specs.Row.{Row}
@@ -176,6 +176,8 @@ module _ {Z : Type 0} where
       is (keys.Num x) ∙ ap (λ b. cond b row (row_at m.entries (Num x))) ((eq_by_cmp_equiv key_cmp_total).symm (key_of key) (Num x))
   row_at-put m n key row is (KeyText x) =
       is (keys.Text x) ∙ ap (λ b. cond b row (row_at m.entries (KeyText x))) ((eq_by_cmp_equiv key_cmp_total).symm (key_of key) (KeyText x))
+  row_at-put m n key row is (Pair x y) =
+      is (keys.Pair (x, y)) ∙ ap (λ b. cond b row (row_at m.entries (Pair x y))) ((eq_by_cmp_equiv key_cmp_total).symm (key_of key) (Pair x y))
 
   -- a change of one map at one key is a write
   pub state_of-put : (maps : List (BTreeMap (code_key.Key Z) Row)) (t : ℕ) (m n : BTreeMap (code_key.Key Z) Row) (key : code_key.Key Z) (row : Option Row) → t < length maps → slice_get maps t ≡ Some m → IsPut m key row n → state_of (slice_set maps t n) ≡ put (state_of maps) ((t, key_of key), row)

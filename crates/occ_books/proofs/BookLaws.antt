@@ -1,33 +1,37 @@
 -- Which line leads on from a place, and that no text of a book is malformed.
-use Rattle.std.proofs.Common.{◌≡◌, ◌≢◌, ℕ, zero, suc, ◌*◌, ◌^◌, ◌-◌, ◌<◌, ◌≤◌, List, [], ◌∷◌, ◌++◌, map, length, Option, Some, None, ◌⊎◌, inl, inr, lit<, refl, sym, ap, subst, ◌∙◌, arith, length-append, append_assoc}
+use Rattle.std.proofs.Common.{◌≡◌, ℕ, zero, suc, ◌*◌, ◌^◌, ◌-◌, ◌<◌, ◌≤◌, List, [], ◌∷◌, ◌++◌, map, length, Option, Some, None, ◌⊎◌, inl, inr, lit<, refl, sym, ap, subst, ◌∙◌, arith, length-append, append_assoc}
 use Rattle.std.specs.Prelude.{codes}
 use Rattle.std.specs.List.{All, AllByRecursion}
 use Rattle.std.specs.Io.KnownBytes.{Consumes, IsAtEnd}
 use Rattle.std.proofs.lemmas.Grind.{flat_map-append}
-use Rattle.std.proofs.lemmas.List.Elements.{All-head, All-tail}
+use Rattle.std.proofs.lemmas.List.Elements.{All-nil, All-head, All-tail}
 use Rattle.occ_types.specs.declared.kind.Kind.{Kind}
 use Rattle.occ_types.specs.declared.kind.Kind.TheVariants as cells
 use Rattle.occ_types.specs.declared.kind.KeyKind.{KeyKind}
 use Rattle.occ_types.specs.declared.kind.KeyKind.TheVariants as kinds
+use Rattle.occ_types.specs.declared.kind.PartKind.{PartKind}
+use Rattle.occ_types.specs.declared.kind.PartKind.TheVariants as part_kinds
 use Rattle.occ_types.specs.Key.{Key}
 use Rattle.occ_types.specs.Object.{Object}
 use Rattle.occ_types.specs.Schema.{Table, check_tables}
 use Rattle.occ_types.specs.Seen.{table_asked}
+use Rattle.occ_text.specs.declared.versions.Version.{Version}
+use Rattle.occ_text.specs.declared.versions.Version.TheVariants as versions
 use Rattle.occ_text.specs.Spelling.{IsToken}
 use Rattle.occ_text.specs.Reading.{is_token, tokens_of}
 use Rattle.occ_text.specs.Line.{IsLine, HasNoFeed, CannotStand, AtEnd, NoLine, OtherLine, lines_text}
-use Rattle.occ_text.specs.Headers.{TableFits, key_kind_word, kind_word, table_tokens, table_text}
+use Rattle.occ_text.specs.Headers.{KindFits, TableFits, TableHasLine, version_text, part_kind_word, key_kind_word, kind_word, table_tokens, table_text}
 use Rattle.occ_text.specs.HeaderReading.{table_of_tokens, table_of_line}
 use Rattle.occ_text.specs.HeaderTaking.{TablesSoFar}
 use Rattle.occ_text.proofs.Escapes.{some_is, bind_value}
 use Rattle.occ_text.proofs.Words.{IsToken-from_test, tokens_takes}
 use Rattle.occ_text.proofs.TokenLists.{two_tokens}
-use Rattle.occ_text.proofs.HeaderLines.{count_reads, table_reads}
+use Rattle.occ_text.proofs.HeaderLines.{count_reads, table_reads, same_version}
 use Rattle.occ_text.proofs.SchemaLines.{each_fits}
 use Rattle.occ_print.specs.Books.{Book, book_lines, book_text}
 use Rattle.occ_books.specs.NumberLines.{head_of_line, mark_of_line, began_text, began_of_line}
 use Rattle.occ_books.specs.RowLines.{Asked, AskedOne, AskedSpan, asked_of_line, pair_of_line, write_of_line, at_of_line}
-use Rattle.occ_books.specs.Places.{Frame, InRow, Place, rows_to_come, writes_to_come, reads_to_come, pairs_to_come, behind_entries, entries_to_come, behind_numbers, numbers_to_come, behind_began, behind_read, Counted, Leads, LeadOn, MayEnd, Stopped}
+use Rattle.occ_books.specs.Places.{Frame, InRow, frame_of, Place, rows_to_come, writes_to_come, reads_to_come, pairs_to_come, behind_entries, entries_to_come, behind_numbers, numbers_to_come, behind_began, behind_read, Counted, Leads, LeadOn, MayEnd, Stopped}
 use Rattle.occ_books.specs.Places as places
 use Rattle.occ_books.specs.declared.number_lines.Began.{Began}
 use Rattle.occ_books.specs.declared.number_lines.Began.TheVariants as begun
@@ -37,6 +41,7 @@ use Rattle.occ_books.specs.WholeBooks.{BookFits, IsEnding}
 use Rattle.occ_books.proofs.LinesAgain.{wide, head_line-again, mark_line-again, began_line-again}
 use Rattle.occ_books.proofs.RowLinesAgain.{asked_line-again, pair_line-again, write_line-again, at_line-again}
 use Rattle.occ_books.proofs.LineLengths.{width, joined_width, words_have_no_feed, line_of_words, asked_is_line, pair_is_line, write_is_line, at_is_line, head_is_line, mark_is_line, counts_is_line, count_is_line, began_is_line}
+use Rattle.occ_books.proofs.TextLines.{first_byte, cut_at_feed, within_line, begins_line, nothing_is_no_line, lines_behind}
 use Rattle.occ_books.proofs.Leading.{lead_on}
 use Rattle.occ_books.proofs.BookLeads.{book_leads, ending_leads}
 
@@ -48,10 +53,10 @@ record IsFrame (frame : Frame) : Type 0 where
 
 abbrev Sound : Place → Type 0
 Sound places.Version = Unit {0}
-Sound places.Sessions = Unit {0}
-Sound (places.Queue sessions) = sessions ≤ 64
-Sound (places.Keep sessions) = sessions ≤ 64
-Sound (places.Tables sessions tables) = (sessions ≤ 64) × TablesSoFar tables
+Sound (places.Sessions version) = Unit {0}
+Sound (places.Queue version sessions) = sessions ≤ 64
+Sound (places.Keep version sessions) = sessions ≤ 64
+Sound (places.Tables version sessions tables) = (sessions ≤ 64) × TablesSoFar version tables
 Sound (places.NumberOf section frame rows numbers last) = IsFrame frame
 Sound (places.EntryOf section frame rows last) = IsFrame frame
 Sound (places.Log frame) = IsFrame frame
@@ -101,12 +106,12 @@ sound_began frame (begun.Base head) h = sound_numbers sections.Base frame head.r
 
 -- it holds of the next place too
 sound_next : (p q : Place) (line : List ℕ) → Sound p → Leads p line q → Sound q
-sound_next places.Version q line s h = subst Sound (sym h.1) tt
-sound_next places.Sessions q line s h = subst Sound (sym h.3) h.1.most_count
-sound_next (places.Queue sessions) q line s h = subst Sound (sym h.3) s
-sound_next (places.Keep sessions) q line s h = subst Sound (sym h.3) (s, record { few = omega arith; each = refl })
-sound_next (places.Tables sessions tables) q line s (inl h) = subst Sound (sym h.3) (s.0, h.1)
-sound_next (places.Tables sessions tables) q line s (inr h) = subst Sound (sym h.1.3) (sound_began (record { schema = tables; sessions = sessions }) h.1.0 (record { tables = h.0; sessions = s.0 }))
+sound_next places.Version q line s h = subst Sound (sym h.2) tt
+sound_next (places.Sessions version) q line s h = subst Sound (sym h.3) h.1.most_count
+sound_next (places.Queue version sessions) q line s h = subst Sound (sym h.3) s
+sound_next (places.Keep version sessions) q line s h = subst Sound (sym h.3) (s, record { few = omega arith; each = refl; kinds = All-nil (λ (table : Table). KindFits version table.key) })
+sound_next (places.Tables version sessions tables) q line s (inl h) = subst Sound (sym h.3) (s.0, h.1)
+sound_next (places.Tables version sessions tables) q line s (inr h) = subst Sound (sym h.1.3) (sound_began (frame_of version tables sessions) h.1.0 (record { tables = h.0; sessions = s.0 }))
 sound_next (places.NumberOf section frame rows numbers last) q line s h = subst Sound (sym h.4) (sound_numbers section frame rows numbers h.0.session s)
 sound_next (places.EntryOf section frame rows last) q line s h = subst Sound (sym h.4) (sound_entries section frame rows (Some h.0.0) s)
 sound_next (places.Log frame) q line s h = subst Sound (sym h.3) (sound_rows frame h.0 s)
@@ -164,19 +169,14 @@ all_last : {X : Type 0} (P : X → Type 0) (xs : List X) (x : X) → All P (xs +
 all_last P [] x h = All-head P x [] h
 all_last P (y ∷ ys) x h = all_last P ys x (All-tail P y (ys ++ x ∷ []) h)
 
-last_table : (tables : List Table) (table : Table) → TablesSoFar (tables ++ table ∷ []) → TableFits table
-last_table tables table h = all_last TableFits tables table (each_fits (tables ++ table ∷ []) h.each)
+last_table : (version : Version) (tables : List Table) (table : Table) → TablesSoFar version (tables ++ table ∷ []) → TableHasLine version table
+last_table version tables table h = record {
+  fits = all_last TableFits tables table (each_fits (tables ++ table ∷ []) h.each);
+  key = all_last (λ (table : Table). KindFits version table.key) tables table h.kinds;
+}
 
-table_again : (table : Table) → TableFits table → table_of_line (table_text table) ≡ Some table
-table_again table fits = (table_reads (table_text table)).again table fits refl
-
-abbrev first_byte : List ℕ → ℕ
-first_byte [] = 0
-first_byte (byte ∷ bytes) = byte
-
-abbrev later_bytes : List ℕ → List ℕ
-later_bytes [] = []
-later_bytes (byte ∷ bytes) = bytes
+table_again : (version : Version) (table : Table) → TableHasLine version table → table_of_line version (table_text table) ≡ Some table
+table_again version table fits = (table_reads version (table_text table)).again table fits refl
 
 t_is_no_l : ◌≡◌ {A = ℕ} 116 108 → ⊥
 t_is_no_l e = absurd (omega arith)
@@ -192,24 +192,24 @@ small_sessions : (n : ℕ) → n ≤ 64 → n < 2 ^ 64
 small_sessions n le = omega arith
 
 only_next : (p q r : Place) (line : List ℕ) → Sound p → Leads p line q → Leads p line r → q ≡ r
-only_next places.Version q r line s h k = h.1 ∙ sym k.1
-only_next places.Sessions q r line s h k = one_count (codes "sessions") 1 64 line q r places.Queue IsToken-sessions (lit< tt) h k
-only_next (places.Queue sessions) q r line s h k = h.3 ∙ sym k.3
-only_next (places.Keep sessions) q r line s h k = h.3 ∙ sym k.3
-only_next (places.Tables sessions tables) q r line s (inl h) (inl k) =
-    let same = one_value table_of_line line (table_text h.0) (table_text k.0) h.0 k.0 h.2 k.2 (table_again h.0 (last_table tables h.0 h.1)) (table_again k.0 (last_table tables k.0 k.1)) in
-    h.3 ∙ ap (λ (t : Table). places.Tables sessions (tables ++ t ∷ [])) same ∙ sym k.3
-only_next (places.Tables sessions tables) q r line s (inl h) (inr k) = absurd (table_is_no_beginning h.0 k.1.0 (sym h.2 ∙ k.1.2))
-only_next (places.Tables sessions tables) q r line s (inr h) (inl k) = absurd (table_is_no_beginning k.0 h.1.0 (sym k.2 ∙ h.1.2))
-only_next (places.Tables sessions tables) q r line s (inr h) (inr k) =
+only_next places.Version q r line s h k = h.2 ∙ ap places.Sessions (same_version h.0 k.0 (sym h.1 ∙ k.1)) ∙ sym k.2
+only_next (places.Sessions version) q r line s h k = one_count (codes "sessions") 1 64 line q r (places.Queue version) IsToken-sessions (lit< tt) h k
+only_next (places.Queue version sessions) q r line s h k = h.3 ∙ sym k.3
+only_next (places.Keep version sessions) q r line s h k = h.3 ∙ sym k.3
+only_next (places.Tables version sessions tables) q r line s (inl h) (inl k) =
+    let same = one_value (table_of_line version) line (table_text h.0) (table_text k.0) h.0 k.0 h.2 k.2 (table_again version h.0 (last_table version tables h.0 h.1)) (table_again version k.0 (last_table version tables k.0 k.1)) in
+    h.3 ∙ ap (λ (t : Table). places.Tables version sessions (tables ++ t ∷ [])) same ∙ sym k.3
+only_next (places.Tables version sessions tables) q r line s (inl h) (inr k) = absurd (table_is_no_beginning h.0 k.1.0 (sym h.2 ∙ k.1.2))
+only_next (places.Tables version sessions tables) q r line s (inr h) (inl k) = absurd (table_is_no_beginning k.0 h.1.0 (sym k.2 ∙ h.1.2))
+only_next (places.Tables version sessions tables) q r line s (inr h) (inr k) =
     let same = one_value began_of_line line _ _ h.1.0 k.1.0 h.1.2 k.1.2 (began_line-again h.1.0 h.1.1) (began_line-again k.1.0 k.1.1) in
-    h.1.3 ∙ ap (behind_began (record { schema = tables; sessions = sessions })) same ∙ sym k.1.3
+    h.1.3 ∙ ap (behind_began (frame_of version tables sessions)) same ∙ sym k.1.3
 only_next (places.NumberOf section frame rows numbers last) q r line s h k =
     let small = small_sessions frame.sessions s.sessions in
     let same = one_value (mark_of_line section frame.sessions) line _ _ h.0 k.0 h.3 k.3 (mark_line-again section frame.sessions h.0 small h.1) (mark_line-again section frame.sessions k.0 small k.1) in
     h.4 ∙ ap (λ mark. numbers_to_come section frame rows numbers mark.session) same ∙ sym k.4
 only_next (places.EntryOf section frame rows last) q r line s h k =
-    let same = one_value (at_of_line section frame.schema) line _ _ h.0 k.0 h.3 k.3 (at_line-again section frame.schema h.0 s.tables h.1) (at_line-again section frame.schema k.0 s.tables k.1) in
+    let same = one_value (at_of_line frame.version section frame.schema) line _ _ h.0 k.0 h.3 k.3 (at_line-again frame.version section frame.schema h.0 s.tables h.1) (at_line-again frame.version section frame.schema k.0 s.tables k.1) in
     h.4 ∙ ap (λ entry. entries_to_come section frame rows (Some entry.0)) same ∙ sym k.4
 only_next (places.Log frame) q r line s h k = one_count (codes "log") 0 (2 ^ 64 - 1) line q r (rows_to_come frame) IsToken-log wide h k
 only_next (places.LogRow frame rows) q r line s h k =
@@ -217,13 +217,13 @@ only_next (places.LogRow frame rows) q r line s h k =
     let same = one_value (head_of_line frame.sessions) line _ _ h.0 k.0 h.2 k.2 (head_line-again frame.sessions h.0 small h.1) (head_line-again frame.sessions k.0 small k.1) in
     h.3 ∙ ap (λ head. reads_to_come (record { frame = frame; rows = rows; head = head }) head.reads) same ∙ sym k.3
 only_next (places.ReadOf row reads) q r line s h k =
-    let same = one_value (asked_of_line row.frame.schema) line _ _ h.0 k.0 h.2 k.2 (asked_line-again row.frame.schema h.0 s.tables h.1) (asked_line-again row.frame.schema k.0 s.tables k.1) in
+    let same = one_value (asked_of_line row.frame.version row.frame.schema) line _ _ h.0 k.0 h.2 k.2 (asked_line-again row.frame.version row.frame.schema h.0 s.tables h.1) (asked_line-again row.frame.version row.frame.schema k.0 s.tables k.1) in
     h.3 ∙ ap (behind_read row reads) same ∙ sym k.3
 only_next (places.PairOf row reads table pairs last) q r line s h k =
-    let same = one_value (pair_of_line row.frame.schema table) line _ _ h.0 k.0 h.3 k.3 (pair_line-again row.frame.schema table h.0 h.1) (pair_line-again row.frame.schema table k.0 k.1) in
+    let same = one_value (pair_of_line row.frame.version row.frame.schema table) line _ _ h.0 k.0 h.3 k.3 (pair_line-again row.frame.version row.frame.schema table h.0 h.1) (pair_line-again row.frame.version row.frame.schema table k.0 k.1) in
     h.4 ∙ ap (λ pair. pairs_to_come row reads table pairs (Some pair.0)) same ∙ sym k.4
 only_next (places.WriteOf row writes written) q r line s h k =
-    let same = one_value (write_of_line row.frame.schema) line _ _ h.0 k.0 h.3 k.3 (write_line-again row.frame.schema h.0 s.tables h.1) (write_line-again row.frame.schema k.0 s.tables k.1) in
+    let same = one_value (write_of_line row.frame.version row.frame.schema) line _ _ h.0 k.0 h.3 k.3 (write_line-again row.frame.version row.frame.schema h.0 s.tables h.1) (write_line-again row.frame.version row.frame.schema k.0 s.tables k.1) in
     h.4 ∙ ap (λ write. writes_to_come row writes (written ++ write.0 ∷ [])) same ∙ sym k.4
 only_next (places.Marks frame) q r line s h k = one_count (codes "marks") 0 (2 ^ 64 - 1) line q r (λ n. numbers_to_come sections.Store frame 0 n 0) IsToken-marks wide h k
 only_next (places.State frame) q r line s h k = one_count (codes "state") 0 (2 ^ 64 - 1) line q r (λ n. entries_to_come sections.Store frame n None) IsToken-state wide h k
@@ -243,19 +243,28 @@ leads_to_one lines p q h k = only_place lines places.Version p q tt h k
 
 -- ---- each of them is a line
 
-key_kind_width : (kind : KeyKind) → length (key_kind_word kind) ≤ 4
+part_kind_width : (kind : PartKind) → length (part_kind_word kind) ≤ 4
+part_kind_width part_kinds.Num = omega arith
+part_kind_width part_kinds.Text = omega arith
+
+key_kind_width : (kind : KeyKind) → length (key_kind_word kind) ≤ 9
 key_kind_width kinds.Num = omega arith
 key_kind_width kinds.Text = omega arith
+key_kind_width (kinds.Pair first second) =
+    let a = part_kind_width first in
+    let b = part_kind_width second in
+    omega (arith, length-append (part_kind_word first) (43 ∷ part_kind_word second))
 
 kinds_width : (columns : List Kind) → width (map kind_word columns) ≤ 5 * length columns
 kinds_width [] = omega arith
 kinds_width (cells.Int ∷ columns) = let rest = kinds_width columns in omega arith
 kinds_width (cells.Text ∷ columns) = let rest = kinds_width columns in omega arith
 
-table_is_line : (table : Table) → TableFits table → IsLine (table_text table)
+table_is_line : (version : Version) (table : Table) → TableHasLine version table → IsLine (table_text table)
 unfolding table_of_line
-table_is_line table fits =
-    let t = bind_value (tokens_of (table_text table)) table_of_tokens table (table_again table fits) in
+table_is_line version table has =
+    let t = bind_value (tokens_of (table_text table)) (table_of_tokens version) table (table_again version table has) in
+    let fits = has.fits in
     let are = tokens_takes (table_text table) t.0 t.1 in
     let name = fits.name.short in
     let few = fits.few in
@@ -264,9 +273,10 @@ table_is_line table fits =
     let joined = joined_width 32 (table_tokens table) in
     record { no_feed = subst HasNoFeed (sym are.0) (words_have_no_feed t.0 are.1.some are.1.each); short = omega arith }
 
-version_is_line : IsLine (codes "occ 1")
+version_is_line : (version : Version) → IsLine (version_text version)
 unfolding is_token
-version_is_line = line_of_words (codes "occ" ∷ codes "1" ∷ []) (two_tokens (IsToken-from_test (codes "occ") refl) (IsToken-from_test (codes "1") refl)) (omega arith)
+version_is_line versions.One = line_of_words (codes "occ" ∷ codes "1" ∷ []) (two_tokens (IsToken-from_test (codes "occ") refl) (IsToken-from_test (codes "1") refl)) (omega arith)
+version_is_line versions.Two = line_of_words (codes "occ" ∷ codes "2" ∷ []) (two_tokens (IsToken-from_test (codes "occ") refl) (IsToken-from_test (codes "2") refl)) (omega arith)
 
 audit_is_line : (line : List ℕ) → (line ≡ codes "audit yes") ⊎ (line ≡ codes "audit no") → IsLine line
 unfolding is_token
@@ -277,19 +287,19 @@ counted_is_line : (word : List ℕ) (least most : ℕ) (line : List ℕ) (q : Pl
 counted_is_line word least most line q to token short small h = subst IsLine (sym h.2) (count_is_line word least most h.0 token short small h.1)
 
 is_line : (p q : Place) (line : List ℕ) → Sound p → Leads p line q → IsLine line
-is_line places.Version q line s h = subst IsLine (sym h.0) version_is_line
-is_line places.Sessions q line s h = counted_is_line (codes "sessions") 1 64 line q _ IsToken-sessions (omega arith) (lit< tt) h
-is_line (places.Queue sessions) q line s h = counted_is_line (codes "queue") 1 1024 line q _ IsToken-queue (omega arith) (lit< tt) h
-is_line (places.Keep sessions) q line s h = counted_is_line (codes "keep") 1 4096 line q _ IsToken-keep (omega arith) (lit< tt) h
-is_line (places.Tables sessions tables) q line s (inl h) = subst IsLine (sym h.2) (table_is_line h.0 (last_table tables h.0 h.1))
-is_line (places.Tables sessions tables) q line s (inr h) = subst IsLine (sym h.1.2) (began_is_line h.1.0 h.1.1)
+is_line places.Version q line s h = subst IsLine (sym h.1) (version_is_line h.0)
+is_line (places.Sessions version) q line s h = counted_is_line (codes "sessions") 1 64 line q _ IsToken-sessions (omega arith) (lit< tt) h
+is_line (places.Queue version sessions) q line s h = counted_is_line (codes "queue") 1 1024 line q _ IsToken-queue (omega arith) (lit< tt) h
+is_line (places.Keep version sessions) q line s h = counted_is_line (codes "keep") 1 4096 line q _ IsToken-keep (omega arith) (lit< tt) h
+is_line (places.Tables version sessions tables) q line s (inl h) = subst IsLine (sym h.2) (table_is_line version h.0 (last_table version tables h.0 h.1))
+is_line (places.Tables version sessions tables) q line s (inr h) = subst IsLine (sym h.1.2) (began_is_line h.1.0 h.1.1)
 is_line (places.NumberOf section frame rows numbers last) q line s h = subst IsLine (sym h.3) (mark_is_line section frame.sessions h.0 (small_sessions frame.sessions s.sessions) h.1)
-is_line (places.EntryOf section frame rows last) q line s h = subst IsLine (sym h.3) (at_is_line section frame.schema h.0 s.tables h.1)
+is_line (places.EntryOf section frame rows last) q line s h = subst IsLine (sym h.3) (at_is_line frame.version section frame.schema h.0 s.tables h.1)
 is_line (places.Log frame) q line s h = counted_is_line (codes "log") 0 (2 ^ 64 - 1) line q _ IsToken-log (omega arith) wide h
 is_line (places.LogRow frame rows) q line s h = subst IsLine (sym h.2) (head_is_line frame.sessions h.0 (small_sessions frame.sessions s.sessions) h.1)
-is_line (places.ReadOf row reads) q line s h = subst IsLine (sym h.2) (asked_is_line row.frame.schema h.0 s.tables h.1)
-is_line (places.PairOf row reads table pairs last) q line s h = subst IsLine (sym h.3) (pair_is_line row.frame.schema table h.0 s.tables h.1)
-is_line (places.WriteOf row writes written) q line s h = subst IsLine (sym h.3) (write_is_line row.frame.schema h.0 s.tables h.1)
+is_line (places.ReadOf row reads) q line s h = subst IsLine (sym h.2) (asked_is_line row.frame.version row.frame.schema h.0 s.tables h.1)
+is_line (places.PairOf row reads table pairs last) q line s h = subst IsLine (sym h.3) (pair_is_line row.frame.version row.frame.schema table h.0 s.tables h.1)
+is_line (places.WriteOf row writes written) q line s h = subst IsLine (sym h.3) (write_is_line row.frame.version row.frame.schema h.0 s.tables h.1)
 is_line (places.Marks frame) q line s h = counted_is_line (codes "marks") 0 (2 ^ 64 - 1) line q _ IsToken-marks (omega arith) wide h
 is_line (places.State frame) q line s h = counted_is_line (codes "state") 0 (2 ^ 64 - 1) line q _ IsToken-state (omega arith) wide h
 is_line places.Counter q line s h = subst IsLine (sym h.2) (counts_is_line h.0 h.1)
@@ -299,47 +309,6 @@ is_line places.End q line s h = absurd h
 are_lines : (lines : List (List ℕ)) (p q : Place) → Sound p → LeadOn p lines q → AllByRecursion IsLine lines
 are_lines [] p q s h = tt
 are_lines (line ∷ lines) p q s h = (is_line p h.0 line s h.1, are_lines lines h.0 q (sound_next p h.0 line s h.1) h.2)
-
--- ---- texts of lines
-
--- what stands before the first line feed is one line
-cut_at_feed : (x y a b : List ℕ) → HasNoFeed x → HasNoFeed y → x ++ 10 ∷ a ≡ y ++ 10 ∷ b → (x ≡ y) × (a ≡ b)
-cut_at_feed [] [] a b p q e = (refl, ap later_bytes e)
-cut_at_feed [] (c ∷ y) a b p q e = absurd (All-head (λ (byte : ℕ). byte ≢ 10) c y q (sym (ap first_byte e)))
-cut_at_feed (c ∷ x) [] a b p q e = absurd (All-head (λ (byte : ℕ). byte ≢ 10) c x p (ap first_byte e))
-cut_at_feed (c ∷ x) (d ∷ y) a b p q e =
-    let rest = cut_at_feed x y a b (All-tail (λ (byte : ℕ). byte ≢ 10) c x p) (All-tail (λ (byte : ℕ). byte ≢ 10) d y q) (ap later_bytes e) in
-    let first : c ≡ d = ap first_byte e in
-    ((λ i. first i ∷ rest.0 i), rest.1)
-
--- bytes without a line feed are no more than a line that begins there
-within_line : (front rest line more : List ℕ) → HasNoFeed front → front ++ rest ≡ line ++ 10 ∷ more → length front ≤ length line
-within_line [] rest line more p e = omega arith
-within_line (c ∷ front) rest [] more p e = absurd (All-head (λ (byte : ℕ). byte ≢ 10) c front p (ap first_byte e))
-within_line (c ∷ front) rest (d ∷ line) more p e = let n = within_line front rest line more (All-tail (λ (byte : ℕ). byte ≢ 10) c front p) (ap later_bytes e) in omega arith
-
--- the lines behind others, of a text that begins with them
-record Behind (xs ys : List (List ℕ)) (rest : List ℕ) : Type 0 where
-  more : List (List ℕ)
-  whole : xs ≡ ys ++ more
-  left : rest ≡ lines_text more
-
-one_more : (line : List ℕ) (lines : List (List ℕ)) (rest : List ℕ) → lines_text (line ∷ lines) ++ rest ≡ line ++ 10 ∷ (lines_text lines ++ rest)
-one_more line lines rest = append_assoc (line ++ 10 ∷ []) (lines_text lines) rest ∙ append_assoc line (10 ∷ []) (lines_text lines ++ rest)
-
-begins_line : (line : List ℕ) (lines : List (List ℕ)) → lines_text (line ∷ lines) ≡ line ++ 10 ∷ lines_text lines
-begins_line line lines = append_assoc line (10 ∷ []) (lines_text lines)
-
-nothing_is_no_line : (line : List ℕ) (more : List ℕ) → [] ≡ line ++ 10 ∷ more → ⊥
-nothing_is_no_line line more e = let n = ap length e in absurd (omega (arith, length-append line (10 ∷ more)))
-
-lines_behind : (xs ys : List (List ℕ)) (rest : List ℕ) → AllByRecursion IsLine xs → AllByRecursion IsLine ys → lines_text xs ≡ lines_text ys ++ rest → Behind xs ys rest
-lines_behind xs [] rest p q e = record { more = xs; whole = refl; left = sym e }
-lines_behind [] (y ∷ ys) rest p q e = absurd (nothing_is_no_line y (lines_text ys ++ rest) (e ∙ one_more y ys rest))
-lines_behind (x ∷ xs) (y ∷ ys) rest p q e =
-    let c = cut_at_feed x y (lines_text xs) (lines_text ys ++ rest) p.0.no_feed q.0.no_feed (sym (begins_line x xs) ∙ e ∙ one_more y ys rest) in
-    let r = lines_behind xs ys rest p.1 q.1 c.1 in
-    record { more = r.more; whole = λ i. c.0 i ∷ r.whole i; left = r.left }
 
 -- ---- no text of a book is malformed
 

@@ -1,31 +1,27 @@
 -- The lines of a book that fits lead from the beginning to where it may end.
-use Rattle.std.proofs.Common.{◌≡◌, ℕ, ◌^◌, ◌-◌, ◌<◌, ◌≤◌, Bool, true, false, cond, ◌&&◌, ◌||◌, not, T, List, [], ◌∷◌, ◌++◌, map, length, Option, Some, None, inl, inr, refl, sym, ap, subst, ◌∙◌, arith, length-append, append_assoc}
-use Rattle.std.specs.Prelude.{nat_eq, nat_le, ◌==◌}
+use Rattle.std.proofs.Common.{◌≡◌, ℕ, ◌^◌, ◌-◌, ◌<◌, ◌≤◌, Bool, true, false, cond, ◌&&◌, ◌||◌, T, List, [], ◌∷◌, ◌++◌, map, length, Option, Some, None, inl, inr, refl, sym, ap, subst, ◌∙◌, arith, append_assoc}
+use Rattle.std.specs.Prelude.{◌==◌}
 use Rattle.std.specs.List.{AllByRecursion, flat_map, list_any}
 use Rattle.std.specs.Cmp.{eq_by_cmp_equiv}
-use Rattle.std.specs.Cmp.Lexicographic.{pointwise}
 use Rattle.std.specs.declared.cmp.Ordering.{Ordering}
 use Rattle.std.specs.declared.cmp.Ordering.TheVariants.{Less, Equal, Greater}
 use Rattle.std.specs.Ordering.{is_lt, eq_by_cmp, nat_cmp}
 use Rattle.std.specs.FinMap.{FinMap, entries, len, entries_sorted, is_sorted, len-entries}
 use Rattle.std.proofs.lemmas.Cmp.{ranked}
-use Rattle.std.proofs.lemmas.List.{map-append, append-nil}
-use Rattle.std.proofs.lemmas.List.Folds.{list_any-append}
+use Rattle.std.proofs.lemmas.List.{map-append}
 use Rattle.std.proofs.Math.Nat.{min-eq_left}
 use Rattle.occ_types.specs.Key.{Key}
 use Rattle.occ_types.specs.Object.{Object, object_cmp, object_cmp_total}
 use Rattle.occ_types.specs.Question.{One, Span}
 use Rattle.occ_types.specs.Row.{Row}
-use Rattle.occ_types.specs.Schema.{Table, Schema, are_tables, is_name}
+use Rattle.occ_types.specs.Schema.{Schema}
 use Rattle.occ_model.specs.State.{State, Write, Observation, Found, Rows}
 use Rattle.occ_model.specs.Overlay.{own}
 use Rattle.occ_model.specs.RangeLaws.{IsDistinctWrites}
 use Rattle.occ_model.specs.Log.{LogRow, Base, Standing, Open, Writing, Done, Back}
 use Rattle.std.proofs.lemmas.Bool.Decides.{nat_tests}
+use Rattle.occ_text.specs.declared.versions.Version.{Version}
 use Rattle.occ_text.specs.Headers.{Within, Header, HeaderFits, limits_of, limits_lines, table_text}
-use Rattle.occ_text.specs.HeaderTaking.{TablesSoFar}
-use Rattle.occ_text.proofs.Words.{both}
-use Rattle.occ_text.proofs.SchemaLines.{IsSchema-from_check}
 use Rattle.occ_print.specs.Books.{Book, header_lines, pair_line, read_lines, write_line, row_line, row_lines, log_lines, number_line, mark_lines, entry_line, base_line, folded_lines, base_lines, row_count, state_lines, counter_line, book_lines}
 use Rattle.occ_print.specs.declared.sections.Section.{Section}
 use Rattle.occ_print.specs.declared.sections.Section.TheVariants as sections
@@ -41,49 +37,16 @@ use Rattle.occ_books.specs.Places as places
 use Rattle.occ_books.specs.WholeBooks.{EntryFits, BaseFits, BookFits, IsEnding}
 use Rattle.occ_books.proofs.Leading.{lead_on}
 use Rattle.occ_books.proofs.PartsLeading.{limits_lead}
+use Rattle.occ_books.proofs.TableLeads.{tables_lead, schema_so_far}
 use Rattle.occ_books.proofs.RowTaking.{head_line}
 
 -- one line leads on
 one : (p q : Place) (line : List ℕ) → Leads p line q → LeadOn p (line ∷ []) q
 one p q line leads = (q, leads, refl)
 
--- ---- tables
-
--- a part of the tables of a schema is so far right
-begins_well : (tables more : List Table) → are_tables (tables ++ more) ≡ true → are_tables tables ≡ true
-begins_well [] more h = refl
-begins_well (first ∷ tables) more h =
-    let test : Table → Bool = λ other. pointwise nat_eq first.name other.name in
-    let few = nat_le 1 (length first.columns) && nat_le (length first.columns) 8 in
-    let p = both ((is_name first.name && not (list_any test (tables ++ more))) && few) (are_tables (tables ++ more)) h in
-    let q = both (is_name first.name && not (list_any test (tables ++ more))) few p.0 in
-    let n = both (is_name first.name) (not (list_any test (tables ++ more))) q.0 in
-    let own = none_before (list_any test tables) (list_any test more) (sym (ap not (list_any-append test tables more)) ∙ n.1) in
-    all_hold (is_name first.name) (list_any test tables) few (are_tables tables) n.0 own q.1 (begins_well tables more p.1)
-  where
-    none_before : (a b : Bool) → not (a || b) ≡ true → a ≡ false
-    none_before true b h = absurd cc
-    none_before false b h = refl
-
-    all_hold : (a b c d : Bool) → a ≡ true → b ≡ false → c ≡ true → d ≡ true → (((a && not b) && c) && d) ≡ true
-    all_hold a b c d p q r s = rw (p, q, r, s) refl
-
-so_far : (tables more : List Table) → TablesSoFar (tables ++ more) → TablesSoFar tables
-so_far tables more h = let few = h.few in record { few = omega (arith, length-append tables more); each = begins_well tables more h.each }
-
-tables_lead : (sessions : ℕ) (before after : List Table) → TablesSoFar (before ++ after) → LeadOn (places.Tables sessions before) (map table_text after) (places.Tables sessions (before ++ after))
-tables_lead sessions before [] h = ap (places.Tables sessions) (append-nil before)
-tables_lead sessions before (table ∷ after) h =
-    let turned = append_assoc before (table ∷ []) after in
-    let whole = subst TablesSoFar (sym turned) h in (
-      places.Tables sessions (before ++ table ∷ []),
-      inl (table, so_far (before ++ table ∷ []) after whole, refl, refl),
-      subst (λ (all : List Table). LeadOn (places.Tables sessions (before ++ table ∷ [])) (map table_text after) (places.Tables sessions all)) turned (tables_lead sessions (before ++ table ∷ []) after whole),
-    )
-
 -- ---- reads
 
-pairs_lead : (row : InRow) (reads table : ℕ) (last : Option Key) (pairs : List (Key × Row)) → AllByRecursion (PairFits row.frame.schema table) pairs → RisesFrom last pairs
+pairs_lead : (row : InRow) (reads table : ℕ) (last : Option Key) (pairs : List (Key × Row)) → AllByRecursion (PairFits row.frame.version row.frame.schema table) pairs → RisesFrom last pairs
     → LeadOn (pairs_to_come row reads table (length pairs) last) (map pair_line pairs) (reads_to_come row reads)
 pairs_lead row reads table last [] fits rises = refl
 pairs_lead row reads table None (pair ∷ pairs) fits rises =
@@ -91,14 +54,14 @@ pairs_lead row reads table None (pair ∷ pairs) fits rises =
 pairs_lead row reads table (Some last) (pair ∷ pairs) fits rises =
     (pairs_to_come row reads table (length pairs) (Some pair.0), (pair, fits.0, rises.0, refl, refl), pairs_lead row reads table (Some pair.0) pairs fits.1 rises.1)
 
-read_leads : (row : InRow) (reads : ℕ) (read : Observation) → ReadFits row.frame.schema read → LeadOn (places.ReadOf row reads) (read_lines row.frame.schema read) (reads_to_come row reads)
+read_leads : (row : InRow) (reads : ℕ) (read : Observation) → ReadFits row.frame.version row.frame.schema read → LeadOn (places.ReadOf row reads) (read_lines row.frame.schema read) (reads_to_come row reads)
 read_leads row reads (One table key, Found found) fits = (reads_to_come row reads, (AskedOne (table, key) found, fits, refl, refl), refl)
 read_leads row reads (One table key, Rows rows) fits = absurd fits
 read_leads row reads (Span table lower upper, Found found) fits = absurd fits
 read_leads row reads (Span table lower upper, Rows rows) fits =
     (pairs_to_come row reads table (length rows) None, (AskedSpan (Span table lower upper) (length rows), (fits.0, fits.3), refl, refl), pairs_lead row reads table None rows fits.1 fits.2)
 
-reads_lead : (row : InRow) (reads : List Observation) → AllByRecursion (ReadFits row.frame.schema) reads → LeadOn (reads_to_come row (length reads)) (flat_map (read_lines row.frame.schema) reads) (writes_to_come row row.head.writes [])
+reads_lead : (row : InRow) (reads : List Observation) → AllByRecursion (ReadFits row.frame.version row.frame.schema) reads → LeadOn (reads_to_come row (length reads)) (flat_map (read_lines row.frame.schema) reads) (writes_to_come row row.head.writes [])
 reads_lead row [] fits = refl
 reads_lead row (read ∷ reads) fits =
     lead_on (read_lines row.frame.schema read) (flat_map (read_lines row.frame.schema) reads) (places.ReadOf row (length reads)) (reads_to_come row (length reads)) (writes_to_come row row.head.writes [])
@@ -124,7 +87,7 @@ written_anew (first ∷ writes) write more h =
     neither : (a b : Bool) → a ≡ false → b ≡ false → (a || b) ≡ false
     neither a b p q = rw (p, q) refl
 
-writes_lead : (row : InRow) (before after : List Write) → IsDistinctWrites (before ++ after) → AllByRecursion (WriteFits row.frame.schema) after
+writes_lead : (row : InRow) (before after : List Write) → IsDistinctWrites (before ++ after) → AllByRecursion (WriteFits row.frame.version row.frame.schema) after
     → LeadOn (writes_to_come row (length after) (map (λ (w : Write). w.0) before)) (map (write_line row.frame.schema) after) (rows_to_come row.frame row.rows)
 writes_lead row before [] distinct fits = refl
 writes_lead row before (write ∷ after) distinct fits =
@@ -170,8 +133,8 @@ head_told row = record {
   standing = stand_told row.standing;
 }
 
-head_fits : (schema : Schema) (sessions : ℕ) (row : LogRow) → LogRowFits schema sessions row → HeadFits sessions (head_told row)
-head_fits schema sessions row fits = record {
+head_fits : (version : Version) (schema : Schema) (sessions : ℕ) (row : LogRow) → LogRowFits version schema sessions row → HeadFits sessions (head_told row)
+head_fits version schema sessions row fits = record {
   place = fits.place;
   session = fits.session;
   number = fits.number;
@@ -185,18 +148,18 @@ head_fits schema sessions row fits = record {
 head_spelled : (row : LogRow) → head_text (head_told row) ≡ row_line row
 head_spelled row = head_line (head_told row) row.reads row.writes row refl refl (record { place = refl; session = refl; number = refl; start = refl; finish = refl; read = refl; written = refl; stands = told_so row.standing })
 
-row_leads : (schema : Schema) (sessions rows : ℕ) (row : LogRow) → LogRowFits schema sessions row → LeadOn (places.LogRow (frame_of schema sessions) rows) (row_lines schema row) (rows_to_come (frame_of schema sessions) rows)
-row_leads schema sessions rows row fits =
-    let here = in_row (frame_of schema sessions) rows (head_told row) in
-    let behind = lead_on (flat_map (read_lines schema) row.reads) (map (write_line schema) row.writes) (reads_to_come here (length row.reads)) (writes_to_come here (length row.writes) []) (rows_to_come (frame_of schema sessions) rows)
+row_leads : (version : Version) (schema : Schema) (sessions rows : ℕ) (row : LogRow) → LogRowFits version schema sessions row → LeadOn (places.LogRow (frame_of version schema sessions) rows) (row_lines schema row) (rows_to_come (frame_of version schema sessions) rows)
+row_leads version schema sessions rows row fits =
+    let here = in_row (frame_of version schema sessions) rows (head_told row) in
+    let behind = lead_on (flat_map (read_lines schema) row.reads) (map (write_line schema) row.writes) (reads_to_come here (length row.reads)) (writes_to_come here (length row.writes) []) (rows_to_come (frame_of version schema sessions) rows)
     (reads_lead here row.reads fits.reads) (writes_lead here [] row.writes fits.distinct fits.writes) in
-    (reads_to_come here (length row.reads), (head_told row, head_fits schema sessions row fits, sym (head_spelled row), refl), behind)
+    (reads_to_come here (length row.reads), (head_told row, head_fits version schema sessions row fits, sym (head_spelled row), refl), behind)
 
-rows_lead : (schema : Schema) (sessions : ℕ) (log : List LogRow) → AllByRecursion (LogRowFits schema sessions) log → LeadOn (rows_to_come (frame_of schema sessions) (length log)) (flat_map (row_lines schema) log) (places.Marks (frame_of schema sessions))
-rows_lead schema sessions [] fits = refl
-rows_lead schema sessions (row ∷ log) fits =
-    lead_on (row_lines schema row) (flat_map (row_lines schema) log) (places.LogRow (frame_of schema sessions) (length log)) (rows_to_come (frame_of schema sessions) (length log)) (places.Marks (frame_of schema sessions))
-    (row_leads schema sessions (length log) row fits.0) (rows_lead schema sessions log fits.1)
+rows_lead : (version : Version) (schema : Schema) (sessions : ℕ) (log : List LogRow) → AllByRecursion (LogRowFits version schema sessions) log → LeadOn (rows_to_come (frame_of version schema sessions) (length log)) (flat_map (row_lines schema) log) (places.Marks (frame_of version schema sessions))
+rows_lead version schema sessions [] fits = refl
+rows_lead version schema sessions (row ∷ log) fits =
+    lead_on (row_lines schema row) (flat_map (row_lines schema) log) (places.LogRow (frame_of version schema sessions) (length log)) (rows_to_come (frame_of version schema sessions) (length log)) (places.Marks (frame_of version schema sessions))
+    (row_leads version schema sessions (length log) row fits.0) (rows_lead version schema sessions log fits.1)
 
 -- ---- entries in their order
 
@@ -273,7 +236,7 @@ nothing_before : (es : List (Object × Row)) → IsBehindAll None es
 nothing_before [] = tt
 nothing_before (e ∷ es) = refl
 
-entries_lead : (section : Section) (frame : Frame) (last : Option Object) (es : List (Object × Row)) → AllByRecursion (AtFits frame.schema) es → T (is_sorted object_cmp es) → IsBehindAll last es
+entries_lead : (section : Section) (frame : Frame) (last : Option Object) (es : List (Object × Row)) → AllByRecursion (AtFits frame.version frame.schema) es → T (is_sorted object_cmp es) → IsBehindAll last es
     → LeadOn (entries_to_come section frame (length es) last) (map (entry_line section frame.schema) es) (behind_entries section frame)
 entries_lead section frame last [] fits sorted behind = refl
 entries_lead section frame last (e ∷ es) fits sorted behind =
@@ -281,31 +244,31 @@ entries_lead section frame last (e ∷ es) fits sorted behind =
 
 -- ---- the whole
 
-header_leads : (header : Header) → HeaderFits header → LeadOn places.Version (header_lines header) (places.Tables header.sessions header.tables)
+header_leads : (header : Header) → HeaderFits header → LeadOn places.Version (header_lines header) (places.Tables header.version header.sessions header.tables)
 header_leads header fits =
-    lead_on (limits_lines (limits_of header)) (map table_text header.tables) places.Version (places.Tables header.sessions []) (places.Tables header.sessions header.tables)
+    lead_on (limits_lines (limits_of header)) (map table_text header.tables) places.Version (places.Tables header.version header.sessions []) (places.Tables header.version header.sessions header.tables)
     (limits_lead (limits_of header) (record { sessions = fits.sessions; queue = fits.queue; keep = fits.keep }))
-    (tables_lead header.sessions [] header.tables (IsSchema-from_check header.tables fits.tables).so_far)
+    (tables_lead header.version header.sessions [] header.tables (schema_so_far header fits))
 
 -- the first line of a base
 abbrev base_head : Base → BaseHead
 base_head base = record { place = base.place; numbers = len base.last; rows = row_count base.state }
 
-log_leads : (header : Header) (base : Base) (log : List LogRow) → HeaderFits header → BaseFits header.tables header.sessions base → length log ≤ 2 ^ 64 - 1 → AllByRecursion (LogRowFits header.tables header.sessions) log
-    → LeadOn (places.Tables header.sessions header.tables) (base_lines header.tables base ++ log_lines header.tables log) (places.Marks (frame_of header.tables header.sessions))
+log_leads : (header : Header) (base : Base) (log : List LogRow) → HeaderFits header → BaseFits header.version header.tables header.sessions base → length log ≤ 2 ^ 64 - 1 → AllByRecursion (LogRowFits header.version header.tables header.sessions) log
+    → LeadOn (places.Tables header.version header.sessions header.tables) (base_lines header.tables base ++ log_lines header.tables log) (places.Marks (frame_of header.version header.tables header.sessions))
 log_leads header base log fits base_fits few rows = by (base.place == 0) refl
   where
     frame : Frame
-    frame = frame_of header.tables header.sessions
+    frame = frame_of header.version header.tables header.sessions
 
     log_counted : Within 0 (2 ^ 64 - 1) (length log)
     log_counted = record { least_count = omega arith; most_count = few }
 
-    begins_here : LeadOn (places.Tables header.sessions header.tables) (log_lines header.tables log) (places.Marks frame)
-    begins_here = (rows_to_come frame (length log), inr (fits.tables, (begun.Log (length log), log_counted, refl, refl)), rows_lead header.tables header.sessions log rows)
+    begins_here : LeadOn (places.Tables header.version header.sessions header.tables) (log_lines header.tables log) (places.Marks frame)
+    begins_here = (rows_to_come frame (length log), inr (fits.tables, (begun.Log (length log), log_counted, refl, refl)), rows_lead header.version header.tables header.sessions log rows)
 
     behind_base : LeadOn (places.Log frame) (log_lines header.tables log) (places.Marks frame)
-    behind_base = (rows_to_come frame (length log), (length log, log_counted, refl, refl), rows_lead header.tables header.sessions log rows)
+    behind_base = (rows_to_come frame (length log), (length log, log_counted, refl, refl), rows_lead header.version header.tables header.sessions log rows)
 
     numbers : List (List ℕ)
     numbers = map (number_line sections.Base) (entries base.last)
@@ -337,16 +300,16 @@ log_leads header base log fits base_fits few rows = by (base.place == 0) refl
           rows = subst (λ (k : ℕ). k ≤ 2 ^ 64 - 1) (sym (min-eq_left base_fits.objects)) base_fits.objects;
         }
 
-    by : (b : Bool) → (base.place == 0) ≡ b → LeadOn (places.Tables header.sessions header.tables) (base_lines header.tables base ++ log_lines header.tables log) (places.Marks frame)
-    by true e = subst (λ (b : Bool). LeadOn (places.Tables header.sessions header.tables) (cond b [] (folded_lines header.tables base) ++ log_lines header.tables log) (places.Marks frame)) (sym e) begins_here
+    by : (b : Bool) → (base.place == 0) ≡ b → LeadOn (places.Tables header.version header.sessions header.tables) (base_lines header.tables base ++ log_lines header.tables log) (places.Marks frame)
+    by true e = subst (λ (b : Bool). LeadOn (places.Tables header.version header.sessions header.tables) (cond b [] (folded_lines header.tables base) ++ log_lines header.tables log) (places.Marks frame)) (sym e) begins_here
     by false e =
         let start = numbers_to_come sections.Base frame (row_count base.state) (len base.last) 0 in
-        let first : LeadOn (places.Tables header.sessions header.tables) (base_line base.place (len base.last) (row_count base.state) ∷ []) start =
-        one (places.Tables header.sessions header.tables) start (base_line base.place (len base.last) (row_count base.state)) (inr (fits.tables, (begun.Base (base_head base), head_fits_so e, refl, refl))) in
-        let folded = lead_on (base_line base.place (len base.last) (row_count base.state) ∷ []) numbers (places.Tables header.sessions header.tables) start (entries_to_come sections.Base frame (row_count base.state) None) first numbers_leads in
-        let all = lead_on (base_line base.place (len base.last) (row_count base.state) ∷ numbers) entries_told (places.Tables header.sessions header.tables) (entries_to_come sections.Base frame (row_count base.state) None) (places.Log frame) folded entries_leads in
-        subst (λ (b : Bool). LeadOn (places.Tables header.sessions header.tables) (cond b [] (folded_lines header.tables base) ++ log_lines header.tables log) (places.Marks frame)) (sym e)
-        (lead_on (folded_lines header.tables base) (log_lines header.tables log) (places.Tables header.sessions header.tables) (places.Log frame) (places.Marks frame) all behind_base)
+        let first : LeadOn (places.Tables header.version header.sessions header.tables) (base_line base.place (len base.last) (row_count base.state) ∷ []) start =
+        one (places.Tables header.version header.sessions header.tables) start (base_line base.place (len base.last) (row_count base.state)) (inr (fits.tables, (begun.Base (base_head base), head_fits_so e, refl, refl))) in
+        let folded = lead_on (base_line base.place (len base.last) (row_count base.state) ∷ []) numbers (places.Tables header.version header.sessions header.tables) start (entries_to_come sections.Base frame (row_count base.state) None) first numbers_leads in
+        let all = lead_on (base_line base.place (len base.last) (row_count base.state) ∷ numbers) entries_told (places.Tables header.version header.sessions header.tables) (entries_to_come sections.Base frame (row_count base.state) None) (places.Log frame) folded entries_leads in
+        subst (λ (b : Bool). LeadOn (places.Tables header.version header.sessions header.tables) (cond b [] (folded_lines header.tables base) ++ log_lines header.tables log) (places.Marks frame)) (sym e)
+        (lead_on (folded_lines header.tables base) (log_lines header.tables log) (places.Tables header.version header.sessions header.tables) (places.Log frame) (places.Marks frame) all behind_base)
 
 closing_leads : (frame : Frame) (marks : FinMap nat_cmp ℕ) → frame.sessions ≤ 64 → AllByRecursion (EntryFits frame.sessions) (entries marks) → LeadOn (places.Marks frame) (mark_lines marks) (places.State frame)
 closing_leads frame marks sessions fits =
@@ -358,7 +321,7 @@ closing_leads frame marks sessions fits =
       subst (λ (k : ℕ). LeadOn (numbers_to_come sections.Store frame 0 k 0) (map (number_line sections.Store) (entries marks)) (places.State frame)) (sym n) (numbers_lead sections.Store frame 0 0 (entries marks) fits (entries_sorted marks) first),
     )
 
-table_leads : (frame : Frame) (state : State) → len state ≤ 2 ^ 64 - 1 → AllByRecursion (AtFits frame.schema) (entries state) → LeadOn (places.State frame) (state_lines frame.schema state) places.Counter
+table_leads : (frame : Frame) (state : State) → len state ≤ 2 ^ 64 - 1 → AllByRecursion (AtFits frame.version frame.schema) (entries state) → LeadOn (places.State frame) (state_lines frame.schema state) places.Counter
 table_leads frame state few fits =
     let n = len-entries state in
     let counted : row_count state ≡ len state = min-eq_left few in (
@@ -372,14 +335,14 @@ table_leads frame state few fits =
 pub book_leads : (book : Book) → BookFits book → LeadOn places.Version (book_lines book) places.Audit
 book_leads book fits =
     let header = book.header in
-    let frame = frame_of header.tables header.sessions in
+    let frame = frame_of header.version header.tables header.sessions in
     let h = header_lines header in
     let b = base_lines header.tables book.base in
     let l = log_lines header.tables book.log in
     let m = mark_lines book.marks in
     let s = state_lines header.tables book.state in
     let c = counter_line book.counter book.low in
-    let upto_log = lead_on h (b ++ l) places.Version (places.Tables header.sessions header.tables) (places.Marks frame) (header_leads header fits.header) (log_leads header book.base book.log fits.header fits.base fits.rows fits.log) in
+    let upto_log = lead_on h (b ++ l) places.Version (places.Tables header.version header.sessions header.tables) (places.Marks frame) (header_leads header fits.header) (log_leads header book.base book.log fits.header fits.base fits.rows fits.log) in
     let turned = subst (λ (ls : List (List ℕ)). LeadOn places.Version ls (places.Marks frame)) (sym (append_assoc h b l)) upto_log in
     let upto_marks = lead_on ((h ++ b) ++ l) m places.Version (places.Marks frame) (places.State frame) turned (closing_leads frame book.marks fits.header.sessions.most_count fits.marks) in
     let upto_state = lead_on (((h ++ b) ++ l) ++ m) s places.Version (places.State frame) places.Counter upto_marks (table_leads frame book.state fits.objects fits.state) in

@@ -11,6 +11,7 @@ use Rattle.occ_types.specs.Schema.{Schema}
 use Rattle.occ_model.specs.Log.{LogRow, Base, Standing, Open, Writing, Done, Back, Counts, numbers, last_folded}
 use Rattle.occ_model.specs.Invariant.{Invariant, NumberIsBelow, NumbersAreBelow}
 use Rattle.occ_model.specs.World.{World, active_count}
+use Rattle.occ_text.specs.declared.versions.Version.{Version}
 use Rattle.occ_text.specs.Headers.{Header}
 use Rattle.occ_model.specs.Content.{WriteIs, ReadIs, RowIs, QuestionFits, IsInSchema}
 use Rattle.occ_model.specs.Content as content
@@ -51,10 +52,10 @@ standing_fits counter writes (Done n) up below done = omega arith
 standing_fits counter writes (Back cause) up below done = tt
 
 -- the rows of a log
-rows_fit : (schema : Schema) (sessions counter bound most : ℕ) (log : List LogRow) → counter ≤ 2 ^ 64 - 1 → bound ≤ 2 ^ 64 - 1 → most ≤ 2 ^ 64 - 1 → AllByRecursion (λ row. row.place ≤ bound) log → AllByRecursion (λ row. row.number ≤ most) log → NumbersAreBelow counter log
-    → AllByRecursion (RowIs (QuestionFits schema) (content.RowFits schema) sessions counter) log → AllByRecursion RowHasWords log → AllByRecursion (LogRowFits schema sessions) log
-rows_fit schema sessions counter bound most [] few up high places numbered below fit words = tt
-rows_fit schema sessions counter bound most (row ∷ rows) few up high places numbered below fit words =
+rows_fit : (version : Version) (schema : Schema) (sessions counter bound most : ℕ) (log : List LogRow) → counter ≤ 2 ^ 64 - 1 → bound ≤ 2 ^ 64 - 1 → most ≤ 2 ^ 64 - 1 → AllByRecursion (λ row. row.place ≤ bound) log → AllByRecursion (λ row. row.number ≤ most) log → NumbersAreBelow counter log
+    → AllByRecursion (RowIs (QuestionFits schema) (content.RowFits schema) sessions counter) log → AllByRecursion (RowHasWords version) log → AllByRecursion (LogRowFits version schema sessions) log
+rows_fit version schema sessions counter bound most [] few up high places numbered below fit words = tt
+rows_fit version schema sessions counter bound most (row ∷ rows) few up high places numbered below fit words =
     let place = places.0 in
     let number = numbered.0 in
     let fits = fit.0 in
@@ -72,11 +73,11 @@ rows_fit schema sessions counter bound most (row ∷ rows) few up high places nu
         count_reads = few_reads (length row.reads) reads;
         count_writes = has.count_writes;
         done = standing_fits counter (length row.writes) row.standing few below.0 fits.done;
-        reads = all_both (ReadIs (QuestionFits schema) (content.RowFits schema)) ReadHasWords (ReadFits schema) (read_fits schema) row.reads fits.reads has.reads;
-        writes = all_both (WriteIs (QuestionFits schema) (content.RowFits schema)) WriteHasWords (WriteFits schema) (write_fits schema) row.writes fits.writes has.writes;
+        reads = all_both (ReadIs (QuestionFits schema) (content.RowFits schema)) (ReadHasWords version) (ReadFits version schema) (read_fits version schema) row.reads fits.reads has.reads;
+        writes = all_both (WriteIs (QuestionFits schema) (content.RowFits schema)) (WriteHasWords version) (WriteFits version schema) (write_fits version schema) row.writes fits.writes has.writes;
         distinct = has.distinct;
       },
-      rows_fit schema sessions counter bound most rows few up high places.1 numbered.1 below.1 fit.1 words.1,
+      rows_fit version schema sessions counter bound most rows few up high places.1 numbered.1 below.1 fit.1 words.1,
     )
   where
     few_reads : (reads : ℕ) → reads ≤ MAX_QUESTIONS → reads ≤ 2 ^ 64 - 1
@@ -127,7 +128,7 @@ folded_small base session each = by (get base.last session) refl
     by None e = subst (λ (o : Option ℕ). unwrap_or o 0 ≤ MAX_NUMBER) (sym e) (omega arith)
     by (Some number) e = subst (λ (o : Option ℕ). unwrap_or o 0 ≤ MAX_NUMBER) (sym e) (each number e)
 
-pub core_book_fits : (header : Header) (world : World) → Invariant world → IsToldBase world → world.counter + active_count world ≤ MAX_COUNTER → length world.log ≤ MAX_LOG_ROWS → IsInSchema world → IsHeaderOf header world → HasWords world → BookFits (book_in header world)
+pub core_book_fits : (header : Header) (world : World) → Invariant world → IsToldBase world → world.counter + active_count world ≤ MAX_COUNTER → length world.log ≤ MAX_LOG_ROWS → IsInSchema world → IsHeaderOf header world → HasWords header.version world → BookFits (book_in header world)
 core_book_fits header world law told counter rows within own words =
     let few = few_counted world.counter (active_count world) counter in
     let up = few_places world.base.place (length world.log) told.places in
@@ -136,23 +137,23 @@ core_book_fits header world law told counter rows within own words =
     let numbers_fit : AllByRecursion (λ row. row.number ≤ MAX_NUMBER + MAX_LOG_ROWS) world.log =
     own_below (MAX_NUMBER + MAX_LOG_ROWS) world.log (λ session.
     session_below session (last_folded world.base session) (MAX_NUMBER + MAX_LOG_ROWS) world.log (order.numbered session) (few_numbers (last_folded world.base session) (length world.log) (folded session) rows)) in
-    let log_fits : AllByRecursion (LogRowFits world.settings.schema world.settings.sessions) world.log =
-    rows_fit world.settings.schema world.settings.sessions world.counter (world.base.place + length world.log) (MAX_NUMBER + MAX_LOG_ROWS) world.log few up.1 (omega arith) (places_below world.base.place (world.base.place + length world.log) world.log order.places (omega arith))
+    let log_fits : AllByRecursion (LogRowFits header.version world.settings.schema world.settings.sessions) world.log =
+    rows_fit header.version world.settings.schema world.settings.sessions world.counter (world.base.place + length world.log) (MAX_NUMBER + MAX_LOG_ROWS) world.log few up.1 (omega arith) (places_below world.base.place (world.base.place + length world.log) world.log order.places (omega arith))
     numbers_fit law.below within.log words.log in
-    let base_fits : BaseFits world.settings.schema world.settings.sessions world.base = record {
+    let base_fits : BaseFits header.version world.settings.schema world.settings.sessions world.base = record {
       place = up.0;
       last = all_entries nat_cmp nat_cmp_total nat_cmp-IsAntisymmetric (EntryFits world.settings.sessions) world.base.last (λ session number is.
           let there = within.folded session number is in (record { first = there.first; last = there.last }, small number (told.numbers session number is)));
       objects = words.folded;
-      state = table_fits world.settings.schema world.base.state within.base words.base;
+      state = table_fits header.version world.settings.schema world.base.state within.base words.base;
       nothing = told.nothing;
     } in
     record {
       header = own.fits;
-      base = subst (λ sessions. BaseFits header.tables sessions world.base) (sym own.sessions) (subst (λ schema. BaseFits schema world.settings.sessions world.base) (sym own.tables) base_fits);
+      base = subst (λ sessions. BaseFits header.version header.tables sessions world.base) (sym own.sessions) (subst (λ schema. BaseFits header.version schema world.settings.sessions world.base) (sym own.tables) base_fits);
       rows = few_rows (length world.log) rows;
-      log = subst (λ sessions. AllByRecursion (LogRowFits header.tables sessions) world.log) (sym own.sessions)
-          (subst (λ schema. AllByRecursion (LogRowFits schema world.settings.sessions) world.log) (sym own.tables) log_fits);
+      log = subst (λ sessions. AllByRecursion (LogRowFits header.version header.tables sessions) world.log) (sym own.sessions)
+          (subst (λ schema. AllByRecursion (LogRowFits header.version schema world.settings.sessions) world.log) (sym own.tables) log_fits);
       marks = subst (λ sessions. AllByRecursion (EntryFits sessions) (entries world.marks)) (sym own.sessions)
           (all_entries nat_cmp nat_cmp_total nat_cmp-IsAntisymmetric (EntryFits world.settings.sessions) world.marks (λ session mark is.
           let there = within.marks session mark is in (
@@ -160,6 +161,6 @@ core_book_fits header world law told counter rows within own words =
             few_marks mark (last_folded world.base session) (length (numbers session world.log)) (length world.log) (order.closed session mark is) (folded session) (numbers_within session world.log) rows,
           )));
       objects = words.objects;
-      state = subst (λ schema. AllByRecursion (AtFits schema) (entries world.table)) (sym own.tables) (table_fits world.settings.schema world.table within.table words.state);
+      state = subst (λ schema. AllByRecursion (AtFits header.version schema) (entries world.table)) (sym own.tables) (table_fits header.version world.settings.schema world.table within.table words.state);
       counts = record { counter = few; low = few_below world.counter world.settings.keep few };
     }

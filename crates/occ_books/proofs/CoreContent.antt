@@ -17,6 +17,7 @@ use Rattle.occ_model.specs.RangeLaws.{IsRangeAnswer}
 use Rattle.occ_model.specs.Content.{StateIs, WriteIs, ReadIs, QuestionFits}
 use Rattle.occ_model.specs.Content as content
 use Rattle.occ_model.proofs.RangeLaws.{answers_range}
+use Rattle.occ_text.specs.declared.versions.Version.{Version}
 use Rattle.occ_text.specs.Spelling.{KeyFits, RowFits}
 use Rattle.occ_books.specs.RowLines.{FoundFits, PairFits, WriteFits, AtFits}
 use Rattle.occ_books.specs.Taking.{RisesFrom, ReadFits}
@@ -89,15 +90,15 @@ rises (pair ∷ pairs) sorted = rises_behind pair.0 pairs sorted.0 sorted.1
 
 -- What is within a schema and has words fits a book.
 
-module _ (schema : Schema) where
+module _ (version : Version) (schema : Schema) where
   found_fits : (table : ℕ) (row : Option Row) → IfSome row (content.RowFits schema table) → IfSome row RowFits → FoundFits schema table row
   found_fits table None fits words = tt
   found_fits table (Some row) fits words = record { cells = words; checked = fits }
 
-  pub write_fits : (write : Write) → WriteIs (QuestionFits schema) (content.RowFits schema) write → WriteHasWords write → WriteFits schema write
+  pub write_fits : (write : Write) → WriteIs (QuestionFits schema) (content.RowFits schema) write → WriteHasWords version write → WriteFits version schema write
   write_fits (object, row) fits words = (record { key = words.0; checked = fits.key }, found_fits object.0 row fits.row words.1)
 
-  pub entry_fits : (entry : Object × Row) → QuestionFits schema (One entry.0.0 entry.0.1) × content.RowFits schema entry.0.0 entry.1 → KeyFits entry.0.1 × RowFits entry.1 → AtFits schema entry
+  pub entry_fits : (entry : Object × Row) → QuestionFits schema (One entry.0.0 entry.0.1) × content.RowFits schema entry.0.0 entry.1 → KeyFits version entry.0.1 × RowFits entry.1 → AtFits version schema entry
   entry_fits entry fits words = (record { key = words.0; checked = fits.0 }, record { cells = words.1; checked = fits.1 })
 
   one_found : (state : State) (table : ℕ) (key : Key) → answer (One table key) state ≡ Found (get state (table, key))
@@ -116,10 +117,10 @@ module _ (schema : Schema) where
   in_state state table key None fits is = tt
   in_state state table key (Some row) fits is = (fits (table, key) row (sym is)).1
 
-  pair_fits : (table : ℕ) (pair : Key × Row) → QuestionFits schema (One table pair.0) × content.RowFits schema table pair.1 → KeyFits pair.0 × RowFits pair.1 → PairFits schema table pair
+  pair_fits : (table : ℕ) (pair : Key × Row) → QuestionFits schema (One table pair.0) × content.RowFits schema table pair.1 → KeyFits version pair.0 × RowFits pair.1 → PairFits version schema table pair
   pair_fits table pair fits words = (record { key = words.0; checked = fits.0 }, record { cells = words.1; checked = fits.1 })
 
-  pub read_fits : (seen : Observation) → ReadIs (QuestionFits schema) (content.RowFits schema) seen → ReadHasWords seen → ReadFits schema seen
+  pub read_fits : (seen : Observation) → ReadIs (QuestionFits schema) (content.RowFits schema) seen → ReadHasWords version seen → ReadFits version schema seen
   read_fits (One table key, Found row) fits words = (
     record { key = words.0; checked = fits.question },
     found_fits table row (in_state fits.state table key row fits.fits (ap row_of (fits.answered ∙ one_found fits.state table key))) words.1,
@@ -139,14 +140,14 @@ module _ (schema : Schema) where
       let same : a.0 ≡ rows = sym (ap rows_of (fits.answered ∙ a.1.answered)) in
       let is : IsRangeAnswer fits.state table lower upper rows = subst (IsRangeAnswer fits.state table lower upper) same a.1 in (
         record { ends = words.0; checked = fits.question },
-        all_both (λ pair. QuestionFits schema (One table pair.0) × content.RowFits schema table pair.1) (λ pair. KeyFits pair.0 × RowFits pair.1) (PairFits schema table) (pair_fits table) rows
+        all_both (λ pair. QuestionFits schema (One table pair.0) × content.RowFits schema table pair.1) (λ pair. KeyFits version pair.0 × RowFits pair.1) (PairFits version schema table) (pair_fits table) rows
             (all_contained (λ pair. QuestionFits schema (One table pair.0) × content.RowFits schema table pair.1) rows (λ pair c. fits.fits (table, pair.0) pair.1 ((is.exactly pair.0 pair.1).0 c).1))
             words.1,
         rises rows is.in_order,
         words.2,
       )
 
-  pub table_fits : (state : State) → StateIs (QuestionFits schema) (content.RowFits schema) state → AllByRecursion (λ (entry : Object × Row). KeyFits entry.0.1 × RowFits entry.1) (entries state) → AllByRecursion (AtFits schema) (entries state)
+  pub table_fits : (state : State) → StateIs (QuestionFits schema) (content.RowFits schema) state → AllByRecursion (λ (entry : Object × Row). KeyFits version entry.0.1 × RowFits entry.1) (entries state) → AllByRecursion (AtFits version schema) (entries state)
   table_fits state fits words =
-      all_both (λ (entry : Object × Row). QuestionFits schema (One entry.0.0 entry.0.1) × content.RowFits schema entry.0.0 entry.1) (λ (entry : Object × Row). KeyFits entry.0.1 × RowFits entry.1) (AtFits schema) entry_fits (entries state)
+      all_both (λ (entry : Object × Row). QuestionFits schema (One entry.0.0 entry.0.1) × content.RowFits schema entry.0.0 entry.1) (λ (entry : Object × Row). KeyFits version entry.0.1 × RowFits entry.1) (AtFits version schema) entry_fits (entries state)
       (all_entries object_cmp object_cmp_total object_cmp-IsAntisymmetric (λ (entry : Object × Row). QuestionFits schema (One entry.0.0 entry.0.1) × content.RowFits schema entry.0.0 entry.1) state fits) words

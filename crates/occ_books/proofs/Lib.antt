@@ -10,11 +10,14 @@ pub mod RowLeading
 pub mod Rising
 pub mod Sections
 pub mod PartsLeading
+pub mod PartsJoined
 pub mod Telling
 pub mod LinesAgain
 pub mod RowLinesAgain
 pub mod LineLengths
+pub mod TableLeads
 pub mod BookLeads
+pub mod TextLines
 pub mod BookLaws
 pub mod CoreContent
 pub mod CoreBooks

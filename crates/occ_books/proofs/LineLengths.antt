@@ -1,5 +1,5 @@
 -- The lines of a book are lines: no byte of them is a line feed, and they are short enough to be read.
-use Rattle.std.proofs.Common.{◌≡◌, ◌≢◌, ℕ, suc, pos, negsuc, ◌+◌, ◌*◌, ◌^◌, ◌-◌, ◌<◌, ◌≤◌, Bool, true, false, leb, List, [], ◌∷◌, map, length, not, Option, Some, None, lit<, refl, sym, subst, arith, length-append}
+use Rattle.std.proofs.Common.{◌≡◌, ◌≢◌, ℕ, suc, pos, negsuc, ◌+◌, ◌*◌, ◌^◌, ◌-◌, ◌<◌, ◌≤◌, Bool, true, false, leb, List, [], ◌∷◌, map, length, ◌||◌, not, Option, Some, None, lit<, refl, sym, subst, arith, length-append}
 use Rattle.std.specs.Prelude.{nat_eq, nat_lt, codes}
 use Rattle.std.specs.List.{All, join_with_byte}
 use Rattle.std.specs.Fmt.{decimal}
@@ -12,11 +12,14 @@ use Rattle.occ_types.specs.declared.fault.Fault.TheVariants.{WrongKind, WrongCol
 use Rattle.occ_types.specs.declared.kind.Kind.{Kind}
 use Rattle.occ_types.specs.Key.{Key}
 use Rattle.occ_types.specs.Key as keys
+use Rattle.occ_types.specs.KeyPart.{KeyPart}
+use Rattle.occ_types.specs.KeyPart as parts
 use Rattle.occ_types.specs.Row.{Cell, Row}
 use Rattle.occ_types.specs.Row as cells
-use Rattle.occ_types.specs.Schema.{Table, Schema, fault_if, first_fault, cell_is_too_long, check_key_in, check_row_in, check_cells, check_tables}
+use Rattle.occ_types.specs.Schema.{Table, Schema, fault_if, first_fault, part_is_too_long, cell_is_too_long, check_key_in, check_end, check_row_in, check_cells, check_tables}
 use Rattle.occ_text.specs.Line.{IsLine, HasNoFeed}
-use Rattle.occ_text.specs.Spelling.{line_text, is_plain, escaped_byte, escaped, key_text, cell_text, row_text, IsToken, AreTokens, KeyFits, CellFits, RowFits}
+use Rattle.occ_text.specs.declared.versions.Version.{Version}
+use Rattle.occ_text.specs.Spelling.{line_text, is_plain, escaped_byte, escaped, part_text, key_text, end_text, cell_text, row_text, IsToken, AreTokens, PartFits, KeyFits, EndFits, CellFits, RowFits}
 use Rattle.occ_text.specs.Headers.{TableFits}
 use Rattle.occ_text.specs.Reading.{is_token}
 use Rattle.occ_text.proofs.Words.{both, IsToken-from_test}
@@ -104,12 +107,28 @@ second_passes true b f g h = absurd cc
 second_passes false true f g h = absurd cc
 second_passes false false f g h = refl
 
-pub key_width : (table : Table) (key : Key) → KeyFits key → check_key_in table key ≡ None → length (key_text key) ≤ 193
-key_width table (keys.Num n) fits good = let d = decimal_width n fits in omega arith
-key_width table (keys.Text bytes) fits good =
+neither : (a b : Bool) → (a || b) ≡ false → (a ≡ false) × (b ≡ false)
+neither true b h = absurd cc
+neither false b h = (refl, h)
+
+part_width : (part : KeyPart) → PartFits part → part_is_too_long part ≡ false → length (part_text part) ≤ 193
+part_width (parts.Num n) fits good = let d = decimal_width n fits in omega arith
+part_width (parts.Text bytes) fits good =
+    let few = ltb-false 64 (length bytes) good in
+    let e = escaped_width bytes in
+    omega arith
+
+pub key_width : (version : Version) (table : Table) (key : Key) → KeyFits version key → check_key_in table key ≡ None → length (key_text key) ≤ 387
+key_width version table (keys.Num n) fits good = let d = decimal_width n fits in omega arith
+key_width version table (keys.Text bytes) fits good =
     let few = ltb-false 64 (length bytes) (second_passes _ (nat_lt 64 (length bytes)) WrongKind TooLong good) in
     let e = escaped_width bytes in
     omega arith
+key_width version table (keys.Pair a b) fits good =
+    let short = neither (part_is_too_long a) (part_is_too_long b) (second_passes _ (part_is_too_long a || part_is_too_long b) WrongKind TooLong good) in
+    let first = part_width a fits.1 short.0 in
+    let second = part_width b fits.2 short.1 in
+    omega (arith, length-append (part_text a) (43 ∷ part_text b))
 
 cell_width : (cell : Cell) → CellFits cell → cell_is_too_long cell ≡ false → length (cell_text cell) ≤ 769
 cell_width (cells.Int (pos n)) fits good = let d = decimal_width n (pos_small n fits) in omega arith
@@ -162,13 +181,13 @@ three_pass None None c h = (refl, refl)
 name_width : (schema : Schema) (place : ℕ) → IsNamed schema place → length (table_name schema place) ≤ 16
 name_width schema place named = named.name.short
 
-object_key_width : (schema : Schema) (object : Object) → ObjectFits schema object → length (key_text object.1) ≤ 193
-object_key_width schema object fits = let t = no_fault schema object.0 _ fits.checked in key_width t.0 object.1 fits.key t.2
+object_key_width : (version : Version) (schema : Schema) (object : Object) → ObjectFits version schema object → length (key_text object.1) ≤ 387
+object_key_width version schema object fits = let t = no_fault schema object.0 _ fits.checked in key_width version t.0 object.1 fits.key t.2
 
 row_in_width : (schema : Schema) (table : ℕ) (row : Row) → check_tables schema ≡ None → RowFitsIn schema table row → length (row_text row) ≤ 6160
 row_in_width schema table row good fits =
     let t = no_fault schema table _ fits.checked in
-    row_width t.0 row (fits_there schema table t.0 (each_fits schema (IsSchema-from_check schema good).so_far.each) t.1) fits.cells t.2
+    row_width t.0 row (fits_there schema table t.0 (each_fits schema (IsSchema-from_check schema good).each) t.1) fits.cells t.2
 
 found_width : (schema : Schema) (table : ℕ) (row : Option Row) → check_tables schema ≡ None → FoundFits schema table row → length (found_text row) ≤ 6160
 found_width schema table None good fits = omega arith
@@ -179,53 +198,55 @@ count_small n le = omega arith
 
 -- ---- lines of entries
 
-ends_width : (table : Table) (lower upper : Key) → KeyFits lower → KeyFits upper → check_range table (Some lower) (Some upper) ≡ None → (length (key_text lower) ≤ 193) × (length (key_text upper) ≤ 193)
-ends_width table lower upper l u good =
-    let p = three_pass (check_key_in table lower) (check_key_in table upper) _ good in
-    (key_width table lower l p.0, key_width table upper u p.1)
+end_width : (version : Version) (table : Table) (end : Option Key) → EndFits version end → check_end table end ≡ None → length (end_text end) ≤ 387
+end_width version table None fits good = omega arith
+end_width version table (Some key) fits good = key_width version table key fits good
 
-asked_width : (schema : Schema) (asked : Asked) → check_tables schema ≡ None → AskedFits schema asked → width (asked_tokens schema asked) ≤ 8192
-asked_width schema (AskedOne object row) good fits =
+ends_width : (version : Version) (table : Table) (lower upper : Option Key) → EndFits version lower → EndFits version upper → check_range table lower upper ≡ None → (length (end_text lower) ≤ 387) × (length (end_text upper) ≤ 387)
+ends_width version table lower upper l u good =
+    let p = three_pass (check_end table lower) (check_end table upper) _ good in
+    (end_width version table lower l p.0, end_width version table upper u p.1)
+
+asked_width : (version : Version) (schema : Schema) (asked : Asked) → check_tables schema ≡ None → AskedFits version schema asked → width (asked_tokens schema asked) ≤ 8192
+asked_width version schema (AskedOne object row) good fits =
     let n = name_width schema object.0 (checked_table schema object.0 _ good fits.0.checked) in
-    let k = object_key_width schema object fits.0 in
+    let k = object_key_width version schema object fits.0 in
     let r = found_width schema object.0 row good fits.1 in
     omega arith
-asked_width schema (AskedSpan (One table key) count) good fits = absurd fits.0.ends
-asked_width schema (AskedSpan (Span table None upper) count) good fits = absurd fits.0.ends
-asked_width schema (AskedSpan (Span table (Some lower) None) count) good fits = absurd fits.0.ends
-asked_width schema (AskedSpan (Span table (Some lower) (Some upper)) count) good fits =
+asked_width version schema (AskedSpan (One table key) count) good fits = absurd fits.0.ends
+asked_width version schema (AskedSpan (Span table lower upper) count) good fits =
     let n = name_width schema table (checked_table schema table _ good fits.0.checked) in
     let t = no_fault schema table _ fits.0.checked in
-    let e = ends_width t.0 lower upper fits.0.ends.0 fits.0.ends.1 t.2 in
+    let e = ends_width version t.0 lower upper fits.0.ends.0 fits.0.ends.1 t.2 in
     let l = e.0 in
     let u = e.1 in
     let c = decimal_width count (count_small count fits.1) in
     omega arith
 
-pub asked_is_line : (schema : Schema) (asked : Asked) → check_tables schema ≡ None → AskedFits schema asked → IsLine (asked_text schema asked)
-asked_is_line schema asked good fits =
-    subst IsLine (asked_spelling schema asked fits) (line_of_words (asked_tokens schema asked) (asked-again schema asked good fits).words (asked_width schema asked good fits))
+pub asked_is_line : (version : Version) (schema : Schema) (asked : Asked) → check_tables schema ≡ None → AskedFits version schema asked → IsLine (asked_text schema asked)
+asked_is_line version schema asked good fits =
+    subst IsLine (asked_spelling version schema asked fits) (line_of_words (asked_tokens schema asked) (asked-again version schema asked good fits).words (asked_width version schema asked good fits))
 
-pub pair_is_line : (schema : Schema) (table : ℕ) (pair : Key × Row) → check_tables schema ≡ None → PairFits schema table pair → IsLine (pair_line pair)
-pair_is_line schema table pair good fits =
-    let k = object_key_width schema (table, pair.0) fits.0 in
+pub pair_is_line : (version : Version) (schema : Schema) (table : ℕ) (pair : Key × Row) → check_tables schema ≡ None → PairFits version schema table pair → IsLine (pair_line pair)
+pair_is_line version schema table pair good fits =
+    let k = object_key_width version schema (table, pair.0) fits.0 in
     let r = row_in_width schema table pair.1 good fits.1 in
-    line_of_words (pair_tokens pair) (pair_words schema table pair fits) (omega arith)
+    line_of_words (pair_tokens pair) (pair_words version schema table pair fits) (omega arith)
 
-write_width : (schema : Schema) (write : Write) → check_tables schema ≡ None → WriteFits schema write → width (write_tokens schema write) ≤ 8192
-write_width schema (object, None) good fits =
+write_width : (version : Version) (schema : Schema) (write : Write) → check_tables schema ≡ None → WriteFits version schema write → width (write_tokens schema write) ≤ 8192
+write_width version schema (object, None) good fits =
     let n = name_width schema object.0 (checked_table schema object.0 _ good fits.0.checked) in
-    let k = object_key_width schema object fits.0 in
+    let k = object_key_width version schema object fits.0 in
     omega arith
-write_width schema (object, Some row) good fits =
+write_width version schema (object, Some row) good fits =
     let n = name_width schema object.0 (checked_table schema object.0 _ good fits.0.checked) in
-    let k = object_key_width schema object fits.0 in
+    let k = object_key_width version schema object fits.0 in
     let r = row_in_width schema object.0 row good fits.1 in
     omega arith
 
-pub write_is_line : (schema : Schema) (write : Write) → check_tables schema ≡ None → WriteFits schema write → IsLine (write_line schema write)
-write_is_line schema write good fits =
-    subst IsLine (write_spelling schema write) (line_of_words (write_tokens schema write) (write-again schema write good fits).words (write_width schema write good fits))
+pub write_is_line : (version : Version) (schema : Schema) (write : Write) → check_tables schema ≡ None → WriteFits version schema write → IsLine (write_line schema write)
+write_is_line version schema write good fits =
+    subst IsLine (write_spelling schema write) (line_of_words (write_tokens schema write) (write-again version schema write good fits).words (write_width version schema write good fits))
 
 -- the words of a section are short
 entry_word_width : (section : Section) → length (entry_word section) ≤ 4
@@ -236,13 +257,13 @@ number_word_width : (section : Section) → length (number_word section) ≤ 4
 number_word_width sections.Base = omega arith
 number_word_width sections.Store = omega arith
 
-pub at_is_line : (section : Section) (schema : Schema) (entry : Object × Row) → check_tables schema ≡ None → AtFits schema entry → IsLine (entry_line section schema entry)
-at_is_line section schema entry good fits =
+pub at_is_line : (version : Version) (section : Section) (schema : Schema) (entry : Object × Row) → check_tables schema ≡ None → AtFits version schema entry → IsLine (entry_line section schema entry)
+at_is_line version section schema entry good fits =
     let w = entry_word_width section in
     let n = name_width schema entry.0.0 (checked_table schema entry.0.0 _ good fits.0.checked) in
-    let k = object_key_width schema entry.0 fits.0 in
+    let k = object_key_width version schema entry.0 fits.0 in
     let r = row_in_width schema entry.0.0 entry.1 good fits.1 in
-    line_of_words (at_tokens section schema entry) (at_words section schema entry good fits) (omega arith)
+    line_of_words (at_tokens section schema entry) (at_words version section schema entry good fits) (omega arith)
 
 -- ---- lines of numbers
 

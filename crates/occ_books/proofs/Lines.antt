@@ -13,6 +13,7 @@ use Rattle.occ_types.specs.Object.{Object}
 use Rattle.occ_types.specs.Row.{Row}
 use Rattle.occ_types.specs.Schema.{Table, Schema, check_key, check_row}
 use Rattle.occ_types.specs.Fits.{has_name}
+use Rattle.occ_text.specs.declared.versions.Version.{Version}
 use Rattle.occ_text.specs.Spelling.{key_text, row_text, KeyFits, RowFits}
 use Rattle.occ_text.specs.Reading.{number_of, name_of}
 use Rattle.occ_text.specs.Escapes.{read_key, read_row}
@@ -84,18 +85,18 @@ pub passes : {X : Type 0} (fault : Option Fault) (x y : X) → option_and_then (
 passes None x y h = (refl, some_is x y h)
 passes (Some f) x y h = absurd cc
 
-pub record KeyTaken (schema : Schema) (table : ℕ) (token : List ℕ) (key : Key) : Type 0 where
+pub record KeyTaken (version : Version) (schema : Schema) (table : ℕ) (token : List ℕ) (key : Key) : Type 0 where
   pub spelled : token ≡ key_text key
-  pub fits : KeyFits key
+  pub fits : KeyFits version key
   pub checked : check_key schema table key ≡ None
 
-key_in-takes : (schema : Schema) (table : ℕ) (token : List ℕ) (key : Key) → key_in schema table token ≡ Some key → KeyTaken schema table token key
+key_in-takes : (version : Version) (schema : Schema) (table : ℕ) (token : List ℕ) (key : Key) → key_in version schema table token ≡ Some key → KeyTaken version schema table token key
 unfolding key_in
-key_in-takes schema table token key h =
-    let k = bind_value (read_key token) _ key h in
+key_in-takes version schema table token key h =
+    let k = bind_value (read_key version token) _ key h in
     let p = passes (check_key schema table k.0) k.0 key k.2 in
-    let r = takes (key_reads token) k.0 k.1 in
-    subst (KeyTaken schema table token) p.1 (record { spelled = r.0; fits = r.1; checked = p.0 })
+    let r = takes (key_reads version token) k.0 k.1 in
+    subst (KeyTaken version schema table token) p.1 (record { spelled = r.0; fits = r.1; checked = p.0 })
 
 pub record RowTaken (schema : Schema) (table : ℕ) (token : List ℕ) (row : Row) : Type 0 where
   pub spelled : token ≡ row_text row
@@ -116,11 +117,11 @@ table-takes schema tokens p h =
     let t = next-takes (place_of schema) tokens p h in
     t.2 ∙ ap (λ (w : List ℕ). w ∷ p.1) (place-takes schema t.0 p.0 t.1)
 
-pub key-takes : (schema : Schema) (table : ℕ) (tokens : Tokens) (p : Key × Tokens) → next_key schema table tokens ≡ Some p → (tokens ≡ key_text p.0 ∷ p.1) × KeyFits p.0 × (check_key schema table p.0 ≡ None)
+pub key-takes : (version : Version) (schema : Schema) (table : ℕ) (tokens : Tokens) (p : Key × Tokens) → next_key version schema table tokens ≡ Some p → (tokens ≡ key_text p.0 ∷ p.1) × KeyFits version p.0 × (check_key schema table p.0 ≡ None)
 unfolding next_key
-key-takes schema table tokens p h =
-    let t = next-takes (key_in schema table) tokens p h in
-    let k = key_in-takes schema table t.0 p.0 t.1 in
+key-takes version schema table tokens p h =
+    let t = next-takes (key_in version schema table) tokens p h in
+    let k = key_in-takes version schema table t.0 p.0 t.1 in
     (t.2 ∙ ap (λ (w : List ℕ). w ∷ p.1) k.spelled, k.fits, k.checked)
 
 pub row-takes : (schema : Schema) (table : ℕ) (tokens : Tokens) (p : Row × Tokens) → next_row schema table tokens ≡ Some p → (tokens ≡ row_text p.0 ∷ p.1) × RowFits p.0 × (check_row schema table p.0 ≡ None)
@@ -130,14 +131,14 @@ row-takes schema table tokens p h =
     let k = row_in-takes schema table t.0 p.0 t.1 in
     (t.2 ∙ ap (λ (w : List ℕ). w ∷ p.1) k.spelled, k.fits, k.checked)
 
-pub object-takes : (schema : Schema) (tokens : Tokens) (p : Object × Tokens) → next_object schema tokens ≡ Some p
-    → (tokens ≡ table_name schema p.0.0 ∷ key_text p.0.1 ∷ p.1) × KeyFits p.0.1 × (check_key schema p.0.0 p.0.1 ≡ None)
+pub object-takes : (version : Version) (schema : Schema) (tokens : Tokens) (p : Object × Tokens) → next_object version schema tokens ≡ Some p
+    → (tokens ≡ table_name schema p.0.0 ∷ key_text p.0.1 ∷ p.1) × KeyFits version p.0.1 × (check_key schema p.0.0 p.0.1 ≡ None)
 unfolding next_object
-object-takes schema tokens p h =
+object-takes version schema tokens p h =
     let t = bind_value (next_table schema tokens) _ p h in
-    let k = bind_value (next_key schema t.0.0 t.0.1) _ p t.2 in
+    let k = bind_value (next_key version schema t.0.0 t.0.1) _ p t.2 in
     let e = some_is ((t.0.0, k.0.0), k.0.1) p k.2 in
     let table = table-takes schema tokens t.0 t.1 in
-    let key = key-takes schema t.0.0 t.0.1 k.0 k.1 in
-    subst (λ (q : Object × Tokens). (tokens ≡ table_name schema q.0.0 ∷ key_text q.0.1 ∷ q.1) × KeyFits q.0.1 × (check_key schema q.0.0 q.0.1 ≡ None)) e
+    let key = key-takes version schema t.0.0 t.0.1 k.0 k.1 in
+    subst (λ (q : Object × Tokens). (tokens ≡ table_name schema q.0.0 ∷ key_text q.0.1 ∷ q.1) × KeyFits version q.0.1 × (check_key schema q.0.0 q.0.1 ≡ None)) e
     (table ∙ ap (λ (l : Tokens). table_name schema t.0.0 ∷ l) key.0, key.1, key.2)

@@ -6,11 +6,13 @@ use Rattle.std.specs.Str.{bytes_eq}
 use Rattle.std.specs.Io.KnownBytes.{Consumes, IsAtEnd}
 use Rattle.std.proofs.KnownBytes.{Consumes-nil}
 use Rattle.std.proofs.lemmas.List.{map-append, append_assoc}
+use Rattle.std.proofs.lemmas.List.Elements.{All-nil}
 use Rattle.std.proofs.lemmas.Slice.Eq.{bytes_eq-Decides}
 use Rattle.occ_types.specs.declared.fault.Fault.{Fault}
 use Rattle.occ_types.specs.Object.{Object}
 use Rattle.occ_types.specs.Row.{Row}
 use Rattle.occ_types.specs.Schema.{Table, check_tables}
+use Rattle.occ_text.specs.declared.versions.Version as versions
 use Rattle.occ_text.specs.declared.tokens.Unread.{Unread}
 use Rattle.occ_text.specs.declared.tokens.Unread.TheVariants as unread
 use Rattle.occ_text.specs.declared.headers.Limits.{Limits}
@@ -20,7 +22,7 @@ use Rattle.occ_text.specs.declared.faults.ReadFault.{ReadFault}
 use Rattle.occ_text.specs.declared.faults.ReadFault.TheVariants as faults
 use Rattle.occ_text.specs.Faults.{read_fault, told, widened}
 use Rattle.occ_text.specs.Line.{Source, LineGives, BeginsNoLine, IsLine, NoLine, OtherLine, NoneTaken, IsSpelled, Taken, lines_text}
-use Rattle.occ_text.specs.Headers.{Within, LimitsFit, limits_lines, count_text, table_text}
+use Rattle.occ_text.specs.Headers.{Within, LimitsFit, KindFits, version_text, limits_lines, count_text, table_text}
 use Rattle.occ_text.specs.HeaderTaking.{BeginsLimits, LimitsTaken, TablesSoFar, table_behind}
 use Rattle.occ_text.proofs.WholeHeader.{session_line, queue_line, begins_1, begins_2, begins_3, begins_4}
 use Rattle.occ_text.specs.Reading.{Reads}
@@ -38,21 +40,22 @@ use Rattle.occ_books.specs.declared.number_lines.Began.TheVariants as begun
 use Rattle.occ_books.specs.NumberLines.{MarkFits, CountsFit, BeganFits, mark_text, counts_text, began_text}
 use Rattle.occ_books.specs.RowLines.{AtFits}
 use Rattle.occ_books.specs.Taking.{TakesLines, Further, OneTable, Begins, further_text, FurtherFits, is_behind}
-use Rattle.occ_books.specs.Places.{Place, Frame, Version, Sessions, Queue, Keep, Tables, NumberOf, EntryOf, Log, Marks, State, Counter, Audit, End, rows_to_come, behind_began, behind_entries, entries_to_come, behind_numbers, numbers_to_come, Counted, Leads, LeadOn, MayEnd, Unended, Led, Stopped, FailsFrom, Ended, EndsFrom}
+use Rattle.occ_books.specs.Places.{Place, Frame, frame_of, Version, Sessions, Queue, Keep, Tables, NumberOf, EntryOf, Log, Marks, State, Counter, Audit, End, rows_to_come, behind_began, behind_entries, entries_to_come, behind_numbers, numbers_to_come, Counted, Leads, LeadOn, MayEnd, Unended, Led, Stopped, FailsFrom, Ended, EndsFrom}
 use Rattle.occ_books.proofs.Gathering.{more_lines}
 use Rattle.occ_books.proofs.LineLengths.{began_is_line}
 use Rattle.occ_books.proofs.Leading.{LeadsOn, lead_on, led_nothing, led_line, led_led, led_stopped, led_fails, none_fails, unread_here, uncounted_here, line_refused}
 
 -- ---- the first lines
 
-pub limits_lead : (limits : Limits) → LimitsFit limits → LeadOn Version (limits_lines limits) (Tables limits.sessions [])
-limits_lead limits fits = (
-  Sessions,
-  (refl, refl),
-  (Queue limits.sessions, (limits.sessions, fits.sessions, refl, refl), (Keep limits.sessions, (limits.queue, fits.queue, refl, refl), (Tables limits.sessions [], (limits.keep, fits.keep, refl, refl), refl))),
-)
+pub limits_lead : (limits : Limits) → LimitsFit limits → LeadOn Version (limits_lines limits) (Tables limits.version limits.sessions [])
+limits_lead limits fits =
+    let v = limits.version in (
+      Sessions v,
+      (v, refl, refl),
+      (Queue v limits.sessions, (limits.sessions, fits.sessions, refl, refl), (Keep v limits.sessions, (limits.queue, fits.queue, refl, refl), (Tables v limits.sessions [], (limits.keep, fits.keep, refl, refl), refl))),
+    )
 
-pub limits_led : (limits : Limits) (a b : Option (List ℕ)) (first last : ℕ) → Consumes a b (lines_text (limits_lines limits)) × LimitsFit limits × (last ≡ first + 4) → Led Version (Tables limits.sessions []) a b first last
+pub limits_led : (limits : Limits) (a b : Option (List ℕ)) (first last : ℕ) → Consumes a b (lines_text (limits_lines limits)) × LimitsFit limits × (last ≡ first + 4) → Led Version (Tables limits.version limits.sessions []) a b first last
 limits_led limits a b first last t = record { lines = limits_lines limits; taken = t.0; led = limits_lead limits t.1; here = t.2 }
 
 -- a beginning of lines that lead on leads on
@@ -69,41 +72,44 @@ early_at : (lines : List (List ℕ)) (p q : Place) → q ≡ p → Early lines p
 early_at lines p q is e = subst (Early lines) (sym is) e
 
 early_0 : Early [] Version
-early_0 = record { more = λ may. may; only = λ line leads. subst (λ (l : List ℕ). BeginsLimits (l ∷ [])) (sym leads.1.0) begins_1 }
+early_0 = record { more = λ may. may; only = λ line leads. subst (λ (l : List ℕ). BeginsLimits (l ∷ [])) (sym leads.1.1) (begins_1 leads.1.0) }
 
-early_1 : Early (codes "occ 1" ∷ []) Sessions
-early_1 = record { more = λ may. may; only = λ line leads. subst (λ (l : List ℕ). BeginsLimits (codes "occ 1" ∷ l ∷ [])) (sym leads.1.2) (begins_2 leads.1.0 leads.1.1) }
+early_1 : (v : versions.Version) → Early (version_text v ∷ []) (Sessions v)
+early_1 v = record { more = λ may. may; only = λ line leads. subst (λ (l : List ℕ). BeginsLimits (version_text v ∷ l ∷ [])) (sym leads.1.2) (begins_2 v leads.1.0 leads.1.1) }
 
-early_2 : (s : ℕ) → Within 1 64 s → Early (codes "occ 1" ∷ session_line s ∷ []) (Queue s)
-early_2 s sf = record { more = λ may. may; only = λ line leads. subst (λ (l : List ℕ). BeginsLimits (codes "occ 1" ∷ session_line s ∷ l ∷ [])) (sym leads.1.2) (begins_3 s leads.1.0 sf leads.1.1) }
+early_2 : (v : versions.Version) (s : ℕ) → Within 1 64 s → Early (version_text v ∷ session_line s ∷ []) (Queue v s)
+early_2 v s sf = record { more = λ may. may; only = λ line leads. subst (λ (l : List ℕ). BeginsLimits (version_text v ∷ session_line s ∷ l ∷ [])) (sym leads.1.2) (begins_3 v s leads.1.0 sf leads.1.1) }
 
-early_3 : (s q : ℕ) → Within 1 64 s → Within 1 1024 q → Early (codes "occ 1" ∷ session_line s ∷ queue_line q ∷ []) (Keep s)
-early_3 s q sf qf = record {
+early_3 : (v : versions.Version) (s q : ℕ) → Within 1 64 s → Within 1 1024 q → Early (version_text v ∷ session_line s ∷ queue_line q ∷ []) (Keep v s)
+early_3 v s q sf qf = record {
   more = λ may. may;
-  only = λ line leads. subst (λ (l : List ℕ). BeginsLimits (codes "occ 1" ∷ session_line s ∷ queue_line q ∷ l ∷ [])) (sym leads.1.2) (begins_4 s q leads.1.0 sf qf leads.1.1);
+  only = λ line leads. subst (λ (l : List ℕ). BeginsLimits (version_text v ∷ session_line s ∷ queue_line q ∷ l ∷ [])) (sym leads.1.2) (begins_4 v s q leads.1.0 sf qf leads.1.1);
 }
 
 -- the lines before a place, and the place
 early : (limits : Limits) (lines more : List (List ℕ)) (place : Place) → LimitsFit limits → limits_lines limits ≡ lines ++ more → length lines < 4 → LeadOn Version lines place → Early lines place
 early limits [] more place fits is few h = early_at [] Version place h early_0
 early limits (w ∷ []) more place fits is few h =
-    subst (λ (l : List ℕ). Early (l ∷ []) place) (sym h.1.0) (early_at (codes "occ 1" ∷ []) Sessions place (h.2 ∙ h.1.1) early_1)
+    let v = h.1.0 in
+    subst (λ (l : List ℕ). Early (l ∷ []) place) (sym h.1.1) (early_at (version_text v ∷ []) (Sessions v) place (h.2 ∙ h.1.2) (early_1 v))
 early limits (w ∷ x ∷ []) more place fits is few h =
-    let l = subst (λ p. Leads p x h.2.0) h.1.1 h.2.1 in
-    subst (λ (v : List ℕ). Early (v ∷ x ∷ []) place) (sym h.1.0) (subst (λ (v : List ℕ). Early (codes "occ 1" ∷ v ∷ []) place) (sym l.2)
-    (early_at (codes "occ 1" ∷ session_line l.0 ∷ []) (Queue l.0) place (h.2.2 ∙ l.3) (early_2 l.0 l.1)))
+    let v = h.1.0 in
+    let l = subst (λ p. Leads p x h.2.0) h.1.2 h.2.1 in
+    subst (λ (u : List ℕ). Early (u ∷ x ∷ []) place) (sym h.1.1) (subst (λ (u : List ℕ). Early (version_text v ∷ u ∷ []) place) (sym l.2)
+    (early_at (version_text v ∷ session_line l.0 ∷ []) (Queue v l.0) place (h.2.2 ∙ l.3) (early_2 v l.0 l.1)))
 early limits (w ∷ x ∷ y ∷ []) more place fits is few h =
-    let l = subst (λ p. Leads p x h.2.0) h.1.1 h.2.1 in
+    let v = h.1.0 in
+    let l = subst (λ p. Leads p x h.2.0) h.1.2 h.2.1 in
     let k = subst (λ p. Leads p y h.2.2.0) l.3 h.2.2.1 in
-    subst (λ (v : List ℕ). Early (v ∷ x ∷ y ∷ []) place) (sym h.1.0) (subst (λ (v : List ℕ). Early (codes "occ 1" ∷ v ∷ y ∷ []) place) (sym l.2) (subst (λ (v : List ℕ). Early (codes "occ 1" ∷ session_line l.0 ∷ v ∷ []) place) (sym k.2)
-    (early_at (codes "occ 1" ∷ session_line l.0 ∷ queue_line k.0 ∷ []) (Keep l.0) place (h.2.2.2 ∙ k.3) (early_3 l.0 k.0 l.1 k.1))))
+    subst (λ (u : List ℕ). Early (u ∷ x ∷ y ∷ []) place) (sym h.1.1) (subst (λ (u : List ℕ). Early (version_text v ∷ u ∷ y ∷ []) place) (sym l.2) (subst (λ (u : List ℕ). Early (version_text v ∷ session_line l.0 ∷ u ∷ []) place) (sym k.2)
+    (early_at (version_text v ∷ session_line l.0 ∷ queue_line k.0 ∷ []) (Keep v l.0) place (h.2.2.2 ∙ k.3) (early_3 v l.0 k.0 l.1 k.1))))
 early limits (w ∷ x ∷ y ∷ z ∷ lines) more place fits is few h = absurd (omega arith)
 
 -- some of the first lines were taken, and then none that may come next
 pub limits_fail : (fault : LineFault) (a c : Option (List ℕ)) (first last : ℕ) → LimitsTaken (Err fault) a c first last → FailsFrom (read_fault fault) Version a c first
 limits_fail fault a c first last t =
     let limits = t.3.0 in
-    let front = lead_front t.0 t.3.2 Version (Tables limits.sessions []) (subst (λ ls. LeadOn Version ls (Tables limits.sessions [])) t.3.3 (limits_lead limits t.3.1)) in
+    let front = lead_front t.0 t.3.2 Version (Tables limits.version limits.sessions []) (subst (λ ls. LeadOn Version ls (Tables limits.version limits.sessions [])) t.3.3 (limits_lead limits t.3.1)) in
     let e = early limits t.0 t.3.2 front.0 t.3.1 t.3.3 t.4 front.1 in
     led_fails (read_fault fault) Version front.0 a t.1 c first (first + length t.0) (record { lines = t.0; taken = t.2; led = front.1; here = refl })
     (none_fails (λ line. BeginsLimits (t.0 ++ line ∷ [])) (read_fault fault) front.0 t.1 c (first + length t.0) e.more e.only t.5)
@@ -148,86 +154,86 @@ beginning_is_no_table (begun.Log rows) table e = let f : 108 ≡ 116 = ap (λ (l
 beginning_is_no_table (begun.Base head) table e = let f : 98 ≡ 116 = ap (λ (l : List ℕ). get_or l 0 0) e in absurd (omega (arith, f))
 
 -- a line that leads on behind tables is one that goes further
-further_only : (sessions : ℕ) (tables : List Table) (line : List ℕ) → LeadsOn (Tables sessions tables) line → (y : Further) × FurtherFits tables y × (line ≡ further_text y)
-further_only sessions tables line leads = elim leads.1 [
+further_only : (version : versions.Version) (sessions : ℕ) (tables : List Table) (line : List ℕ) → LeadsOn (Tables version sessions tables) line → (y : Further) × FurtherFits version tables y × (line ≡ further_text y)
+further_only version sessions tables line leads = elim leads.1 [
   | inl p ↦ (OneTable p.0, p.1, p.2)
   | inr p ↦ (Begins p.1.0, p.1.1, p.1.2)
 ]
 
-pub no_tables_led : {X : Type 0} (view : X → Table) (items : List X) (sessions : ℕ) (a : Option (List ℕ)) (n : ℕ) → items ≡ [] → Led (Tables sessions []) (Tables sessions (map view items)) a a n n
-no_tables_led {X} view items sessions a n none = subst (λ (xs : List X). Led (Tables sessions []) (Tables sessions (map view xs)) a a n n) (sym none) (led_nothing (Tables sessions []) a n)
+pub no_tables_led : {X : Type 0} (version : versions.Version) (view : X → Table) (items : List X) (sessions : ℕ) (a : Option (List ℕ)) (n : ℕ) → items ≡ [] → Led (Tables version sessions []) (Tables version sessions (map view items)) a a n n
+no_tables_led {X} version view items sessions a n none = subst (λ (xs : List X). Led (Tables version sessions []) (Tables version sessions (map view xs)) a a n n) (sym none) (led_nothing (Tables version sessions []) a n)
 
-pub no_tables_taken : {X : Type 0} (view : X → Table) (items : List X) (a : Option (List ℕ)) → items ≡ [] → TakesLines a a (map table_text (map view items)) × TablesSoFar (map view items)
-no_tables_taken {X} view items a none =
-    subst (λ (xs : List X). TakesLines a a (map table_text (map view xs)) × TablesSoFar (map view xs)) (sym none) (Consumes-nil a, record { few = omega arith; each = refl })
+pub no_tables_taken : {X : Type 0} (version : versions.Version) (view : X → Table) (items : List X) (a : Option (List ℕ)) → items ≡ [] → TakesLines a a (map table_text (map view items)) × TablesSoFar version (map view items)
+no_tables_taken {X} version view items a none =
+    subst (λ (xs : List X). TakesLines a a (map table_text (map view xs)) × TablesSoFar version (map view xs)) (sym none) (Consumes-nil a, record { few = omega arith; each = refl; kinds = All-nil (λ (table : Table). KindFits version table.key) })
 
 -- the tables as the code has them, one more behind others
-pub table_led : {X : Type 0} (view : X → Table) (items shown now : List X) (x : X) (sessions : ℕ) (a b c : Option (List ℕ)) (first mid last : ℕ) → now ≡ items ++ x ∷ [] → shown ≡ items
-    → Led (Tables sessions []) (Tables sessions (map view items)) a b first mid
-    → Consumes b c (table_text (view x) ++ 10 ∷ []) × TablesSoFar (map view shown ++ view x ∷ []) × (last ≡ mid + 1) → Led (Tables sessions []) (Tables sessions (map view now)) a c first last
-table_led {X} view items shown now x sessions a b c first mid last is same l t =
+pub table_led : {X : Type 0} (version : versions.Version) (view : X → Table) (items shown now : List X) (x : X) (sessions : ℕ) (a b c : Option (List ℕ)) (first mid last : ℕ) → now ≡ items ++ x ∷ [] → shown ≡ items
+    → Led (Tables version sessions []) (Tables version sessions (map view items)) a b first mid
+    → Consumes b c (table_text (view x) ++ 10 ∷ []) × TablesSoFar version (map view shown ++ view x ∷ []) × (last ≡ mid + 1) → Led (Tables version sessions []) (Tables version sessions (map view now)) a c first last
+table_led {X} version view items shown now x sessions a b c first mid last is same l t =
     let all : map view now ≡ map view items ++ view x ∷ [] = ap (map view) is ∙ map-append view items (x ∷ []) in
-    let so_far : TablesSoFar (map view items ++ view x ∷ []) = subst (λ (xs : List X). TablesSoFar (map view xs ++ view x ∷ [])) same t.1 in
-    subst (λ (ts : List Table). Led (Tables sessions []) (Tables sessions ts) a c first last) (sym all)
-    (led_led (Tables sessions []) (Tables sessions (map view items)) (Tables sessions (map view items ++ view x ∷ [])) a b c first mid last l
-    (led_line (Tables sessions (map view items)) (Tables sessions (map view items ++ view x ∷ [])) (table_text (view x)) b c mid last (inl (view x, so_far, refl, refl)) t.0 t.2))
+    let so_far : TablesSoFar version (map view items ++ view x ∷ []) = subst (λ (xs : List X). TablesSoFar version (map view xs ++ view x ∷ [])) same t.1 in
+    subst (λ (ts : List Table). Led (Tables version sessions []) (Tables version sessions ts) a c first last) (sym all)
+    (led_led (Tables version sessions []) (Tables version sessions (map view items)) (Tables version sessions (map view items ++ view x ∷ [])) a b c first mid last l
+    (led_line (Tables version sessions (map view items)) (Tables version sessions (map view items ++ view x ∷ [])) (table_text (view x)) b c mid last (inl (view x, so_far, refl, refl)) t.0 t.2))
 
 -- the line with which the log begins was taken
 abbrev pub TookBegan : Began → Option (List ℕ) → Option (List ℕ) → ℕ → ℕ → Type 0
 TookBegan began a b first last = Consumes a b (began_text began ++ 10 ∷ []) × BeganFits began × (last ≡ first + 1)
 
 -- it stands behind tables that make a schema
-pub opening_led : (tables schema : List Table) (began : Began) (sessions : ℕ) (a b c : Option (List ℕ)) (first mid last : ℕ) → Led (Tables sessions []) (Tables sessions tables) a b first mid → TookBegan began b c mid last
-    → (check_tables tables ≡ None) × (schema ≡ tables) → Led (Tables sessions []) (behind_began (record { schema = schema; sessions = sessions }) began) a c first last
-opening_led tables schema began sessions a b c first mid last l t good =
-    subst (λ (s : List Table). Led (Tables sessions []) (behind_began (record { schema = s; sessions = sessions }) began) a c first last) (sym good.1)
-    (led_led (Tables sessions []) (Tables sessions tables) (behind_began (record { schema = tables; sessions = sessions }) began) a b c first mid last l
-    (led_line (Tables sessions tables) (behind_began (record { schema = tables; sessions = sessions }) began) (began_text began) b c mid last (inr (good.0, (began, t.1, refl, refl))) t.0 t.2))
+pub opening_led : (version : versions.Version) (tables schema : List Table) (began : Began) (sessions : ℕ) (a b c : Option (List ℕ)) (first mid last : ℕ) → Led (Tables version sessions []) (Tables version sessions tables) a b first mid → TookBegan began b c mid last
+    → (check_tables tables ≡ None) × (schema ≡ tables) → Led (Tables version sessions []) (behind_began (frame_of version schema sessions) began) a c first last
+opening_led version tables schema began sessions a b c first mid last l t good =
+    subst (λ (s : List Table). Led (Tables version sessions []) (behind_began (frame_of version s sessions) began) a c first last) (sym good.1)
+    (led_led (Tables version sessions []) (Tables version sessions tables) (behind_began (frame_of version tables sessions) began) a b c first mid last l
+    (led_line (Tables version sessions tables) (behind_began (frame_of version tables sessions) began) (began_text began) b c mid last (inr (good.0, (began, t.1, refl, refl))) t.0 t.2))
 
 -- it can't stand behind tables that make none
-pub opening_barred : (tables : List Table) (fault : Fault) (began : Began) (sessions : ℕ) (a b c : Option (List ℕ)) (first mid last number : ℕ) → Led (Tables sessions []) (Tables sessions tables) a b first mid → TookBegan began b c mid last
-    → check_tables tables ≡ Some fault → number ≡ last → Stopped (Tables sessions []) a first number
-opening_barred tables fault began sessions a b c first mid last number l t bad here =
-    led_stopped (Tables sessions []) (Tables sessions tables) a b first mid number l
-    (line_refused (Tables sessions tables) (began_text began) b c mid last number (λ may. may) (t.0, t.2, began_is_line began t.1) (λ leads. elim leads.1 [
+pub opening_barred : (version : versions.Version) (tables : List Table) (fault : Fault) (began : Began) (sessions : ℕ) (a b c : Option (List ℕ)) (first mid last number : ℕ) → Led (Tables version sessions []) (Tables version sessions tables) a b first mid → TookBegan began b c mid last
+    → check_tables tables ≡ Some fault → number ≡ last → Stopped (Tables version sessions []) a first number
+opening_barred version tables fault began sessions a b c first mid last number l t bad here =
+    led_stopped (Tables version sessions []) (Tables version sessions tables) a b first mid number l
+    (line_refused (Tables version sessions tables) (began_text began) b c mid last number (λ may. may) (t.0, t.2, began_is_line began t.1) (λ leads. elim leads.1 [
       | inl p ↦ beginning_is_no_table began p.0 p.2
       | inr p ↦ let e : None ≡ Some fault = sym p.0 ∙ bad in cc e
     ]) here)
 
 -- the line behind tables wasn't taken
-pub opening_fails : (fault : ReadFault) (tables shown : List Table) (sessions : ℕ) (a b c : Option (List ℕ)) (first mid : ℕ) → shown ≡ tables → Led (Tables sessions []) (Tables sessions tables) a b first mid
-    → NoneTaken (IsSpelled further_text (FurtherFits shown)) fault b c mid → FailsFrom fault (Tables sessions []) a c first
-opening_fails fault tables shown sessions a b c first mid same l t =
-    led_fails fault (Tables sessions []) (Tables sessions tables) a b c first mid l
-    (none_fails (IsSpelled further_text (FurtherFits tables)) fault (Tables sessions tables) b c mid (λ may. may) (further_only sessions tables)
-    (subst (λ (ts : List Table). NoneTaken (IsSpelled further_text (FurtherFits ts)) fault b c mid) same t))
+pub opening_fails : (version : versions.Version) (fault : ReadFault) (tables shown : List Table) (sessions : ℕ) (a b c : Option (List ℕ)) (first mid : ℕ) → shown ≡ tables → Led (Tables version sessions []) (Tables version sessions tables) a b first mid
+    → NoneTaken (IsSpelled further_text (FurtherFits version shown)) fault b c mid → FailsFrom fault (Tables version sessions []) a c first
+opening_fails version fault tables shown sessions a b c first mid same l t =
+    led_fails fault (Tables version sessions []) (Tables version sessions tables) a b c first mid l
+    (none_fails (IsSpelled further_text (FurtherFits version tables)) fault (Tables version sessions tables) b c mid (λ may. may) (further_only version sessions tables)
+    (subst (λ (ts : List Table). NoneTaken (IsSpelled further_text (FurtherFits version ts)) fault b c mid) same t))
 
 -- a line that is read neither as one more table nor as the beginning of the log goes no further
-neither : (tables : List Table) (line : List ℕ) (y : Further) → TablesSoFar tables → table_behind tables line ≡ None → Reads began_text BeganFits line None → FurtherFits tables y → line ≡ further_text y → ⊥
-neither tables line (OneTable table) so_far none log fits e =
+neither : (version : versions.Version) (tables : List Table) (line : List ℕ) (y : Further) → TablesSoFar version tables → table_behind version tables line ≡ None → Reads began_text BeganFits line None → FurtherFits version tables y → line ≡ further_text y → ⊥
+neither version tables line (OneTable table) so_far none log fits e =
     let all : map table_text (tables ++ table ∷ []) ++ codes "steps" ∷ [] ≡ map table_text tables ++ line ∷ codes "steps" ∷ [] =
     ap (λ (l : List (List ℕ)). l ++ codes "steps" ∷ []) (map-append table_text tables (table ∷ [])) ∙ append_assoc (map table_text tables) (table_text table ∷ []) (codes "steps" ∷ [])
     ∙ ap (λ (l : List ℕ). map table_text tables ++ l ∷ codes "steps" ∷ []) (sym e) in
-    schema_lines.line_refused tables line so_far (λ steps. let f : 115 ≡ 116 = ap (λ (l : List ℕ). get_or l 0 0) (sym steps ∙ e) in absurd (omega (arith, f))) none
-    (tables ++ table ∷ [], check-from_IsSchema (tables ++ table ∷ []) (omega (arith, length-append tables (table ∷ []))) fits, codes "steps" ∷ [], all)
-neither tables line (Begins began) so_far none log fits e = let f = log.again began fits e in cc f
+    schema_lines.line_refused version tables line so_far (λ steps. let f : 115 ≡ 116 = ap (λ (l : List ℕ). get_or l 0 0) (sym steps ∙ e) in absurd (omega (arith, f))) none
+    (tables ++ table ∷ [], check-from_IsSchema version (tables ++ table ∷ []) (omega (arith, length-append tables (table ∷ []))) fits, fits.kinds, codes "steps" ∷ [], all)
+neither version tables line (Begins began) so_far none log fits e = let f = log.again began fits e in cc f
 
 -- the line behind tables was read as neither
-pub further_unread : {X V : Type 0} (view : X → Table) (seen : V → Further) (read : Result X Unread) (fault : ReadFault) (result : Result V ReadFault) (tables : List Table) (shown again line : List ℕ) (a b : Option (List ℕ)) (n first last : ℕ)
-    → TablesSoFar tables → Consumes a b (line ++ 10 ∷ []) × (last ≡ first + 1) × IsLine line → shown ≡ line → again ≡ line → Reads began_text BeganFits shown None
-    → Gives view read (table_behind tables again) → Err fault ≡ told read n → IsErrAnd result (λ e. e ≡ fault) → n ≡ last → Taken seen further_text (FurtherFits tables) result a b first last
-further_unread view seen read fault (Ok x) tables shown again line a b n first last so_far taken same same' log gives told_so is here = absurd is
-further_unread view seen (Ok x) fault (Err e) tables shown again line a b n first last so_far taken same same' log gives told_so is here = absurd cc
-further_unread view seen (Err unread.Malformed) fault (Err e) tables shown again line a b n first last so_far taken same same' log gives told_so is here =
+pub further_unread : {X V : Type 0} (version : versions.Version) (view : X → Table) (seen : V → Further) (read : Result X Unread) (fault : ReadFault) (result : Result V ReadFault) (tables : List Table) (shown again line : List ℕ) (a b : Option (List ℕ)) (n first last : ℕ)
+    → TablesSoFar version tables → Consumes a b (line ++ 10 ∷ []) × (last ≡ first + 1) × IsLine line → shown ≡ line → again ≡ line → Reads began_text BeganFits shown None
+    → Gives view read (table_behind version tables again) → Err fault ≡ told read n → IsErrAnd result (λ e. e ≡ fault) → n ≡ last → Taken seen further_text (FurtherFits version tables) result a b first last
+further_unread version view seen read fault (Ok x) tables shown again line a b n first last so_far taken same same' log gives told_so is here = absurd is
+further_unread version view seen (Ok x) fault (Err e) tables shown again line a b n first last so_far taken same same' log gives told_so is here = absurd cc
+further_unread version view seen (Err unread.Malformed) fault (Err e) tables shown again line a b n first last so_far taken same same' log gives told_so is here =
     let q : e ≡ faults.Malformed n = is ∙ (cc told_so) in
-    subst (λ (f : ReadFault). NoneTaken (IsSpelled further_text (FurtherFits tables)) f a b first) (sym q) (
+    subst (λ (f : ReadFault). NoneTaken (IsSpelled further_text (FurtherFits version tables)) f a b first) (sym q) (
       OtherLine line b taken.0 taken.2 (λ p.
-          neither tables line p.0 so_far (ap (table_behind tables) (sym same') ∙ gives) (subst (λ (l : List ℕ). Reads began_text BeganFits l None) same log) p.1 p.2),
+          neither version tables line p.0 so_far (ap (table_behind version tables) (sym same') ∙ gives) (subst (λ (l : List ℕ). Reads began_text BeganFits l None) same log) p.1 p.2),
       here ∙ taken.1,
     )
-further_unread view seen (Err unread.Memory) fault (Err e) tables shown again line a b n first last so_far taken same same' log gives told_so is here =
+further_unread version view seen (Err unread.Memory) fault (Err e) tables shown again line a b n first last so_far taken same same' log gives told_so is here =
     let q : e ≡ faults.Memory = is ∙ (cc told_so) in
-    subst (λ (f : ReadFault). NoneTaken (IsSpelled further_text (FurtherFits tables)) f a b first) (sym q) tt
+    subst (λ (f : ReadFault). NoneTaken (IsSpelled further_text (FurtherFits version tables)) f a b first) (sym q) tt
 
 -- ---- numbers of sessions
 
@@ -249,16 +255,16 @@ numbers_led from section frame rows left last a b first mid none l = subst (λ (
 -- ---- rows of tables
 
 pub at_led : (from : Place) (section : Section) (frame : Frame) (left more : ℕ) (last : Option Object) (entry : Object × Row) (a b c : Option (List ℕ)) (first mid end : ℕ) → left ≡ suc more → Led from (entries_to_come section frame left last) a b first mid
-    → Consumes b c (entry_line section frame.schema entry ++ 10 ∷ []) × (AtFits frame.schema entry × (is_behind last entry.0 ≡ true)) × (end ≡ mid + 1) → Led from (entries_to_come section frame more (Some entry.0)) a c first end
+    → Consumes b c (entry_line section frame.schema entry ++ 10 ∷ []) × (AtFits frame.version frame.schema entry × (is_behind last entry.0 ≡ true)) × (end ≡ mid + 1) → Led from (entries_to_come section frame more (Some entry.0)) a c first end
 at_led from section frame left more last entry a b c first mid end is l t =
     led_led from (EntryOf section frame more last) (entries_to_come section frame more (Some entry.0)) a b c first mid end (subst (λ (n : ℕ). Led from (entries_to_come section frame n last) a b first mid) is l)
     (led_line (EntryOf section frame more last) (entries_to_come section frame more (Some entry.0)) (entry_line section frame.schema entry) b c mid end (entry, t.1.0, t.1.1, refl, refl) t.0 t.2)
 
 pub at_fails : (from : Place) (section : Section) (frame : Frame) (left more : ℕ) (last : Option Object) (fault : ReadFault) (a b c : Option (List ℕ)) (first mid : ℕ) → left ≡ suc more → Led from (entries_to_come section frame left last) a b first mid
-    → NoneTaken (IsSpelled (entry_line section frame.schema) (λ entry. AtFits frame.schema entry × (is_behind last entry.0 ≡ true))) fault b c mid → FailsFrom fault from a c first
+    → NoneTaken (IsSpelled (entry_line section frame.schema) (λ entry. AtFits frame.version frame.schema entry × (is_behind last entry.0 ≡ true))) fault b c mid → FailsFrom fault from a c first
 at_fails from section frame left more last fault a b c first mid is l t =
     led_fails fault from (EntryOf section frame more last) a b c first mid (subst (λ (n : ℕ). Led from (entries_to_come section frame n last) a b first mid) is l)
-    (none_fails (IsSpelled (entry_line section frame.schema) (λ entry. AtFits frame.schema entry × (is_behind last entry.0 ≡ true))) fault (EntryOf section frame more last) b c mid (λ may. may) (λ line leads. (leads.1.0, (leads.1.1, leads.1.2), leads.1.3)) t)
+    (none_fails (IsSpelled (entry_line section frame.schema) (λ entry. AtFits frame.version frame.schema entry × (is_behind last entry.0 ≡ true))) fault (EntryOf section frame more last) b c mid (λ may. may) (λ line leads. (leads.1.0, (leads.1.1, leads.1.2), leads.1.3)) t)
 
 pub entries_led : (from : Place) (section : Section) (frame : Frame) (left : ℕ) (last : Option Object) (a b : Option (List ℕ)) (first mid : ℕ) → left ≡ 0 → Led from (entries_to_come section frame left last) a b first mid → Led from (behind_entries section frame) a b first mid
 entries_led from section frame left last a b first mid none l = subst (λ (n : ℕ). Led from (entries_to_come section frame n last) a b first mid) none l
@@ -378,33 +384,3 @@ led_ended p q a b first mid l t = record {
 pub part_failed : {X : Type 0} (fault : ReadFault) (result : Result X ReadFault) (p q : Place) (a b c : Option (List ℕ)) (first mid : ℕ) → IsErrAnd result (λ e. e ≡ fault) → Led p q a b first mid → FailsFrom fault q b c mid → EndsFrom result p a c first
 part_failed fault (Ok x) p q a b c first mid is l t = absurd is
 part_failed fault (Err e) p q a b c first mid is l t = subst (λ (f : ReadFault). FailsFrom f p a c first) (sym is) (led_fails fault p q a b c first mid l t)
-
--- ---- up to each part
-
--- from the tables to the rows of the log
-pub opened_led : (s : ℕ) (frame : Frame) (began : Began) (rows : ℕ) (a b c : Option (List ℕ)) (n0 n1 n2 : ℕ) → Led (Tables s []) (behind_began frame began) a b n0 n1 → Led (behind_began frame began) (rows_to_come frame rows) b c n1 n2 → Led (Tables s []) (rows_to_come frame rows) a c n0 n2
-opened_led s frame began rows a b c n0 n1 n2 l k = led_led (Tables s []) (behind_began frame began) (rows_to_come frame rows) a b c n0 n1 n2 l k
-
-pub upto_front : (s : ℕ) (frame : Frame) (began : Began) (a b c : Option (List ℕ)) (n0 n1 n2 : ℕ) → Led Version (Tables s []) a b n0 n1 → Led (Tables s []) (behind_began frame began) b c n1 n2 → Led Version (behind_began frame began) a c n0 n2
-upto_front s frame began a b c n0 n1 n2 l k = led_led Version (Tables s []) (behind_began frame began) a b c n0 n1 n2 l k
-
-pub upto_log : (s : ℕ) (frame : Frame) (rows : ℕ) (a b c : Option (List ℕ)) (n0 n1 n2 : ℕ) → Led Version (Tables s []) a b n0 n1 → Led (Tables s []) (rows_to_come frame rows) b c n1 n2 → Led Version (rows_to_come frame rows) a c n0 n2
-upto_log s frame rows a b c n0 n1 n2 l k = led_led Version (Tables s []) (rows_to_come frame rows) a b c n0 n1 n2 l k
-
-pub upto_marks : (s : ℕ) (frame : Frame) (rows : ℕ) (a b c d : Option (List ℕ)) (n0 n1 n2 n3 : ℕ) → Led Version (Tables s []) a b n0 n1 → Led (Tables s []) (rows_to_come frame rows) b c n1 n2 → Led (rows_to_come frame rows) (Marks frame) c d n2 n3
-    → Led Version (Marks frame) a d n0 n3
-upto_marks s frame rows a b c d n0 n1 n2 n3 l k m = led_led Version (rows_to_come frame rows) (Marks frame) a c d n0 n2 n3 (upto_log s frame rows a b c n0 n1 n2 l k) m
-
-pub upto_state : (s : ℕ) (frame : Frame) (rows : ℕ) (a b c d e : Option (List ℕ)) (n0 n1 n2 n3 n4 : ℕ) → Led Version (Tables s []) a b n0 n1 → Led (Tables s []) (rows_to_come frame rows) b c n1 n2 → Led (rows_to_come frame rows) (Marks frame) c d n2 n3
-    → Led (Marks frame) (State frame) d e n3 n4 → Led Version (State frame) a e n0 n4
-upto_state s frame rows a b c d e n0 n1 n2 n3 n4 l k m t = led_led Version (Marks frame) (State frame) a d e n0 n3 n4 (upto_marks s frame rows a b c d n0 n1 n2 n3 l k m) t
-
-pub upto_counter : (s : ℕ) (frame : Frame) (rows : ℕ) (a b c d e f : Option (List ℕ)) (n0 n1 n2 n3 n4 n5 : ℕ) → Led Version (Tables s []) a b n0 n1 → Led (Tables s []) (rows_to_come frame rows) b c n1 n2
-    → Led (rows_to_come frame rows) (Marks frame) c d n2 n3 → Led (Marks frame) (State frame) d e n3 n4 → Led (State frame) Counter e f n4 n5 → Led Version Counter a f n0 n5
-upto_counter s frame rows a b c d e f n0 n1 n2 n3 n4 n5 l k m t u = led_led Version (State frame) Counter a e f n0 n4 n5 (upto_state s frame rows a b c d e n0 n1 n2 n3 n4 l k m t) u
-
-pub upto_audit : (s : ℕ) (frame : Frame) (rows : ℕ) (counts : Counts) (a b c d e f g : Option (List ℕ)) (n0 n1 n2 n3 n4 n5 n6 : ℕ) → Led Version (Tables s []) a b n0 n1 → Led (Tables s []) (rows_to_come frame rows) b c n1 n2
-    → Led (rows_to_come frame rows) (Marks frame) c d n2 n3 → Led (Marks frame) (State frame) d e n3 n4 → Led (State frame) Counter e f n4 n5
-    → Consumes f g (counts_text counts ++ 10 ∷ []) × CountsFit counts × (n6 ≡ n5 + 1) → Led Version Audit a g n0 n6
-upto_audit s frame rows counts a b c d e f g n0 n1 n2 n3 n4 n5 n6 l k m t u v =
-    led_led Version Counter Audit a f g n0 n5 n6 (upto_counter s frame rows a b c d e f n0 n1 n2 n3 n4 n5 l k m t u) (counts_led f g n5 n6 counts v)

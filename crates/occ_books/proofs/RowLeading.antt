@@ -18,12 +18,13 @@ use Rattle.occ_text.specs.declared.tokens.Unread.TheVariants as unread
 use Rattle.occ_text.specs.declared.faults.ReadFault.{ReadFault}
 use Rattle.occ_text.specs.declared.faults.ReadFault.TheVariants as faults
 use Rattle.occ_text.specs.Faults.{told}
+use Rattle.occ_text.specs.declared.versions.Version.{Version}
 use Rattle.occ_text.specs.Line.{IsLine, NoneTaken, IsSpelled, Taken}
 use Rattle.occ_print.specs.Books.{pair_line, write_line}
 use Rattle.occ_books.specs.declared.number_lines.Head.{Head}
 use Rattle.occ_books.specs.NumberLines.{HeadFits, head_text}
 use Rattle.occ_books.specs.RowLines.{Asked, AskedSpan, asked_text, AskedFits, PairFits, WriteFits, write_of_line}
-use Rattle.occ_books.specs.Places.{Place, InRow, LogRow, ReadOf, PairOf, WriteOf, Led, FailsFrom, TakesFrom, IsAbove, last_key, frame_of, in_row, behind_read, pairs_to_come, reads_to_come, writes_to_come}
+use Rattle.occ_books.specs.Places.{Frame, Place, InRow, LogRow, ReadOf, PairOf, WriteOf, Led, FailsFrom, TakesFrom, IsAbove, last_key, frame_of, in_row, behind_read, pairs_to_come, reads_to_come, writes_to_come}
 use Rattle.occ_books.proofs.Leading.{LeadsOn, led_line, led_then, line_refused, none_fails, taken_led, begun, turn, turn_fails}
 use Rattle.occ_books.proofs.RowLinesAgain.{write_line-again}
 
@@ -51,16 +52,16 @@ last_more view xs now x is = ap (λ l. last_key (map view l)) is ∙ by xs
     by (y ∷ []) = refl
     by (y ∷ z ∷ xs) = by (z ∷ xs)
 
-pair_turn : {X : Type 0} (view : X → Key × Row) (result : Result X ReadFault) (row : InRow) (schema : Schema) (reads table count counter : ℕ) (last : Option Key) (p : Place) (a b c : Option (List ℕ)) (first mid end : ℕ)
-    → row.frame.schema ≡ schema → counter < count → Led p (pairs_to_come row reads table (count - counter) last) a b first mid
-    → Taken view pair_line (λ pair. PairFits schema table pair × IsAbove last pair.0) result b c mid end
+pair_turn : {X : Type 0} (view : X → Key × Row) (result : Result X ReadFault) (row : InRow) (version : Version) (schema : Schema) (reads table count counter : ℕ) (last : Option Key) (p : Place) (a b c : Option (List ℕ)) (first mid end : ℕ)
+    → row.frame ≡ frame_of version schema row.frame.sessions → counter < count → Led p (pairs_to_come row reads table (count - counter) last) a b first mid
+    → Taken view pair_line (λ pair. PairFits version schema table pair × IsAbove last pair.0) result b c mid end
     → TakesFrom result p (λ x. pairs_to_come row reads table (count - (counter + 1)) (Some (view x).0)) a c first end
-pair_turn view result row schema reads table count counter last p a b c first mid end same lt led taken =
+pair_turn view result row version schema reads table count counter last p a b c first mid end same lt led taken =
     let more = count - (counter + 1) in
     turn (λ k. pairs_to_come row reads table k last) result p (λ x. pairs_to_come row reads table more (Some (view x).0)) a b c first mid end count counter lt led
-    (taken_led view pair_line (λ pair. PairFits schema table pair × IsAbove last pair.0) result (PairOf row reads table more last) (λ x. pairs_to_come row reads table more (Some (view x).0)) b c mid end (λ may. may)
-    (λ x fits. (view x, subst (λ s. PairFits s table (view x)) (sym same) fits.0, fits.1, refl, refl))
-    (λ line leads. (leads.1.0, (subst (λ s. PairFits s table leads.1.0) same leads.1.1, leads.1.2), leads.1.3)) taken)
+    (taken_led view pair_line (λ pair. PairFits version schema table pair × IsAbove last pair.0) result (PairOf row reads table more last) (λ x. pairs_to_come row reads table more (Some (view x).0)) b c mid end (λ may. may)
+    (λ x fits. (view x, subst (λ (f : Frame). PairFits f.version f.schema table (view x)) (sym same) fits.0, fits.1, refl, refl))
+    (λ line leads. (leads.1.0, (subst (λ (f : Frame). PairFits f.version f.schema table leads.1.0) same leads.1.1, leads.1.2), leads.1.3)) taken)
 
 -- no pair was taken yet
 pub pairs_begun : {X : Type 0} (view : X → Key × Row) (items : List X) (row : InRow) (reads table count : ℕ) (a : Option (List ℕ)) (n : ℕ) → items ≡ []
@@ -69,43 +70,43 @@ pairs_begun view items row reads table count a n is =
     subst (λ l. Led (pairs_to_come row reads table count None) (pairs_to_come row reads table (count - 0) (last_key (map view l))) a a n n) (sym is) (begun (λ k. pairs_to_come row reads table k None) a n count)
 
 -- one more pair
-pub pairs_more : {X : Type 0} (view : X → Key × Row) (items shown now : List X) (x : X) (row : InRow) (schema : Schema) (reads table count counter : ℕ) (p : Place) (a b c : Option (List ℕ)) (first mid end : ℕ)
-    → now ≡ items ++ x ∷ [] → shown ≡ items → row.frame.schema ≡ schema → counter < count → Led p (pairs_to_come row reads table (count - counter) (last_key (map view items))) a b first mid
-    → Taken view pair_line (λ pair. PairFits schema table pair × IsAbove (last_key (map view shown)) pair.0) (Ok x) b c mid end
+pub pairs_more : {X : Type 0} (view : X → Key × Row) (items shown now : List X) (x : X) (row : InRow) (version : Version) (schema : Schema) (reads table count counter : ℕ) (p : Place) (a b c : Option (List ℕ)) (first mid end : ℕ)
+    → now ≡ items ++ x ∷ [] → shown ≡ items → row.frame ≡ frame_of version schema row.frame.sessions → counter < count → Led p (pairs_to_come row reads table (count - counter) (last_key (map view items))) a b first mid
+    → Taken view pair_line (λ pair. PairFits version schema table pair × IsAbove (last_key (map view shown)) pair.0) (Ok x) b c mid end
     → Led p (pairs_to_come row reads table (count - (counter + 1)) (last_key (map view now))) a c first end
-pairs_more view items shown now x row schema reads table count counter p a b c first mid end is all same lt led taken =
+pairs_more view items shown now x row version schema reads table count counter p a b c first mid end is all same lt led taken =
     subst (λ o. Led p (pairs_to_come row reads table (count - (counter + 1)) o) a c first end) (sym (last_more view items now x is))
-    (pair_turn view (Ok x) row schema reads table count counter (last_key (map view items)) p a b c first mid end same lt led
-    (subst (λ l. Taken view pair_line (λ pair. PairFits schema table pair × IsAbove (last_key (map view l)) pair.0) (Ok x) b c mid end) all taken))
+    (pair_turn view (Ok x) row version schema reads table count counter (last_key (map view items)) p a b c first mid end same lt led
+    (subst (λ l. Taken view pair_line (λ pair. PairFits version schema table pair × IsAbove (last_key (map view l)) pair.0) (Ok x) b c mid end) all taken))
 
-pub pairs_fail : {X : Type 0} (view : X → Key × Row) (fault : ReadFault) (items shown : List X) (row : InRow) (schema : Schema) (reads table count counter : ℕ) (p : Place) (a b c : Option (List ℕ)) (first mid : ℕ)
-    → shown ≡ items → row.frame.schema ≡ schema → counter < count → Led p (pairs_to_come row reads table (count - counter) (last_key (map view items))) a b first mid
-    → NoneTaken (IsSpelled pair_line (λ pair. PairFits schema table pair × IsAbove (last_key (map view shown)) pair.0)) fault b c mid → FailsFrom fault p a c first
-pairs_fail view fault items shown row schema reads table count counter p a b c first mid all same lt led taken =
-    pair_turn view (Err fault) row schema reads table count counter (last_key (map view items)) p a b c first mid mid same lt led
-    (subst (λ l. NoneTaken (IsSpelled pair_line (λ pair. PairFits schema table pair × IsAbove (last_key (map view l)) pair.0)) fault b c mid) all taken)
+pub pairs_fail : {X : Type 0} (view : X → Key × Row) (fault : ReadFault) (items shown : List X) (row : InRow) (version : Version) (schema : Schema) (reads table count counter : ℕ) (p : Place) (a b c : Option (List ℕ)) (first mid : ℕ)
+    → shown ≡ items → row.frame ≡ frame_of version schema row.frame.sessions → counter < count → Led p (pairs_to_come row reads table (count - counter) (last_key (map view items))) a b first mid
+    → NoneTaken (IsSpelled pair_line (λ pair. PairFits version schema table pair × IsAbove (last_key (map view shown)) pair.0)) fault b c mid → FailsFrom fault p a c first
+pairs_fail view fault items shown row version schema reads table count counter p a b c first mid all same lt led taken =
+    pair_turn view (Err fault) row version schema reads table count counter (last_key (map view items)) p a b c first mid mid same lt led
+    (subst (λ l. NoneTaken (IsSpelled pair_line (λ pair. PairFits version schema table pair × IsAbove (last_key (map view l)) pair.0)) fault b c mid) all taken)
 
 -- ---- reads
 
-pub asked_fails : (fault : ReadFault) (row : InRow) (schema : Schema) (reads : ℕ) (a b : Option (List ℕ)) (first : ℕ) → row.frame.schema ≡ schema → NoneTaken (IsSpelled (asked_text schema) (AskedFits schema)) fault a b first → FailsFrom fault (ReadOf row reads) a b first
-asked_fails fault row schema reads a b first same taken =
-    let own = row.frame.schema in
-    none_fails (IsSpelled (asked_text own) (AskedFits own)) fault (ReadOf row reads) a b first (λ may. may) (λ line leads. (leads.1.0, leads.1.1, leads.1.2))
-    (subst (λ s. NoneTaken (IsSpelled (asked_text s) (AskedFits s)) fault a b first) (sym same) taken)
+pub asked_fails : (fault : ReadFault) (row : InRow) (version : Version) (schema : Schema) (reads : ℕ) (a b : Option (List ℕ)) (first : ℕ) → row.frame ≡ frame_of version schema row.frame.sessions → NoneTaken (IsSpelled (asked_text schema) (AskedFits version schema)) fault a b first → FailsFrom fault (ReadOf row reads) a b first
+asked_fails fault row version schema reads a b first same taken =
+    let own = row.frame in
+    none_fails (IsSpelled (asked_text own.schema) (AskedFits own.version own.schema)) fault (ReadOf row reads) a b first (λ may. may) (λ line leads. (leads.1.0, leads.1.1, leads.1.2))
+    (subst (λ (f : Frame). NoneTaken (IsSpelled (asked_text f.schema) (AskedFits f.version f.schema)) fault a b first) (sym same) taken)
 
-pub asked_led : (asked : Asked) (row : InRow) (schema : Schema) (reads : ℕ) (a b : Option (List ℕ)) (first last : ℕ) → row.frame.schema ≡ schema
-    → Consumes a b (asked_text schema asked ++ 10 ∷ []) × AskedFits schema asked × (last ≡ first + 1) → Led (ReadOf row reads) (behind_read row reads asked) a b first last
-asked_led asked row schema reads a b first last same taken =
+pub asked_led : (asked : Asked) (row : InRow) (version : Version) (schema : Schema) (reads : ℕ) (a b : Option (List ℕ)) (first last : ℕ) → row.frame ≡ frame_of version schema row.frame.sessions
+    → Consumes a b (asked_text schema asked ++ 10 ∷ []) × AskedFits version schema asked × (last ≡ first + 1) → Led (ReadOf row reads) (behind_read row reads asked) a b first last
+asked_led asked row version schema reads a b first last same taken =
     led_line (ReadOf row reads) (behind_read row reads asked) (asked_text schema asked) a b first last
-    (asked, subst (λ s. AskedFits s asked) (sym same) taken.1, ap (λ s. asked_text s asked) (sym same), refl) taken.0 taken.2
+    (asked, subst (λ (f : Frame). AskedFits f.version f.schema asked) (sym same) taken.1, ap (λ (f : Frame). asked_text f.schema asked) (sym same), refl) taken.0 taken.2
 
 -- a range, and then the rows that it had
-pub span_led : {X : Type 0} (result : Result X ReadFault) (question : Question) (count table : ℕ) (row : InRow) (schema : Schema) (reads : ℕ) (a b c : Option (List ℕ)) (first mid last : ℕ) → row.frame.schema ≡ schema → table ≡ table_asked question
-    → Consumes a b (asked_text schema (AskedSpan question count) ++ 10 ∷ []) × AskedFits schema (AskedSpan question count) × (mid ≡ first + 1)
+pub span_led : {X : Type 0} (result : Result X ReadFault) (question : Question) (count table : ℕ) (row : InRow) (version : Version) (schema : Schema) (reads : ℕ) (a b c : Option (List ℕ)) (first mid last : ℕ) → row.frame ≡ frame_of version schema row.frame.sessions → table ≡ table_asked question
+    → Consumes a b (asked_text schema (AskedSpan question count) ++ 10 ∷ []) × AskedFits version schema (AskedSpan question count) × (mid ≡ first + 1)
     → TakesFrom result (pairs_to_come row reads table count None) (λ _. reads_to_come row reads) b c mid last → TakesFrom result (ReadOf row reads) (λ _. reads_to_come row reads) a c first last
-span_led result question count table row schema reads a b c first mid last same is asked rows =
+span_led result question count table row version schema reads a b c first mid last same is asked rows =
     led_then result (ReadOf row reads) (pairs_to_come row reads (table_asked question) count None) (λ _. reads_to_come row reads) a b c first mid last
-    (asked_led (AskedSpan question count) row schema reads a b first mid same asked)
+    (asked_led (AskedSpan question count) row version schema reads a b first mid same asked)
     (subst (λ t. TakesFrom result (pairs_to_come row reads t count None) (λ _. reads_to_come row reads) b c mid last) is rows)
 
 -- ---- writes
@@ -119,14 +120,14 @@ pub written : (writes : List Write) (object : Object) → list_any (eq_by_cmp ob
 written [] object = refl
 written (write ∷ writes) object = sym (either (eq_by_cmp object_cmp object write.0) write.1 (own writes object) (list_any (eq_by_cmp object_cmp object) (map (λ (w : Write). w.0) writes)) (sym (written writes object)))
 
-pub write_fails : (fault : ReadFault) (row : InRow) (schema : Schema) (count counter : ℕ) (objects : List Object) (p : Place) (a b c : Option (List ℕ)) (first mid : ℕ)
-    → row.frame.schema ≡ schema → counter < count → Led p (writes_to_come row (count - counter) objects) a b first mid
-    → NoneTaken (IsSpelled (write_line schema) (WriteFits schema)) fault b c mid → FailsFrom fault p a c first
-write_fails fault row schema count counter objects p a b c first mid same lt led taken =
-    let own = row.frame.schema in
+pub write_fails : (fault : ReadFault) (row : InRow) (version : Version) (schema : Schema) (count counter : ℕ) (objects : List Object) (p : Place) (a b c : Option (List ℕ)) (first mid : ℕ)
+    → row.frame ≡ frame_of version schema row.frame.sessions → counter < count → Led p (writes_to_come row (count - counter) objects) a b first mid
+    → NoneTaken (IsSpelled (write_line schema) (WriteFits version schema)) fault b c mid → FailsFrom fault p a c first
+write_fails fault row version schema count counter objects p a b c first mid same lt led taken =
+    let own = row.frame in
     turn_fails (λ k. writes_to_come row k objects) fault p a b c first mid count counter lt led
-    (none_fails (IsSpelled (write_line own) (WriteFits own)) fault (WriteOf row (count - (counter + 1)) objects) b c mid (λ may. may) (λ line leads. (leads.1.0, leads.1.1, leads.1.3))
-    (subst (λ s. NoneTaken (IsSpelled (write_line s) (WriteFits s)) fault b c mid) (sym same) taken))
+    (none_fails (IsSpelled (write_line own.schema) (WriteFits own.version own.schema)) fault (WriteOf row (count - (counter + 1)) objects) b c mid (λ may. may) (λ line leads. (leads.1.0, leads.1.1, leads.1.3))
+    (subst (λ (f : Frame). NoneTaken (IsSpelled (write_line f.schema) (WriteFits f.version f.schema)) fault b c mid) (sym same) taken))
 
 -- no write was taken yet
 pub writes_begun : (writes : List Write) (row : InRow) (count : ℕ) (a : Option (List ℕ)) (n : ℕ) → writes ≡ [] → Led (writes_to_come row count []) (writes_to_come row (count - 0) (map (λ (w : Write). w.0) writes)) a a n n
@@ -134,60 +135,60 @@ writes_begun writes row count a n is =
     subst (λ l. Led (writes_to_come row count []) (writes_to_come row (count - 0) (map (λ (w : Write). w.0) l)) a a n n) (sym is) (begun (λ k. writes_to_come row k []) a n count)
 
 -- the lines of no two writes are the same
-same_write : (schema : Schema) (v w : Write) → check_tables schema ≡ None → WriteFits schema v → WriteFits schema w → write_line schema v ≡ write_line schema w → v ≡ w
-same_write schema v w good f g e =
-    let h : Some v ≡ Some w = sym (write_line-again schema v good f) ∙ ap (write_of_line schema) e ∙ write_line-again schema w good g in
+same_write : (version : Version) (schema : Schema) (v w : Write) → check_tables schema ≡ None → WriteFits version schema v → WriteFits version schema w → write_line schema v ≡ write_line schema w → v ≡ w
+same_write version schema v w good f g e =
+    let h : Some v ≡ Some w = sym (write_line-again version schema v good f) ∙ ap (write_of_line version schema) e ∙ write_line-again version schema w good g in
     cc h
 
 -- an object isn't written twice
-twice_fails : (write : Write) (row : InRow) (schema : Schema) (count counter number : ℕ) (writes : List Write) (p : Place) (a b c : Option (List ℕ)) (first mid last : ℕ)
-    → check_tables schema ≡ None → row.frame.schema ≡ schema → counter < count → Led p (writes_to_come row (count - counter) (map (λ (w : Write). w.0) writes)) a b first mid
-    → Consumes b c (write_line schema write ++ 10 ∷ []) × WriteFits schema write × (last ≡ mid + 1) → IsLine (write_line schema write) → number ≡ last → is_some (own writes write.0) ≡ true → FailsFrom (faults.Malformed number) p a c first
-twice_fails write row schema count counter number writes p a b c first mid last good same lt led taken line here twice =
+twice_fails : (write : Write) (row : InRow) (version : Version) (schema : Schema) (count counter number : ℕ) (writes : List Write) (p : Place) (a b c : Option (List ℕ)) (first mid last : ℕ)
+    → check_tables schema ≡ None → row.frame ≡ frame_of version schema row.frame.sessions → counter < count → Led p (writes_to_come row (count - counter) (map (λ (w : Write). w.0) writes)) a b first mid
+    → Consumes b c (write_line schema write ++ 10 ∷ []) × WriteFits version schema write × (last ≡ mid + 1) → IsLine (write_line schema write) → number ≡ last → is_some (own writes write.0) ≡ true → FailsFrom (faults.Malformed number) p a c first
+twice_fails write row version schema count counter number writes p a b c first mid last good same lt led taken line here twice =
     let objects = map (λ (w : Write). w.0) writes in
     let from = WriteOf row (count - (counter + 1)) objects in
     let other : LeadsOn from (write_line schema write) → ⊥ = λ leads.
     let one = leads.1.0 in
-    let w : write ≡ one = same_write schema write one good taken.1 (subst (λ s. WriteFits s one) same leads.1.1) (leads.1.3 ∙ ap (λ s. write_line s one) same) in
+    let w : write ≡ one = same_write version schema write one good taken.1 (subst (λ (f : Frame). WriteFits f.version f.schema one) same leads.1.1) (leads.1.3 ∙ ap (λ (f : Frame). write_line f.schema one) same) in
     let e : false ≡ true = sym leads.1.2 ∙ ap (λ (v : Write). list_any (eq_by_cmp object_cmp v.0) objects) (sym w) ∙ written writes write.0 ∙ twice in
     cc e in
     turn_fails (λ k. writes_to_come row k objects) (faults.Malformed number) p a b c first mid count counter lt led
     (line_refused from (write_line schema write) b c mid last number (λ may. may) (taken.0, taken.2, line) other here)
 
 -- a write that was taken isn't added
-pub add_fails : {X : Type 0} (added : Result X Unread) (fault : ReadFault) (write : Write) (row : InRow) (schema : Schema) (count counter number : ℕ) (writes : List Write) (p : Place) (a b c : Option (List ℕ)) (first mid last : ℕ)
-    → check_tables schema ≡ None → row.frame.schema ≡ schema → counter < count → Led p (writes_to_come row (count - counter) (map (λ (w : Write). w.0) writes)) a b first mid
-    → Consumes b c (write_line schema write ++ 10 ∷ []) × WriteFits schema write × (last ≡ mid + 1) → IsLine (write_line schema write) → number ≡ last
+pub add_fails : {X : Type 0} (added : Result X Unread) (fault : ReadFault) (write : Write) (row : InRow) (version : Version) (schema : Schema) (count counter number : ℕ) (writes : List Write) (p : Place) (a b c : Option (List ℕ)) (first mid last : ℕ)
+    → check_tables schema ≡ None → row.frame ≡ frame_of version schema row.frame.sessions → counter < count → Led p (writes_to_come row (count - counter) (map (λ (w : Write). w.0) writes)) a b first mid
+    → Consumes b c (write_line schema write ++ 10 ∷ []) × WriteFits version schema write × (last ≡ mid + 1) → IsLine (write_line schema write) → number ≡ last
     → IfErr added (λ why. why ≡ unread.Malformed → is_some (own writes write.0) ≡ true) → Err fault ≡ told added number → FailsFrom fault p a c first
-add_fails (Ok x) fault write row schema count counter number writes p a b c first mid last good same lt led taken line here twice is = absurd cc
-add_fails (Err unread.Memory) fault write row schema count counter number writes p a b c first mid last good same lt led taken line here twice is =
+add_fails (Ok x) fault write row version schema count counter number writes p a b c first mid last good same lt led taken line here twice is = absurd cc
+add_fails (Err unread.Memory) fault write row version schema count counter number writes p a b c first mid last good same lt led taken line here twice is =
     let memory : fault ≡ faults.Memory = cc is in
     subst (λ (f : ReadFault). FailsFrom f p a c first) (sym memory) tt
-add_fails (Err unread.Malformed) fault write row schema count counter number writes p a b c first mid last good same lt led taken line here twice is =
+add_fails (Err unread.Malformed) fault write row version schema count counter number writes p a b c first mid last good same lt led taken line here twice is =
     let malformed : fault ≡ faults.Malformed number = cc is in
-    subst (λ (f : ReadFault). FailsFrom f p a c first) (sym malformed) (twice_fails write row schema count counter number writes p a b c first mid last good same lt led taken line here (twice refl))
+    subst (λ (f : ReadFault). FailsFrom f p a c first) (sym malformed) (twice_fails write row version schema count counter number writes p a b c first mid last good same lt led taken line here (twice refl))
 
 -- one more write
-pub write_more : (write : Write) (row : InRow) (schema : Schema) (count counter : ℕ) (writes now : List Write) (p : Place) (a b c : Option (List ℕ)) (first mid last : ℕ) → row.frame.schema ≡ schema → counter < count
-    → Led p (writes_to_come row (count - counter) (map (λ (w : Write). w.0) writes)) a b first mid → Consumes b c (write_line schema write ++ 10 ∷ []) × WriteFits schema write × (last ≡ mid + 1)
+pub write_more : (write : Write) (row : InRow) (version : Version) (schema : Schema) (count counter : ℕ) (writes now : List Write) (p : Place) (a b c : Option (List ℕ)) (first mid last : ℕ) → row.frame ≡ frame_of version schema row.frame.sessions → counter < count
+    → Led p (writes_to_come row (count - counter) (map (λ (w : Write). w.0) writes)) a b first mid → Consumes b c (write_line schema write ++ 10 ∷ []) × WriteFits version schema write × (last ≡ mid + 1)
     → is_some (own writes write.0) ≡ false → now ≡ writes ++ write ∷ [] → Led p (writes_to_come row (count - (counter + 1)) (map (λ (w : Write). w.0) now)) a c first last
-write_more write row schema count counter writes now p a b c first mid last same lt led taken fresh is =
+write_more write row version schema count counter writes now p a b c first mid last same lt led taken fresh is =
     let objects = map (λ (w : Write). w.0) writes in
     let more = count - (counter + 1) in
     let all : map (λ (w : Write). w.0) now ≡ objects ++ write.0 ∷ [] = ap (map (λ (w : Write). w.0)) is ∙ map-append (λ (w : Write). w.0) writes (write ∷ []) in
     let next : Led (WriteOf row more objects) (writes_to_come row more (objects ++ write.0 ∷ [])) b c mid last =
     led_line (WriteOf row more objects) (writes_to_come row more (objects ++ write.0 ∷ [])) (write_line schema write) b c mid last
-    (write, subst (λ s. WriteFits s write) (sym same) taken.1, written writes write.0 ∙ fresh, ap (λ s. write_line s write) (sym same), refl) taken.0 taken.2 in
+    (write, subst (λ (f : Frame). WriteFits f.version f.schema write) (sym same) taken.1, written writes write.0 ∙ fresh, ap (λ (f : Frame). write_line f.schema write) (sym same), refl) taken.0 taken.2 in
     subst (λ l. Led p (writes_to_come row more l) a c first last) (sym all)
     (turn (λ k. writes_to_come row k objects) (Ok write) p (λ _. writes_to_come row more (objects ++ write.0 ∷ [])) a b c first mid last count counter lt led next)
 
 -- ---- rows
 
-pub head_fails : (fault : ReadFault) (schema : Schema) (sessions rows : ℕ) (a b : Option (List ℕ)) (first : ℕ) → NoneTaken (IsSpelled head_text (HeadFits sessions)) fault a b first → FailsFrom fault (LogRow (frame_of schema sessions) rows) a b first
-head_fails fault schema sessions rows a b first taken =
-    none_fails (IsSpelled head_text (HeadFits sessions)) fault (LogRow (frame_of schema sessions) rows) a b first (λ may. may) (λ line leads. (leads.1.0, leads.1.1, leads.1.2)) taken
+pub head_fails : (fault : ReadFault) (version : Version) (schema : Schema) (sessions rows : ℕ) (a b : Option (List ℕ)) (first : ℕ) → NoneTaken (IsSpelled head_text (HeadFits sessions)) fault a b first → FailsFrom fault (LogRow (frame_of version schema sessions) rows) a b first
+head_fails fault version schema sessions rows a b first taken =
+    none_fails (IsSpelled head_text (HeadFits sessions)) fault (LogRow (frame_of version schema sessions) rows) a b first (λ may. may) (λ line leads. (leads.1.0, leads.1.1, leads.1.2)) taken
 
-pub head_led : (head : Head) (schema : Schema) (sessions rows : ℕ) (a b : Option (List ℕ)) (first last : ℕ) → Consumes a b (head_text head ++ 10 ∷ []) × HeadFits sessions head × (last ≡ first + 1)
-    → Led (LogRow (frame_of schema sessions) rows) (reads_to_come (in_row (frame_of schema sessions) rows head) head.reads) a b first last
-head_led head schema sessions rows a b first last taken =
-    led_line (LogRow (frame_of schema sessions) rows) (reads_to_come (in_row (frame_of schema sessions) rows head) head.reads) (head_text head) a b first last (head, taken.1, refl, refl) taken.0 taken.2
+pub head_led : (head : Head) (version : Version) (schema : Schema) (sessions rows : ℕ) (a b : Option (List ℕ)) (first last : ℕ) → Consumes a b (head_text head ++ 10 ∷ []) × HeadFits sessions head × (last ≡ first + 1)
+    → Led (LogRow (frame_of version schema sessions) rows) (reads_to_come (in_row (frame_of version schema sessions) rows head) head.reads) a b first last
+head_led head version schema sessions rows a b first last taken =
+    led_line (LogRow (frame_of version schema sessions) rows) (reads_to_come (in_row (frame_of version schema sessions) rows head) head.reads) (head_text head) a b first last (head, taken.1, refl, refl) taken.0 taken.2

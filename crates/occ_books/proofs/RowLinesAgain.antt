@@ -18,14 +18,15 @@ use Rattle.occ_types.specs.Row.{Row}
 use Rattle.occ_types.specs.Schema.{Table, Schema, check_key, check_tables, are_tables, is_name, in_table}
 use Rattle.occ_types.specs.Fits.{has_name}
 use Rattle.occ_model.specs.State.{Write}
-use Rattle.occ_text.specs.Spelling.{line_text, key_text, row_text, IsName, IsToken, AreTokens, KeyFits, RowFits}
+use Rattle.occ_text.specs.declared.versions.Version.{Version}
+use Rattle.occ_text.specs.Spelling.{line_text, key_text, end_text, row_text, IsName, IsToken, AreTokens, KeyFits, RowFits}
 use Rattle.occ_text.specs.Headers.{TableFits}
 use Rattle.occ_text.specs.Reading.{is_token, tokens_of, name_of, number_of, decimal_of, is_decimal, int_of}
 use Rattle.occ_text.specs.Escapes.{read_row, read_cell}
 use Rattle.occ_text.proofs.Escapes.{some_is}
 use Rattle.occ_text.proofs.Words.{both, IsToken-from_test, tokens_again}
-use Rattle.occ_text.proofs.Values.{key_reads, row_reads}
-use Rattle.occ_text.proofs.Spelled.{IsToken-name, IsToken-key, IsToken-row}
+use Rattle.occ_text.proofs.Values.{key_reads, end_reads, row_reads}
+use Rattle.occ_text.proofs.Spelled.{IsToken-name, IsToken-key, IsToken-end, IsToken-row}
 use Rattle.occ_text.proofs.Readers.{name_again}
 use Rattle.occ_text.proofs.TokenLists.{one_token, more_tokens}
 use Rattle.occ_text.proofs.SchemaLines.{each_fits, IsSchema-from_check}
@@ -98,7 +99,7 @@ pub record IsNamed (schema : Schema) (place : ℕ) : Type 0 where
 named_table : (schema : Schema) (place : ℕ) (table : Table) → check_tables schema ≡ None → slice_get schema place ≡ Some table → IsNamed schema place
 unfolding place_of
 named_table schema place table h e =
-    let good = (IsSchema-from_check schema h).so_far.each in
+    let good = (IsSchema-from_check schema h).each in
     let name : table_name schema place ≡ table.name = ap (λ (o : Option Table). elim o [ None ↦ [] | Some t ↦ t.name ]) e in
     let fits = (fits_there schema place table (each_fits schema good) e).name in
     let at = first_named schema place table good e in
@@ -120,26 +121,26 @@ table-again : (schema : Schema) (place : ℕ) (rest : Tokens) → IsNamed schema
 unfolding next_table
 table-again schema place rest named = ap (before rest) named.found
 
-key_in-again : (schema : Schema) (table : ℕ) (key : Key) → KeyFits key → check_key schema table key ≡ None → key_in schema table (key_text key) ≡ Some key
+key_in-again : (version : Version) (schema : Schema) (table : ℕ) (key : Key) → KeyFits version key → check_key schema table key ≡ None → key_in version schema table (key_text key) ≡ Some key
 unfolding key_in
-key_in-again schema table key fits good = rw ((key_reads (key_text key)).again key fits refl, good) refl
+key_in-again version schema table key fits good = rw ((key_reads version (key_text key)).again key fits refl, good) refl
 
 row_in-again : (schema : Schema) (table : ℕ) (row : Row) → RowFitsIn schema table row → row_in schema table (row_text row) ≡ Some row
 unfolding row_in
 row_in-again schema table row fits = rw ((row_reads (row_text row)).again row fits.cells refl, fits.checked) refl
 
-key-again : (schema : Schema) (table : ℕ) (key : Key) (rest : Tokens) → KeyFits key → check_key schema table key ≡ None → next_key schema table (key_text key ∷ rest) ≡ Some (key, rest)
+key-again : (version : Version) (schema : Schema) (table : ℕ) (key : Key) (rest : Tokens) → KeyFits version key → check_key schema table key ≡ None → next_key version schema table (key_text key ∷ rest) ≡ Some (key, rest)
 unfolding next_key
-key-again schema table key rest fits good = ap (before rest) (key_in-again schema table key fits good)
+key-again version schema table key rest fits good = ap (before rest) (key_in-again version schema table key fits good)
 
 row-again : (schema : Schema) (table : ℕ) (row : Row) (rest : Tokens) → RowFitsIn schema table row → next_row schema table (row_text row ∷ rest) ≡ Some (row, rest)
 unfolding next_row
 row-again schema table row rest fits = ap (before rest) (row_in-again schema table row fits)
 
-object-again : (schema : Schema) (object : Object) (rest : Tokens) → check_tables schema ≡ None → ObjectFits schema object → next_object schema (table_name schema object.0 ∷ key_text object.1 ∷ rest) ≡ Some (object, rest)
+object-again : (version : Version) (schema : Schema) (object : Object) (rest : Tokens) → check_tables schema ≡ None → ObjectFits version schema object → next_object version schema (table_name schema object.0 ∷ key_text object.1 ∷ rest) ≡ Some (object, rest)
 unfolding next_object
-object-again schema object rest good fits =
-    rw (table-again schema object.0 (key_text object.1 ∷ rest) (checked_table schema object.0 _ good fits.checked), key-again schema object.0 object.1 rest fits.key fits.checked) refl
+object-again version schema object rest good fits =
+    rw (table-again schema object.0 (key_text object.1 ∷ rest) (checked_table schema object.0 _ good fits.checked), key-again version schema object.0 object.1 rest fits.key fits.checked) refl
 
 -- no row is spelled as where there is none
 row_is_some : (row : Row) → RowFits row → bytes_eq (row_text row) (codes "none") ≡ false
@@ -160,9 +161,9 @@ found-again schema table (Some row) rest fits = rw (row_is_some row fits.cells, 
 
 -- ---- words of lines
 
-pub object_tokens : (schema : Schema) (object : Object) (rest : Tokens) → check_tables schema ≡ None → ObjectFits schema object → AreTokens rest → AreTokens (table_name schema object.0 ∷ key_text object.1 ∷ rest)
-object_tokens schema object rest good fits are =
-    more_tokens (table_name schema object.0) _ (IsToken-name _ (checked_table schema object.0 _ good fits.checked).name) (more_tokens (key_text object.1) rest (IsToken-key object.1 fits.key) are)
+pub object_tokens : (version : Version) (schema : Schema) (object : Object) (rest : Tokens) → check_tables schema ≡ None → ObjectFits version schema object → AreTokens rest → AreTokens (table_name schema object.0 ∷ key_text object.1 ∷ rest)
+object_tokens version schema object rest good fits are =
+    more_tokens (table_name schema object.0) _ (IsToken-name _ (checked_table schema object.0 _ good fits.checked).name) (more_tokens (key_text object.1) rest (IsToken-key version object.1 fits.key) are)
 
 found_token : (schema : Schema) (table : ℕ) (row : Option Row) → FoundFits schema table row → AreTokens (found_text row ∷ [])
 unfolding is_token
@@ -171,24 +172,24 @@ found_token schema table (Some row) fits = one_token (IsToken-row row fits.cells
 
 -- ---- reads
 
-one-again : (schema : Schema) (object : Object) (row : Option Row) → check_tables schema ≡ None → ObjectFits schema object → FoundFits schema object.0 row
-    → one_behind schema (table_name schema object.0 ∷ key_text object.1 ∷ found_text row ∷ []) ≡ Some (AskedOne object row)
+one-again : (version : Version) (schema : Schema) (object : Object) (row : Option Row) → check_tables schema ≡ None → ObjectFits version schema object → FoundFits schema object.0 row
+    → one_behind version schema (table_name schema object.0 ∷ key_text object.1 ∷ found_text row ∷ []) ≡ Some (AskedOne object row)
 unfolding one_behind
-one-again schema object row good fits found = rw (object-again schema object (found_text row ∷ []) good fits, found-again schema object.0 row [] found) refl
+one-again version schema object row good fits found = rw (object-again version schema object (found_text row ∷ []) good fits, found-again schema object.0 row [] found) refl
 
-next_span-again : (schema : Schema) (table : ℕ) (lower upper : Key) (rest : Tokens) → SpanFits schema (Span table (Some lower) (Some upper))
-    → next_span schema table (key_text lower ∷ key_text upper ∷ rest) ≡ Some (Span table (Some lower) (Some upper), rest)
+next_span-again : (version : Version) (schema : Schema) (table : ℕ) (lower upper : Option Key) (rest : Tokens) → SpanFits version schema (Span table lower upper)
+    → next_span version schema table (end_text lower ∷ end_text upper ∷ rest) ≡ Some (Span table lower upper, rest)
 unfolding next_span
-next_span-again schema table lower upper rest fits =
-    rw ((key_reads (key_text lower)).again lower fits.ends.0 refl, (key_reads (key_text upper)).again upper fits.ends.1 refl, fits.checked) refl
+next_span-again version schema table lower upper rest fits =
+    rw ((end_reads version (end_text lower)).again lower fits.ends.0 refl, (end_reads version (end_text upper)).again upper fits.ends.1 refl, fits.checked) refl
 
-span-again : (schema : Schema) (table : ℕ) (lower upper : Key) (count : ℕ) → check_tables schema ≡ None → SpanFits schema (Span table (Some lower) (Some upper)) → count ≤ 2 ^ 64 - 1
-    → span_behind schema (table_name schema table ∷ key_text lower ∷ key_text upper ∷ decimal count ∷ []) ≡ Some (AskedSpan (Span table (Some lower) (Some upper)) count)
+span-again : (version : Version) (schema : Schema) (table : ℕ) (lower upper : Option Key) (count : ℕ) → check_tables schema ≡ None → SpanFits version schema (Span table lower upper) → count ≤ 2 ^ 64 - 1
+    → span_behind version schema (table_name schema table ∷ end_text lower ∷ end_text upper ∷ decimal count ∷ []) ≡ Some (AskedSpan (Span table lower upper) count)
 unfolding span_behind
-span-again schema table lower upper count good fits small =
+span-again version schema table lower upper count good fits small =
     rw (
-      table-again schema table (key_text lower ∷ key_text upper ∷ decimal count ∷ []) (checked_table schema table _ good fits.checked),
-      next_span-again schema table lower upper (decimal count ∷ []) fits,
+      table-again schema table (end_text lower ∷ end_text upper ∷ decimal count ∷ []) (checked_table schema table _ good fits.checked),
+      next_span-again version schema table lower upper (decimal count ∷ []) fits,
       number-again (2 ^ 64 - 1) count [] wide small,
     ) refl
 
@@ -199,67 +200,65 @@ pub record Again {Y : Type 0} (read : Tokens → Option Y) (tokens : Tokens) (y 
 again_line : {Y : Type 0} (read : Tokens → Option Y) (tokens : Tokens) (y : Y) → Again read tokens y → option_and_then read (tokens_of (line_text tokens)) ≡ Some y
 again_line read tokens y a = ap (option_and_then read) (tokens_again tokens a.words) ∙ a.same
 
-pub asked-again : (schema : Schema) (asked : Asked) → check_tables schema ≡ None → AskedFits schema asked → Again (asked_in schema) (asked_tokens schema asked) asked
+pub asked-again : (version : Version) (schema : Schema) (asked : Asked) → check_tables schema ≡ None → AskedFits version schema asked → Again (asked_in version schema) (asked_tokens schema asked) asked
 unfolding asked_in is_token
-asked-again schema (AskedOne object row) good fits = record {
-  words = more_tokens (codes "one") _ (IsToken-from_test (codes "one") refl) (object_tokens schema object (found_text row ∷ []) good fits.0 (found_token schema object.0 row fits.1));
-  same = one-again schema object row good fits.0 fits.1;
+asked-again version schema (AskedOne object row) good fits = record {
+  words = more_tokens (codes "one") _ (IsToken-from_test (codes "one") refl) (object_tokens version schema object (found_text row ∷ []) good fits.0 (found_token schema object.0 row fits.1));
+  same = one-again version schema object row good fits.0 fits.1;
 }
-asked-again schema (AskedSpan (One table key) count) good fits = absurd fits.0.ends
-asked-again schema (AskedSpan (Span table None upper) count) good fits = absurd fits.0.ends
-asked-again schema (AskedSpan (Span table (Some lower) None) count) good fits = absurd fits.0.ends
-asked-again schema (AskedSpan (Span table (Some lower) (Some upper)) count) good fits = record {
+asked-again version schema (AskedSpan (One table key) count) good fits = absurd fits.0.ends
+asked-again version schema (AskedSpan (Span table lower upper) count) good fits = record {
   words = more_tokens (codes "span") _ (IsToken-from_test (codes "span") refl)
       (more_tokens (table_name schema table) _ (IsToken-name _ (checked_table schema table _ good fits.0.checked).name)
-      (more_tokens (key_text lower) _ (IsToken-key lower fits.0.ends.0) (more_tokens (key_text upper) _ (IsToken-key upper fits.0.ends.1) (one_token (token_of count fits.1)))));
-  same = span-again schema table lower upper count good fits.0 fits.1;
+      (more_tokens (end_text lower) _ (IsToken-end version lower fits.0.ends.0) (more_tokens (end_text upper) _ (IsToken-end version upper fits.0.ends.1) (one_token (token_of count fits.1)))));
+  same = span-again version schema table lower upper count good fits.0 fits.1;
 }
 
-pub asked_line-again : (schema : Schema) (asked : Asked) → check_tables schema ≡ None → AskedFits schema asked → asked_of_line schema (asked_text schema asked) ≡ Some asked
+pub asked_line-again : (version : Version) (schema : Schema) (asked : Asked) → check_tables schema ≡ None → AskedFits version schema asked → asked_of_line version schema (asked_text schema asked) ≡ Some asked
 unfolding asked_of_line
-asked_line-again schema asked good fits =
-    ap (λ l. option_and_then (asked_in schema) (tokens_of l)) (sym (asked_spelling schema asked fits))
-    ∙ again_line (asked_in schema) (asked_tokens schema asked) asked (asked-again schema asked good fits)
+asked_line-again version schema asked good fits =
+    ap (λ l. option_and_then (asked_in version schema) (tokens_of l)) (sym (asked_spelling version schema asked fits))
+    ∙ again_line (asked_in version schema) (asked_tokens schema asked) asked (asked-again version schema asked good fits)
 
 -- ---- rows that a range answered
 
 abbrev pub pair_tokens : Key × Row → Tokens
 pair_tokens pair = codes "pair" ∷ key_text pair.0 ∷ row_text pair.1 ∷ []
 
-pub pair_words : (schema : Schema) (table : ℕ) (pair : Key × Row) → PairFits schema table pair → AreTokens (pair_tokens pair)
+pub pair_words : (version : Version) (schema : Schema) (table : ℕ) (pair : Key × Row) → PairFits version schema table pair → AreTokens (pair_tokens pair)
 unfolding is_token
-pair_words schema table pair fits =
-    more_tokens (codes "pair") _ (IsToken-from_test (codes "pair") refl) (more_tokens (key_text pair.0) _ (IsToken-key pair.0 fits.0.key) (one_token (IsToken-row pair.1 fits.1.cells)))
+pair_words version schema table pair fits =
+    more_tokens (codes "pair") _ (IsToken-from_test (codes "pair") refl) (more_tokens (key_text pair.0) _ (IsToken-key version pair.0 fits.0.key) (one_token (IsToken-row pair.1 fits.1.cells)))
 
-pub pair_line-again : (schema : Schema) (table : ℕ) (pair : Key × Row) → PairFits schema table pair → pair_of_line schema table (pair_line pair) ≡ Some pair
+pub pair_line-again : (version : Version) (schema : Schema) (table : ℕ) (pair : Key × Row) → PairFits version schema table pair → pair_of_line version schema table (pair_line pair) ≡ Some pair
 unfolding pair_of_line pair_in next_word
-pair_line-again schema table pair fits =
-    ap (option_and_then (pair_in schema table)) (tokens_again (pair_tokens pair) (pair_words schema table pair fits))
-    ∙ rw (key-again schema table pair.0 (row_text pair.1 ∷ []) fits.0.key fits.0.checked, row-again schema table pair.1 [] fits.1) refl
+pair_line-again version schema table pair fits =
+    ap (option_and_then (pair_in version schema table)) (tokens_again (pair_tokens pair) (pair_words version schema table pair fits))
+    ∙ rw (key-again version schema table pair.0 (row_text pair.1 ∷ []) fits.0.key fits.0.checked, row-again schema table pair.1 [] fits.1) refl
 
 -- ---- writes
 
-pub write-again : (schema : Schema) (write : Write) → check_tables schema ≡ None → WriteFits schema write → Again (write_in schema) (write_tokens schema write) write
+pub write-again : (version : Version) (schema : Schema) (write : Write) → check_tables schema ≡ None → WriteFits version schema write → Again (write_in version schema) (write_tokens schema write) write
 unfolding write_in put_behind del_behind is_token
-write-again schema (object, None) good fits = record {
+write-again version schema (object, None) good fits = record {
   words = more_tokens (codes "del") _ (IsToken-from_test (codes "del") refl)
-      (more_tokens (table_name schema object.0) _ (IsToken-name _ (checked_table schema object.0 _ good fits.0.checked).name) (one_token (IsToken-key object.1 fits.0.key)));
-  same = rw (object-again schema object [] good fits.0) refl;
+      (more_tokens (table_name schema object.0) _ (IsToken-name _ (checked_table schema object.0 _ good fits.0.checked).name) (one_token (IsToken-key version object.1 fits.0.key)));
+  same = rw (object-again version schema object [] good fits.0) refl;
 }
-write-again schema (object, Some row) good fits = record {
-  words = more_tokens (codes "put") _ (IsToken-from_test (codes "put") refl) (object_tokens schema object (row_text row ∷ []) good fits.0 (one_token (IsToken-row row fits.1.cells)));
-  same = rw (object-again schema object (row_text row ∷ []) good fits.0, row-again schema object.0 row [] fits.1) refl;
+write-again version schema (object, Some row) good fits = record {
+  words = more_tokens (codes "put") _ (IsToken-from_test (codes "put") refl) (object_tokens version schema object (row_text row ∷ []) good fits.0 (one_token (IsToken-row row fits.1.cells)));
+  same = rw (object-again version schema object (row_text row ∷ []) good fits.0, row-again schema object.0 row [] fits.1) refl;
 }
 
 pub write_spelling : (schema : Schema) (write : Write) → line_text (write_tokens schema write) ≡ write_line schema write
 write_spelling schema (object, None) = refl
 write_spelling schema (object, Some row) = refl
 
-pub write_line-again : (schema : Schema) (write : Write) → check_tables schema ≡ None → WriteFits schema write → write_of_line schema (write_line schema write) ≡ Some write
+pub write_line-again : (version : Version) (schema : Schema) (write : Write) → check_tables schema ≡ None → WriteFits version schema write → write_of_line version schema (write_line schema write) ≡ Some write
 unfolding write_of_line
-write_line-again schema write good fits =
-    ap (λ l. option_and_then (write_in schema) (tokens_of l)) (sym (write_spelling schema write))
-    ∙ again_line (write_in schema) (write_tokens schema write) write (write-again schema write good fits)
+write_line-again version schema write good fits =
+    ap (λ l. option_and_then (write_in version schema) (tokens_of l)) (sym (write_spelling schema write))
+    ∙ again_line (write_in version schema) (write_tokens schema write) write (write-again version schema write good fits)
 
 -- ---- rows of the state
 
@@ -272,15 +271,15 @@ entry_word-IsToken sections.Store = IsToken-from_test (codes "at") refl
 abbrev pub at_tokens : Section → Schema → Object × Row → Tokens
 at_tokens section schema entry = entry_word section ∷ table_name schema entry.0.0 ∷ key_text entry.0.1 ∷ row_text entry.1 ∷ []
 
-pub at_words : (section : Section) (schema : Schema) (entry : Object × Row) → check_tables schema ≡ None → AtFits schema entry → AreTokens (at_tokens section schema entry)
-at_words section schema entry good fits =
-    more_tokens (entry_word section) _ (entry_word-IsToken section) (object_tokens schema entry.0 (row_text entry.1 ∷ []) good fits.0 (one_token (IsToken-row entry.1 fits.1.cells)))
+pub at_words : (version : Version) (section : Section) (schema : Schema) (entry : Object × Row) → check_tables schema ≡ None → AtFits version schema entry → AreTokens (at_tokens section schema entry)
+at_words version section schema entry good fits =
+    more_tokens (entry_word section) _ (entry_word-IsToken section) (object_tokens version schema entry.0 (row_text entry.1 ∷ []) good fits.0 (one_token (IsToken-row entry.1 fits.1.cells)))
 
-pub at_line-again : (section : Section) (schema : Schema) (entry : Object × Row) → check_tables schema ≡ None → AtFits schema entry → at_of_line section schema (entry_line section schema entry) ≡ Some entry
+pub at_line-again : (version : Version) (section : Section) (schema : Schema) (entry : Object × Row) → check_tables schema ≡ None → AtFits version schema entry → at_of_line version section schema (entry_line section schema entry) ≡ Some entry
 unfolding at_of_line at_in next_word
-at_line-again sections.Base schema entry good fits =
-    ap (option_and_then (at_in sections.Base schema)) (tokens_again (at_tokens sections.Base schema entry) (at_words sections.Base schema entry good fits))
-    ∙ rw (object-again schema entry.0 (row_text entry.1 ∷ []) good fits.0, row-again schema entry.0.0 entry.1 [] fits.1) refl
-at_line-again sections.Store schema entry good fits =
-    ap (option_and_then (at_in sections.Store schema)) (tokens_again (at_tokens sections.Store schema entry) (at_words sections.Store schema entry good fits))
-    ∙ rw (object-again schema entry.0 (row_text entry.1 ∷ []) good fits.0, row-again schema entry.0.0 entry.1 [] fits.1) refl
+at_line-again version sections.Base schema entry good fits =
+    ap (option_and_then (at_in version sections.Base schema)) (tokens_again (at_tokens sections.Base schema entry) (at_words version sections.Base schema entry good fits))
+    ∙ rw (object-again version schema entry.0 (row_text entry.1 ∷ []) good fits.0, row-again schema entry.0.0 entry.1 [] fits.1) refl
+at_line-again version sections.Store schema entry good fits =
+    ap (option_and_then (at_in version sections.Store schema)) (tokens_again (at_tokens sections.Store schema entry) (at_words version sections.Store schema entry good fits))
+    ∙ rw (object-again version schema entry.0 (row_text entry.1 ∷ []) good fits.0, row-again schema entry.0.0 entry.1 [] fits.1) refl

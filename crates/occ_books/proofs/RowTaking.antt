@@ -16,6 +16,7 @@ use Rattle.occ_model.specs.RangeLaws.{IsDistinctWrites}
 use Rattle.occ_model.proofs.RangeLaws.{sets_own}
 use Rattle.occ_model.specs.Log.{LogRow, Standing}
 use Rattle.occ_model.specs.declared.verdict.Cause.TheVariants.{Conflict, TooOld}
+use Rattle.occ_text.specs.declared.versions.Version.{Version}
 use Rattle.occ_text.specs.Spelling.{line_text}
 use Rattle.occ_print.specs.Books.{question_text, pair_line, read_lines, write_line, standing_text, row_line, row_lines}
 use Rattle.occ_book.specs.declared.rows.Standing.TheVariants as stands
@@ -68,16 +69,16 @@ rises_behind (Some last) (row ∷ rows) pair above rises = (rises.0, rises_behin
 pub rises-more : (rows now : List (Key × Row)) (pair : Key × Row) → now ≡ rows ++ pair ∷ [] → IsAbove (last_key rows) pair.0 → RisesFrom None rows → RisesFrom None now
 rises-more rows now pair is above so_far = subst (RisesFrom None) (sym is) (rises_behind None rows pair (subst (λ (k : Option Key). IsAbove k pair.0) (last_of rows) above) so_far)
 
-pub span_taken : (schema : Schema) (question : Question) (rows : List (Key × Row)) (n table : ℕ) (a b c : Option (List ℕ)) → TakesLines a b (asked_text schema (AskedSpan question n) ∷ []) × AskedFits schema (AskedSpan question n)
-    → table ≡ table_asked question → Gathered (λ (pair : Key × Row). pair_line pair ∷ []) (PairFits schema table) b c rows → length rows ≡ n → RisesFrom None rows
-    → TakesLines a c (read_lines schema (question, Rows rows)) × ReadFits schema (question, Rows rows)
-span_taken schema (One t key) rows n table a b c head same pairs count rises = absurd head.1.0.ends
-span_taken schema (Span t lower upper) rows n table a b c head same pairs count rises =
+pub span_taken : (version : Version) (schema : Schema) (question : Question) (rows : List (Key × Row)) (n table : ℕ) (a b c : Option (List ℕ)) → TakesLines a b (asked_text schema (AskedSpan question n) ∷ []) × AskedFits version schema (AskedSpan question n)
+    → table ≡ table_asked question → Gathered (λ (pair : Key × Row). pair_line pair ∷ []) (PairFits version schema table) b c rows → length rows ≡ n → RisesFrom None rows
+    → TakesLines a c (read_lines schema (question, Rows rows)) × ReadFits version schema (question, Rows rows)
+span_taken version schema (One t key) rows n table a b c head same pairs count rises = absurd head.1.0.ends
+span_taken version schema (Span t lower upper) rows n table a b c head same pairs count rises =
     let question = Span t lower upper in
     let first : TakesLines a b (line_text (question_text schema question ∷ decimal (length rows) ∷ []) ∷ []) =
     subst (λ (k : ℕ). TakesLines a b (line_text (question_text schema question ∷ decimal k ∷ []) ∷ [])) (sym count) head.0 in
     let rest : TakesLines b c (map pair_line rows) = subst (TakesLines b c) (single_lines pair_line rows) pairs.taken in
-    let g = subst (λ (k : ℕ). Gathered (λ (pair : Key × Row). pair_line pair ∷ []) (PairFits schema k) b c rows) same pairs in
+    let g = subst (λ (k : ℕ). Gathered (λ (pair : Key × Row). pair_line pair ∷ []) (PairFits version schema k) b c rows) same pairs in
     (more_lines (line_text (question_text schema question ∷ decimal (length rows) ∷ []) ∷ []) (map pair_line rows) a b c first rest, (head.1.0, g.fit, rises, subst (λ (k : ℕ). k ≤ 2 ^ 64 - 1) (sym count) head.1.1))
 
 -- ---- rows
@@ -117,12 +118,12 @@ head_line head reads writes row r w is =
     spelling head.place head.session head.number head.start head.finish head.reads head.writes head.standing
     ∙ (λ i. line_of (sym is.place i) (sym is.session i) (sym is.number i) (sym is.start i) (sym is.finish i) (rs i) (ws i) (stand_spelling head.standing row.standing is.stands i))
 
-pub row_taken : (schema : Schema) (sessions : ℕ) (head : Head) (reads : List Observation) (writes : List Write) (row : LogRow) (a b c d : Option (List ℕ))
+pub row_taken : (version : Version) (schema : Schema) (sessions : ℕ) (head : Head) (reads : List Observation) (writes : List Write) (row : LogRow) (a b c d : Option (List ℕ))
     → TakesLines a b (head_text head ∷ []) × HeadFits sessions head
-    → Gathered (read_lines schema) (ReadFits schema) b c reads × (length reads ≡ head.reads)
-    → Gathered (λ (write : Write). write_line schema write ∷ []) (WriteFits schema) c d writes × (length writes ≡ head.writes) × IsDistinctWrites writes
-    → IsRowOf head reads writes row → TakesLines a d (row_lines schema row) × LogRowFits schema sessions row
-row_taken schema sessions head reads writes row a b c d first read written is =
+    → Gathered (read_lines schema) (ReadFits version schema) b c reads × (length reads ≡ head.reads)
+    → Gathered (λ (write : Write). write_line schema write ∷ []) (WriteFits version schema) c d writes × (length writes ≡ head.writes) × IsDistinctWrites writes
+    → IsRowOf head reads writes row → TakesLines a d (row_lines schema row) × LogRowFits version schema sessions row
+row_taken version schema sessions head reads writes row a b c d first read written is =
     let first_line : TakesLines a b (row_line row ∷ []) = subst (λ (l : List ℕ). TakesLines a b (l ∷ [])) (head_line head reads writes row read.1 written.1 is) first.0 in
     let of_reads : TakesLines b c (flat_map (read_lines schema) row.reads) = subst (λ (l : List Observation). TakesLines b c (flat_map (read_lines schema) l)) (sym is.read) read.0.taken in
     let of_writes : TakesLines c d (map (write_line schema) row.writes) =
@@ -138,8 +139,8 @@ row_taken schema sessions head reads writes row a b c d first read written is =
         count_reads = subst (λ (k : ℕ). k ≤ 2 ^ 64 - 1) (sym (ap length is.read ∙ read.1)) first.1.reads;
         count_writes = subst (λ (k : ℕ). k ≤ 2 ^ 64 - 1) (sym (ap length is.written ∙ written.1)) first.1.writes;
         done = standing_fits (length row.writes) head.standing row.standing is.stands (subst (λ (k : ℕ). StandFits k head.standing) (sym (ap length is.written ∙ written.1)) first.1.stand);
-        reads = subst (AllByRecursion (ReadFits schema)) (sym is.read) read.0.fit;
-        writes = subst (AllByRecursion (WriteFits schema)) (sym is.written) written.0.fit;
+        reads = subst (AllByRecursion (ReadFits version schema)) (sym is.read) read.0.fit;
+        writes = subst (AllByRecursion (WriteFits version schema)) (sym is.written) written.0.fit;
         distinct = subst IsDistinctWrites (sym is.written) written.2;
       },
     )

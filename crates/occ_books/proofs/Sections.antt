@@ -23,9 +23,10 @@ use Rattle.occ_model.specs.World.{empty_base}
 use Rattle.occ_model.specs.State.{State, put}
 use Rattle.occ_book.specs.Marks.{Marked}
 use Rattle.occ_text.specs.declared.tokens.Unread.{Unread}
+use Rattle.occ_text.specs.declared.versions.Version.{Version}
 use Rattle.occ_text.specs.Escapes.{Gives}
 use Rattle.occ_text.specs.declared.headers.Limits.{Limits}
-use Rattle.occ_text.specs.Headers.{LimitsFit, limits_lines, table_text, count_text}
+use Rattle.occ_text.specs.Headers.{LimitsFit, KindsFit, limits_lines, table_text, count_text}
 use Rattle.occ_text.specs.HeaderTaking.{TablesSoFar, table_behind}
 use Rattle.occ_text.specs.Line.{lines_text}
 use Rattle.occ_print.specs.Books.{row_lines, number_line, mark_lines, entry_line, base_line, folded_lines, base_lines, row_count, state_lines}
@@ -47,25 +48,26 @@ use Rattle.occ_books.proofs.Rising.{LastIs, insert_last}
 
 -- ---- tables
 
-pub behind_read : {X : Type 0} (view : X → Table) (read : Result X Unread) (x : X) (tables : List Table) (shown line : List ℕ) (a b : Option (List ℕ)) → TablesSoFar tables → TakesLines a b (line ∷ []) → shown ≡ line
-    → Gives view read (table_behind tables shown) → read ≡ Ok x → TakesLines a b (table_text (view x) ∷ []) × TablesSoFar (tables ++ view x ∷ [])
-behind_read view read x tables shown line a b so_far taken same gives is =
-    let n = table_next tables shown (view x) so_far (subst (λ r. Gives view r (table_behind tables shown)) is gives) in
+pub behind_read : {X : Type 0} (version : Version) (view : X → Table) (read : Result X Unread) (x : X) (tables : List Table) (shown line : List ℕ) (a b : Option (List ℕ)) → TablesSoFar version tables → TakesLines a b (line ∷ []) → shown ≡ line
+    → Gives view read (table_behind version tables shown) → read ≡ Ok x → TakesLines a b (table_text (view x) ∷ []) × TablesSoFar version (tables ++ view x ∷ [])
+behind_read version view read x tables shown line a b so_far taken same gives is =
+    let n = table_next version tables shown (view x) so_far (subst (λ r. Gives view r (table_behind version tables shown)) is gives) in
     (subst (λ (l : List ℕ). TakesLines a b (l ∷ [])) (sym same ∙ n.spelled) taken, n.so_far)
 
-pub tables_next : {X : Type 0} (view : X → Table) (items shown now : List X) (x : X) (a b c : Option (List ℕ)) → now ≡ items ++ x ∷ [] → shown ≡ items → TakesLines a b (map table_text (map view items))
-    → TakesLines b c (table_text (view x) ∷ []) × TablesSoFar (map view shown ++ view x ∷ []) → TakesLines a c (map table_text (map view now)) × TablesSoFar (map view now)
-tables_next {X = X} view items shown now x a b c is same taken next =
+pub tables_next : {X : Type 0} (version : Version) (view : X → Table) (items shown now : List X) (x : X) (a b c : Option (List ℕ)) → now ≡ items ++ x ∷ [] → shown ≡ items → TakesLines a b (map table_text (map view items))
+    → TakesLines b c (table_text (view x) ∷ []) × TablesSoFar version (map view shown ++ view x ∷ []) → TakesLines a c (map table_text (map view now)) × TablesSoFar version (map view now)
+tables_next {X = X} version view items shown now x a b c is same taken next =
     let all : map view now ≡ map view items ++ view x ∷ [] = ap (map view) is ∙ map-append view items (x ∷ []) in (
       subst (TakesLines a c) (sym (ap (map table_text) all ∙ map-append table_text (map view items) (view x ∷ [])))
           (more_lines (map table_text (map view items)) (table_text (view x) ∷ []) a b c taken next.0),
-      subst TablesSoFar (ap (λ (l : List X). map view l ++ view x ∷ []) same ∙ sym all) next.1,
+      subst (TablesSoFar version) (ap (λ (l : List X). map view l ++ view x ∷ []) same ∙ sym all) next.1,
     )
 
-pub tables_end : (tables schema : List Table) (began : Began) (a b c : Option (List ℕ)) → TakesLines a b (map table_text tables) → TakesLines b c (began_text began ∷ []) × BeganFits began → (check_tables tables ≡ None) × (schema ≡ tables)
-    → TakesLines a c (map table_text schema ++ began_text began ∷ []) × (check_tables schema ≡ None) × BeganFits began
-tables_end tables schema began a b c taken next good =
-    subst (λ (s : List Table). TakesLines a c (map table_text s ++ began_text began ∷ []) × (check_tables s ≡ None) × BeganFits began) (sym good.1) (more_lines (map table_text tables) (began_text began ∷ []) a b c taken next.0, good.0, next.1)
+pub tables_end : (version : Version) (tables schema : List Table) (began : Began) (a b c : Option (List ℕ)) → TakesLines a b (map table_text tables) → KindsFit version tables → TakesLines b c (began_text began ∷ []) × BeganFits began
+    → (check_tables tables ≡ None) × (schema ≡ tables) → TakesLines a c (map table_text schema ++ began_text began ∷ []) × (check_tables schema ≡ None) × KindsFit version schema × BeganFits began
+tables_end version tables schema began a b c taken kinds next good =
+    subst (λ (s : List Table). TakesLines a c (map table_text s ++ began_text began ∷ []) × (check_tables s ≡ None) × KindsFit version s × BeganFits began) (sym good.1)
+    (more_lines (map table_text tables) (began_text began ∷ []) a b c taken next.0, good.0, kinds, next.1)
 
 -- ---- numbers of sessions
 
@@ -137,17 +139,17 @@ marks_end sessions n marks a b c first all =
 
 -- ---- rows of tables
 
-pub record StateSoFar (section : Section) (schema : Schema) (last : Option Object) (count tables : ℕ) (state : State) (a b : Option (List ℕ)) : Type 0 where
-  pub taken : Gathered (λ (entry : Object × Row). entry_line section schema entry ∷ []) (AtFits schema) a b (entries state)
+pub record StateSoFar (version : Version) (section : Section) (schema : Schema) (last : Option Object) (count tables : ℕ) (state : State) (a b : Option (List ℕ)) : Type 0 where
+  pub taken : Gathered (λ (entry : Object × Row). entry_line section schema entry ∷ []) (AtFits version schema) a b (entries state)
   pub number : length (entries state) ≡ count
   pub ends : LastIs last (entries state)
   pub all : tables ≡ length schema
 
-pub state_start : (section : Section) (schema : Schema) (tables : ℕ) (state : State) (a : Option (List ℕ)) → state ≡ empty → tables ≡ length schema → StateSoFar section schema None 0 tables state a a
-state_start section schema tables state a none all =
+pub state_start : (version : Version) (section : Section) (schema : Schema) (tables : ℕ) (state : State) (a : Option (List ℕ)) → state ≡ empty → tables ≡ length schema → StateSoFar version section schema None 0 tables state a a
+state_start version section schema tables state a none all =
     let e : entries state ≡ [] = ap entries none ∙ nil_from_length _ (sym (len-entries empty) ∙ len-empty object_cmp Row) in
     record {
-      taken = subst (Gathered (λ (entry : Object × Row). entry_line section schema entry ∷ []) (AtFits schema) a a) (sym e) (nothing _ _ a);
+      taken = subst (Gathered (λ (entry : Object × Row). entry_line section schema entry ∷ []) (AtFits version schema) a a) (sym e) (nothing _ _ a);
       number = ap length e;
       ends = e;
       all = all;
@@ -176,28 +178,28 @@ put-is : (state : State) (object : Object) (row : Row) → put state (object, So
 unfolding put
 put-is state object row = refl
 
-pub state_next : (section : Section) (schema : Schema) (last : Option Object) (count tables after : ℕ) (state new : State) (entry : Object × Row) (a b c : Option (List ℕ)) → StateSoFar section schema last count tables state a b
-    → TakesLines b c (entry_line section schema entry ∷ []) × AtFits schema entry → is_behind last entry.0 ≡ true → new ≡ put state (entry.0, Some entry.1) → after ≡ tables
-    → StateSoFar section schema (Some entry.0) (count + 1) after new a c
-state_next section schema last count tables after state new entry a b c so_far next up is same =
+pub state_next : (version : Version) (section : Section) (schema : Schema) (last : Option Object) (count tables after : ℕ) (state new : State) (entry : Object × Row) (a b c : Option (List ℕ)) → StateSoFar version section schema last count tables state a b
+    → TakesLines b c (entry_line section schema entry ∷ []) × AtFits version schema entry → is_behind last entry.0 ≡ true → new ≡ put state (entry.0, Some entry.1) → after ≡ tables
+    → StateSoFar version section schema (Some entry.0) (count + 1) after new a c
+state_next version section schema last count tables after state new entry a b c so_far next up is same =
     let more : entries new ≡ entries state ++ entry ∷ [] =
     ap entries (is ∙ put-is state entry.0 entry.1) ∙ insert_last object_cmp object_cmp_total last state entry.0 entry.1 so_far.ends (object_above last entry.0 up) in
     record {
-      taken = gathered_next _ (AtFits schema) (entries state) (entries new) entry a b c more so_far.taken next;
+      taken = gathered_next _ (AtFits version schema) (entries state) (entries new) entry a b c more so_far.taken next;
       number = count_more (entries state) (entries new) entry count more so_far.number;
       ends = (entries state, entry.1, more);
       all = same ∙ so_far.all;
     }
 
 -- all lines of so many rows were taken
-pub entries_end : (section : Section) (schema : Schema) (last : Option Object) (n i tables : ℕ) (state : State) (a b : Option (List ℕ)) → StateSoFar section schema last i tables state a b → i ≡ n
-    → Gathered (λ (entry : Object × Row). entry_line section schema entry ∷ []) (AtFits schema) a b (entries state) × (length (entries state) ≡ n)
-entries_end section schema last n i tables state a b so_far all = (so_far.taken, so_far.number ∙ all)
+pub entries_end : (version : Version) (section : Section) (schema : Schema) (last : Option Object) (n i tables : ℕ) (state : State) (a b : Option (List ℕ)) → StateSoFar version section schema last i tables state a b → i ≡ n
+    → Gathered (λ (entry : Object × Row). entry_line section schema entry ∷ []) (AtFits version schema) a b (entries state) × (length (entries state) ≡ n)
+entries_end version section schema last n i tables state a b so_far all = (so_far.taken, so_far.number ∙ all)
 
-pub state_end : (schema : Schema) (n : ℕ) (state : State) (a b c : Option (List ℕ)) → TakesLines a b (count_text (codes "state") n ∷ []) → n ≤ 2 ^ 64 - 1
-    → Gathered (λ (entry : Object × Row). entry_line sections.Store schema entry ∷ []) (AtFits schema) b c (entries state) × (length (entries state) ≡ n)
-    → TakesLines a c (state_lines schema state) × AllByRecursion (AtFits schema) (entries state) × (len state ≤ 2 ^ 64 - 1)
-state_end schema n state a b c first small all =
+pub state_end : (version : Version) (schema : Schema) (n : ℕ) (state : State) (a b c : Option (List ℕ)) → TakesLines a b (count_text (codes "state") n ∷ []) → n ≤ 2 ^ 64 - 1
+    → Gathered (λ (entry : Object × Row). entry_line sections.Store schema entry ∷ []) (AtFits version schema) b c (entries state) × (length (entries state) ≡ n)
+    → TakesLines a c (state_lines schema state) × AllByRecursion (AtFits version schema) (entries state) × (len state ≤ 2 ^ 64 - 1)
+state_end version schema n state a b c first small all =
     let is : n ≡ len state = sym all.1 ∙ sym (len-entries state) in
     let count : n ≡ row_count state = is ∙ sym (min-eq_left (subst (λ (k : ℕ). k ≤ 2 ^ 64 - 1) is small)) in (
       more_lines (count_text (codes "state") (row_count state) ∷ []) (map (entry_line sections.Store schema) (entries state)) a b c
@@ -210,16 +212,16 @@ state_end schema n state a b c first small all =
 -- ---- the base
 
 -- the lines of a base were taken behind its first one
-pub folded_end : (schema : Schema) (sessions : ℕ) (head : BaseHead) (last : FinMap nat_cmp ℕ) (state : State) (base : Base) (a b c : Option (List ℕ)) → BaseHeadFits head → base ≡ record { state = state; last = last; place = head.place }
+pub folded_end : (version : Version) (schema : Schema) (sessions : ℕ) (head : BaseHead) (last : FinMap nat_cmp ℕ) (state : State) (base : Base) (a b c : Option (List ℕ)) → BaseHeadFits head → base ≡ record { state = state; last = last; place = head.place }
     → Gathered (λ (mark : ℕ × ℕ). number_line sections.Base mark ∷ []) (EntryFits sessions) a b (entries last) × (length (entries last) ≡ head.numbers)
-    → Gathered (λ (entry : Object × Row). entry_line sections.Base schema entry ∷ []) (AtFits schema) b c (entries state) × (length (entries state) ≡ head.rows)
-    → FoldedTaken schema head base a c × BaseFits schema sessions base
-folded_end schema sessions head last state base a b c fits is numbers rows =
+    → Gathered (λ (entry : Object × Row). entry_line sections.Base schema entry ∷ []) (AtFits version schema) b c (entries state) × (length (entries state) ≡ head.rows)
+    → FoldedTaken schema head base a c × BaseFits version schema sessions base
+folded_end version schema sessions head last state base a b c fits is numbers rows =
     let counted : head.numbers ≡ len last = sym numbers.1 ∙ sym (len-entries last) in
     let long : head.rows ≡ len state = sym rows.1 ∙ sym (len-entries state) in
     let few : len state ≤ 2 ^ 64 - 1 = subst (λ (k : ℕ). k ≤ 2 ^ 64 - 1) long fits.rows in
     let told : head.rows ≡ row_count state = long ∙ sym (min-eq_left few) in
-    subst (λ (b : Base). FoldedTaken schema head b a c × BaseFits schema sessions b) (sym is) (
+    subst (λ (b : Base). FoldedTaken schema head b a c × BaseFits version schema sessions b) (sym is) (
       record {
         taken = more_lines (map (number_line sections.Base) (entries last)) (map (entry_line sections.Base schema) (entries state)) a b c
             (subst (TakesLines a b) (single_lines (number_line sections.Base) (entries last)) numbers.0.taken)
@@ -240,29 +242,29 @@ folded_end schema sessions head last state base a b c fits is numbers rows =
 no_entries : {X : Type 0} (es : List X) (P : X → Type 0) → es ≡ [] → AllByRecursion P es
 no_entries es P none = subst (AllByRecursion P) (sym none) tt
 
-nothing_fits : (schema : Schema) (sessions : ℕ) → BaseFits schema sessions empty_base
-nothing_fits schema sessions =
+nothing_fits : (version : Version) (schema : Schema) (sessions : ℕ) → BaseFits version schema sessions empty_base
+nothing_fits version schema sessions =
     let no_numbers : entries empty_base.last ≡ [] = nil_from_length _ (sym (len-entries empty_base.last) ∙ len-empty nat_cmp ℕ) in
     let no_rows : entries empty_base.state ≡ [] = nil_from_length _ (sym (len-entries empty_base.state) ∙ len-empty object_cmp Row) in
     record {
       place = omega arith;
       last = no_entries (entries empty_base.last) (EntryFits sessions) no_numbers;
       objects = subst (λ (k : ℕ). k ≤ 2 ^ 64 - 1) (sym (len-empty object_cmp Row)) (omega arith);
-      state = no_entries (entries empty_base.state) (AtFits schema) no_rows;
+      state = no_entries (entries empty_base.state) (AtFits version schema) no_rows;
       nothing = λ none. refl;
     }
 
-pub unfolded_front : (schema : Schema) (sessions rows : ℕ) (base : Base) (a : Option (List ℕ)) → base ≡ empty_base → FrontTaken schema (begun.Log rows) base rows a a × BaseFits schema sessions base
-unfolded_front schema sessions rows base a none =
-    subst (λ (b : Base). FrontTaken schema (begun.Log rows) b rows a a × BaseFits schema sessions b) (sym none) (
+pub unfolded_front : (version : Version) (schema : Schema) (sessions rows : ℕ) (base : Base) (a : Option (List ℕ)) → base ≡ empty_base → FrontTaken schema (begun.Log rows) base rows a a × BaseFits version schema sessions base
+unfolded_front version schema sessions rows base a none =
+    subst (λ (b : Base). FrontTaken schema (begun.Log rows) b rows a a × BaseFits version schema sessions b) (sym none) (
       record { lines = []; taken = Consumes-nil a; told = refl },
-      nothing_fits schema sessions,
+      nothing_fits version schema sessions,
     )
 
 -- a base, and how many rows follow
-pub folded_front : (schema : Schema) (sessions rows : ℕ) (head : BaseHead) (base : Base) (a b c : Option (List ℕ)) → FoldedTaken schema head base a b × BaseFits schema sessions base → BaseHeadFits head → TakesLines b c (count_text (codes "log") rows ∷ [])
-    → FrontTaken schema (begun.Base head) base rows a c × BaseFits schema sessions base
-folded_front schema sessions rows head base a b c folded fits next =
+pub folded_front : (version : Version) (schema : Schema) (sessions rows : ℕ) (head : BaseHead) (base : Base) (a b c : Option (List ℕ)) → FoldedTaken schema head base a b × BaseFits version schema sessions base → BaseHeadFits head → TakesLines b c (count_text (codes "log") rows ∷ [])
+    → FrontTaken schema (begun.Base head) base rows a c × BaseFits version schema sessions base
+folded_front version schema sessions rows head base a b c folded fits next =
     let numbers = map (number_line sections.Base) (entries base.last) in
     let told = map (entry_line sections.Base schema) (entries base.state) in
     let log = count_text (codes "log") rows in
@@ -279,14 +281,14 @@ folded_front schema sessions rows head base a b c folded fits next =
     )
 
 -- the same, by how the log begins
-pub log_front : (schema : Schema) (sessions rows : ℕ) (began : Began) (base : Base) (a : Option (List ℕ)) → began ≡ begun.Log rows → base ≡ empty_base → FrontTaken schema began base rows a a × BaseFits schema sessions base
-log_front schema sessions rows began base a is none =
-    subst (λ (b : Began). FrontTaken schema b base rows a a × BaseFits schema sessions base) (sym is) (unfolded_front schema sessions rows base a none)
+pub log_front : (version : Version) (schema : Schema) (sessions rows : ℕ) (began : Began) (base : Base) (a : Option (List ℕ)) → began ≡ begun.Log rows → base ≡ empty_base → FrontTaken schema began base rows a a × BaseFits version schema sessions base
+log_front version schema sessions rows began base a is none =
+    subst (λ (b : Began). FrontTaken schema b base rows a a × BaseFits version schema sessions base) (sym is) (unfolded_front version schema sessions rows base a none)
 
-pub base_front : (schema : Schema) (sessions rows : ℕ) (began : Began) (head : BaseHead) (base : Base) (a b c : Option (List ℕ)) → began ≡ begun.Base head → BeganFits began → FoldedTaken schema head base a b × BaseFits schema sessions base → TakesLines b c (count_text (codes "log") rows ∷ [])
-    → FrontTaken schema began base rows a c × BaseFits schema sessions base
-base_front schema sessions rows began head base a b c is fits folded next =
-    subst (λ (l : Began). FrontTaken schema l base rows a c × BaseFits schema sessions base) (sym is) (folded_front schema sessions rows head base a b c folded (subst BeganFits is fits) next)
+pub base_front : (version : Version) (schema : Schema) (sessions rows : ℕ) (began : Began) (head : BaseHead) (base : Base) (a b c : Option (List ℕ)) → began ≡ begun.Base head → BeganFits began → FoldedTaken schema head base a b × BaseFits version schema sessions base → TakesLines b c (count_text (codes "log") rows ∷ [])
+    → FrontTaken schema began base rows a c × BaseFits version schema sessions base
+base_front version schema sessions rows began head base a b c is fits folded next =
+    subst (λ (l : Began). FrontTaken schema l base rows a c × BaseFits version schema sessions base) (sym is) (folded_front version schema sessions rows head base a b c folded (subst BeganFits is fits) next)
 
 -- ---- the end
 
@@ -325,13 +327,13 @@ front_lines tables began base rows a b c opening front =
     subst (TakesLines a c) (append_assoc t (began_text began ∷ []) front.lines ∙ ap (λ (l : List (List ℕ)). t ++ l) front.told) (more_lines (t ++ began_text began ∷ []) front.lines a b c opening front.taken)
 
 pub whole_book : (limits : Limits) (tables : Schema) (began : Began) (base : Base) (rows entered : ℕ) (log : List LogRow) (marks : FinMap nat_cmp ℕ) (state : State) (counts : Counts) (a b c q d e f g : Option (List ℕ)) (m n : ℕ)
-    → TakesLines a b (limits_lines limits) × LimitsFit limits × (n ≡ m + 4) → TakesLines b c (map table_text tables ++ began_text began ∷ []) × (check_tables tables ≡ None) × BeganFits began
-    → FrontTaken tables began base rows c q × BaseFits tables limits.sessions base
-    → Gathered (row_lines tables) (LogRowFits tables limits.sessions) q d log → length log ≡ entered → entered ≡ rows → rows ≤ 2 ^ 64 - 1
+    → TakesLines a b (limits_lines limits) × LimitsFit limits × (n ≡ m + 4) → TakesLines b c (map table_text tables ++ began_text began ∷ []) × (check_tables tables ≡ None) × KindsFit limits.version tables × BeganFits began
+    → FrontTaken tables began base rows c q × BaseFits limits.version tables limits.sessions base
+    → Gathered (row_lines tables) (LogRowFits limits.version tables limits.sessions) q d log → length log ≡ entered → entered ≡ rows → rows ≤ 2 ^ 64 - 1
     → TakesLines d e (mark_lines marks) × AllByRecursion (EntryFits limits.sessions) (entries marks)
-    → TakesLines e f (state_lines tables state) × AllByRecursion (AtFits tables) (entries state) × (len state ≤ 2 ^ 64 - 1)
+    → TakesLines e f (state_lines tables state) × AllByRecursion (AtFits limits.version tables) (entries state) × (len state ≤ 2 ^ 64 - 1)
     → TakesLines f g (counts_text counts ∷ []) × CountsFit counts → EndTaken g
-    → IsBookText a (record { header = record { sessions = limits.sessions; queue = limits.queue; keep = limits.keep; tables = tables }; base = base; log = log; marks = marks; state = state; counter = counts.counter; low = counts.low })
+    → IsBookText a (record { header = record { version = limits.version; sessions = limits.sessions; queue = limits.queue; keep = limits.keep; tables = tables }; base = base; log = log; marks = marks; state = state; counter = counts.counter; low = counts.low })
 whole_book limits tables began base rows entered log marks state counts a b c q d e f g m n first opening fronted gathered count same few marked stated counted end =
     let s = limits_lines limits in
     let t = map table_text tables in
@@ -352,7 +354,7 @@ whole_book limits tables began base rows entered log marks state counts a b c q 
       ending = end.ending;
       whole = all_of a end.rest _ (Consumes-trans a g end.rest _ (lines_text end.lines) upto_counts end.taken) end.whole;
       fits = record {
-        header = record { sessions = first.1.sessions; queue = first.1.queue; keep = first.1.keep; tables = opening.1 };
+        header = record { sessions = first.1.sessions; queue = first.1.queue; keep = first.1.keep; tables = opening.1; kinds = opening.2 };
         base = fronted.1;
         rows = subst (λ (k : ℕ). k ≤ 2 ^ 64 - 1) (sym (count ∙ same)) few;
         log = gathered.fit;

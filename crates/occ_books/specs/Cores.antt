@@ -8,6 +8,7 @@ use Rattle.occ_model.specs.RangeLaws.{IsDistinctWrites}
 use Rattle.occ_model.specs.State.{Observation, Write, Found, Rows}
 use Rattle.occ_model.specs.Log.{LogRow}
 use Rattle.occ_model.specs.World.{World, empty_base, next_place, low}
+use Rattle.occ_text.specs.declared.versions.Version.{Version}
 use Rattle.occ_text.specs.Headers.{Header, HeaderFits}
 use Rattle.occ_text.specs.Spelling.{KeyFits, RowFits}
 use Rattle.occ_print.specs.Books.{Book}
@@ -37,27 +38,27 @@ pub record IsToldBase (world : World) : Type 0 where
   pub numbers : (session number : ℕ) → get world.base.last session ≡ Some number → number ≤ MAX_NUMBER
   pub nothing : world.base.place ≡ 0 → world.base ≡ empty_base
 
--- Words are there for numbers of 64 bits, for texts of UTF-8, and for ranges with both ends. Of a read a book has no more rows than such a number counts.
-abbrev pub ReadHasWords : Observation → Type 0
-ReadHasWords (One table key, Found row) = KeyFits key × IfSome row RowFits
-ReadHasWords (One table key, Rows rows) = Unit {0}
-ReadHasWords (Span table lower upper, Found row) = Unit {0}
-ReadHasWords (Span table lower upper, Rows rows) = EndsFit (Span table lower upper) × AllByRecursion (λ pair. KeyFits pair.0 × RowFits pair.1) rows × (length rows ≤ 2 ^ 64 - 1)
+-- Words are there for numbers of 64 bits and for texts of UTF-8, and in version 2 for keys of two parts and for missing ends. Of a read a book has no more rows than such a number counts.
+abbrev pub ReadHasWords : Version → Observation → Type 0
+ReadHasWords version (One table key, Found row) = KeyFits version key × IfSome row RowFits
+ReadHasWords version (One table key, Rows rows) = Unit {0}
+ReadHasWords version (Span table lower upper, Found row) = Unit {0}
+ReadHasWords version (Span table lower upper, Rows rows) = EndsFit version (Span table lower upper) × AllByRecursion (λ pair. KeyFits version pair.0 × RowFits pair.1) rows × (length rows ≤ 2 ^ 64 - 1)
 
-abbrev pub WriteHasWords : Write → Type 0
-WriteHasWords write = KeyFits write.0.1 × IfSome write.1 RowFits
+abbrev pub WriteHasWords : Version → Write → Type 0
+WriteHasWords version write = KeyFits version write.0.1 × IfSome write.1 RowFits
 
 -- a row of the log has words, and writes no object twice
-pub record RowHasWords (row : LogRow) : Type 0 where
-  pub reads : AllByRecursion ReadHasWords row.reads
-  pub writes : AllByRecursion WriteHasWords row.writes
+pub record RowHasWords (version : Version) (row : LogRow) : Type 0 where
+  pub reads : AllByRecursion (ReadHasWords version) row.reads
+  pub writes : AllByRecursion (WriteHasWords version) row.writes
   pub count_writes : length row.writes ≤ 2 ^ 64 - 1
   pub distinct : IsDistinctWrites row.writes
 
--- all that a book tells of a world has words
-pub record HasWords (world : World) : Type 0 where
-  pub log : AllByRecursion RowHasWords world.log
+-- all that a book tells of a world has words in a version
+pub record HasWords (version : Version) (world : World) : Type 0 where
+  pub log : AllByRecursion (RowHasWords version) world.log
   pub folded : len world.base.state ≤ 2 ^ 64 - 1
-  pub base : AllByRecursion (λ entry. KeyFits entry.0.1 × RowFits entry.1) (entries world.base.state)
+  pub base : AllByRecursion (λ entry. KeyFits version entry.0.1 × RowFits entry.1) (entries world.base.state)
   pub objects : len world.table ≤ 2 ^ 64 - 1
-  pub state : AllByRecursion (λ entry. KeyFits entry.0.1 × RowFits entry.1) (entries world.table)
+  pub state : AllByRecursion (λ entry. KeyFits version entry.0.1 × RowFits entry.1) (entries world.table)

@@ -9,10 +9,11 @@ use Rattle.occ_types.specs.Row.{Row}
 use Rattle.occ_types.specs.Schema.{Table, Schema, check_tables}
 use Rattle.occ_types.specs.Seen.{table_asked}
 use Rattle.occ_model.specs.State.{Write}
+use Rattle.occ_text.specs.declared.versions.Version as versions
 use Rattle.occ_text.specs.declared.faults.ReadFault.{ReadFault}
 use Rattle.occ_text.specs.declared.faults.ReadFault.TheVariants as faults
 use Rattle.occ_text.specs.Line.{IsLine, CannotStand, lines_text}
-use Rattle.occ_text.specs.Headers.{Within, count_text, table_text}
+use Rattle.occ_text.specs.Headers.{Within, version_text, count_text, table_text}
 use Rattle.occ_text.specs.HeaderTaking.{TablesSoFar}
 use Rattle.occ_print.specs.Books.{pair_line, write_line, entry_line}
 use Rattle.occ_print.specs.declared.sections.Section.{Section}
@@ -26,8 +27,9 @@ use Rattle.occ_books.specs.NumberLines.{HeadFits, MarkFits, CountsFit, BeganFits
 use Rattle.occ_books.specs.RowLines.{Asked, AskedOne, AskedSpan, AskedFits, PairFits, WriteFits, AtFits, asked_text}
 use Rattle.occ_books.specs.Taking.{is_behind}
 
--- what a header tells that the lines behind it have to fit
+-- what a header tells that the lines behind it have to fit, and the version in which they are read
 pub record Frame : Type 0 where
+  pub version : versions.Version
   pub schema : Schema
   pub sessions : ℕ
 
@@ -37,8 +39,8 @@ pub record InRow : Type 0 where
   pub rows : ℕ
   pub head : Head
 
-abbrev pub frame_of : Schema → ℕ → Frame
-frame_of schema sessions = record { schema = schema; sessions = sessions }
+abbrev pub frame_of : versions.Version → Schema → ℕ → Frame
+frame_of version schema sessions = record { version = version; schema = schema; sessions = sessions }
 
 abbrev pub in_row : Frame → ℕ → Head → InRow
 in_row frame rows head = record { frame = frame; rows = rows; head = head }
@@ -46,10 +48,10 @@ in_row frame rows head = record { frame = frame; rows = rows; head = head }
 -- what comes next; a number of lines, rows, reads or pairs is how many more come behind the next one
 pub data Place : Type 0 where
   Version : Place
-  Sessions : Place
-  Queue : (sessions : ℕ) → Place
-  Keep : (sessions : ℕ) → Place
-  Tables : (sessions : ℕ) → (tables : List Table) → Place
+  Sessions : versions.Version → Place
+  Queue : versions.Version → (sessions : ℕ) → Place
+  Keep : versions.Version → (sessions : ℕ) → Place
+  Tables : versions.Version → (sessions : ℕ) → (tables : List Table) → Place
   -- of the base, with how many of its rows come behind its numbers, or of the store
   NumberOf : Section → Frame → (rows : ℕ) → (numbers : ℕ) → (last : ℕ) → Place
   EntryOf : Section → Frame → (rows : ℕ) → (last : Option Object) → Place
@@ -127,34 +129,34 @@ last_key (row ∷ next ∷ rows) = last_key (next ∷ rows)
 abbrev pub Counted : List ℕ → ℕ → ℕ → List ℕ → Place → (ℕ → Place) → Type 0
 Counted word least most line next to = (n : ℕ) × Within least most n × (line ≡ count_text word n) × (next ≡ to n)
 
-abbrev pub OneMoreTable : ℕ → List Table → List ℕ → Place → Type 0
-OneMoreTable sessions tables line next = (table : Table) × TablesSoFar (tables ++ table ∷ []) × (line ≡ table_text table) × (next ≡ Tables sessions (tables ++ table ∷ []))
+abbrev pub OneMoreTable : versions.Version → ℕ → List Table → List ℕ → Place → Type 0
+OneMoreTable version sessions tables line next = (table : Table) × TablesSoFar version (tables ++ table ∷ []) × (line ≡ table_text table) × (next ≡ Tables version sessions (tables ++ table ∷ []))
 
 -- the line with which the log of a header begins
 abbrev pub Beginning : Frame → List ℕ → Place → Type 0
 Beginning frame line next = (began : Began) × BeganFits began × (line ≡ began_text began) × (next ≡ behind_began frame began)
 
-abbrev pub LogBegins : ℕ → List Table → List ℕ → Place → Type 0
-LogBegins sessions tables line next = (check_tables tables ≡ None) × Beginning (record { schema = tables; sessions = sessions }) line next
+abbrev pub LogBegins : versions.Version → ℕ → List Table → List ℕ → Place → Type 0
+LogBegins version sessions tables line next = (check_tables tables ≡ None) × Beginning (frame_of version tables sessions) line next
 
 abbrev pub Leads : Place → List ℕ → Place → Type 0
-Leads Version line next = (line ≡ codes "occ 1") × (next ≡ Sessions)
-Leads Sessions line next = Counted (codes "sessions") 1 64 line next Queue
-Leads (Queue sessions) line next = Counted (codes "queue") 1 1024 line next (λ n. Keep sessions)
-Leads (Keep sessions) line next = Counted (codes "keep") 1 4096 line next (λ n. Tables sessions [])
-Leads (Tables sessions tables) line next = OneMoreTable sessions tables line next ⊎ LogBegins sessions tables line next
+Leads Version line next = (version : versions.Version) × (line ≡ version_text version) × (next ≡ Sessions version)
+Leads (Sessions version) line next = Counted (codes "sessions") 1 64 line next (Queue version)
+Leads (Queue version sessions) line next = Counted (codes "queue") 1 1024 line next (λ n. Keep version sessions)
+Leads (Keep version sessions) line next = Counted (codes "keep") 1 4096 line next (λ n. Tables version sessions [])
+Leads (Tables version sessions tables) line next = OneMoreTable version sessions tables line next ⊎ LogBegins version sessions tables line next
 Leads (NumberOf section frame rows numbers last) line next = (mark : Mark) × MarkFits frame.sessions mark × (last < mark.session) × (line ≡ mark_text section mark)
     × (next ≡ numbers_to_come section frame rows numbers mark.session)
-Leads (EntryOf section frame rows last) line next = (entry : Object × Row) × AtFits frame.schema entry × (is_behind last entry.0 ≡ true) × (line ≡ entry_line section frame.schema entry)
+Leads (EntryOf section frame rows last) line next = (entry : Object × Row) × AtFits frame.version frame.schema entry × (is_behind last entry.0 ≡ true) × (line ≡ entry_line section frame.schema entry)
     × (next ≡ entries_to_come section frame rows (Some entry.0))
 Leads (Log frame) line next = Counted (codes "log") 0 (2 ^ 64 - 1) line next (rows_to_come frame)
 Leads (LogRow frame rows) line next = (head : Head) × HeadFits frame.sessions head × (line ≡ head_text head)
     × (next ≡ reads_to_come (record { frame = frame; rows = rows; head = head }) head.reads)
-Leads (ReadOf row reads) line next = (asked : Asked) × AskedFits row.frame.schema asked × (line ≡ asked_text row.frame.schema asked)
+Leads (ReadOf row reads) line next = (asked : Asked) × AskedFits row.frame.version row.frame.schema asked × (line ≡ asked_text row.frame.schema asked)
     × (next ≡ behind_read row reads asked)
-Leads (PairOf row reads table pairs last) line next = (pair : Key × Row) × PairFits row.frame.schema table pair × IsAbove last pair.0 × (line ≡ pair_line pair)
+Leads (PairOf row reads table pairs last) line next = (pair : Key × Row) × PairFits row.frame.version row.frame.schema table pair × IsAbove last pair.0 × (line ≡ pair_line pair)
     × (next ≡ pairs_to_come row reads table pairs (Some pair.0))
-Leads (WriteOf row writes written) line next = (write : Write) × WriteFits row.frame.schema write × (list_any (eq_by_cmp object_cmp write.0) written ≡ false)
+Leads (WriteOf row writes written) line next = (write : Write) × WriteFits row.frame.version row.frame.schema write × (list_any (eq_by_cmp object_cmp write.0) written ≡ false)
     × (line ≡ write_line row.frame.schema write) × (next ≡ writes_to_come row writes (written ++ write.0 ∷ []))
 Leads (Marks frame) line next = Counted (codes "marks") 0 (2 ^ 64 - 1) line next (λ n. numbers_to_come sections.Store frame 0 n 0)
 Leads (State frame) line next = Counted (codes "state") 0 (2 ^ 64 - 1) line next (λ n. entries_to_come sections.Store frame n None)

@@ -7,6 +7,7 @@ use Rattle.occ_types.specs.Object.{Object}
 use Rattle.occ_types.specs.Row.{Row}
 use Rattle.occ_types.specs.Schema.{Schema, check_key, check_row}
 use Rattle.occ_types.specs.Fits.{has_name}
+use Rattle.occ_text.specs.declared.versions.Version.{Version}
 use Rattle.occ_text.specs.Reading.{name_of}
 use Rattle.occ_text.specs.Escapes.{read_key, read_row}
 use Rattle.occ_text.specs.StepReading.{◌>>=◌}
@@ -21,10 +22,10 @@ unless_fault (Some fault) = None
 unfoldable pub place_of : Schema → List ℕ → Option ℕ
 place_of schema token = option_and_then (λ name. position (has_name name) schema) (name_of token)
 
--- a key of the table at a place
-unfoldable pub key_in : Schema → ℕ → List ℕ → Option Key
-key_in schema table token = do
-  key ← read_key token
+-- a key of the table at a place, in a text of a version
+unfoldable pub key_in : Version → Schema → ℕ → List ℕ → Option Key
+key_in version schema table token = do
+  key ← read_key version token
   good ← unless_fault (check_key schema table key)
   Some key
 
@@ -38,15 +39,15 @@ row_in schema table token = do
 unfoldable pub next_table : Schema → Tokens → Option (ℕ × Tokens)
 next_table schema tokens = option_and_then (λ t. before t.1 (place_of schema t.0)) (next_token tokens)
 
-unfoldable pub next_key : Schema → ℕ → Tokens → Option (Key × Tokens)
-next_key schema table tokens = option_and_then (λ t. before t.1 (key_in schema table t.0)) (next_token tokens)
+unfoldable pub next_key : Version → Schema → ℕ → Tokens → Option (Key × Tokens)
+next_key version schema table tokens = option_and_then (λ t. before t.1 (key_in version schema table t.0)) (next_token tokens)
 
 unfoldable pub next_row : Schema → ℕ → Tokens → Option (Row × Tokens)
 next_row schema table tokens = option_and_then (λ t. before t.1 (row_in schema table t.0)) (next_token tokens)
 
 -- a table and a key in it
-unfoldable pub next_object : Schema → Tokens → Option (Object × Tokens)
-next_object schema tokens = do
+unfoldable pub next_object : Version → Schema → Tokens → Option (Object × Tokens)
+next_object version schema tokens = do
   table ← next_table schema tokens
-  key ← next_key schema table.0 table.1
+  key ← next_key version schema table.0 table.1
   Some ((table.0, key.0), key.1)

@@ -16,6 +16,7 @@ use Rattle.occ_print.specs.Books.{number_line, entry_line, base_line, base_lines
 use Rattle.occ_print.specs.declared.sections.Section.TheVariants as sections
 use Rattle.occ_model.specs.Log.{Case, LogRow, Base, Standing, Open, Writing, Done, Back}
 use Rattle.occ_book.specs.declared.rows.Standing.TheVariants as stands
+use Rattle.occ_text.specs.declared.versions.Version.{Version}
 use Rattle.occ_text.specs.Line.{lines_text}
 use Rattle.occ_text.specs.Headers.{table_text, count_text}
 use Rattle.occ_text.specs.HeaderTaking.{TablesSoFar}
@@ -44,12 +45,12 @@ RisesFrom last [] = Unit {0}
 RisesFrom None (pair ∷ pairs) = RisesFrom (Some pair.0) pairs
 RisesFrom (Some last) (pair ∷ pairs) = (is_lt (key_cmp last pair.0) ≡ true) × RisesFrom (Some pair.0) pairs
 
--- a read that a book may have: a row of its table, or rows of it, by rising keys, for a range with both ends
-abbrev pub ReadFits : Schema → Observation → Type 0
-ReadFits schema (One table key, Found row) = ObjectFits schema (table, key) × FoundFits schema table row
-ReadFits schema (One table key, Rows rows) = ⊥
-ReadFits schema (Span table lower upper, Found row) = ⊥
-ReadFits schema (Span table lower upper, Rows rows) = SpanFits schema (Span table lower upper) × AllByRecursion (PairFits schema table) rows × RisesFrom None rows × (length rows ≤ 2 ^ 64 - 1)
+-- a read that a book may have: a row of its table, or rows of it, by rising keys, for a range whose ends the version has words for
+abbrev pub ReadFits : Version → Schema → Observation → Type 0
+ReadFits version schema (One table key, Found row) = ObjectFits version schema (table, key) × FoundFits schema table row
+ReadFits version schema (One table key, Rows rows) = ⊥
+ReadFits version schema (Span table lower upper, Found row) = ⊥
+ReadFits version schema (Span table lower upper, Rows rows) = SpanFits version schema (Span table lower upper) × AllByRecursion (PairFits version schema table) rows × RisesFrom None rows × (length rows ≤ 2 ^ 64 - 1)
 
 -- no more writes are done than there are, and a number has 64 bits
 abbrev pub StandingFits : ℕ → Standing → Type 0
@@ -59,7 +60,7 @@ StandingFits writes (Done number) = number ≤ 2 ^ 64 - 1
 StandingFits writes (Back cause) = Unit {0}
 
 -- a row of the log that a book of this header may have: numbers of 64 bits, as many reads and writes as such a number counts, and no object written twice
-pub record LogRowFits (schema : Schema) (sessions : ℕ) (row : LogRow) : Type 0 where
+pub record LogRowFits (version : Version) (schema : Schema) (sessions : ℕ) (row : LogRow) : Type 0 where
   pub place : row.place ≤ 2 ^ 64 - 1
   pub session : IsSession sessions row.session
   pub number : row.number ≤ 2 ^ 64 - 1
@@ -68,8 +69,8 @@ pub record LogRowFits (schema : Schema) (sessions : ℕ) (row : LogRow) : Type 0
   pub count_reads : length row.reads ≤ 2 ^ 64 - 1
   pub count_writes : length row.writes ≤ 2 ^ 64 - 1
   pub done : StandingFits (length row.writes) row.standing
-  pub reads : AllByRecursion (ReadFits schema) row.reads
-  pub writes : AllByRecursion (WriteFits schema) row.writes
+  pub reads : AllByRecursion (ReadFits version schema) row.reads
+  pub writes : AllByRecursion (WriteFits version schema) row.writes
   pub distinct : IsDistinctWrites row.writes
 
 -- ---- many of a kind
@@ -88,9 +89,9 @@ abbrev pub further_text : Further → List ℕ
 further_text (OneTable table) = table_text table
 further_text (Begins began) = began_text began
 
-abbrev pub FurtherFits : List Table → Further → Type 0
-FurtherFits tables (OneTable table) = TablesSoFar (tables ++ table ∷ [])
-FurtherFits tables (Begins began) = BeganFits began
+abbrev pub FurtherFits : Version → List Table → Further → Type 0
+FurtherFits version tables (OneTable table) = TablesSoFar version (tables ++ table ∷ [])
+FurtherFits version tables (Begins began) = BeganFits began
 
 module _ {Z : Type 0} where
   abbrev pub further_of : code_behind.Behind Z → Further
@@ -98,9 +99,9 @@ module _ {Z : Type 0} where
   further_of (behind.Began began) = Begins began
 
   -- the line behind those of tables
-  abbrev pub BehindTaken : code_behind.Behind Z → List Table → Option (List ℕ) → Option (List ℕ) → Type 0
-  BehindTaken (behind.Table table) tables before after = TakesLines before after (table_text (table_of table) ∷ []) × TablesSoFar (tables ++ table_of table ∷ [])
-  BehindTaken (behind.Began began) tables before after = TakesLines before after (began_text began ∷ []) × BeganFits began
+  abbrev pub BehindTaken : Version → code_behind.Behind Z → List Table → Option (List ℕ) → Option (List ℕ) → Type 0
+  BehindTaken version (behind.Table table) tables before after = TakesLines before after (table_text (table_of table) ∷ []) × TablesSoFar version (tables ++ table_of table ∷ [])
+  BehindTaken version (behind.Began began) tables before after = TakesLines before after (began_text began ∷ []) × BeganFits began
 
 -- ---- rows of the log
 

@@ -11,6 +11,7 @@ use Rattle.occ_text.specs.declared.faults.WriteFault.{WriteFault}
 use Rattle.occ_text.specs.declared.faults.WriteFault.TheVariants as faults
 use Rattle.occ_text.specs.declared.trouble.Trouble.{Trouble}
 use Rattle.occ_text.specs.declared.trouble.Trouble.TheVariants.{Read, Write, Memory, Malformed}
+use Rattle.occ_text.specs.declared.versions.Version as versions
 use Rattle.occ_text.specs.Line.{lines_text}
 use Rattle.occ_text.specs.Headers.{HeaderFits}
 use Rattle.occ_text.specs.HeaderTaking.{header_of}
@@ -39,22 +40,22 @@ abbrev pub EntryFits : ℕ → ℕ × ℕ → Type 0
 EntryFits sessions mark = IsSession sessions mark.0 × (mark.1 ≤ 2 ^ 64 - 1)
 
 -- What was folded fits a header, and has numbers of 64 bits. Where no row stood in front of the log, nothing was folded.
-pub record BaseFits (schema : Schema) (sessions : ℕ) (base : Base) : Type 0 where
+pub record BaseFits (version : versions.Version) (schema : Schema) (sessions : ℕ) (base : Base) : Type 0 where
   pub place : base.place ≤ 2 ^ 64 - 1
   pub last : AllByRecursion (EntryFits sessions) (entries base.last)
   pub objects : len base.state ≤ 2 ^ 64 - 1
-  pub state : AllByRecursion (AtFits schema) (entries base.state)
+  pub state : AllByRecursion (AtFits version schema) (entries base.state)
   pub nothing : base.place ≡ 0 → base ≡ empty_base
 
 -- all of a book fits its own header, and each count and number has 64 bits
 pub record BookFits (book : Book) : Type 0 where
   pub header : HeaderFits book.header
-  pub base : BaseFits book.header.tables book.header.sessions book.base
+  pub base : BaseFits book.header.version book.header.tables book.header.sessions book.base
   pub rows : length book.log ≤ 2 ^ 64 - 1
-  pub log : AllByRecursion (LogRowFits book.header.tables book.header.sessions) book.log
+  pub log : AllByRecursion (LogRowFits book.header.version book.header.tables book.header.sessions) book.log
   pub marks : AllByRecursion (EntryFits book.header.sessions) (entries book.marks)
   pub objects : len book.state ≤ 2 ^ 64 - 1
-  pub state : AllByRecursion (AtFits book.header.tables) (entries book.state)
+  pub state : AllByRecursion (AtFits book.header.version book.header.tables) (entries book.state)
   pub counts : CountsFit (record { counter = book.counter; low = book.low })
 
 -- a text, where it is known, is that of a book which fits its header, and perhaps an audit line behind it

@@ -32,8 +32,8 @@ pub fn no_text_of_a_book_is_malformed()
 /// The book of a core fits its header where its keys and rows have words. All other premises are what the law of a core ensures, and
 /// that the header is one of the core: so its sessions, its numbers and its counts fit, and all that stands in it fits the tables, what was
 /// folded out of its log too. A key or
-/// a row has words where its numbers have 64 bits and its texts are UTF-8, and a range where it has both ends.
+/// a row has words where its numbers have 64 bits and its texts are UTF-8. Keys of two parts and missing ends of ranges have words in version 2 alone.
 pub fn the_book_of_a_core_fits_where_it_has_words()
     ensures { (header : Header) → (world : World) → Invariant world → IsToldBase world → world.counter + active_count world ≤ MAX_COUNTER → length world.log ≤ MAX_LOG_ROWS
-        → IsInSchema world → IsHeaderOf header world → HasWords world → BookFits (book_in header world) }
+        → IsInSchema world → IsHeaderOf header world → HasWords header.version world → BookFits (book_in header world) }
 {}

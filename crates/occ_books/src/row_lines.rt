@@ -17,6 +17,7 @@ use occ_print::sections::{Section, entry_word};
 use occ_text::parts::Parts;
 use occ_text::texts;
 use occ_text::tokens::{Unread, is_word, tokens};
+use occ_text::versions::Version;
 use occ_types::{Key, Object, Question, Row, Schema};
 use std::alloc::Allocator;
 
@@ -30,9 +31,9 @@ pub enum Asked<A: Allocator> {
         /// Its row, if it had one.
         row: Option<Row<A>>,
     },
-    /// `span NAME KEY KEY K`: a range, which so many rows answered.
+    /// `span NAME KEY KEY K`: a range, which so many rows answered; `*` stands for a missing end.
     Span {
-        /// The range, with both of its ends.
+        /// The range.
         question: Question<A>,
         /// How many `pair` lines follow.
         count: u64,
@@ -74,35 +75,37 @@ fn next_found<A: Allocator + Clone>(
 #[tactic(auto, unfolding(crate::specs::RowLines::one_behind))]
 fn one_behind<A: Allocator + Copy>(
     alloc: A,
+    version: Version,
     schema: &Schema<A>,
     parts: &mut Parts<'_>,
 ) -> Result<Asked<A>, Unread>
-    ensures { Gives asked_of result (one_behind schema.now parts.old) }
+    ensures { Gives asked_of result (one_behind version schema.now parts.old) }
 {
-    let object = next_object(alloc, schema, parts)?;
+    let object = next_object(alloc, version, schema, parts)?;
     let row = next_found(alloc, schema, object.table, parts)?;
     at_end(parts).ok_or(Unread::Malformed)?;
     Ok(Asked::One { object, row })
 }
 
-/// A range of a table, from the next two tokens.
+/// A range of a table, from the next two tokens, of which one may say in version 2 that there is no end.
 #[tactic(auto, unfolding(crate::specs::RowLines::next_span))]
 fn next_span<A: Allocator + Copy>(
     alloc: A,
+    version: Version,
     schema: &Schema<A>,
     table: usize,
     parts: &mut Parts<'_>,
 ) -> Result<Question<A>, Unread>
-    ensures { GivesNext question_of result (next_span schema.now table parts.old) parts.new }
+    ensures { GivesNext question_of result (next_span version schema.now table parts.old) parts.new }
 {
     let first = next_token(parts).ok_or(Unread::Malformed)?;
-    let lower = texts::key(alloc, first)?;
+    let lower = texts::end(alloc, version, first)?;
     let second = next_token(parts).ok_or(Unread::Malformed)?;
-    let upper = texts::key(alloc, second)?;
+    let upper = texts::end(alloc, version, second)?;
     let question = Question::Span {
         table,
-        lower: Some(lower),
-        upper: Some(upper),
+        lower,
+        upper,
     };
     unless_fault(schema.check_question(&question)).ok_or(Unread::Malformed)?;
     Ok(question)
@@ -112,13 +115,14 @@ fn next_span<A: Allocator + Copy>(
 #[tactic(auto, unfolding(crate::specs::RowLines::span_behind))]
 fn span_behind<A: Allocator + Copy>(
     alloc: A,
+    version: Version,
     schema: &Schema<A>,
     parts: &mut Parts<'_>,
 ) -> Result<Asked<A>, Unread>
-    ensures { Gives asked_of result (span_behind schema.now parts.old) }
+    ensures { Gives asked_of result (span_behind version schema.now parts.old) }
 {
     let table = next_table(schema, parts).ok_or(Unread::Malformed)?;
-    let question = next_span(alloc, schema, table, parts)?;
+    let question = next_span(alloc, version, schema, table, parts)?;
     let count = next_number(parts, u64::MAX).ok_or(Unread::Malformed)?;
     at_end(parts).ok_or(Unread::Malformed)?;
     Ok(Asked::Span { question, count })
@@ -127,16 +131,17 @@ fn span_behind<A: Allocator + Copy>(
 #[tactic(auto, unfolding(crate::specs::RowLines::asked_in))]
 fn asked_in<A: Allocator + Copy>(
     alloc: A,
+    version: Version,
     schema: &Schema<A>,
     parts: &mut Parts<'_>,
 ) -> Result<Asked<A>, Unread>
-    ensures { Gives asked_of result (asked_in schema.now parts.old) }
+    ensures { Gives asked_of result (asked_in version schema.now parts.old) }
 {
     let word = next_token(parts).ok_or(Unread::Malformed)?;
     if is_word(word, "one") {
-        one_behind(alloc, schema, parts)
+        one_behind(alloc, version, schema, parts)
     } else if is_word(word, "span") {
-        span_behind(alloc, schema, parts)
+        span_behind(alloc, version, schema, parts)
     } else {
         Err(Unread::Malformed)
     }
@@ -145,41 +150,44 @@ fn asked_in<A: Allocator + Copy>(
 #[tactic(auto, unfolding(crate::specs::RowLines::asked_of_line))]
 fn asked_value<A: Allocator + Copy>(
     alloc: A,
+    version: Version,
     schema: &Schema<A>,
     line: &[u8],
 ) -> Result<Asked<A>, Unread>
-    ensures { Gives asked_of result (asked_of_line schema.now line.now) }
+    ensures { Gives asked_of result (asked_of_line version schema.now line.now) }
 {
     let mut parts = tokens(line).ok_or(Unread::Malformed)?;
-    asked_in(alloc, schema, &mut parts)
+    asked_in(alloc, version, schema, &mut parts)
 }
 
-/// A read, under a schema. `Malformed` where the line is none; `Memory` where it was refused.
+/// A read, in a version and under a schema. `Malformed` where the line is none; `Memory` where it was refused.
 pub fn read_asked<A: Allocator + Copy>(
     alloc: A,
+    version: Version,
     schema: &Schema<A>,
     line: &[u8],
 ) -> Result<Asked<A>, Unread>
-    ensures exact { Gives asked_of result (asked_of_line schema.now line.now) }
-    ensures found { IfOk result (λ x. (line.now ≡ asked_text schema.now (asked_of x)) × AskedFits schema.now (asked_of x)) }
-    ensures again { (asked : PlainAsked) → AskedFits schema.now asked → line.now ≡ asked_text schema.now asked → Gives asked_of result (Some asked) }
+    ensures exact { Gives asked_of result (asked_of_line version schema.now line.now) }
+    ensures found { IfOk result (λ x. (line.now ≡ asked_text schema.now (asked_of x)) × AskedFits version schema.now (asked_of x)) }
+    ensures again { (asked : PlainAsked) → AskedFits version schema.now asked → line.now ≡ asked_text schema.now asked → Gives asked_of result (Some asked) }
 {
     // its tables make a schema, so a table's name finds its place again
     let _tables = schema.tables();
-    asked_value(alloc, schema, line)
+    asked_value(alloc, version, schema, line)
 }
 
 #[tactic(auto, unfolding(crate::specs::RowLines::pair_in))]
 fn pair_in<A: Allocator + Copy>(
     alloc: A,
+    version: Version,
     schema: &Schema<A>,
     table: usize,
     parts: &mut Parts<'_>,
 ) -> Result<(Key<A>, Row<A>), Unread>
-    ensures { Gives pair_of result (pair_in schema.now table parts.old) }
+    ensures { Gives pair_of result (pair_in version schema.now table parts.old) }
 {
     next_word(parts, "pair").ok_or(Unread::Malformed)?;
-    let key = next_key(alloc, schema, table, parts)?;
+    let key = next_key(alloc, version, schema, table, parts)?;
     let row = next_row(alloc, schema, table, parts)?;
     at_end(parts).ok_or(Unread::Malformed)?;
     Ok((key, row))
@@ -188,41 +196,44 @@ fn pair_in<A: Allocator + Copy>(
 #[tactic(auto, unfolding(crate::specs::RowLines::pair_of_line))]
 fn pair_value<A: Allocator + Copy>(
     alloc: A,
+    version: Version,
     schema: &Schema<A>,
     table: usize,
     line: &[u8],
 ) -> Result<(Key<A>, Row<A>), Unread>
-    ensures { Gives pair_of result (pair_of_line schema.now table line.now) }
+    ensures { Gives pair_of result (pair_of_line version schema.now table line.now) }
 {
     let mut parts = tokens(line).ok_or(Unread::Malformed)?;
-    pair_in(alloc, schema, table, &mut parts)
+    pair_in(alloc, version, schema, table, &mut parts)
 }
 
-/// A row that a range answered, of the table at a place: `pair KEY ROW`. `Malformed` where the line is none; `Memory` where it
+/// A row that a range answered, of the table at a place, in a version: `pair KEY ROW`. `Malformed` where the line is none; `Memory` where it
 /// was refused.
 pub fn read_pair<A: Allocator + Copy>(
     alloc: A,
+    version: Version,
     schema: &Schema<A>,
     table: usize,
     line: &[u8],
 ) -> Result<(Key<A>, Row<A>), Unread>
-    ensures exact { Gives pair_of result (pair_of_line schema.now table line.now) }
-    ensures found { IfOk result (λ x. (line.now ≡ pair_line (pair_of x)) × PairFits schema.now table (pair_of x)) }
-    ensures again { (pair : PlainKey × PlainRow) → PairFits schema.now table pair → line.now ≡ pair_line pair → Gives pair_of result (Some pair) }
+    ensures exact { Gives pair_of result (pair_of_line version schema.now table line.now) }
+    ensures found { IfOk result (λ x. (line.now ≡ pair_line (pair_of x)) × PairFits version schema.now table (pair_of x)) }
+    ensures again { (pair : PlainKey × PlainRow) → PairFits version schema.now table pair → line.now ≡ pair_line pair → Gives pair_of result (Some pair) }
 {
-    pair_value(alloc, schema, table, line)
+    pair_value(alloc, version, schema, table, line)
 }
 
 /// What stands behind `put`.
 #[tactic(auto, unfolding(crate::specs::RowLines::put_behind))]
 fn put_behind<A: Allocator + Copy>(
     alloc: A,
+    version: Version,
     schema: &Schema<A>,
     parts: &mut Parts<'_>,
 ) -> Result<(Object<A>, Option<Row<A>>), Unread>
-    ensures { Gives write_of result (put_behind schema.now parts.old) }
+    ensures { Gives write_of result (put_behind version schema.now parts.old) }
 {
-    let object = next_object(alloc, schema, parts)?;
+    let object = next_object(alloc, version, schema, parts)?;
     let row = next_row(alloc, schema, object.table, parts)?;
     at_end(parts).ok_or(Unread::Malformed)?;
     Ok((object, Some(row)))
@@ -232,12 +243,13 @@ fn put_behind<A: Allocator + Copy>(
 #[tactic(auto, unfolding(crate::specs::RowLines::del_behind))]
 fn del_behind<A: Allocator + Copy>(
     alloc: A,
+    version: Version,
     schema: &Schema<A>,
     parts: &mut Parts<'_>,
 ) -> Result<(Object<A>, Option<Row<A>>), Unread>
-    ensures { Gives write_of result (del_behind schema.now parts.old) }
+    ensures { Gives write_of result (del_behind version schema.now parts.old) }
 {
-    let object = next_object(alloc, schema, parts)?;
+    let object = next_object(alloc, version, schema, parts)?;
     at_end(parts).ok_or(Unread::Malformed)?;
     Ok((object, None))
 }
@@ -245,16 +257,17 @@ fn del_behind<A: Allocator + Copy>(
 #[tactic(auto, unfolding(crate::specs::RowLines::write_in))]
 fn write_in<A: Allocator + Copy>(
     alloc: A,
+    version: Version,
     schema: &Schema<A>,
     parts: &mut Parts<'_>,
 ) -> Result<(Object<A>, Option<Row<A>>), Unread>
-    ensures { Gives write_of result (write_in schema.now parts.old) }
+    ensures { Gives write_of result (write_in version schema.now parts.old) }
 {
     let word = next_token(parts).ok_or(Unread::Malformed)?;
     if is_word(word, "put") {
-        put_behind(alloc, schema, parts)
+        put_behind(alloc, version, schema, parts)
     } else if is_word(word, "del") {
-        del_behind(alloc, schema, parts)
+        del_behind(alloc, version, schema, parts)
     } else {
         Err(Unread::Malformed)
     }
@@ -263,42 +276,45 @@ fn write_in<A: Allocator + Copy>(
 #[tactic(auto, unfolding(crate::specs::RowLines::write_of_line))]
 fn write_value<A: Allocator + Copy>(
     alloc: A,
+    version: Version,
     schema: &Schema<A>,
     line: &[u8],
 ) -> Result<(Object<A>, Option<Row<A>>), Unread>
-    ensures { Gives write_of result (write_of_line schema.now line.now) }
+    ensures { Gives write_of result (write_of_line version schema.now line.now) }
 {
     let mut parts = tokens(line).ok_or(Unread::Malformed)?;
-    write_in(alloc, schema, &mut parts)
+    write_in(alloc, version, schema, &mut parts)
 }
 
-/// A write, under a schema: `put NAME KEY ROW`, or `del NAME KEY` with no row. `Malformed` where the line is none; `Memory`
+/// A write, in a version and under a schema: `put NAME KEY ROW`, or `del NAME KEY` with no row. `Malformed` where the line is none; `Memory`
 /// where it was refused.
 pub fn read_write<A: Allocator + Copy>(
     alloc: A,
+    version: Version,
     schema: &Schema<A>,
     line: &[u8],
 ) -> Result<(Object<A>, Option<Row<A>>), Unread>
-    ensures exact { Gives write_of result (write_of_line schema.now line.now) }
-    ensures found { IfOk result (λ x. (line.now ≡ write_line schema.now (write_of x)) × WriteFits schema.now (write_of x)) }
-    ensures again { (write : PlainWrite) → WriteFits schema.now write → line.now ≡ write_line schema.now write → Gives write_of result (Some write) }
+    ensures exact { Gives write_of result (write_of_line version schema.now line.now) }
+    ensures found { IfOk result (λ x. (line.now ≡ write_line schema.now (write_of x)) × WriteFits version schema.now (write_of x)) }
+    ensures again { (write : PlainWrite) → WriteFits version schema.now write → line.now ≡ write_line schema.now write → Gives write_of result (Some write) }
 {
     // its tables make a schema, so a table's name finds its place again
     let _tables = schema.tables();
-    write_value(alloc, schema, line)
+    write_value(alloc, version, schema, line)
 }
 
 #[tactic(auto, unfolding(crate::specs::RowLines::at_in))]
 fn at_in<A: Allocator + Copy>(
     alloc: A,
+    version: Version,
     section: Section,
     schema: &Schema<A>,
     parts: &mut Parts<'_>,
 ) -> Result<(Object<A>, Row<A>), Unread>
-    ensures { Gives at_of result (at_in section schema.now parts.old) }
+    ensures { Gives at_of result (at_in version section schema.now parts.old) }
 {
     next_word(parts, entry_word(section)).ok_or(Unread::Malformed)?;
-    let object = next_object(alloc, schema, parts)?;
+    let object = next_object(alloc, version, schema, parts)?;
     let row = next_row(alloc, schema, object.table, parts)?;
     at_end(parts).ok_or(Unread::Malformed)?;
     Ok((object, row))
@@ -307,28 +323,30 @@ fn at_in<A: Allocator + Copy>(
 #[tactic(auto, unfolding(crate::specs::RowLines::at_of_line))]
 fn at_value<A: Allocator + Copy>(
     alloc: A,
+    version: Version,
     section: Section,
     schema: &Schema<A>,
     line: &[u8],
 ) -> Result<(Object<A>, Row<A>), Unread>
-    ensures { Gives at_of result (at_of_line section schema.now line.now) }
+    ensures { Gives at_of result (at_of_line version section schema.now line.now) }
 {
     let mut parts = tokens(line).ok_or(Unread::Malformed)?;
-    at_in(alloc, section, schema, &mut parts)
+    at_in(alloc, version, section, schema, &mut parts)
 }
 
-/// A row of a state, in a section and under a schema: `at NAME KEY ROW` or `from NAME KEY ROW`. `Malformed` where the line is none; `Memory` where it was refused.
+/// A row of a state, in a version, a section and under a schema: `at NAME KEY ROW` or `from NAME KEY ROW`. `Malformed` where the line is none; `Memory` where it was refused.
 pub fn read_at<A: Allocator + Copy>(
     alloc: A,
+    version: Version,
     section: Section,
     schema: &Schema<A>,
     line: &[u8],
 ) -> Result<(Object<A>, Row<A>), Unread>
-    ensures exact { Gives at_of result (at_of_line section schema.now line.now) }
-    ensures found { IfOk result (λ x. (line.now ≡ entry_line section schema.now (at_of x)) × AtFits schema.now (at_of x)) }
-    ensures again { (entry : PlainObject × PlainRow) → AtFits schema.now entry → line.now ≡ entry_line section schema.now entry → Gives at_of result (Some entry) }
+    ensures exact { Gives at_of result (at_of_line version section schema.now line.now) }
+    ensures found { IfOk result (λ x. (line.now ≡ entry_line section schema.now (at_of x)) × AtFits version schema.now (at_of x)) }
+    ensures again { (entry : PlainObject × PlainRow) → AtFits version schema.now entry → line.now ≡ entry_line section schema.now entry → Gives at_of result (Some entry) }
 {
     // its tables make a schema, so a table's name finds its place again
     let _tables = schema.tables();
-    at_value(alloc, section, schema, line)
+    at_value(alloc, version, section, schema, line)
 }

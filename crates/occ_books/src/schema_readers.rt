@@ -11,6 +11,7 @@ use crate::cursors::next_token;
 use occ_text::parts::Parts;
 use occ_text::texts;
 use occ_text::tokens::{Unread, name};
+use occ_text::versions::Version;
 use occ_types::{Fault, Key, Object, Row, Schema};
 use std::alloc::Allocator;
 
@@ -30,17 +31,18 @@ fn place_of<A: Allocator>(schema: &Schema<A>, token: &[u8]) -> Option<usize>
     schema.table_named(name)
 }
 
-/// A key of the table at a place.
+/// A key of the table at a place, in a text of a version.
 #[tactic(auto, unfolding(crate::specs::SchemaReaders::key_in))]
-fn key_in<A: Allocator>(
+fn key_in<A: Allocator + Copy>(
     alloc: A,
+    version: Version,
     schema: &Schema<A>,
     table: usize,
     token: &[u8],
 ) -> Result<Key<A>, Unread>
-    ensures { Gives key_of result (key_in schema.now table token.now) }
+    ensures { Gives key_of result (key_in version schema.now table token.now) }
 {
-    let key = texts::key(alloc, token)?;
+    let key = texts::key(alloc, version, token)?;
     unless_fault(schema.check_key(table, &key)).ok_or(Unread::Malformed)?;
     Ok(key)
 }
@@ -72,16 +74,17 @@ pub(crate) fn next_table<A: Allocator>(schema: &Schema<A>, parts: &mut Parts<'_>
 
 /// The next token as a key of a table.
 #[tactic(auto, unfolding(crate::specs::SchemaReaders::next_key))]
-pub(crate) fn next_key<A: Allocator>(
+pub(crate) fn next_key<A: Allocator + Copy>(
     alloc: A,
+    version: Version,
     schema: &Schema<A>,
     table: usize,
     parts: &mut Parts<'_>,
 ) -> Result<Key<A>, Unread>
-    ensures { GivesNext key_of result (next_key schema.now table parts.old) parts.new }
+    ensures { GivesNext key_of result (next_key version schema.now table parts.old) parts.new }
 {
     let token = next_token(parts).ok_or(Unread::Malformed)?;
-    let key = key_in(alloc, schema, table, token)?;
+    let key = key_in(alloc, version, schema, table, token)?;
     Ok(key)
 }
 
@@ -102,14 +105,15 @@ pub(crate) fn next_row<A: Allocator + Clone>(
 
 /// The name of a row, from the next two tokens: its table's name and its key.
 #[tactic(auto, unfolding(crate::specs::SchemaReaders::next_object))]
-pub(crate) fn next_object<A: Allocator>(
+pub(crate) fn next_object<A: Allocator + Copy>(
     alloc: A,
+    version: Version,
     schema: &Schema<A>,
     parts: &mut Parts<'_>,
 ) -> Result<Object<A>, Unread>
-    ensures { GivesNext object_of result (next_object schema.now parts.old) parts.new }
+    ensures { GivesNext object_of result (next_object version schema.now parts.old) parts.new }
 {
     let table = next_table(schema, parts).ok_or(Unread::Malformed)?;
-    let key = next_key(alloc, schema, table, parts)?;
+    let key = next_key(alloc, version, schema, table, parts)?;
     Ok(Object { table, key })
 }

@@ -19,6 +19,7 @@ use crate::row_lines::{Asked, read_asked, read_at, read_pair, read_write};
 use occ_print::Section;
 use occ_text::faults::{LineFault, ReadFault, read_at_line};
 use occ_text::input::Input;
+use occ_text::versions::Version;
 use occ_types::{Key, Object, Row, Schema};
 use std::alloc::Allocator;
 use std::io::Read;
@@ -42,14 +43,18 @@ pub(crate) fn take_asked<R: Read, A: Allocator + Copy>(
     alloc: A,
     input: &mut Input<A>,
     reader: &mut R,
+    version: Version,
     schema: &Schema<A>,
 ) -> Result<Asked<A>, ReadFault>
-    ensures taken { IfOk result (λ asked. TakesLines (prepend_known input.old.unread (R.remaining reader.old)) (prepend_known input.new.unread (R.remaining reader.new)) (asked_text schema.now (asked_of asked) ∷ []) × AskedFits schema.now (asked_of asked)) }
-    ensures led { Taken asked_of (asked_text schema.now) (AskedFits schema.now) result (prepend_known input.old.unread (R.remaining reader.old)) (prepend_known input.new.unread (R.remaining reader.new)) input.old.number input.new.number }
+    ensures taken { IfOk result (λ asked. TakesLines (prepend_known input.old.unread (R.remaining reader.old)) (prepend_known input.new.unread (R.remaining reader.new)) (asked_text schema.now (asked_of asked) ∷ []) × AskedFits version schema.now (asked_of asked)) }
+    ensures led { Taken asked_of (asked_text schema.now) (AskedFits version schema.now) result (prepend_known input.old.unread (R.remaining reader.old)) (prepend_known input.new.unread (R.remaining reader.new)) input.old.number input.new.number }
     ensures cause { IfErr result (λ fault. fault ≡ read_faults.Read → HasFailed input.new) }
 {
     input.take_line(reader)?;
-    read_at_line(read_asked(alloc, schema, input.line()), input.number())
+    read_at_line(
+        read_asked(alloc, version, schema, input.line()),
+        input.number(),
+    )
 }
 
 /// Whether a key is above those of some rows that are in order.
@@ -67,17 +72,18 @@ pub(crate) fn take_pair<R: Read, A: Allocator + Copy>(
     alloc: A,
     input: &mut Input<A>,
     reader: &mut R,
+    version: Version,
     schema: &Schema<A>,
     table: usize,
     rows: &[(Key<A>, Row<A>)],
 ) -> Result<(Key<A>, Row<A>), ReadFault>
-    ensures taken { IfOk result (λ pair. TakesLines (prepend_known input.old.unread (R.remaining reader.old)) (prepend_known input.new.unread (R.remaining reader.new)) (pair_line (pair_of pair) ∷ []) × PairFits schema.now table (pair_of pair)) }
-    ensures led { Taken pair_of pair_line (λ pair. PairFits schema.now table pair × IsAbove (last_key (rows_of rows.now)) pair.0) result (prepend_known input.old.unread (R.remaining reader.old)) (prepend_known input.new.unread (R.remaining reader.new)) input.old.number input.new.number }
+    ensures taken { IfOk result (λ pair. TakesLines (prepend_known input.old.unread (R.remaining reader.old)) (prepend_known input.new.unread (R.remaining reader.new)) (pair_line (pair_of pair) ∷ []) × PairFits version schema.now table (pair_of pair)) }
+    ensures led { Taken pair_of pair_line (λ pair. PairFits version schema.now table pair × IsAbove (last_key (rows_of rows.now)) pair.0) result (prepend_known input.old.unread (R.remaining reader.old)) (prepend_known input.new.unread (R.remaining reader.new)) input.old.number input.new.number }
     ensures cause { IfErr result (λ fault. fault ≡ read_faults.Read → HasFailed input.new) }
 {
     input.take_line(reader)?;
     let (key, row) = read_at_line(
-        read_pair(alloc, schema, table, input.line()),
+        read_pair(alloc, version, schema, table, input.line()),
         input.number(),
     )?;
     if !is_above(rows, &key) {
@@ -91,15 +97,19 @@ pub(crate) fn take_write<R: Read, A: Allocator + Copy>(
     alloc: A,
     input: &mut Input<A>,
     reader: &mut R,
+    version: Version,
     schema: &Schema<A>,
 ) -> Result<(Object<A>, Option<Row<A>>), ReadFault>
-    ensures taken { IfOk result (λ write. TakesLines (prepend_known input.old.unread (R.remaining reader.old)) (prepend_known input.new.unread (R.remaining reader.new)) (write_line schema.now (write_of write) ∷ []) × WriteFits schema.now (write_of write)) }
+    ensures taken { IfOk result (λ write. TakesLines (prepend_known input.old.unread (R.remaining reader.old)) (prepend_known input.new.unread (R.remaining reader.new)) (write_line schema.now (write_of write) ∷ []) × WriteFits version schema.now (write_of write)) }
     ensures line { IfOk result (λ write. IsLine (write_line schema.now (write_of write))) }
-    ensures led { Taken write_of (write_line schema.now) (WriteFits schema.now) result (prepend_known input.old.unread (R.remaining reader.old)) (prepend_known input.new.unread (R.remaining reader.new)) input.old.number input.new.number }
+    ensures led { Taken write_of (write_line schema.now) (WriteFits version schema.now) result (prepend_known input.old.unread (R.remaining reader.old)) (prepend_known input.new.unread (R.remaining reader.new)) input.old.number input.new.number }
     ensures cause { IfErr result (λ fault. fault ≡ read_faults.Read → HasFailed input.new) }
 {
     input.take_line(reader)?;
-    read_at_line(read_write(alloc, schema, input.line()), input.number())
+    read_at_line(
+        read_write(alloc, version, schema, input.line()),
+        input.number(),
+    )
 }
 
 /// Takes the line of a session in a section, behind that of the session `last`, or none where it is 0.
@@ -139,18 +149,19 @@ pub(crate) fn take_at<R: Read, A: Allocator + Copy>(
     alloc: A,
     input: &mut Input<A>,
     reader: &mut R,
+    version: Version,
     section: Section,
     schema: &Schema<A>,
     last: &Option<Object<A>>,
 ) -> Result<(Object<A>, Row<A>), ReadFault>
-    ensures taken { IfOk result (λ entry. TakesLines (prepend_known input.old.unread (R.remaining reader.old)) (prepend_known input.new.unread (R.remaining reader.new)) (entry_line section schema.now (at_of entry) ∷ []) × AtFits schema.now (at_of entry)) }
+    ensures taken { IfOk result (λ entry. TakesLines (prepend_known input.old.unread (R.remaining reader.old)) (prepend_known input.new.unread (R.remaining reader.new)) (entry_line section schema.now (at_of entry) ∷ []) × AtFits version schema.now (at_of entry)) }
     ensures behind { IfOk result (λ entry. is_behind (option_map object_of last.now) (object_of entry.0) ≡ true) }
-    ensures led { Taken at_of (entry_line section schema.now) (λ entry. AtFits schema.now entry × (is_behind (option_map object_of last.now) entry.0 ≡ true)) result (prepend_known input.old.unread (R.remaining reader.old)) (prepend_known input.new.unread (R.remaining reader.new)) input.old.number input.new.number }
+    ensures led { Taken at_of (entry_line section schema.now) (λ entry. AtFits version schema.now entry × (is_behind (option_map object_of last.now) entry.0 ≡ true)) result (prepend_known input.old.unread (R.remaining reader.old)) (prepend_known input.new.unread (R.remaining reader.new)) input.old.number input.new.number }
     ensures cause { IfErr result (λ fault. fault ≡ read_faults.Read → HasFailed input.new) }
 {
     input.take_line(reader)?;
     let (object, row) = read_at_line(
-        read_at(alloc, section, schema, input.line()),
+        read_at(alloc, version, section, schema, input.line()),
         input.number(),
     )?;
     if !is_behind(last, &object) {

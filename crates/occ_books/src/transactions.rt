@@ -23,6 +23,7 @@ use occ_sets::{Answer, Observation, ReadSet, WriteSet};
 use occ_text::faults::{ReadFault, read_at_line};
 use occ_text::input::Input;
 use occ_text::tokens::Unread;
+use occ_text::versions::Version;
 use occ_types::{Key, Object, Question, Row, Schema};
 use std::alloc::{AllocError, Allocator};
 use std::io::Read;
@@ -32,17 +33,26 @@ fn take_pairs<R: Read, A: Allocator + Copy>(
     alloc: A,
     input: &mut Input<A>,
     reader: &mut R,
+    version: Version,
     schema: &Schema<A>,
     table: usize,
     count: u64,
 ) -> Result<Vec<(Key<A>, Row<A>), A>, ReadFault>
-    ensures taken { IfOk result (λ rows. Gathered (λ pair. pair_line pair ∷ []) (PairFits schema.now table) (prepend_known input.old.unread (R.remaining reader.old)) (prepend_known input.new.unread (R.remaining reader.new)) (rows_of rows.items) × (length rows.items ≡ count) × RisesFrom None (rows_of rows.items)) }
-    ensures led { (row : InRow) → row.frame.schema ≡ schema.now → (reads : ℕ) → TakesFrom result (pairs_to_come row reads table count None) (λ _. reads_to_come row reads) (prepend_known input.old.unread (R.remaining reader.old)) (prepend_known input.new.unread (R.remaining reader.new)) input.old.number input.new.number }
+    ensures taken { IfOk result (λ rows. Gathered (λ pair. pair_line pair ∷ []) (PairFits version schema.now table) (prepend_known input.old.unread (R.remaining reader.old)) (prepend_known input.new.unread (R.remaining reader.new)) (rows_of rows.items) × (length rows.items ≡ count) × RisesFrom None (rows_of rows.items)) }
+    ensures led { (row : InRow) → row.frame ≡ frame_of version schema.now row.frame.sessions → (reads : ℕ) → TakesFrom result (pairs_to_come row reads table count None) (λ _. reads_to_come row reads) (prepend_known input.old.unread (R.remaining reader.old)) (prepend_known input.new.unread (R.remaining reader.new)) input.old.number input.new.number }
     ensures cause { IfErr result (λ fault. fault ≡ read_faults.Read → HasFailed input.new) }
 {
     let mut rows = Vec::new(alloc);
     for _ in 0..count {
-        let pair = take_pair(alloc, input, reader, schema, table, rows.as_slice())?;
+        let pair = take_pair(
+            alloc,
+            input,
+            reader,
+            version,
+            schema,
+            table,
+            rows.as_slice(),
+        )?;
         rows.push(pair)?;
     }
     Ok(rows)
@@ -53,20 +63,21 @@ fn take_read<R: Read, A: Allocator + Copy>(
     alloc: A,
     input: &mut Input<A>,
     reader: &mut R,
+    version: Version,
     schema: &Schema<A>,
 ) -> Result<Observation<A>, ReadFault>
-    ensures taken { IfOk result (λ read. TakesLines (prepend_known input.old.unread (R.remaining reader.old)) (prepend_known input.new.unread (R.remaining reader.new)) (read_lines schema.now (observation_of read)) × ReadFits schema.now (observation_of read)) }
-    ensures led { (row : InRow) → row.frame.schema ≡ schema.now → (reads : ℕ) → TakesFrom result (ReadOf row reads) (λ _. reads_to_come row reads) (prepend_known input.old.unread (R.remaining reader.old)) (prepend_known input.new.unread (R.remaining reader.new)) input.old.number input.new.number }
+    ensures taken { IfOk result (λ read. TakesLines (prepend_known input.old.unread (R.remaining reader.old)) (prepend_known input.new.unread (R.remaining reader.new)) (read_lines schema.now (observation_of read)) × ReadFits version schema.now (observation_of read)) }
+    ensures led { (row : InRow) → row.frame ≡ frame_of version schema.now row.frame.sessions → (reads : ℕ) → TakesFrom result (ReadOf row reads) (λ _. reads_to_come row reads) (prepend_known input.old.unread (R.remaining reader.old)) (prepend_known input.new.unread (R.remaining reader.new)) input.old.number input.new.number }
     ensures cause { IfErr result (λ fault. fault ≡ read_faults.Read → HasFailed input.new) }
 {
-    match take_asked(alloc, input, reader, schema)? {
+    match take_asked(alloc, input, reader, version, schema)? {
         Asked::One { object, row } => Ok(Observation {
             question: Question::One(object),
             answer: Answer::Found(row),
         }),
         Asked::Span { question, count } => {
             let table = question.table();
-            let rows = take_pairs(alloc, input, reader, schema, table, count)?;
+            let rows = take_pairs(alloc, input, reader, version, schema, table, count)?;
             Ok(Observation {
                 question,
                 answer: Answer::Rows(rows),
@@ -114,16 +125,17 @@ fn take_reads<R: Read, A: Allocator + Copy>(
     alloc: A,
     input: &mut Input<A>,
     reader: &mut R,
+    version: Version,
     schema: &Schema<A>,
     count: usize,
 ) -> Result<ReadSet<A>, ReadFault>
-    ensures taken { IfOk result (λ reads. Gathered (read_lines schema.now) (ReadFits schema.now) (prepend_known input.old.unread (R.remaining reader.old)) (prepend_known input.new.unread (R.remaining reader.new)) reads × (length reads ≡ count)) }
-    ensures led { (row : InRow) → row.frame.schema ≡ schema.now → TakesFrom result (reads_to_come row count) (λ _. writes_to_come row row.head.writes []) (prepend_known input.old.unread (R.remaining reader.old)) (prepend_known input.new.unread (R.remaining reader.new)) input.old.number input.new.number }
+    ensures taken { IfOk result (λ reads. Gathered (read_lines schema.now) (ReadFits version schema.now) (prepend_known input.old.unread (R.remaining reader.old)) (prepend_known input.new.unread (R.remaining reader.new)) reads × (length reads ≡ count)) }
+    ensures led { (row : InRow) → row.frame ≡ frame_of version schema.now row.frame.sessions → TakesFrom result (reads_to_come row count) (λ _. writes_to_come row row.head.writes []) (prepend_known input.old.unread (R.remaining reader.old)) (prepend_known input.new.unread (R.remaining reader.new)) input.old.number input.new.number }
     ensures cause { IfErr result (λ fault. fault ≡ read_faults.Read → HasFailed input.new) }
 {
     let mut reads = no_reads(alloc, count)?;
     for _ in 0..count {
-        let read = take_read(alloc, input, reader, schema)?;
+        let read = take_read(alloc, input, reader, version, schema)?;
         note(&mut reads, read)?;
     }
     Ok(reads)
@@ -154,18 +166,19 @@ fn take_writes<R: Read, A: Allocator + Copy>(
     alloc: A,
     input: &mut Input<A>,
     reader: &mut R,
+    version: Version,
     schema: &Schema<A>,
     count: usize,
 ) -> Result<WriteSet<A>, ReadFault>
-    ensures taken { IfOk result (λ writes. Gathered (λ write. write_line schema.now write ∷ []) (WriteFits schema.now) (prepend_known input.old.unread (R.remaining reader.old)) (prepend_known input.new.unread (R.remaining reader.new)) writes × (length writes ≡ count) × IsDistinctWrites writes) }
-    ensures led { (row : InRow) → row.frame.schema ≡ schema.now → TakesFrom result (writes_to_come row count []) (λ _. rows_to_come row.frame row.rows) (prepend_known input.old.unread (R.remaining reader.old)) (prepend_known input.new.unread (R.remaining reader.new)) input.old.number input.new.number }
+    ensures taken { IfOk result (λ writes. Gathered (λ write. write_line schema.now write ∷ []) (WriteFits version schema.now) (prepend_known input.old.unread (R.remaining reader.old)) (prepend_known input.new.unread (R.remaining reader.new)) writes × (length writes ≡ count) × IsDistinctWrites writes) }
+    ensures led { (row : InRow) → row.frame ≡ frame_of version schema.now row.frame.sessions → TakesFrom result (writes_to_come row count []) (λ _. rows_to_come row.frame row.rows) (prepend_known input.old.unread (R.remaining reader.old)) (prepend_known input.new.unread (R.remaining reader.new)) input.old.number input.new.number }
     ensures cause { IfErr result (λ fault. fault ≡ read_faults.Read → HasFailed input.new) }
 {
     // its tables make a schema, so no other write has the line of one
     let _tables = schema.tables();
     let mut writes = no_writes(alloc, count)?;
     for _ in 0..count {
-        let (object, row) = take_write(alloc, input, reader, schema)?;
+        let (object, row) = take_write(alloc, input, reader, version, schema)?;
         read_at_line(add_write(&mut writes, object, row), input.number())?;
     }
     Ok(writes)
@@ -192,16 +205,17 @@ fn take_row<R: Read, A: Allocator + Copy>(
     alloc: A,
     input: &mut Input<A>,
     reader: &mut R,
+    version: Version,
     schema: &Schema<A>,
     sessions: usize,
 ) -> Result<LogRow<A, ()>, ReadFault>
-    ensures taken { IfOk result (λ row. TakesLines (prepend_known input.old.unread (R.remaining reader.old)) (prepend_known input.new.unread (R.remaining reader.new)) (row_lines schema.now (log_row_of row)) × LogRowFits schema.now sessions (log_row_of row)) }
-    ensures led { (rows : ℕ) → TakesFrom result (places.LogRow (frame_of schema.now sessions) rows) (λ _. rows_to_come (frame_of schema.now sessions) rows) (prepend_known input.old.unread (R.remaining reader.old)) (prepend_known input.new.unread (R.remaining reader.new)) input.old.number input.new.number }
+    ensures taken { IfOk result (λ row. TakesLines (prepend_known input.old.unread (R.remaining reader.old)) (prepend_known input.new.unread (R.remaining reader.new)) (row_lines schema.now (log_row_of row)) × LogRowFits version schema.now sessions (log_row_of row)) }
+    ensures led { (rows : ℕ) → TakesFrom result (places.LogRow (frame_of version schema.now sessions) rows) (λ _. rows_to_come (frame_of version schema.now sessions) rows) (prepend_known input.old.unread (R.remaining reader.old)) (prepend_known input.new.unread (R.remaining reader.new)) input.old.number input.new.number }
     ensures cause { IfErr result (λ fault. fault ≡ read_faults.Read → HasFailed input.new) }
 {
     let head = take_head(input, reader, sessions)?;
-    let reads = take_reads(alloc, input, reader, schema, head.reads)?;
-    let writes = take_writes(alloc, input, reader, schema, head.writes)?;
+    let reads = take_reads(alloc, input, reader, version, schema, head.reads)?;
+    let writes = take_writes(alloc, input, reader, version, schema, head.writes)?;
     Ok(row_of(head, reads, writes))
 }
 
@@ -210,17 +224,18 @@ pub(crate) fn take_rows<R: Read, A: Allocator + Copy>(
     alloc: A,
     input: &mut Input<A>,
     reader: &mut R,
+    version: Version,
     schema: &Schema<A>,
     sessions: usize,
     count: u64,
 ) -> Result<Vec<LogRow<A, ()>, A>, ReadFault>
-    ensures taken { IfOk result (λ log. Gathered (row_lines schema.now) (LogRowFits schema.now sessions) (prepend_known input.old.unread (R.remaining reader.old)) (prepend_known input.new.unread (R.remaining reader.new)) (log_of log.items) × (length log.items ≡ count)) }
-    ensures led { TakesFrom result (rows_to_come (frame_of schema.now sessions) count) (λ _. Marks (frame_of schema.now sessions)) (prepend_known input.old.unread (R.remaining reader.old)) (prepend_known input.new.unread (R.remaining reader.new)) input.old.number input.new.number }
+    ensures taken { IfOk result (λ log. Gathered (row_lines schema.now) (LogRowFits version schema.now sessions) (prepend_known input.old.unread (R.remaining reader.old)) (prepend_known input.new.unread (R.remaining reader.new)) (log_of log.items) × (length log.items ≡ count)) }
+    ensures led { TakesFrom result (rows_to_come (frame_of version schema.now sessions) count) (λ _. Marks (frame_of version schema.now sessions)) (prepend_known input.old.unread (R.remaining reader.old)) (prepend_known input.new.unread (R.remaining reader.new)) input.old.number input.new.number }
     ensures cause { IfErr result (λ fault. fault ≡ read_faults.Read → HasFailed input.new) }
 {
     let mut log = Vec::new(alloc);
     for _ in 0..count {
-        let row = take_row(alloc, input, reader, schema, sessions)?;
+        let row = take_row(alloc, input, reader, version, schema, sessions)?;
         log.push(row)?;
     }
     Ok(log)

@@ -8,8 +8,9 @@ ghost use Rattle.std.specs.Io.KnownBytes.{prepend_known};
 ghost use Rattle.occ_types.specs.declared.fault.Fault.TheVariants.{Memory};
 ghost use Rattle.occ_types.specs.Schema.{Table, check_tables};
 ghost use Rattle.occ_types.specs.Seen.{tables_of};
-ghost use Rattle.occ_text.specs.Headers.{table_text};
+ghost use Rattle.occ_text.specs.Headers.{table_text, KindsFit};
 ghost use Rattle.occ_text.specs.Faults.{widened};
+ghost use Rattle.occ_text.specs.declared.versions.Version as versions;
 ghost use Rattle.occ_text.specs.declared.faults.LineFault.TheVariants as line_faults;
 ghost use Rattle.occ_text.specs.declared.faults.ReadFault.TheVariants as read_faults;
 ghost use Rattle.occ_text.specs.HeaderTaking.{TablesSoFar};
@@ -19,7 +20,7 @@ ghost use Rattle.occ_print.specs.declared.sections.Section.TheVariants as sectio
 ghost use Rattle.occ_books.specs.NumberLines.{BaseHeadFits, BeganFits, began_text};
 ghost use Rattle.occ_books.specs.RowLines.{AtFits};
 ghost use Rattle.occ_books.specs.Taking.{TakesLines, Gathered, BehindTaken, FoldedTaken, FrontTaken, FurtherFits, further_of, further_text};
-ghost use Rattle.occ_books.specs.Places.{Version, Tables as TablesAt, Log, Marks as MarksAt, State, Counter, Audit, frame_of, rows_to_come, behind_began, numbers_to_come, behind_numbers, entries_to_come, behind_entries, TakesFrom, EndsFrom};
+ghost use Rattle.occ_books.specs.Places.{Version as VersionAt, Tables as TablesAt, Log, Marks as MarksAt, State, Counter, Audit, frame_of, rows_to_come, behind_began, numbers_to_come, behind_numbers, entries_to_come, behind_entries, TakesFrom, EndsFrom};
 ghost use Rattle.occ_books.specs.WholeBooks.{EntryFits, BaseFits, EndTaken, IsBookText, printed_book};
 
 use crate::number_lines::{BaseHead, Began, read_began};
@@ -31,6 +32,7 @@ use occ_text::faults::{LineFault, ReadFault, read_at_line};
 use occ_text::headers::{Header, table_behind, take_count, take_limits};
 use occ_text::input::{Input, Next};
 use occ_text::tokens::is_word;
+use occ_text::versions::Version;
 use occ_types::{Fault, Schema, TableDef};
 use std::alloc::Allocator;
 use std::io::Read;
@@ -72,18 +74,22 @@ fn take_behind<R: Read, A: Allocator + Copy>(
     alloc: A,
     input: &mut Input<A>,
     reader: &mut R,
+    version: Version,
     tables: &[TableDef<A>],
 ) -> Result<Behind<A>, ReadFault>
-    requires { TablesSoFar (tables_of tables.now) }
-    ensures taken { IfOk result (λ behind. BehindTaken behind (tables_of tables.now) (prepend_known input.old.unread (R.remaining reader.old)) (prepend_known input.new.unread (R.remaining reader.new))) }
-    ensures led { Taken further_of further_text (FurtherFits (tables_of tables.now)) result (prepend_known input.old.unread (R.remaining reader.old)) (prepend_known input.new.unread (R.remaining reader.new)) input.old.number input.new.number }
+    requires { TablesSoFar version (tables_of tables.now) }
+    ensures taken { IfOk result (λ behind. BehindTaken version behind (tables_of tables.now) (prepend_known input.old.unread (R.remaining reader.old)) (prepend_known input.new.unread (R.remaining reader.new))) }
+    ensures led { Taken further_of further_text (FurtherFits version (tables_of tables.now)) result (prepend_known input.old.unread (R.remaining reader.old)) (prepend_known input.new.unread (R.remaining reader.new)) input.old.number input.new.number }
     ensures cause { IfErr result (λ fault. fault ≡ read_faults.Read → HasFailed input.new) }
 {
     input.take_line(reader)?;
     if let Some(began) = read_began(input.line()) {
         return Ok(Behind::Began(began));
     }
-    let table = read_at_line(table_behind(alloc, tables, input.line()), input.number())?;
+    let table = read_at_line(
+        table_behind(alloc, version, tables, input.line()),
+        input.number(),
+    )?;
     Ok(Behind::Table(table))
 }
 
@@ -92,14 +98,15 @@ fn take_opening<R: Read, A: Allocator + Copy>(
     alloc: A,
     input: &mut Input<A>,
     reader: &mut R,
+    version: Version,
 ) -> Result<Opening<A>, ReadFault>
-    ensures taken { IfOk result (λ opening. TakesLines (prepend_known input.old.unread (R.remaining reader.old)) (prepend_known input.new.unread (R.remaining reader.new)) (map table_text opening.schema ++ began_text opening.began ∷ []) × (check_tables opening.schema ≡ None) × BeganFits opening.began) }
-    ensures led { (sessions : ℕ) → TakesFrom result (TablesAt sessions []) (λ opening. behind_began (frame_of opening.schema sessions) opening.began) (prepend_known input.old.unread (R.remaining reader.old)) (prepend_known input.new.unread (R.remaining reader.new)) input.old.number input.new.number }
+    ensures taken { IfOk result (λ opening. TakesLines (prepend_known input.old.unread (R.remaining reader.old)) (prepend_known input.new.unread (R.remaining reader.new)) (map table_text opening.schema ++ began_text opening.began ∷ []) × (check_tables opening.schema ≡ None) × KindsFit version opening.schema × BeganFits opening.began) }
+    ensures led { (sessions : ℕ) → TakesFrom result (TablesAt version sessions []) (λ opening. behind_began (frame_of version opening.schema sessions) opening.began) (prepend_known input.old.unread (R.remaining reader.old)) (prepend_known input.new.unread (R.remaining reader.new)) input.old.number input.new.number }
     ensures cause { IfErr result (λ fault. fault ≡ read_faults.Read → HasFailed input.new) }
 {
     let mut tables = Vec::new(alloc);
     loop {
-        match take_behind(alloc, input, reader, tables.as_slice())? {
+        match take_behind(alloc, input, reader, version, tables.as_slice())? {
             Behind::Table(table) => tables.push(table)?,
             Behind::Began(began) => match Schema::new(tables) {
                 Ok(schema) => return Ok(Opening { schema, began }),
@@ -132,7 +139,7 @@ fn take_numbers<R: Read, A: Allocator + Copy>(
 ) -> Result<Marks<A>, ReadFault>
     ensures taken { IfOk result (λ marks. Gathered (λ mark. number_line section mark ∷ []) (EntryFits sessions) (prepend_known input.old.unread (R.remaining reader.old)) (prepend_known input.new.unread (R.remaining reader.new)) (finite.entries marks.marks) × (length (finite.entries marks.marks) ≡ count)) }
     ensures sessions { IfOk result (λ marks. marks.sessions ≡ sessions) }
-    ensures led { (schema : List Table) → (rows : ℕ) → TakesFrom result (numbers_to_come section (frame_of schema sessions) rows count 0) (λ _. behind_numbers section (frame_of schema sessions) rows) (prepend_known input.old.unread (R.remaining reader.old)) (prepend_known input.new.unread (R.remaining reader.new)) input.old.number input.new.number }
+    ensures led { (version : versions.Version) → (schema : List Table) → (rows : ℕ) → TakesFrom result (numbers_to_come section (frame_of version schema sessions) rows count 0) (λ _. behind_numbers section (frame_of version schema sessions) rows) (prepend_known input.old.unread (R.remaining reader.old)) (prepend_known input.new.unread (R.remaining reader.new)) input.old.number input.new.number }
     ensures cause { IfErr result (λ fault. fault ≡ read_faults.Read → HasFailed input.new) }
 {
     let mut marks = unless_refused(Marks::new(alloc, sessions))?;
@@ -150,18 +157,19 @@ fn take_entries<R: Read, A: Allocator + Copy>(
     alloc: A,
     input: &mut Input<A>,
     reader: &mut R,
+    version: Version,
     section: Section,
     schema: &Schema<A>,
     count: u64,
 ) -> Result<Tables<A>, ReadFault>
-    ensures taken { IfOk result (λ tables. Gathered (λ entry. entry_line section schema.now entry ∷ []) (AtFits schema.now) (prepend_known input.old.unread (R.remaining reader.old)) (prepend_known input.new.unread (R.remaining reader.new)) (finite.entries tables.state) × (length (finite.entries tables.state) ≡ count)) }
-    ensures led { (sessions : ℕ) → TakesFrom result (entries_to_come section (frame_of schema.now sessions) count None) (λ _. behind_entries section (frame_of schema.now sessions)) (prepend_known input.old.unread (R.remaining reader.old)) (prepend_known input.new.unread (R.remaining reader.new)) input.old.number input.new.number }
+    ensures taken { IfOk result (λ tables. Gathered (λ entry. entry_line section schema.now entry ∷ []) (AtFits version schema.now) (prepend_known input.old.unread (R.remaining reader.old)) (prepend_known input.new.unread (R.remaining reader.new)) (finite.entries tables.state) × (length (finite.entries tables.state) ≡ count)) }
+    ensures led { (sessions : ℕ) → TakesFrom result (entries_to_come section (frame_of version schema.now sessions) count None) (λ _. behind_entries section (frame_of version schema.now sessions)) (prepend_known input.old.unread (R.remaining reader.old)) (prepend_known input.new.unread (R.remaining reader.new)) input.old.number input.new.number }
     ensures cause { IfErr result (λ fault. fault ≡ read_faults.Read → HasFailed input.new) }
 {
     let mut tables = unless_refused(Tables::new(alloc, schema.tables().len()))?;
     let mut last = None;
     for _ in 0..count {
-        let (object, row) = take_at(alloc, input, reader, section, schema, &last)?;
+        let (object, row) = take_at(alloc, input, reader, version, section, schema, &last)?;
         unless_refused(tables.put(object.table, &object.key, Some(&row)))?;
         last = Some(object);
     }
@@ -173,17 +181,26 @@ fn take_folded<R: Read, A: Allocator + Copy>(
     alloc: A,
     input: &mut Input<A>,
     reader: &mut R,
+    version: Version,
     schema: &Schema<A>,
     sessions: usize,
     head: BaseHead,
 ) -> Result<Base<A>, ReadFault>
     requires { BaseHeadFits head }
-    ensures taken { IfOk result (λ base. FoldedTaken schema.now head base.base (prepend_known input.old.unread (R.remaining reader.old)) (prepend_known input.new.unread (R.remaining reader.new)) × BaseFits schema.now sessions base.base) }
-    ensures led { TakesFrom result (numbers_to_come sections.Base (frame_of schema.now sessions) head.rows head.numbers 0) (λ _. Log (frame_of schema.now sessions)) (prepend_known input.old.unread (R.remaining reader.old)) (prepend_known input.new.unread (R.remaining reader.new)) input.old.number input.new.number }
+    ensures taken { IfOk result (λ base. FoldedTaken schema.now head base.base (prepend_known input.old.unread (R.remaining reader.old)) (prepend_known input.new.unread (R.remaining reader.new)) × BaseFits version schema.now sessions base.base) }
+    ensures led { TakesFrom result (numbers_to_come sections.Base (frame_of version schema.now sessions) head.rows head.numbers 0) (λ _. Log (frame_of version schema.now sessions)) (prepend_known input.old.unread (R.remaining reader.old)) (prepend_known input.new.unread (R.remaining reader.new)) input.old.number input.new.number }
     ensures cause { IfErr result (λ fault. fault ≡ read_faults.Read → HasFailed input.new) }
 {
     let last = take_numbers(alloc, input, reader, Section::Base, sessions, head.numbers)?;
-    let state = take_entries(alloc, input, reader, Section::Base, schema, head.rows)?;
+    let state = take_entries(
+        alloc,
+        input,
+        reader,
+        version,
+        Section::Base,
+        schema,
+        head.rows,
+    )?;
     Ok(Base::from_parts(state, last, head.place))
 }
 
@@ -192,13 +209,14 @@ fn take_front<R: Read, A: Allocator + Copy>(
     alloc: A,
     input: &mut Input<A>,
     reader: &mut R,
+    version: Version,
     schema: &Schema<A>,
     sessions: usize,
     began: Began,
 ) -> Result<Front<A>, ReadFault>
     requires { BeganFits began }
-    ensures taken { IfOk result (λ front. FrontTaken schema.now began front.base.base front.rows (prepend_known input.old.unread (R.remaining reader.old)) (prepend_known input.new.unread (R.remaining reader.new)) × BaseFits schema.now sessions front.base.base) }
-    ensures led { TakesFrom result (behind_began (frame_of schema.now sessions) began) (λ front. rows_to_come (frame_of schema.now sessions) front.rows) (prepend_known input.old.unread (R.remaining reader.old)) (prepend_known input.new.unread (R.remaining reader.new)) input.old.number input.new.number }
+    ensures taken { IfOk result (λ front. FrontTaken schema.now began front.base.base front.rows (prepend_known input.old.unread (R.remaining reader.old)) (prepend_known input.new.unread (R.remaining reader.new)) × BaseFits version schema.now sessions front.base.base) }
+    ensures led { TakesFrom result (behind_began (frame_of version schema.now sessions) began) (λ front. rows_to_come (frame_of version schema.now sessions) front.rows) (prepend_known input.old.unread (R.remaining reader.old)) (prepend_known input.new.unread (R.remaining reader.new)) input.old.number input.new.number }
     ensures cause { IfErr result (λ fault. fault ≡ read_faults.Read → HasFailed input.new) }
 {
     match began {
@@ -207,7 +225,7 @@ fn take_front<R: Read, A: Allocator + Copy>(
             Ok(Front { base, rows })
         }
         Began::Base(head) => {
-            let base = take_folded(alloc, input, reader, schema, sessions, head)?;
+            let base = take_folded(alloc, input, reader, version, schema, sessions, head)?;
             let rows = take_count(input, reader, "log", 0, u64::MAX)?;
             Ok(Front { base, rows })
         }
@@ -223,7 +241,7 @@ fn take_marks<R: Read, A: Allocator + Copy>(
 ) -> Result<Marks<A>, ReadFault>
     ensures taken { IfOk result (λ marks. TakesLines (prepend_known input.old.unread (R.remaining reader.old)) (prepend_known input.new.unread (R.remaining reader.new)) (mark_lines marks.marks) × AllByRecursion (EntryFits sessions) (finite.entries marks.marks)) }
     ensures sessions { IfOk result (λ marks. marks.sessions ≡ sessions) }
-    ensures led { (schema : List Table) → TakesFrom result (MarksAt (record { schema = schema; sessions = sessions })) (λ _. State (record { schema = schema; sessions = sessions })) (prepend_known input.old.unread (R.remaining reader.old)) (prepend_known input.new.unread (R.remaining reader.new)) input.old.number input.new.number }
+    ensures led { (version : versions.Version) → (schema : List Table) → TakesFrom result (MarksAt (frame_of version schema sessions)) (λ _. State (frame_of version schema sessions)) (prepend_known input.old.unread (R.remaining reader.old)) (prepend_known input.new.unread (R.remaining reader.new)) input.old.number input.new.number }
     ensures cause { IfErr result (λ fault. fault ≡ read_faults.Read → HasFailed input.new) }
 {
     let count = take_count(input, reader, "marks", 0, u64::MAX)?;
@@ -236,14 +254,15 @@ fn take_state<R: Read, A: Allocator + Copy>(
     alloc: A,
     input: &mut Input<A>,
     reader: &mut R,
+    version: Version,
     schema: &Schema<A>,
 ) -> Result<Tables<A>, ReadFault>
-    ensures taken { IfOk result (λ tables. TakesLines (prepend_known input.old.unread (R.remaining reader.old)) (prepend_known input.new.unread (R.remaining reader.new)) (state_lines schema.now tables.state) × AllByRecursion (AtFits schema.now) (finite.entries tables.state) × (finite.len tables.state ≤ 2 ^ 64 - 1)) }
-    ensures led { (sessions : ℕ) → TakesFrom result (State (record { schema = schema.now; sessions = sessions })) (λ _. Counter) (prepend_known input.old.unread (R.remaining reader.old)) (prepend_known input.new.unread (R.remaining reader.new)) input.old.number input.new.number }
+    ensures taken { IfOk result (λ tables. TakesLines (prepend_known input.old.unread (R.remaining reader.old)) (prepend_known input.new.unread (R.remaining reader.new)) (state_lines schema.now tables.state) × AllByRecursion (AtFits version schema.now) (finite.entries tables.state) × (finite.len tables.state ≤ 2 ^ 64 - 1)) }
+    ensures led { (sessions : ℕ) → TakesFrom result (State (frame_of version schema.now sessions)) (λ _. Counter) (prepend_known input.old.unread (R.remaining reader.old)) (prepend_known input.new.unread (R.remaining reader.new)) input.old.number input.new.number }
     ensures cause { IfErr result (λ fault. fault ≡ read_faults.Read → HasFailed input.new) }
 {
     let count = take_count(input, reader, "state", 0, u64::MAX)?;
-    let tables = take_entries(alloc, input, reader, Section::Store, schema, count)?;
+    let tables = take_entries(alloc, input, reader, version, Section::Store, schema, count)?;
     Ok(tables)
 }
 
@@ -285,17 +304,34 @@ pub fn take_book<R: Read, A: Allocator + Copy>(
     requires { input.old.number ≡ 0 }
     ensures taken { IfOk result (λ printed. IsBookText (prepend_known input.old.unread (R.remaining reader.old)) (printed_book printed)) }
     ensures sessions { IfOk result (λ printed. printed.book.marks.sessions ≡ printed.header.limits.sessions) }
-    ensures led { EndsFrom result Version (prepend_known input.old.unread (R.remaining reader.old)) (prepend_known input.new.unread (R.remaining reader.new)) input.old.number }
+    ensures led { EndsFrom result VersionAt (prepend_known input.old.unread (R.remaining reader.old)) (prepend_known input.new.unread (R.remaining reader.new)) input.old.number }
     ensures cause { IfErr result (λ fault. fault ≡ read_faults.Read → HasFailed input.new) }
 {
     let limits = take_limits(input, reader)?;
-    let opening = take_opening(alloc, input, reader)?;
+    let version = limits.version;
+    let opening = take_opening(alloc, input, reader, version)?;
     let schema = opening.schema;
     let began = opening.began;
-    let front = take_front(alloc, input, reader, &schema, limits.sessions, began)?;
-    let log = take_rows(alloc, input, reader, &schema, limits.sessions, front.rows)?;
+    let front = take_front(
+        alloc,
+        input,
+        reader,
+        version,
+        &schema,
+        limits.sessions,
+        began,
+    )?;
+    let log = take_rows(
+        alloc,
+        input,
+        reader,
+        version,
+        &schema,
+        limits.sessions,
+        front.rows,
+    )?;
     let marks = take_marks(alloc, input, reader, limits.sessions)?;
-    let table = take_state(alloc, input, reader, &schema)?;
+    let table = take_state(alloc, input, reader, version, &schema)?;
     let counts = take_counts(input, reader)?;
     take_end(input, reader)?;
     Ok(PrintedBook {

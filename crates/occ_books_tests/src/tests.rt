@@ -22,6 +22,12 @@ row 2 1 2 0 1 0 0 tooold\n\
 row 3 3 1 1 1 1 1 open\none note 3 none\nput note 4 'x\n\
 marks 1\nmark 3 2\nstate 1\nat stock 'nut%20mix 2,'\ncounter 1 low 0\n";
 
+/// A book of version 2, with keys of two parts and a range without an upper end.
+const PAIRS: &str = "occ 2\nsessions 2\nqueue 4\nkeep 8\ntable q num+text int\nlog 2\n\
+row 0 2 1 0 0 0 1 done 1\nput q 1+'z 1\n\
+row 1 1 1 0 1 1 1 done 2\nspan q 2+' * 0\nput q 2+'a 7\n\
+marks 0\nstate 2\nat q 1+'z 1\nat q 2+'a 7\ncounter 2 low 0\n";
+
 /// What an audit of a text answers, and what it wrote.
 pub(crate) fn audited(
     alloc: Global,
@@ -56,7 +62,7 @@ pub(crate) fn changed(
 #[test]
 fn judges_books(rt: HostRuntime) -> Result<(), Fail> {
     let alloc = rt.alloc();
-    let cases: [(&str, &str, &str, bool); 16] = [
+    let cases: [(&str, &str, &str, bool); 21] = [
         (LOST_UPDATE, "occ", "occ", true),
         (LOST_UPDATE, "low 0\n", "low 0\naudit yes\n", true),
         (LOST_UPDATE, "low 0\n", "low 0\naudit no\n", true),
@@ -98,6 +104,11 @@ fn judges_books(rt: HostRuntime) -> Result<(), Fail> {
             "span stock 'a 'o 1\n",
             false,
         ),
+        (LOST_UPDATE, "occ 1", "occ 2", true),
+        (PAIRS, "occ 2", "occ 2", true),
+        (PAIRS, "span q 2+' * 0", "span q * 1+'z 0", true),
+        (PAIRS, "span q 2+' * 0", "span q * * 0", false),
+        (PAIRS, "span q 2+' * 0", "span q 1+' * 0", false),
     ];
     for (text, old, new, wanted) in cases {
         let text = changed(alloc, text, old, new)?;
@@ -112,8 +123,16 @@ fn judges_books(rt: HostRuntime) -> Result<(), Fail> {
 #[test]
 fn finds_the_malformed_line(rt: HostRuntime) -> Result<(), Fail> {
     let alloc = rt.alloc();
-    let cases: [(&str, &str, &str, u64); 61] = [
-        (LOST_UPDATE, "occ 1", "occ 2", 1),
+    let cases: [(&str, &str, &str, u64); 69] = [
+        (LOST_UPDATE, "occ 1", "occ 3", 1),
+        (PAIRS, "occ 2", "occ 1", 5),
+        (PAIRS, "num+text", "num+int", 5),
+        (PAIRS, "num+text", "num", 8),
+        (PAIRS, "put q 1+'z 1", "put q 1 1", 8),
+        (PAIRS, "put q 1+'z 1", "put q 'z+1 1", 8),
+        (PAIRS, "span q 2+' * 0", "span q 2+' ** 0", 10),
+        (PAIRS, "span q 2+' * 0", "span q 2+' 1+' 0", 10),
+        (PAIRS, "state 2\nat q 1+'z 1\n", "state 2\nat q 3+' 1\n", 15),
         (LOST_UPDATE, "sessions 2", "sessions 0", 2),
         (LOST_UPDATE, "sessions 2", "sessions 65", 2),
         (LOST_UPDATE, "queue 4", "queue 4 ", 3),

@@ -5,8 +5,9 @@ use occ_sets::WriteSet;
 use occ_types::{Cell, Fault, Key, KeyKind, Kind, Row, Schema, TableDef, Text};
 use std::alloc::Global;
 
-/// A store of two sessions with one table, whose keys are numbers and whose rows are one number.
-pub(crate) fn stock(alloc: Global) -> Result<Core<Global>, Fault> {
+/// A store of two sessions with one table, whose keys are numbers and whose rows are one number. It is in a box, which a test drops by
+/// one call; of a plain core it would drop each part by itself, on each way out.
+pub(crate) fn stock(alloc: Global) -> Result<Box<Core<Global>>, Fault> {
     let table = TableDef {
         name: Text::new(alloc, "stock")?,
         key: KeyKind::Num,
@@ -14,7 +15,7 @@ pub(crate) fn stock(alloc: Global) -> Result<Core<Global>, Fault> {
     };
     let schema = Schema::new(vec![in alloc; table]?)?;
     let core = Core::open(alloc, schema, 2, 8)?;
-    Ok(core)
+    Ok(Box::new(alloc, core)?)
 }
 
 /// Why a read of the key 7 is refused.

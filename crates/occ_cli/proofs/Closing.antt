@@ -9,6 +9,7 @@ use Rattle.std.proofs.KnownBytes.{Appends-nil, Appends-kept}
 use Rattle.occ_types.specs.Schema.{Schema}
 use Rattle.occ_model.specs.Log.{Base, LogRow}
 use Rattle.occ_model.specs.State.{State}
+use Rattle.occ_text.specs.declared.headers.Limits.{Limits}
 use Rattle.occ_text.specs.declared.faults.WriteFault.{WriteFault}
 use Rattle.occ_text.specs.declared.faults.WriteFault.TheVariants as faults
 use Rattle.occ_print.specs.Books.{Book, book_lines, book_text, audit_line}
@@ -63,9 +64,9 @@ pub closing : {T : Type 0} (result : Result T WriteFault) (a b c : Option (List 
 closing result a b c old mid new said book same audited h k =
     subst (λ (x : Book). ClosingGives (Pushed a c old new) (PushedFront a c old new) result x) same (behind_book result a b c old mid new said (subst IsAudited (sym same) audited) h k)
 
-abbrev the_book : ℕ → ℕ → ℕ → Schema → Base → List LogRow → FinMap nat_cmp ℕ → State → ℕ → ℕ → Book
-the_book sessions queue keep tables base log marks state counter low = record {
-  header = record { sessions = sessions; queue = queue; keep = keep; tables = tables };
+abbrev the_book : Limits → Schema → Base → List LogRow → FinMap nat_cmp ℕ → State → ℕ → ℕ → Book
+the_book limits tables base log marks state counter low = record {
+  header = record { version = limits.version; sessions = limits.sessions; queue = limits.queue; keep = limits.keep; tables = tables };
   base = base;
   log = log;
   marks = marks;
@@ -75,7 +76,7 @@ the_book sessions queue keep tables base log marks state counter low = record {
 }
 
 -- the same book, part by part
-pub same_book : (sessions queue keep : ℕ) (schema tables : Schema) (folded base : Base) (rows log : List LogRow) (seen marks : FinMap nat_cmp ℕ) (content state : State) (count counter lowest low : ℕ)
+pub same_book : (limits : Limits) (schema tables : Schema) (folded base : Base) (rows log : List LogRow) (seen marks : FinMap nat_cmp ℕ) (content state : State) (count counter lowest low : ℕ)
     → schema ≡ tables → folded ≡ base → rows ≡ log → seen ≡ marks → content ≡ state → count ≡ counter → lowest ≡ low
-    → the_book sessions queue keep schema folded rows seen content count lowest ≡ the_book sessions queue keep tables base log marks state counter low
-same_book sessions queue keep schema tables folded base rows log seen marks content state count counter lowest low a f b m c d e = λ j. the_book sessions queue keep (a j) (f j) (b j) (m j) (c j) (d j) (e j)
+    → the_book limits schema folded rows seen content count lowest ≡ the_book limits tables base log marks state counter low
+same_book limits schema tables folded base rows log seen marks content state count counter lowest low a f b m c d e = λ j. the_book limits (a j) (f j) (b j) (m j) (c j) (d j) (e j)

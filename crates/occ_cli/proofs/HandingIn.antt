@@ -1,7 +1,7 @@
 -- Operations that are handed in to run alone, over plain data.
 use Rattle.std.proofs.Common.{◌≡◌, ℕ, List, [], ◌∷◌, ◌++◌, length, map, Option, Some, None, Result, Err, refl, sym, ap, subst, ◌∙◌, inl, inr}
 use Rattle.std.proofs.lemmas.List.{map-append}
-use Rattle.std.specs.Prelude.{true, false, not, is_some, nat_le, nat_lt, ◌==◌}
+use Rattle.std.specs.Prelude.{MatchResult, true, false, not, is_some, nat_le, nat_lt, ◌==◌}
 use Rattle.std.proofs.lemmas.Bool.{eq-eqb}
 use Rattle.std.specs.Vec.Iter.{into_iter_items, into_iter_steps}
 use Rattle.std.specs.declared.vec.IntoIter.{IntoIter}
@@ -38,6 +38,11 @@ check_append schema (operation ∷ list) others fits =
     let p = passed (check_operation schema operation) (check_operations schema list ∷ []) fits in
     ap (λ test. first_fault (test ∷ check_operations schema (list ++ others) ∷ [])) p.0
     ∙ (single (check_operations schema (list ++ others)) ∙ check_append schema list others (sym (single (check_operations schema list)) ∙ p.1))
+
+-- a fault of the operations is why they have no list
+pub no_list : {T : Type 0} (result : Result T Fault) (Listed : T → Type 0) (schema : Schema) (seen wanted : List Operation) (fault : Fault) → result ≡ Err fault → seen ≡ wanted → Some fault ≡ check_operations schema seen → MatchResult result Listed (IsUnlisted schema wanted)
+no_list result Listed schema seen wanted fault is same why =
+    subst (λ (r : Result _ Fault). MatchResult r Listed (IsUnlisted schema wanted)) (sym is) (inl (sym (why ∙ ap (check_operations schema) same)))
 
 -- what the iterator of a vector has given is a front of its items
 taken_front : {X Z : Type 0} (s : IntoIter X Z) (xs : List X) (t : IntoIter X Z) → Yields into_iter_steps s xs t → into_iter_items s ≡ xs ++ into_iter_items t

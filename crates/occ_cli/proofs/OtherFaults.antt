@@ -243,9 +243,9 @@ table_other schema name = by_some (position (has_name name) schema) faults.NoTab
 pub object_other : (schema : Schema) (name : List ℕ) (key : Key) → wants (object_named schema name key) ≡ false
 object_other schema name key = by_both (table_named schema name) _ (table_other schema name) (λ place. by_unless (check_key schema place key) (place, key) (by_key schema place key))
 
-pub span_other : (schema : Schema) (name : List ℕ) (lower upper : Key) → wants (span_named schema name lower upper) ≡ false
+pub span_other : (schema : Schema) (name : List ℕ) (lower upper : Option Key) → wants (span_named schema name lower upper) ≡ false
 span_other schema name lower upper = by_both (table_named schema name) _ (table_other schema name)
-    (λ place. by_unless (check_question schema (Span place (Some lower) (Some upper))) (Span place (Some lower) (Some upper)) (by_question schema (Span place (Some lower) (Some upper))))
+    (λ place. by_unless (check_question schema (Span place lower upper)) (Span place lower upper) (by_question schema (Span place lower upper)))
 
 pub number_other : (client : Client) → wants (next_number client) ≡ false
 number_other client = by_unless _ (next client.queue)

@@ -83,7 +83,7 @@ module _ {C : Type 0} (old new : Replayed) (answer : Answer) (stays : new.world 
       (λ object m. own_by (events.Read session copy.number copy.start (One object.0 object.1)) (own copy.writes object) m) g)
       h
 
-  scans_by : (session : ℕ) (name : List ℕ) (lower upper : Key) (client : Client) → Scans old.world session name lower upper client answer new.world → C
+  scans_by : (session : ℕ) (name : List ℕ) (lower upper : Option Key) (client : Client) → Scans old.world session name lower upper client answer new.world → C
   scans_by session name lower upper client h =
       given_by (copy_of client) old.world new.world (λ copy. ScansIn old.world session name lower upper copy answer new.world) (λ same. same)
       (λ copy g. given_by (span_named old.world.settings.schema name lower upper) old.world new.world
@@ -180,7 +180,7 @@ module _ {Z : Type 0} where
       tells_refused old (events.Read session number start question) new r e f is same (subst (λ (x : Event). Step old x (events.Refused f) new) event step)
 
   -- the store refused a range
-  pub scan_refused : (old : World) (session : ℕ) (name : List ℕ) (lower upper : Key) (copy : Copied) (question : Question) (new : World) (r : Result (code_answer.Answer Z) Fault) (e f : Fault)
+  pub scan_refused : (old : World) (session : ℕ) (name : List ℕ) (lower upper : Option Key) (copy : Copied) (question : Question) (new : World) (r : Result (code_answer.Answer Z) Fault) (e f : Fault)
       → Ok question ≡ span_named old.settings.schema name lower upper → r ≡ Err e → e ≡ f → Step old (events.Read session copy.number copy.start question) (events.Refused f) new
       → PlayedIn old new r (CopyWantsScan old name lower upper) (λ answer. ScansIn old session name lower upper copy answer new)
   scan_refused old session name lower upper copy question new r e f asked is same step =

@@ -21,18 +21,18 @@ use Rattle.occ_cli.specs.Answers as says
 use Rattle.occ_cli.specs.Replaying.{CopyWantsScan, Given, MayAnswer, PlayedIn, ScansIn, and_then, overlaid, span_named, table_named, unless}
 
 -- a range that is named is a range
-abbrev pub IsRange : Question → Key → Key → Type 0
-IsRange question lower upper = (place : ℕ) × (question ≡ Span place (Some lower) (Some upper))
+abbrev pub IsRange : Question → Option Key → Option Key → Type 0
+IsRange question lower upper = (place : ℕ) × (question ≡ Span place lower upper)
 
 unless_is : (fault : Option Fault) (asked question : Question) → Ok question ≡ unless fault asked → question ≡ asked
 unless_is None asked question e = cc
 unless_is (Some fault) asked question e = cc
 
-pub is_range : (schema : Schema) (name : List ℕ) (lower upper : Key) (question : Question) → Ok question ≡ span_named schema name lower upper → IsRange question lower upper
+pub is_range : (schema : Schema) (name : List ℕ) (lower upper : Option Key) (question : Question) → Ok question ≡ span_named schema name lower upper → IsRange question lower upper
 is_range schema name lower upper question e = by (table_named schema name) refl
   where
     asked : ℕ → Question
-    asked place = Span place (Some lower) (Some upper)
+    asked place = Span place lower upper
 
     by : (r : Result ℕ Fault) → table_named schema name ≡ r → IsRange question lower upper
     by (Ok place) there = (place, unless_is (check_question schema (asked place)) (asked place) question (e ∙ ap (λ (t : Result ℕ Fault). and_then t (λ p. unless (check_question schema (asked p)) (asked p))) there))
@@ -82,7 +82,7 @@ answered old session number start table lower upper question given new ranges (t
     }
 
 -- and what is shown of it has the own writes over it
-pub scan_answered : {Z : Type 0} (old : World) (session : ℕ) (name : List ℕ) (lower upper : Key) (copy : Copied) (question : Question) (given : Answer) (new : World) (answer : code_answer.Answer Z)
+pub scan_answered : {Z : Type 0} (old : World) (session : ℕ) (name : List ℕ) (lower upper : Option Key) (copy : Copied) (question : Question) (given : Answer) (new : World) (answer : code_answer.Answer Z)
     → Ok question ≡ span_named old.settings.schema name lower upper → Step old (Read session copy.number copy.start question) (Answered given) new → answer_of answer ≡ says.Replied (Answered (overlay question copy.writes given))
     → PlayedIn old new (Ok answer) (CopyWantsScan old name lower upper) (λ a. ScansIn old session name lower upper copy a new)
 scan_answered old session name lower upper copy question given new answer asked step is =

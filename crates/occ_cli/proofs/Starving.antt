@@ -124,7 +124,7 @@ wants_get old new session name key client gets = and_so (copy_of client) _ (Copy
     own_row copy event None m = (starved_told old new event m).0
     own_row copy event (Some r) m = let is = m.0 in cc is
 
-wants_scan : (old new : World) (session : ℕ) (name : List ℕ) (lower upper : Key) (client : Client) → Scans old session name lower upper client hungry new → WantsScan old name lower upper client
+wants_scan : (old new : World) (session : ℕ) (name : List ℕ) (lower upper : Option Key) (client : Client) → Scans old session name lower upper client hungry new → WantsScan old name lower upper client
 wants_scan old new session name lower upper client scans = and_so (copy_of client) _ _
     (λ copy g. is_there (span_named old.settings.schema name lower upper) _ (met (span_named old.settings.schema name lower upper) old new _ (span_other old.settings.schema name lower upper) g))
     (met (copy_of client) old new _ (copy_other client) scans)

@@ -31,7 +31,7 @@ use Rattle.occ_cli.proofs.Settings.{plays_all_keep}
 abbrev of_turns : Header → List Turn → Replayed → Schedule
 of_turns header turns state = record { header = header; turns = turns; state = state }
 
-is_replayed : (header : Header) (turns : List Turn) (state : Replayed) (a b : Option (List ℕ)) → HeaderFits header → AreTurns a b (opened_by header) turns state → IsReplayed (of_turns header turns state)
+is_replayed : (header : Header) (turns : List Turn) (state : Replayed) (a b : Option (List ℕ)) → HeaderFits header → AreTurns header.version a b (opened_by header) turns state → IsReplayed (of_turns header turns state)
 is_replayed header turns state a b fits are = record { header = fits; steps = are.steps; played = are.played }
 
 lines_taken : (a b c : Option (List ℕ)) (xs ys : List (List ℕ)) → Consumes a b (lines_text xs) → Consumes b c (lines_text ys) → Consumes a c (lines_text (xs ++ ys))
@@ -62,7 +62,7 @@ count : (front : List (List ℕ)) (turns : List Turn) → length (front ++ step_
 count front turns = length-append front (step_lines turns) ∙ ap (λ (k : ℕ). length front + k) (length-map turns (λ (turn : Turn). step_text turn.0))
 
 -- the line behind some turns is malformed
-malformed_behind : (quiet : Bool) (a rest : Option (List ℕ)) (Wrote WroteFront : List ℕ → Type 0) (s : Schedule) (n : ℕ) → IsReplayed s → Consumes a rest (lines_text (schedule_lines s)) → IsNoTurn rest (length (schedule_lines s)) n
+malformed_behind : (quiet : Bool) (a rest : Option (List ℕ)) (Wrote WroteFront : List ℕ → Type 0) (s : Schedule) (n : ℕ) → IsReplayed s → Consumes a rest (lines_text (schedule_lines s)) → IsNoTurn s.header.version rest (length (schedule_lines s)) n
     → Wrote (lines_text (answer_lines quiet s.header.tables s.turns)) → IsMalformedAt quiet a Wrote WroteFront n
 malformed_behind quiet a rest Wrote WroteFront s n is taken (inl h) said = MalformedStep s rest is taken h.0 h.1 said
 malformed_behind quiet a rest Wrote WroteFront s n is taken (inr h) said = MalformedUncounted (record { schedule = s; rest = rest; replayed = is; taken = taken; number = h.0; wrote = said }) h.1
@@ -70,12 +70,12 @@ malformed_behind quiet a rest Wrote WroteFront s n is taken (inr h) said = Malfo
 -- the steps ended with trouble
 stopped_with : {T : Type 0} (result : Result T Trouble) (trouble : Trouble) (quiet : Bool) (header : Header) (a b c : Option (List ℕ)) (w v : Option (List ℕ)) (held keeps : List ℕ) (first : ℕ) (new : Replayed) → result ≡ Err trouble
     → Consumes a b (lines_text (header_text header)) → HeaderFits header → first ≡ length (header_text header)
-    → TurnsGive quiet header.tables (Pushed w v held keeps) (PushedFront w v held keeps) (stops trouble) b c first (opened_by header) new
+    → TurnsGive quiet header.version header.tables (Pushed w v held keeps) (PushedFront w v held keeps) (stops trouble) b c first (opened_by header) new
     → ReplayGives quiet a (Pushed w v held keeps) (PushedFront w v held keeps) result c
 stopped_with result (troubles.Malformed n) quiet header a b c w v held keeps first new is taken fits number t =
     subst (λ (r : Result _ Trouble). ReplayGives quiet a (Pushed w v held keeps) (PushedFront w v held keeps) r c) (sym is)
     (malformed_behind quiet a t.1 (Pushed w v held keeps) (PushedFront w v held keeps) (of_turns header t.0 t.2) n (is_replayed header t.0 t.2 b t.1 fits t.3) (lines_taken a b t.1 (header_text header) (step_lines t.0) taken t.3.taken)
-    (subst (λ (k : ℕ). IsNoTurn t.1 k n) (ap (λ (k : ℕ). k + length t.0) number ∙ sym (count (header_text header) t.0)) t.4) t.5)
+    (subst (λ (k : ℕ). IsNoTurn header.version t.1 k n) (ap (λ (k : ℕ). k + length t.0) number ∙ sym (count (header_text header) t.0)) t.4) t.5)
 stopped_with result troubles.Read quiet header a b c w v held keeps first new is taken fits number t =
     subst (λ (r : Result _ Trouble). ReplayGives quiet a (Pushed w v held keeps) (PushedFront w v held keeps) r c) (sym is)
     (UnreadStep (of_turns header t.0 t.3) t.1 (is_replayed header t.0 t.3 b t.2 fits t.4) (part_taken a b t.2 c (header_text header) (step_lines t.0) t.1 taken t.4.taken t.6) t.5 t.7)
@@ -88,11 +88,11 @@ stopped_with result troubles.Memory quiet header a b c w v held keeps first new 
 
 pub turns_stopped : {T : Type 0} (result : Result T Trouble) (trouble : Trouble) (quiet : Bool) (header : Header) (start : Replayed) (a b c : Option (List ℕ)) (w v : Option (List ℕ)) (held keeps : List ℕ) (first : ℕ) (new : Replayed) → start ≡ opened_by header
     → result ≡ Err trouble → Consumes a b (lines_text (header_text header)) → HeaderFits header → first ≡ length (header_text header)
-    → TurnsGive quiet start.world.settings.schema (Pushed w v held keeps) (PushedFront w v held keeps) (stops trouble) b c first start new
+    → TurnsGive quiet header.version start.world.settings.schema (Pushed w v held keeps) (PushedFront w v held keeps) (stops trouble) b c first start new
     → ReplayGives quiet a (Pushed w v held keeps) (PushedFront w v held keeps) result c
 turns_stopped result trouble quiet header start a b c w v held keeps first new began is taken fits number t =
     stopped_with result trouble quiet header a b c w v held keeps first new is taken fits number
-    (subst (λ (r : Replayed). TurnsGive quiet r.world.settings.schema (Pushed w v held keeps) (PushedFront w v held keeps) (stops trouble) b c first r new) began t)
+    (subst (λ (r : Replayed). TurnsGive quiet header.version r.world.settings.schema (Pushed w v held keeps) (PushedFront w v held keeps) (stops trouble) b c first r new) began t)
 
 -- what was pushed behind the answers
 behind_answers : (quiet : Bool) (schema : Schema) (w v u : Option (List ℕ)) (held mid keeps : List ℕ) (turns : List Turn) (lines : List (List ℕ)) → Pushed w v held mid (lines_text (answer_lines quiet schema turns)) → Pushed v u mid keeps (lines_text lines)
@@ -123,11 +123,11 @@ closed_with (Err write_faults.Write) quiet s a rest after w v u held mid keeps i
 closed_with (Err write_faults.Memory) quiet s a rest after w v u held mid keeps is taken end kept said k = cut_in_closing quiet s a rest w v u held mid keeps is taken end said k
 
 abbrev with_schema : Header → Settings → Header
-with_schema header settings = record { sessions = header.sessions; queue = header.queue; keep = header.keep; tables = settings.schema }
+with_schema header settings = record { version = header.version; sessions = header.sessions; queue = header.queue; keep = header.keep; tables = settings.schema }
 
 ended_with : {T : Type 0} (closing : Result T WriteFault) (quiet : Bool) (header : Header) (last : Replayed) (a b c : Option (List ℕ)) (w v u : Option (List ℕ)) (held mid keeps : List ℕ)
     → Consumes a b (lines_text (header_text header)) → HeaderFits header
-    → (turns : List Turn) × (rest : Option (List ℕ)) × AreTurns b rest (opened_by header) turns last × IsAtEnd rest × Keeps rest c × Pushed w v held mid (lines_text (answer_lines quiet header.tables turns))
+    → (turns : List Turn) × (rest : Option (List ℕ)) × AreTurns header.version b rest (opened_by header) turns last × IsAtEnd rest × Keeps rest c × Pushed w v held mid (lines_text (answer_lines quiet header.tables turns))
     → ClosingGives (Pushed v u mid keeps) (PushedFront v u mid keeps) closing (book_at (with_schema header last.world.settings) last.world)
     → ReplayGives quiet a (Pushed w u held keeps) (PushedFront w u held keeps) (troubled closing) c
 ended_with closing quiet header last a b c w v u held mid keeps taken fits t k =
@@ -137,19 +137,19 @@ ended_with closing quiet header last a b c w v u held mid keeps taken fits t k =
 
 pub all_closed : {T : Type 0} (closing : Result T WriteFault) (quiet : Bool) (header : Header) (start last : Replayed) (a b c : Option (List ℕ)) (w v u : Option (List ℕ)) (held mid keeps : List ℕ)
     → start ≡ opened_by header → Consumes a b (lines_text (header_text header)) → HeaderFits header
-    → (turns : List Turn) × (rest : Option (List ℕ)) × AreTurns b rest start turns last × IsAtEnd rest × Keeps rest c × Pushed w v held mid (lines_text (answer_lines quiet start.world.settings.schema turns))
+    → (turns : List Turn) × (rest : Option (List ℕ)) × AreTurns header.version b rest start turns last × IsAtEnd rest × Keeps rest c × Pushed w v held mid (lines_text (answer_lines quiet start.world.settings.schema turns))
     → ClosingGives (Pushed v u mid keeps) (PushedFront v u mid keeps) closing (book_at (with_schema header last.world.settings) last.world)
     → ReplayGives quiet a (Pushed w u held keeps) (PushedFront w u held keeps) (troubled closing) c
 all_closed closing quiet header start last a b c w v u held mid keeps began taken fits t k =
     ended_with closing quiet header last a b c w v u held mid keeps taken fits
     (subst
-    (λ (r : Replayed). (turns : List Turn) × (rest : Option (List ℕ)) × AreTurns b rest r turns last × IsAtEnd rest × Keeps rest c × Pushed w v held mid (lines_text (answer_lines quiet r.world.settings.schema turns)))
+    (λ (r : Replayed). (turns : List Turn) × (rest : Option (List ℕ)) × AreTurns header.version b rest r turns last × IsAtEnd rest × Keeps rest c × Pushed w v held mid (lines_text (answer_lines quiet r.world.settings.schema turns)))
     began t) k
 
 -- the same, by the exit of a `?`
 pub all_cut : (fault : WriteFault) (result : Result (Unit {0}) Trouble) (quiet : Bool) (header : Header) (start last : Replayed) (a b c : Option (List ℕ)) (w v u : Option (List ℕ)) (held mid keeps : List ℕ) → IsErrAnd result (λ e. e ≡ write_trouble fault)
     → start ≡ opened_by header → Consumes a b (lines_text (header_text header)) → HeaderFits header
-    → (turns : List Turn) × (rest : Option (List ℕ)) × AreTurns b rest start turns last × IsAtEnd rest × Keeps rest c × Pushed w v held mid (lines_text (answer_lines quiet start.world.settings.schema turns))
+    → (turns : List Turn) × (rest : Option (List ℕ)) × AreTurns header.version b rest start turns last × IsAtEnd rest × Keeps rest c × Pushed w v held mid (lines_text (answer_lines quiet start.world.settings.schema turns))
     → ClosingGives (Pushed v u mid keeps) (PushedFront v u mid keeps) {T = Unit {0}} (Err fault) (book_at (with_schema header last.world.settings) last.world)
     → ReplayGives quiet a (Pushed w u held keeps) (PushedFront w u held keeps) result c
 all_cut fault (Ok done) quiet header start last a b c w v u held mid keeps is began taken fits t k = absurd is

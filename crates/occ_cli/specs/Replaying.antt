@@ -92,9 +92,9 @@ abbrev pub object_named : Schema → List ℕ → Key → Result Object Fault
 object_named schema name key = and_then (table_named schema name) (λ place. unless (check_key schema place key) (place, key))
 
 -- a range of the table with a name
-abbrev pub span_named : Schema → List ℕ → Key → Key → Result Question Fault
+abbrev pub span_named : Schema → List ℕ → Option Key → Option Key → Result Question Fault
 span_named schema name lower upper = and_then (table_named schema name) (λ place.
-    let question = Span place (Some lower) (Some upper) in
+    let question = Span place lower upper in
     unless (check_question schema question) question)
 
 -- `begin`: the number of the next transaction
@@ -173,7 +173,7 @@ Closes old answer new = Given (mark_of old) old answer new (λ number.
 -- an operation, with the place of the table that it names
 abbrev pub operation_named : Schema → texts.Operation → Operation
 operation_named schema (texts.Get name key) = operations.Get (place_named schema name) key
-operation_named schema (texts.Scan name lower upper) = operations.Scan (place_named schema name) (Some lower) (Some upper)
+operation_named schema (texts.Scan name lower upper) = operations.Scan (place_named schema name) lower upper
 operation_named schema (texts.Put name key row) = operations.Put (place_named schema name) key row
 operation_named schema (texts.Delete name key) = operations.Delete (place_named schema name) key
 operation_named schema (texts.Add name key amount) = operations.Add (place_named schema name) key amount
@@ -237,12 +237,12 @@ pub record MayAnswer (question : Question) (given : states.Answer) : Type 0 wher
   pub few : states.answer_size given ≤ MAX_ANSWER_ROWS
 
 -- `scan` in an open transaction: what the store answers, with the own writes over it
-abbrev pub ScansIn : World → ℕ → List ℕ → Key → Key → Copied → Answer → World → Type 0
+abbrev pub ScansIn : World → ℕ → List ℕ → Option Key → Option Key → Copied → Answer → World → Type 0
 ScansIn old session name lower upper copy answer new = Given (span_named old.settings.schema name lower upper) old answer new (λ question.
     (reply : Reply) × model.Step old (events.Read session copy.number copy.start question) reply new
     × (answer ≡ says.Replied (overlaid question copy.writes reply)))
 
-abbrev pub Scans : World → ℕ → List ℕ → Key → Key → Client → Answer → World → Type 0
+abbrev pub Scans : World → ℕ → List ℕ → Option Key → Option Key → Client → Answer → World → Type 0
 Scans old session name lower upper client answer new =
     Given (copy_of client) old answer new (λ copy. ScansIn old session name lower upper copy answer new)
 
@@ -342,10 +342,10 @@ abbrev pub WantsGet : World → ℕ → List ℕ → Key → Client → Type 0
 WantsGet world session name key client = IsOkAnd (copy_of client) (CopyWantsGet world session name key)
 
 -- For `scan` it wants room for the whole answer, which is taken before the store is asked.
-abbrev pub CopyWantsScan : World → List ℕ → Key → Key → Type 0
+abbrev pub CopyWantsScan : World → List ℕ → Option Key → Option Key → Type 0
 CopyWantsScan world name lower upper = IsOk (span_named world.settings.schema name lower upper)
 
-abbrev pub WantsScan : World → List ℕ → Key → Key → Client → Type 0
+abbrev pub WantsScan : World → List ℕ → Option Key → Option Key → Client → Type 0
 WantsScan world name lower upper client = IsOkAnd (copy_of client) (λ copy. CopyWantsScan world name lower upper)
 
 -- Writes want room for an object that is new, and not one too many; one that is written already takes its new row without.

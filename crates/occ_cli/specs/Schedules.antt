@@ -5,6 +5,7 @@ use Rattle.occ_types.specs.Schema.{Schema}
 use Rattle.occ_types.specs.declared.fault.Fault.TheVariants as faults
 use Rattle.occ_model.specs.Log.{Audited}
 use Rattle.occ_model.specs.World.{World, low}
+use Rattle.occ_text.specs.declared.versions.Version.{Version}
 use Rattle.occ_text.specs.declared.trouble.Trouble.{Trouble}
 use Rattle.occ_text.specs.declared.trouble.Trouble.TheVariants.{Read, Write, Memory, Malformed}
 use Rattle.occ_cli.specs.Answers.{Answer, answer_text}
@@ -37,7 +38,7 @@ opened_by header = started (record { schema = header.tables; sessions = header.s
 
 pub record IsReplayed (schedule : Schedule) : Type 0 where
   pub header : HeaderFits schedule.header
-  pub steps : All (λ turn. StepFits turn.0) schedule.turns
+  pub steps : All (λ turn. StepFits schedule.header.version turn.0) schedule.turns
   pub played : PlaysAll (opened_by schedule.header) schedule.turns schedule.state
 
 abbrev pub step_lines : List Turn → List (List ℕ)
@@ -79,14 +80,14 @@ closing_lines book = book_lines book ++ audit_line true ∷ []
 abbrev pub replay_lines : Bool → Schedule → List (List ℕ)
 replay_lines quiet schedule = answer_lines quiet schedule.header.tables schedule.turns ++ closing_lines (book_after schedule)
 
--- what stands next is no line of a step: no line stands there, or another one
-pub data IsNoStep (rest : Option (List ℕ)) : Type 0 where
-  NoLineThere : IfSome rest BeginsNoLine → IsNoStep rest
-  LineOfNoStep : (line : List ℕ) (after : Option (List ℕ)) → Consumes rest after (line ++ 10 ∷ []) → IsLine line → ((step : Step) → StepFits step → line ≢ step_text step) → IsNoStep rest
+-- what stands next is no line of a step in a text of this version: no line stands there, or another one
+pub data IsNoStep (version : Version) (rest : Option (List ℕ)) : Type 0 where
+  NoLineThere : IfSome rest BeginsNoLine → IsNoStep version rest
+  LineOfNoStep : (line : List ℕ) (after : Option (List ℕ)) → Consumes rest after (line ++ 10 ∷ []) → IsLine line → ((step : Step) → StepFits version step → line ≢ step_text step) → IsNoStep version rest
 
 -- the line of this number is malformed behind so many lines: the next one is no line of a step, or those are all that have a number of 64 bits, and it is the last of them
-abbrev pub IsNoTurn : Option (List ℕ) → ℕ → ℕ → Type 0
-IsNoTurn rest taken number = (IsNoStep rest × (number ≡ taken + 1)) ⊎ ((taken ≡ 2 ^ 64 - 1) × (number ≡ 2 ^ 64 - 1))
+abbrev pub IsNoTurn : Version → Option (List ℕ) → ℕ → ℕ → Type 0
+IsNoTurn version rest taken number = (IsNoStep version rest × (number ≡ taken + 1)) ⊎ ((taken ≡ 2 ^ 64 - 1) × (number ≡ 2 ^ 64 - 1))
 
 -- The text of a reader, by where its replay ended. `Wrote` tells what was written, `WroteFront` of what text a beginning was.
 module _ (quiet : Bool) (before : Option (List ℕ)) (Wrote WroteFront : List ℕ → Type 0) where
@@ -102,7 +103,7 @@ module _ (quiet : Bool) (before : Option (List ℕ)) (Wrote WroteFront : List �
   -- The line of this number is malformed, and all before it were taken and answered. Where all lines that have a number were taken and answered, it is the last of them.
   pub data IsMalformedAt (number : ℕ) : Type 0 where
     MalformedHeader : (lines : List (List ℕ)) (rest : Option (List ℕ)) → Consumes before rest (lines_text lines) → BeginsHeader lines → CannotStand (λ line. BeginsHeader (lines ++ line ∷ [])) rest → number ≡ length lines + 1 → Wrote [] → IsMalformedAt number
-    MalformedStep : (schedule : Schedule) (rest : Option (List ℕ)) → IsReplayed schedule → Consumes before rest (lines_text (schedule_lines schedule)) → IsNoStep rest → number ≡ length (schedule_lines schedule) + 1
+    MalformedStep : (schedule : Schedule) (rest : Option (List ℕ)) → IsReplayed schedule → Consumes before rest (lines_text (schedule_lines schedule)) → IsNoStep schedule.header.version rest → number ≡ length (schedule_lines schedule) + 1
         → Wrote (lines_text (answer_lines quiet schedule.header.tables schedule.turns)) → IsMalformedAt number
     MalformedUncounted : IsUncounted → number ≡ 2 ^ 64 - 1 → IsMalformedAt number
 

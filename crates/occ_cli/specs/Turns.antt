@@ -6,6 +6,7 @@ use Rattle.occ_types.specs.Schema.{Schema}
 use Rattle.occ_types.specs.declared.fault.Fault.TheVariants as faults
 use Rattle.occ_text.specs.declared.faults.WriteFault.{WriteFault}
 use Rattle.occ_text.specs.declared.faults.WriteFault.TheVariants as write_faults
+use Rattle.occ_text.specs.declared.versions.Version.{Version}
 use Rattle.occ_text.specs.declared.trouble.Trouble.{Trouble}
 use Rattle.occ_text.specs.declared.trouble.Trouble.TheVariants.{Read, Write, Memory, Malformed}
 use Rattle.occ_cli.specs.Answers.{Answer}
@@ -42,45 +43,46 @@ module _ (quiet : Bool) (schema : Schema) (Wrote WroteFront : List ℕ → Type 
   AnswerGives (Err write_faults.Write) step old new = IsHalfSaid step old new
   AnswerGives (Err write_faults.Memory) step old new = WroteFront [] ⊎ IsHalfSaid step old new
 
+module _ (quiet : Bool) (version : Version) (schema : Schema) (Wrote WroteFront : List ℕ → Type 0) where
   -- the line of a step was taken, and a beginning of its answer was written
   pub record IsHalfTurn (before rest : Option (List ℕ)) (old new : Replayed) : Type 0 where
     pub step : Step
-    pub fits : StepFits step
+    pub fits : StepFits version step
     pub taken : Consumes before rest (step_text step ++ 10 ∷ [])
-    pub said : IsHalfSaid step old new
+    pub said : IsHalfSaid quiet schema Wrote WroteFront step old new
 
   -- what one turn leaves, where first and last are how many lines were taken before and after
   abbrev pub TurnGives : Result Bool Trouble → Option (List ℕ) → Option (List ℕ) → ℕ → ℕ → Replayed → Replayed → Type 0
   TurnGives (Ok true) before after first last old new =
-      (turn : Turn) × StepFits turn.0 × Consumes before after (step_text turn.0 ++ 10 ∷ []) × IsTurn old turn.0 turn.1 new × Wrote (lines_text (answer_lines quiet schema (turn ∷ []))) × (last ≡ first + 1)
+      (turn : Turn) × StepFits version turn.0 × Consumes before after (step_text turn.0 ++ 10 ∷ []) × IsTurn old turn.0 turn.1 new × Wrote (lines_text (answer_lines quiet schema (turn ∷ []))) × (last ≡ first + 1)
   TurnGives (Ok false) before after first last old new = IsAtEnd before × Keeps before after × (new ≡ old) × Wrote []
-  TurnGives (Err (Malformed number)) before after first last old new = IsNoTurn before first number × Wrote []
+  TurnGives (Err (Malformed number)) before after first last old new = IsNoTurn version before first number × Wrote []
   TurnGives (Err Read) before after first last old new = (part : List ℕ) × IsLine part × Consumes before after part × Wrote []
   TurnGives (Err Write) before after first last old new = IsHalfTurn before after old new
   TurnGives (Err Memory) before after first last old new = WroteFront [] ⊎ IsHalfTurn before after old new
 
 -- some steps were taken from a text, done and answered
-pub record AreTurns (before rest : Option (List ℕ)) (old : Replayed) (turns : List Turn) (new : Replayed) : Type 0 where
-  pub steps : All (λ turn. StepFits turn.0) turns
+pub record AreTurns (version : Version) (before rest : Option (List ℕ)) (old : Replayed) (turns : List Turn) (new : Replayed) : Type 0 where
+  pub steps : All (λ turn. StepFits version turn.0) turns
   pub played : PlaysAll old turns new
   pub taken : Consumes before rest (lines_text (step_lines turns))
 
-module _ (quiet : Bool) (schema : Schema) (Wrote WroteFront : List ℕ → Type 0) where
+module _ (quiet : Bool) (version : Version) (schema : Schema) (Wrote WroteFront : List ℕ → Type 0) where
   -- a beginning of the answers was written
   pub record AreHalfSaid (before : Option (List ℕ)) (old : Replayed) : Type 0 where
     pub turns : List Turn
     pub rest : Option (List ℕ)
     pub new : Replayed
-    pub are : AreTurns before rest old turns new
+    pub are : AreTurns version before rest old turns new
     pub wrote : WroteFront (lines_text (answer_lines quiet schema turns))
 
   -- what all turns leave
   abbrev pub TurnsGive : {T : Type 0} → Result T Trouble → Option (List ℕ) → Option (List ℕ) → ℕ → Replayed → Replayed → Type 0
-  TurnsGive (Ok done) before after first old new = (turns : List Turn) × (rest : Option (List ℕ)) × AreTurns before rest old turns new × IsAtEnd rest × Keeps rest after × Wrote (lines_text (answer_lines quiet schema turns))
+  TurnsGive (Ok done) before after first old new = (turns : List Turn) × (rest : Option (List ℕ)) × AreTurns version before rest old turns new × IsAtEnd rest × Keeps rest after × Wrote (lines_text (answer_lines quiet schema turns))
   TurnsGive (Err (Malformed number)) before after first old new =
-      (turns : List Turn) × (rest : Option (List ℕ)) × (last : Replayed) × AreTurns before rest old turns last × IsNoTurn rest (first + length turns) number × Wrote (lines_text (answer_lines quiet schema turns))
+      (turns : List Turn) × (rest : Option (List ℕ)) × (last : Replayed) × AreTurns version before rest old turns last × IsNoTurn version rest (first + length turns) number × Wrote (lines_text (answer_lines quiet schema turns))
   TurnsGive (Err Read) before after first old new =
-      (turns : List Turn) × (part : List ℕ) × (rest : Option (List ℕ)) × (last : Replayed) × AreTurns before rest old turns last × IsLine part × Consumes rest after part × Wrote (lines_text (answer_lines quiet schema turns))
+      (turns : List Turn) × (part : List ℕ) × (rest : Option (List ℕ)) × (last : Replayed) × AreTurns version before rest old turns last × IsLine part × Consumes rest after part × Wrote (lines_text (answer_lines quiet schema turns))
   TurnsGive (Err Write) before after first old new = AreHalfSaid before old
   TurnsGive (Err Memory) before after first old new = AreHalfSaid before old
 

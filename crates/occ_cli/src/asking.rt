@@ -3,7 +3,7 @@
 ghost use Rattle.std.specs.Prelude.{◌≡◌, is_some, true};
 ghost use Rattle.std.specs.Option.{option_copied};
 ghost use Rattle.occ_types.specs.Question.{One};
-ghost use Rattle.occ_types.specs.Seen.{key_of, object_of, question_of};
+ghost use Rattle.occ_types.specs.Seen.{key_of, end_of, object_of, question_of};
 ghost use Rattle.occ_model.specs.Event as events;
 ghost use Rattle.occ_model.specs.Overlay.{overlay};
 ghost use Rattle.occ_model.specs.Step.{Step};
@@ -75,10 +75,10 @@ pub(crate) fn scan<A: Allocator + Copy>(
     core: &mut Core<A>,
     session: usize,
     table: &str,
-    lower: Key<A>,
-    upper: Key<A>,
+    lower: Option<Key<A>>,
+    upper: Option<Key<A>>,
 ) -> Result<Answer<A>, Fault>
-    ensures { PlayedIn core.old.world core.new.world result (CopyWantsScan core.old.world table.now (key_of lower) (key_of upper)) (λ answer. ScansIn core.old.world session table.now (key_of lower) (key_of upper) copy.now answer core.new.world) }
+    ensures { PlayedIn core.old.world core.new.world result (CopyWantsScan core.old.world table.now (end_of lower) (end_of upper)) (λ answer. ScansIn core.old.world session table.now (end_of lower) (end_of upper) copy.now answer core.new.world) }
 {
     let question = span_named(core.schema(), table, lower, upper)?;
     let prepared = copy.prepare(&question)?;

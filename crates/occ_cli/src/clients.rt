@@ -1,7 +1,7 @@
 //! The clients of a replay, one for each session.
 ghost use Rattle.std.specs.Prelude.{◌≡◌, ◌<◌, suc, None, Some, Err, length, map, replicate, IfOk, IsOkUnless, MatchResult};
 ghost use Rattle.std.specs.Option.{option_map};
-ghost use Rattle.occ_types.specs.Seen.{key_of};
+ghost use Rattle.occ_types.specs.Seen.{key_of, end_of};
 ghost use Rattle.occ_types.specs.declared.fault.Fault.TheVariants as faults;
 ghost use Rattle.occ_model.specs.Event as events;
 ghost use Rattle.occ_queue.specs.Items.{item_of};
@@ -185,10 +185,10 @@ impl<A: Allocator + Copy> Client<A> {
         core: &mut Core<A>,
         session: usize,
         table: &str,
-        lower: Key<A>,
-        upper: Key<A>,
+        lower: Option<Key<A>>,
+        upper: Option<Key<A>>,
     ) -> Result<Answer<A>, Fault>
-        ensures { PlayedIn core.old.world core.new.world result (WantsScan core.old.world table.now (key_of lower) (key_of upper) self.now) (λ answer. Scans core.old.world session table.now (key_of lower) (key_of upper) self.now answer core.new.world) }
+        ensures { PlayedIn core.old.world core.new.world result (WantsScan core.old.world table.now (end_of lower) (end_of upper) self.now) (λ answer. Scans core.old.world session table.now (end_of lower) (end_of upper) self.now answer core.new.world) }
     {
         match &self.copy {
             None => Err(Fault::NoReadOpen),

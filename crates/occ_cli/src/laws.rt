@@ -9,7 +9,7 @@ use std::alloc::Allocator;
 /// The book of every core fits each header of that core, where its keys and rows have words. So no text of it is malformed.
 /// It computes nothing.
 pub fn the_book_of_a_core_fits<A: Allocator>(core: &Core<A>)
-    ensures { (header : Header) → IsHeaderOf header core.now.world → HasWords core.now.world → BookFits (book_in header core.now.world) }
+    ensures { (header : Header) → IsHeaderOf header core.now.world → HasWords header.version core.now.world → BookFits (book_in header core.now.world) }
 {
     core.law();
 }

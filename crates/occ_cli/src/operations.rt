@@ -83,8 +83,8 @@ fn operation_named<A: Allocator>(schema: &Schema<A>, operation: Operation<'_, A>
             upper,
         } => Op::Scan {
             table: place_named(schema, table),
-            lower: Some(lower),
-            upper: Some(upper),
+            lower,
+            upper,
         },
         Operation::Put { table, key, row } => Op::Put {
             table: place_named(schema, table),

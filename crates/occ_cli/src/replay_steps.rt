@@ -1,7 +1,7 @@
 //! A replay of a schedule, step by step.
 
 ghost use Rattle.std.specs.Prelude.{◌≡◌, ◌≢◌, map, IfOk, IfErr, OnErr, IsOkAnd};
-ghost use Rattle.occ_types.specs.Seen.{key_of};
+ghost use Rattle.occ_types.specs.Seen.{key_of, end_of};
 ghost use Rattle.occ_text.specs.declared.steps.Act.TheVariants as acts;
 ghost use Rattle.occ_types.specs.declared.fault.Fault.TheVariants as faults;
 ghost use Rattle.occ_core.specs.Runs.{event_of};
@@ -211,10 +211,10 @@ impl<A: Allocator + Copy> Replay<A> {
         &mut self,
         session: usize,
         table: &str,
-        lower: Key<A>,
-        upper: Key<A>,
+        lower: Option<Key<A>>,
+        upper: Option<Key<A>>,
     ) -> Result<Answer<A>, Fault>
-        ensures { Played result (Starved self.old (Scan session table.now (key_of lower) (key_of upper)) self.new) (λ answer. Plays self.old (Scan session table.now (key_of lower) (key_of upper)) answer self.new) }
+        ensures { Played result (Starved self.old (Scan session table.now (end_of lower) (end_of upper)) self.new) (λ answer. Plays self.old (Scan session table.now (end_of lower) (end_of upper)) answer self.new) }
     {
         let place = place_of(self.clients.as_slice(), session)?;
         let client = &self.clients[place];

@@ -1,7 +1,7 @@
 //! What a step names: keys and ranges of the table with a name.
 ghost use Rattle.std.specs.Prelude.{◌≡◌};
 ghost use Rattle.std.specs.Result.{result_map_both};
-ghost use Rattle.occ_types.specs.Seen.{key_of, object_of, question_of};
+ghost use Rattle.occ_types.specs.Seen.{key_of, end_of, object_of, question_of};
 ghost use Rattle.occ_cli.specs.Replaying.{object_named, place_named, span_named};
 
 use occ_types::{Fault, Key, Object, Question, Schema};
@@ -34,16 +34,16 @@ pub(crate) fn place_named<A: Allocator>(schema: &Schema<A>, table: &str) -> usiz
 pub(crate) fn span_named<A: Allocator>(
     schema: &Schema<A>,
     table: &str,
-    lower: Key<A>,
-    upper: Key<A>,
+    lower: Option<Key<A>>,
+    upper: Option<Key<A>>,
 ) -> Result<Question<A>, Fault>
-    ensures { result_map_both question_of (λ fault. fault) result ≡ span_named schema.now table.now (key_of lower) (key_of upper) }
+    ensures { result_map_both question_of (λ fault. fault) result ≡ span_named schema.now table.now (end_of lower) (end_of upper) }
 {
     let table = schema.table_named(table).ok_or(Fault::NoTable)?;
     let question = Question::Span {
         table,
-        lower: Some(lower),
-        upper: Some(upper),
+        lower,
+        upper,
     };
     schema.check_question(&question)?;
     Ok(question)

@@ -27,6 +27,7 @@ use occ_text::output::Output;
 use occ_text::step_reading::read_step;
 use occ_text::steps::Step;
 use occ_text::trouble::Trouble;
+use occ_text::versions::Version;
 use occ_types::Schema;
 use std::alloc::Allocator;
 use std::io::{Read, Write};
@@ -86,12 +87,21 @@ fn replay_lines<R: Read, W: Write, A: Allocator + Copy>(
     let Ok(mut replay) = Replay::open(alloc, header.schema, header.limits) else {
         return Err(Trouble::Memory);
     };
-    take_turns(alloc, input, reader, output, writer, &mut replay, quiet)?;
+    take_turns(
+        alloc,
+        input,
+        reader,
+        output,
+        writer,
+        &mut replay,
+        header.limits.version,
+        quiet,
+    )?;
     close(alloc, output, writer, &replay, header.limits)?;
     Ok(())
 }
 
-// Does and answers all steps that stand next in the text, up to its end.
+// Does and answers all steps that stand next in a text of this version, up to its end.
 fn take_turns<R: Read, W: Write, A: Allocator + Copy>(
     alloc: A,
     input: &mut Input<A>,
@@ -99,16 +109,17 @@ fn take_turns<R: Read, W: Write, A: Allocator + Copy>(
     output: &mut Output<A>,
     writer: &mut W,
     replay: &mut Replay<A>,
+    version: Version,
     quiet: bool,
 ) -> Result<(), Trouble>
-    ensures gives { TurnsGive quiet replay.old.world.settings.schema (Pushed (W.contents writer.old) (W.contents writer.new) output.old.held output.new.held)
+    ensures gives { TurnsGive quiet version replay.old.world.settings.schema (Pushed (W.contents writer.old) (W.contents writer.new) output.old.held output.new.held)
         (PushedFront (W.contents writer.old) (W.contents writer.new) output.old.held output.new.held) result
         (prepend_known input.old.unread (R.remaining reader.old)) (prepend_known input.new.unread (R.remaining reader.new))
         input.old.number replay.old replay.new }
     ensures unread { IfErr result (λ trouble. trouble ≡ troubles.Read → HasFailed input.new) }
     ensures unwritten { IfErr result (λ trouble. trouble ≡ troubles.Write → output.new.failed ≡ true) }
 {
-    while take_turn(alloc, input, reader, output, writer, replay, quiet)? {}
+    while take_turn(alloc, input, reader, output, writer, replay, version, quiet)? {}
     Ok(())
 }
 
@@ -120,9 +131,10 @@ fn take_turn<R: Read, W: Write, A: Allocator + Copy>(
     output: &mut Output<A>,
     writer: &mut W,
     replay: &mut Replay<A>,
+    version: Version,
     quiet: bool,
 ) -> Result<bool, Trouble>
-    ensures gives { TurnGives quiet replay.old.world.settings.schema (Pushed (W.contents writer.old) (W.contents writer.new) output.old.held output.new.held)
+    ensures gives { TurnGives quiet version replay.old.world.settings.schema (Pushed (W.contents writer.old) (W.contents writer.new) output.old.held output.new.held)
         (PushedFront (W.contents writer.old) (W.contents writer.new) output.old.held output.new.held) result
         (prepend_known input.old.unread (R.remaining reader.old)) (prepend_known input.new.unread (R.remaining reader.new))
         input.old.number input.new.number replay.old replay.new }
@@ -134,7 +146,7 @@ fn take_turn<R: Read, W: Write, A: Allocator + Copy>(
         Next::End => return Ok(false),
         Next::Line => {}
     }
-    let step = read_at_line(read_step(alloc, input.line()), input.number())?;
+    let step = read_at_line(read_step(alloc, version, input.line()), input.number())?;
     answer_step(alloc, output, writer, replay, step, quiet)?;
     Ok(true)
 }
@@ -186,7 +198,7 @@ fn close<W: Write, A: Allocator + Copy>(
 ) -> Result<(), WriteFault>
     ensures gives { ClosingGives (Pushed (W.contents writer.old) (W.contents writer.new) output.old.held output.new.held)
         (PushedFront (W.contents writer.old) (W.contents writer.new) output.old.held output.new.held) result
-        (book_at (record { sessions = limits.sessions; queue = limits.queue; keep = limits.keep; tables = replay.now.world.settings.schema }) replay.now.world) }
+        (book_at (record { version = limits.version; sessions = limits.sessions; queue = limits.queue; keep = limits.keep; tables = replay.now.world.settings.schema }) replay.now.world) }
     ensures cause { IfErr result (λ fault. fault ≡ write_faults.Write → output.new.failed ≡ true) }
 {
     let core = replay.core();

@@ -5,13 +5,14 @@ use occ_sets::WriteSet;
 use occ_types::{Cell, Fault, Key, KeyKind, Kind, Row, Schema, TableDef, Text};
 use std::alloc::Global;
 
-/// A store of two sessions with one table, whose keys are numbers and whose rows are one number. It keeps eight write sets.
-pub(crate) fn store(alloc: Global) -> Result<Core<Global>, Fault> {
+/// A store of two sessions with one table, whose keys are numbers and whose rows are one number. It keeps eight write sets. It is in a
+/// box, which a test drops by one call; of a plain core it would drop each part by itself, on each way out.
+pub(crate) fn store(alloc: Global) -> Result<Box<Core<Global>>, Fault> {
     store_keeping(alloc, 8)
 }
 
 /// One that keeps so many write sets.
-pub(crate) fn store_keeping(alloc: Global, keep: usize) -> Result<Core<Global>, Fault> {
+pub(crate) fn store_keeping(alloc: Global, keep: usize) -> Result<Box<Core<Global>>, Fault> {
     let table = TableDef {
         name: Text::new(alloc, "t")?,
         key: KeyKind::Num,
@@ -19,7 +20,7 @@ pub(crate) fn store_keeping(alloc: Global, keep: usize) -> Result<Core<Global>, 
     };
     let schema = Schema::new(vec![in alloc; table]?)?;
     let core = Core::open(alloc, schema, 2, keep)?;
-    Ok(core)
+    Ok(Box::new(alloc, core)?)
 }
 
 /// A read of a key in the first transaction of a session, which starts at 0.

@@ -55,7 +55,7 @@ fn tell_row(words: &mut String<Global>, row: &Row<Global>) -> Result<(), AllocEr
 fn tell_key(words: &mut String<Global>, object: &Object<Global>) -> Result<(), AllocError> {
     match &object.key {
         Key::Num(number) => write!(words, "wrote {number}; "),
-        Key::Text(_) => words.push_str("wrote a text; "),
+        Key::Text(_) | Key::Pair(_) => words.push_str("wrote another key; "),
     }
 }
 

@@ -10,7 +10,12 @@ use std::thread::Threads;
 
 // One transaction of a session, with one holding of the lock for each step. It reads nothing and writes what no other writes, so it
 // commits whatever the others do. Whether it finished.
-fn commit(rt: &impl Wait, core: &Mutex<Core<Global>>, session: usize, entry: Step<Global>) -> bool {
+fn commit(
+    rt: &impl Wait,
+    core: &Mutex<Box<Core<Global>>>,
+    session: usize,
+    entry: Step<Global>,
+) -> bool {
     let _entered = core.lock(rt).take(entry);
     let _decided = core.lock(rt).take(Step::Decide(session));
     for _ in 0..2 {
@@ -23,7 +28,7 @@ fn commit(rt: &impl Wait, core: &Mutex<Core<Global>>, session: usize, entry: Ste
 // Two sessions, each in a thread of its own. Whether both finished.
 fn commit_both<R: Threads + Wait + Sync>(
     rt: &R,
-    core: &Mutex<Core<Global>>,
+    core: &Mutex<Box<Core<Global>>>,
     first: Step<Global>,
     second: Step<Global>,
 ) -> bool {

@@ -82,6 +82,16 @@ fn a_malformed_line_alone(rt: HostRuntime) -> Result<(), Fail> {
         "alone 1 add:t:1:'a",
         "alone 1 put:t:1:2:3",
         "alone 3 get:u:1 get:u:1 get:u:1 get:u:1 got:u:1",
+        // what version 2 alone has
+        "get 1 t 1+1",
+        "put 1 t 1+1 1",
+        "delete 1 t '+'",
+        "rawread 1 1 0 t 1+1",
+        "scan 1 t * 1",
+        "scan 1 t 1 *",
+        "scan 1 t * *",
+        "alone 1 get:t:1+1",
+        "alone 1 scan:t:*:*",
     ] {
         let text = format!(in rt.alloc(); "{HEADER}{line}\n")?;
         assert!(rt;
@@ -91,6 +101,31 @@ fn a_malformed_line_alone(rt: HostRuntime) -> Result<(), Fail> {
     }
     let told = format!(in rt.alloc(); "{}", Trouble::Malformed(7))?;
     assert!(rt; told.as_str() == "line 7: malformed");
+    Ok(())
+}
+
+#[test]
+fn a_malformed_line_of_version_two(rt: HostRuntime) -> Result<(), Fail> {
+    for line in [
+        "get 1 t *",
+        "put 1 t * 1",
+        "get 1 t 1+",
+        "get 1 t +1",
+        "get 1 t 1+2+3",
+        "scan 1 t *",
+        "scan 1 t * * *",
+        "scan 1 t ** 1",
+        "scan 1 t 1 *+1",
+        "alone 1 get:t:*",
+        "alone 1 scan:t:*",
+        "alone 1 scan:t:*:*:*",
+    ] {
+        let text = format!(in rt.alloc(); "occ 2{}{line}\n", HEADER.trim_start_matches("occ 1"))?;
+        assert!(rt;
+            gives(rt.alloc(), text.as_bytes(), Err(Trouble::Malformed(7)), b""),
+            "{line}"
+        );
+    }
     Ok(())
 }
 

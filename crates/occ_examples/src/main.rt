@@ -21,13 +21,14 @@ use std::process::ExitCode;
 use std::{fs, io};
 
 /// The schedules, each in a file `NAME.occ` with its text in `NAME.out`.
-const EXAMPLES: [&str; 36] = [
+const EXAMPLES: [&str; 40] = [
     "abandoned-and-begun-anew",
     "alone-reads-its-own-writes",
     "alone-while-another-writes",
     "blind-writes",
     "closed-sessions",
     "deletion-of-an-absent-key",
+    "entries-of-an-account",
     "entry-between-two-writes",
     "entry-order",
     "first-commit",
@@ -37,12 +38,14 @@ const EXAMPLES: [&str; 36] = [
     "full-read-set",
     "full-write-set",
     "judged-by-its-entry",
+    "keys-of-two-parts",
     "long-range-alone",
     "lost-update",
     "malformed-key",
     "no-step",
     "opponent-backed-up-later",
     "own-writes",
+    "phantom-at-a-lower-end",
     "phantom-in-a-range",
     "range-too-large",
     "read-between-two-writes",
@@ -57,6 +60,7 @@ const EXAMPLES: [&str; 36] = [
     "torn-line",
     "upper-end-of-a-range",
     "what-waits-to-run-alone",
+    "whole-tables",
     "write-phase-left-open",
 ];
 

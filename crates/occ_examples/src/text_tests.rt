@@ -181,3 +181,19 @@ fn well_formed_texts(rt: HostRuntime) -> Result<(), Fail> {
     }
     Ok(())
 }
+
+#[test]
+fn a_book_has_the_version_of_its_run(rt: HostRuntime) -> Result<(), Fail> {
+    let alloc = rt.alloc();
+    for version in [1u8, 2] {
+        let header = format!(in alloc;
+            "occ {version}\nsessions 2\nqueue 4\nkeep 8\ntable t num int\n"
+        )?;
+        let schedule = format!(in alloc; "{header}steps\nbegin 1\nput 1 t 7 100\n")?;
+        let text = format!(in alloc;
+            "begun 1 0\nok\n{header}log 0\nmarks 0\nstate 0\ncounter 0 low 0\naudit yes\n"
+        )?;
+        assert!(rt; gives(alloc, schedule.as_str(), false, Ok(()), text.as_str())?);
+    }
+    Ok(())
+}

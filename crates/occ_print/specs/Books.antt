@@ -1,5 +1,5 @@
 -- The book of a store: all that it keeps, line by line (our own choice).
-use Rattle.std.specs.Prelude.{ℕ, Bool, true, false, ◌-◌, ◌^◌, ◌==◌, if◌then◌else◌, min, nat_eq, List, [], ◌∷◌, ◌++◌, map, filter, length, Option, None, Some, slice_get, codes}
+use Rattle.std.specs.Prelude.{ℕ, Bool, true, false, ◌-◌, ◌^◌, ◌==◌, if◌then◌else◌, min, nat_eq, List, [], ◌∷◌, ◌++◌, map, filter, length, None, Some, slice_get, codes}
 use Rattle.std.specs.Ordering.{nat_cmp}
 use Rattle.std.specs.List.{flat_map}
 use Rattle.std.specs.Fmt.{decimal}
@@ -14,7 +14,7 @@ use Rattle.occ_model.specs.Log.{Case, LogRow, Base, Standing, Open, Writing, Don
 use Rattle.occ_model.specs.declared.verdict.Cause.TheVariants.{Conflict, TooOld}
 use Rattle.occ_book.specs.Rows.{log_of}
 use Rattle.occ_book.specs.declared.books.BookView as code_view
-use Rattle.occ_text.specs.Spelling.{line_text, key_text, row_text}
+use Rattle.occ_text.specs.Spelling.{line_text, key_text, end_text, row_text}
 use Rattle.occ_text.specs.declared.headers.Limits.{Limits}
 use Rattle.occ_text.specs.Headers.{Header, limits_of, limits_lines, count_text, table_text}
 use Rattle.occ_text.specs.Line.{lines_text}
@@ -33,7 +33,7 @@ pub record Book : Type 0 where
 
 -- how a store was opened
 abbrev pub header_of : Limits → Schema → Header
-header_of limits schema = record { sessions = limits.sessions; queue = limits.queue; keep = limits.keep; tables = schema }
+header_of limits schema = record { version = limits.version; sessions = limits.sessions; queue = limits.queue; keep = limits.keep; tables = schema }
 
 -- the header of a schedule, without its last line
 abbrev pub header_lines : Header → List (List ℕ)
@@ -42,11 +42,6 @@ header_lines header = limits_lines (limits_of header) ++ map table_text header.t
 -- the name of the table at a place; no store names one that is not there
 abbrev pub table_name : Schema → ℕ → List ℕ
 table_name schema place = elim (slice_get schema place) [ None ↦ [] | Some table ↦ table.name ]
-
--- an end of a range; `*` is one that is missing
-abbrev pub end_text : Option Key → List ℕ
-end_text None = codes "*"
-end_text (Some key) = key_text key
 
 abbrev pub question_text : Schema → Question → List ℕ
 question_text schema (One table key) = line_text (codes "one" ∷ table_name schema table ∷ key_text key ∷ [])

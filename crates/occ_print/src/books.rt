@@ -13,7 +13,7 @@ ghost use Rattle.occ_book.specs.Rows.{log_row_of, log_of};
 ghost use Rattle.occ_text.specs.Line.{lines_text};
 ghost use Rattle.occ_text.specs.Printing.{PrintGives};
 ghost use Rattle.occ_text.specs.declared.faults.WriteFault.TheVariants as write_faults;
-ghost use Rattle.occ_text.specs.Headers.{count_text, limits_lines, table_text};
+ghost use Rattle.occ_text.specs.Headers.{version_text, count_text, limits_lines, table_text};
 ghost use Rattle.occ_print.specs.Books.{book_of, header_of, header_lines, pair_line, pair_lines, read_lines, write_line, row_lines, log_lines, number_line, mark_lines, entry_line, rows_at, row_count, state_lines, base_line, folded_lines, base_lines, counter_line, book_text};
 
 use crate::lines::{
@@ -26,6 +26,7 @@ use occ_sets::{Answer, Observation, WriteSet};
 use occ_text::faults::WriteFault;
 use occ_text::headers::Limits;
 use occ_text::output::Output;
+use occ_text::versions::Version;
 use occ_types::{Key, Object, Row, Schema, TableDef};
 use std::alloc::Allocator;
 use std::collections::BTreeMap;
@@ -62,11 +63,12 @@ fn print_version<W: Write, A: Allocator>(
     output: &mut Output<A>,
     writer: &mut W,
     line: &mut String<A>,
+    version: Version,
 ) -> Result<(), WriteFault>
-    ensures printed { PrintGives result (W.contents writer.old) (W.contents writer.new) output.old.held output.new.held (lines_text (codes "occ 1" ∷ [])) }
+    ensures printed { PrintGives result (W.contents writer.old) (W.contents writer.new) output.old.held output.new.held (lines_text (version_text version ∷ [])) }
     ensures cause { IfErr result (λ fault. fault ≡ write_faults.Write → output.new.failed ≡ true) }
 {
-    version_line(line)?;
+    version_line(line, version)?;
     push_line(output, writer, line)
 }
 
@@ -79,7 +81,7 @@ fn print_limits<W: Write, A: Allocator>(
     ensures printed { PrintGives result (W.contents writer.old) (W.contents writer.new) output.old.held output.new.held (lines_text (limits_lines limits)) }
     ensures cause { IfErr result (λ fault. fault ≡ write_faults.Write → output.new.failed ≡ true) }
 {
-    print_version(output, writer, line)?;
+    print_version(output, writer, line, limits.version)?;
     print_count(output, writer, line, "sessions", limits.sessions as u128)?;
     print_count(output, writer, line, "queue", limits.queue as u128)?;
     print_count(output, writer, line, "keep", limits.keep as u128)
@@ -521,7 +523,7 @@ fn print_counter<W: Write, A: Allocator>(
 
 /// Prints the book of a store that was opened with these limits and this schema. It ends with its `counter` line. What was folded out of the log is told behind the header, where the base has a place that isn't 0; the book of a log that was never shortened has no such line.
 ///
-/// It is for a book whose ranges have both ends, as those that a schedule asks for have them. Of another it prints `*` for a missing end, which no reader of this version takes; `write_readable_book` refuses such a book.
+/// Its first line is that of the limits' version. In version 1 it is for a book whose ranges have both ends and whose tables have no keys of two parts, as those of a schedule of that version have them. Of another it prints what version 2 has for them, which no reader of version 1 takes; `write_readable_book` refuses such a book.
 ///
 /// What is held of a row that is not decided is not told, and so the clause holds for each way to see it. At `Write` and `Memory` a beginning of the book was pushed, and no more is promised of what the writer has.
 pub fn write_book<W: Write, A: Allocator + Clone, O>(

@@ -1,13 +1,14 @@
-//! Books that the first version of the format has lines for: those whose ranges have both ends.
+//! Books that their version has words for. Version 1 has none for keys of two parts, nor for a missing end of a range.
 
-ghost use Rattle.std.specs.Prelude.{◌≡◌, ℕ, true, IfErr};
+ghost use Rattle.std.specs.Prelude.{◌≡◌, ◌≢◌, ℕ, true, IfErr, IfSome};
 ghost use Rattle.std.specs.List.{list_all};
-ghost use Rattle.occ_types.specs.Seen.{question_of};
+ghost use Rattle.occ_types.specs.Seen.{question_of, tables_of};
 ghost use Rattle.occ_model.specs.Log.{Case};
 ghost use Rattle.occ_book.specs.Rows.{log_of};
+ghost use Rattle.occ_text.specs.declared.versions.Version.TheVariants as versions;
 ghost use Rattle.occ_print.specs.declared.ends.BookFault.TheVariants as book_faults;
 ghost use Rattle.occ_print.specs.Books.{book_of};
-ghost use Rattle.occ_print.specs.Ends.{has_both_ends, reads_have_ends, ranges_have_ends, book_fault, BookGives};
+ghost use Rattle.occ_print.specs.Ends.{is_pair, some_are_pairs, has_both_ends, reads_have_ends, ranges_have_ends, unworded, book_fault, BookGives};
 
 use crate::books::write_book;
 use occ_book::{BookView, LogRow};
@@ -15,14 +16,17 @@ use occ_sets::Observation;
 use occ_text::faults::WriteFault;
 use occ_text::headers::Limits;
 use occ_text::output::Output;
-use occ_types::{Question, Schema};
+use occ_text::versions::Version;
+use occ_types::{KeyKind, Question, Schema, TableDef};
 use std::alloc::Allocator;
 use std::io::Write;
 
 /// Why a book wasn't printed whole.
 #[derive(Clone, Copy, Debug, PartialEq, Eq)]
 pub enum BookFault {
-    /// A range that was read has a missing end, for which this version of the format has no word. Nothing was printed.
+    /// A table has keys of two parts, for which version 1 of the format has no words. Nothing was printed.
+    PairKeys,
+    /// A range that was read has a missing end, for which version 1 of the format has no word. Nothing was printed.
     MissingEnd,
     /// The writer failed, or took nothing.
     Write,
@@ -43,7 +47,7 @@ impl From<WriteFault> for BookFault {
 
 /// Prints the book of a store that was opened with these limits and this schema, as `write_book` does, where a reader of books can take its text.
 ///
-/// `MissingEnd` exactly where a range that was read has a missing end: a core can be asked for one, and version 1 of the format has no word for it. The writer and the output are then as they were. At `Write` and `Memory` a beginning of the book was pushed, and no more is promised of what the writer has.
+/// In version 1 it is refused by `PairKeys` exactly where a table has keys of two parts, and else by `MissingEnd` exactly where a range that was read has a missing end: a core can have both, and version 1 of the format has no words for them. A key fits its table, so that no key of two parts stands in the book of a core whose tables have none. In version 2 no book is refused. Where one is, the writer and the output are as they were. At `Write` and `Memory` a beginning of the book was pushed, and no more is promised of what the writer has.
 pub fn write_readable_book<W: Write, A: Allocator + Clone, O>(
     alloc: A,
     output: &mut Output<A>,
@@ -55,11 +59,60 @@ pub fn write_readable_book<W: Write, A: Allocator + Clone, O>(
     ensures gives { (opened : O → ℕ × Case) → BookGives result (book_of opened limits schema.now book.now) (W.contents writer.old) (W.contents writer.new) output.old.held output.new.held }
     ensures cause { IfErr result (λ fault. fault ≡ book_faults.Write → output.new.failed ≡ true) }
 {
-    if !ranges_have_ends(book.log) {
-        return Err(BookFault::MissingEnd);
+    if let Some(fault) = unworded(limits.version, schema.tables(), book.log) {
+        return Err(fault);
     }
     write_book(alloc, output, writer, limits, schema, book)?;
     Ok(())
+}
+
+// What a version has no words for, if there is something.
+fn unworded<A: Allocator, O>(
+    version: Version,
+    tables: &[TableDef<A>],
+    log: &[LogRow<A, O>],
+) -> Option<BookFault>
+    ensures exact { (opened : O → ℕ × Case) → result ≡ unworded version (tables_of tables.now) (log_of opened log.now) }
+    ensures words { IfSome result (λ fault. fault ≢ book_faults.Write) }
+{
+    match version {
+        Version::One => unworded_at_first(tables, log),
+        Version::Two => None,
+    }
+}
+
+// The same of the first version.
+fn unworded_at_first<A: Allocator, O>(
+    tables: &[TableDef<A>],
+    log: &[LogRow<A, O>],
+) -> Option<BookFault>
+    ensures exact { (opened : O → ℕ × Case) → result ≡ unworded versions.One (tables_of tables.now) (log_of opened log.now) }
+    ensures words { IfSome result (λ fault. fault ≢ book_faults.Write) }
+{
+    if some_are_pairs(tables) {
+        return Some(BookFault::PairKeys);
+    }
+    if !ranges_have_ends(log) {
+        return Some(BookFault::MissingEnd);
+    }
+    None
+}
+
+// Whether a table has keys of two parts.
+fn some_are_pairs<A: Allocator>(tables: &[TableDef<A>]) -> bool
+    ensures { result ≡ some_are_pairs (tables_of tables.now) }
+{
+    tables.iter().any(|table| is_pair(table.key))
+}
+
+fn is_pair(kind: KeyKind) -> bool
+    ensures { result ≡ is_pair kind }
+{
+    match kind {
+        KeyKind::Num => false,
+        KeyKind::Text => false,
+        KeyKind::Pair(_, _) => true,
+    }
 }
 
 // Whether every range that the rows of a log read has both ends.

@@ -5,27 +5,28 @@ ghost use Rattle.occ_text.specs.Line.{lines_text};
 ghost use Rattle.occ_text.specs.Spelling.{line_text};
 ghost use Rattle.std.specs.List.{flat_map};
 ghost use Rattle.std.specs.Option.{option_copied};
-ghost use Rattle.occ_types.specs.Seen.{key_of, end_of, object_of, question_of, table_of};
+ghost use Rattle.occ_types.specs.Seen.{key_of, object_of, question_of, table_of};
 ghost use Rattle.occ_sets.specs.Seen.{answer_of, observation_of};
 ghost use Rattle.occ_model.specs.Log.{Case};
 ghost use Rattle.occ_book.specs.Rows.{log_row_of, standing_of};
-ghost use Rattle.occ_text.specs.Headers.{count_text, table_text, kind_word, key_kind_word};
-ghost use Rattle.occ_print.specs.Books.{table_name, end_text, question_text, answer_text, read_line, pair_line, write_line, row_line, standing_text, number_line, entry_line, base_line, counter_line, audit_line};
+ghost use Rattle.occ_text.specs.Headers.{version_text, count_text, table_text, kind_word, key_kind_word};
+ghost use Rattle.occ_print.specs.Books.{table_name, question_text, answer_text, read_line, pair_line, write_line, row_line, standing_text, number_line, entry_line, base_line, counter_line, audit_line};
 
 use crate::sections::{Section, entry_word, number_word};
 use occ_book::{LogRow, Standing};
 use occ_case::Cause;
 use occ_sets::{Answer, Observation};
-use occ_text::writers::{write_key, write_row};
-use occ_types::{Key, KeyKind, Kind, Object, Question, Row, Schema, TableDef};
+use occ_text::versions::{Version, version_text};
+use occ_text::writers::{write_end, write_key, write_row};
+use occ_types::{Key, KeyKind, Kind, Object, PartKind, Question, Row, Schema, TableDef};
 use std::alloc::{AllocError, Allocator};
 
-/// `occ 1`.
-pub fn version_line<A: Allocator>(line: &mut String<A>) -> Result<(), AllocError>
-    ensures { OnOk result (string_bytes line.new ≡ codes "occ 1") }
+/// `occ 1` or `occ 2`.
+pub fn version_line<A: Allocator>(line: &mut String<A>, version: Version) -> Result<(), AllocError>
+    ensures { OnOk result (string_bytes line.new ≡ version_text version) }
 {
     line.clear();
-    line.push_str("occ 1")
+    line.push_str(version_text(version))
 }
 
 /// A word and a number, as in `sessions N`.
@@ -66,6 +67,10 @@ fn key_kind_word(kind: KeyKind) -> &'static str
     match kind {
         KeyKind::Num => "num",
         KeyKind::Text => "text",
+        KeyKind::Pair(PartKind::Num, PartKind::Num) => "num+num",
+        KeyKind::Pair(PartKind::Num, PartKind::Text) => "num+text",
+        KeyKind::Pair(PartKind::Text, PartKind::Num) => "text+num",
+        KeyKind::Pair(PartKind::Text, PartKind::Text) => "text+text",
     }
 }
 
@@ -96,16 +101,6 @@ fn table_name<A: Allocator>(schema: &Schema<A>, place: usize) -> &str
     match schema.tables().get(place) {
         Some(table) => table.name.as_str(),
         None => "",
-    }
-}
-
-/// Appends an end of a range.
-fn write_end<A: Allocator>(line: &mut String<A>, end: &Option<Key<A>>) -> Result<(), AllocError>
-    ensures { OnOk result (string_bytes line.new ≡ string_bytes line.old ++ end_text (end_of end.now)) }
-{
-    match end {
-        Some(key) => write_key(line, key),
-        None => line.push('*'),
     }
 }
 
@@ -144,7 +139,7 @@ fn write_answer<A: Allocator>(line: &mut String<A>, answer: &Answer<A>) -> Resul
     }
 }
 
-/// `one NAME KEY none`, `one NAME KEY ROW` or `span NAME KEY KEY K`.
+/// `one NAME KEY none`, `one NAME KEY ROW` or `span NAME KEY KEY K`, where `*` stands for a missing end.
 pub fn read_line<A: Allocator>(
     line: &mut String<A>,
     schema: &Schema<A>,

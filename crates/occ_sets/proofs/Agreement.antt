@@ -12,7 +12,7 @@ use Rattle.std.specs.Ordering.{on, eq_by_cmp, is_eq, is_lt, ordering_then}
 use Rattle.std.specs.Cmp.{Equal-is, unsigned_Decides, tied_itself, nat_cmp_total}
 use Rattle.occ_types.specs.declared.keys.Key as code_key
 use Rattle.occ_types.specs.declared.keys.Key.TheVariants as keys
-use Rattle.occ_types.specs.Key.{Key, Num, Text, key_cmp}
+use Rattle.occ_types.specs.Key.{Key, Num, Text, Pair, key_cmp}
 use Rattle.occ_types.specs.Object.{Object, object_cmp, object_cmp_total, object_cmp-IsAntisymmetric}
 use Rattle.occ_types.specs.Question.{Question, One, Span, asks}
 use Rattle.occ_types.specs.Row.{Row}
@@ -101,11 +101,13 @@ module _ (Z : Type 0) where
   key_back : Key → code_key.Key Z
   key_back (Num n) = keys.Num n
   key_back (Text t) = keys.Text t
+  key_back (Pair a b) = keys.Pair (a, b)
 
   key_of-key_back : (k : Key) → key_of {Z = Z} (key_back k) ≡ k
   unfolding key_back
   key_of-key_back (Num n) = refl
   key_of-key_back (Text t) = refl
+  key_of-key_back (Pair a b) = refl
 
 module _ {Z : Type 0} where
   -- entries that stay agree after a write that is not asked for

@@ -1,4 +1,5 @@
 pub mod Agreement
+pub mod Checks
 pub mod Entries
 pub mod Leading
 pub mod Meetings

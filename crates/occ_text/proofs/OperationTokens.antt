@@ -3,6 +3,7 @@ use Rattle.std.proofs.Common.{◌≡◌, ℕ, ◌<◌, List, [], ◌∷◌, ◌+
 use Rattle.std.specs.List.{All}
 use Rattle.std.proofs.lemmas.List.{map-append}
 use Rattle.std.proofs.lemmas.List.Elements.{All-nil, All-cons, All-head, All-tail}
+use Rattle.occ_text.specs.declared.versions.Version.{Version}
 use Rattle.occ_text.specs.Spelling.{IsToken}
 use Rattle.occ_text.specs.Operations.{Operation, operation_text, OperationFits}
 use Rattle.occ_text.specs.OperationReading.{read_operation, read_operations, if_any, operations_of}
@@ -11,20 +12,20 @@ use Rattle.occ_text.proofs.OperationsTaken.{operation_takes}
 use Rattle.occ_text.proofs.OperationsSpelled.{operation_again, IsToken-operation}
 
 -- operations that were read are spelled by their tokens, and fit
-pub record Operations (tokens : List (List ℕ)) (operations : List Operation) : Type 0 where
+pub record Operations (version : Version) (tokens : List (List ℕ)) (operations : List Operation) : Type 0 where
   pub spelled : tokens ≡ map operation_text operations
-  pub each : All OperationFits operations
+  pub each : All (OperationFits version) operations
 
-each_takes : (tokens : List (List ℕ)) (operations : List Operation) → read_operations tokens ≡ Some operations → Operations tokens operations
-each_takes [] operations h = subst (Operations []) (some_is [] operations h) (record { spelled = refl; each = All-nil OperationFits })
-each_takes (token ∷ tokens) operations h =
-    let b = bind_value (read_operation token) (λ operation. option_map (λ more. operation ∷ more) (read_operations tokens)) operations h in
-    let m = map_value (read_operations tokens) (λ more. b.0 ∷ more) operations b.2 in
-    let o = operation_takes token b.0 b.1 in
-    let rest = each_takes tokens m.0 m.1 in
-    subst (Operations (token ∷ tokens)) m.2 (record {
+each_takes : (version : Version) (tokens : List (List ℕ)) (operations : List Operation) → read_operations version tokens ≡ Some operations → Operations version tokens operations
+each_takes version [] operations h = subst (Operations version []) (some_is [] operations h) (record { spelled = refl; each = All-nil (OperationFits version) })
+each_takes version (token ∷ tokens) operations h =
+    let b = bind_value (read_operation version token) (λ operation. option_map (λ more. operation ∷ more) (read_operations version tokens)) operations h in
+    let m = map_value (read_operations version tokens) (λ more. b.0 ∷ more) operations b.2 in
+    let o = operation_takes version token b.0 b.1 in
+    let rest = each_takes version tokens m.0 m.1 in
+    subst (Operations version (token ∷ tokens)) m.2 (record {
       spelled = λ i. o.0 i ∷ rest.spelled i;
-      each = All-cons OperationFits b.0 m.0 o.1 rest.each;
+      each = All-cons (OperationFits version) b.0 m.0 o.1 rest.each;
     })
 
 -- ---- the loop
@@ -35,12 +36,12 @@ regroup view old x None = refl
 regroup view old x (Some more) = ap Some (ap (λ (l : List Operation). l ++ more) (map-append view old (x ∷ [])) ∙ append_assoc (map view old) (view x ∷ []) more)
 
 -- one more operation behind those that were read
-pub one_more : {S : Type 0} (view : S → Operation) (all tokens rest : List (List ℕ)) (token : List ℕ) (old new : List S) (x : S) → tokens ≡ token ∷ rest → read_operation token ≡ Some (view x) → new ≡ old ++ x ∷ []
-    → option_map (λ more. map view old ++ more) (read_operations tokens) ≡ read_operations all → option_map (λ more. map view new ++ more) (read_operations rest) ≡ read_operations all
-one_more view all tokens rest token old new x same read pushed so_far =
-    let e : read_operations (token ∷ rest) ≡ option_map (λ more. view x ∷ more) (read_operations rest) = rw read refl in
-    ap (λ l. option_map (λ more. map view l ++ more) (read_operations rest)) pushed ∙ regroup view old x (read_operations rest)
-    ∙ ap (option_map (λ (more : List Operation). map view old ++ more)) (sym (ap read_operations same ∙ e)) ∙ so_far
+pub one_more : {S : Type 0} (version : Version) (view : S → Operation) (all tokens rest : List (List ℕ)) (token : List ℕ) (old new : List S) (x : S) → tokens ≡ token ∷ rest → read_operation version token ≡ Some (view x) → new ≡ old ++ x ∷ []
+    → option_map (λ more. map view old ++ more) (read_operations version tokens) ≡ read_operations version all → option_map (λ more. map view new ++ more) (read_operations version rest) ≡ read_operations version all
+one_more version view all tokens rest token old new x same read pushed so_far =
+    let e : read_operations version (token ∷ rest) ≡ option_map (λ more. view x ∷ more) (read_operations version rest) = rw read refl in
+    ap (λ l. option_map (λ more. map view l ++ more) (read_operations version rest)) pushed ∙ regroup view old x (read_operations version rest)
+    ∙ ap (option_map (λ (more : List Operation). map view old ++ more)) (sym (ap (read_operations version) same ∙ e)) ∙ so_far
 
 -- ---- one operation or more
 
@@ -49,34 +50,34 @@ any_is [] more h = absurd cc
 any_is (operation ∷ operations) more h = (some_is (operation ∷ operations) more h, omega arith)
 
 -- what was read of the tokens of a run alone
-pub record Taken (tokens : List (List ℕ)) (operations : List Operation) : Type 0 where
+pub record Taken (version : Version) (tokens : List (List ℕ)) (operations : List Operation) : Type 0 where
   pub spelled : tokens ≡ map operation_text operations
   pub some : 0 < length operations
-  pub each : All OperationFits operations
+  pub each : All (OperationFits version) operations
 
-pub operations_take : (tokens : List (List ℕ)) (operations : List Operation) → operations_of tokens ≡ Some operations → Taken tokens operations
+pub operations_take : (version : Version) (tokens : List (List ℕ)) (operations : List Operation) → operations_of version tokens ≡ Some operations → Taken version tokens operations
 unfolding operations_of
-operations_take tokens operations h =
-    let b = bind_value (read_operations tokens) if_any operations h in
+operations_take version tokens operations h =
+    let b = bind_value (read_operations version tokens) if_any operations h in
     let a = any_is b.0 operations b.2 in
-    let all = each_takes tokens b.0 b.1 in
-    subst (Taken tokens) a.0 (record { spelled = all.spelled; some = a.1; each = all.each })
+    let all = each_takes version tokens b.0 b.1 in
+    subst (Taken version tokens) a.0 (record { spelled = all.spelled; some = a.1; each = all.each })
 
-each_again : (operations : List Operation) → All OperationFits operations → read_operations (map operation_text operations) ≡ Some operations
-each_again [] each = refl
-each_again (operation ∷ operations) each =
-    rw (operation_again operation (All-head OperationFits operation operations each), each_again operations (All-tail OperationFits operation operations each)) refl
+each_again : (version : Version) (operations : List Operation) → All (OperationFits version) operations → read_operations version (map operation_text operations) ≡ Some operations
+each_again version [] each = refl
+each_again version (operation ∷ operations) each =
+    rw (operation_again version operation (All-head (OperationFits version) operation operations each), each_again version operations (All-tail (OperationFits version) operation operations each)) refl
 
 any_again : (operations : List Operation) → 0 < length operations → if_any operations ≡ Some operations
 any_again [] some = absurd (omega arith)
 any_again (operation ∷ operations) some = refl
 
-pub operations_again : (operations : List Operation) → 0 < length operations → All OperationFits operations → operations_of (map operation_text operations) ≡ Some operations
+pub operations_again : (version : Version) (operations : List Operation) → 0 < length operations → All (OperationFits version) operations → operations_of version (map operation_text operations) ≡ Some operations
 unfolding operations_of
-operations_again operations some each = rw (each_again operations each) (any_again operations some)
+operations_again version operations some each = rw (each_again version operations each) (any_again operations some)
 
-pub AreTokens-operations : (operations : List Operation) → All OperationFits operations → All IsToken (map operation_text operations)
-AreTokens-operations [] each = All-nil IsToken
-AreTokens-operations (operation ∷ operations) each =
-    All-cons IsToken (operation_text operation) (map operation_text operations) (IsToken-operation operation (All-head OperationFits operation operations each))
-    (AreTokens-operations operations (All-tail OperationFits operation operations each))
+pub AreTokens-operations : (version : Version) (operations : List Operation) → All (OperationFits version) operations → All IsToken (map operation_text operations)
+AreTokens-operations version [] each = All-nil IsToken
+AreTokens-operations version (operation ∷ operations) each =
+    All-cons IsToken (operation_text operation) (map operation_text operations) (IsToken-operation version operation (All-head (OperationFits version) operation operations each))
+    (AreTokens-operations version operations (All-tail (OperationFits version) operation operations each))

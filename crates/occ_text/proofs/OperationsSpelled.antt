@@ -1,5 +1,5 @@
 -- What an operation is spelled as is one token, which is read again.
-use Rattle.std.proofs.Common.{◌≡◌, ◌≢◌, ℕ, ◌<◌, true, leb, List, [], ◌∷◌, length, Some, FitsSigned, w64, refl, ap, ◌∙◌, arith}
+use Rattle.std.proofs.Common.{◌≡◌, ◌≢◌, ℕ, ◌<◌, true, leb, List, [], ◌∷◌, length, Option, Some, FitsSigned, w64, refl, ap, ◌∙◌, arith}
 use Rattle.std.specs.Prelude.{ℤ, codes}
 use Rattle.std.specs.List.{All, join_with_byte}
 use Rattle.std.specs.Char.{is_ascii_graphic, is_ascii_lowercase}
@@ -10,15 +10,16 @@ use Rattle.std.proofs.lemmas.List.Elements.{All-nil, All-cons, All-head, All-tai
 use Rattle.occ_types.specs.Key.{Key}
 use Rattle.occ_types.specs.Row.{Row}
 use Rattle.occ_types.specs.Row as rows
-use Rattle.occ_text.specs.Spelling.{key_text, row_text, IsToken, IsName, KeyFits, RowFits}
+use Rattle.occ_text.specs.declared.versions.Version.{Version}
+use Rattle.occ_text.specs.Spelling.{key_text, end_text, row_text, IsToken, IsName, KeyFits, EndFits, RowFits}
 use Rattle.occ_text.specs.Reading.{Reads, is_name}
 use Rattle.occ_text.specs.Operations.{Operation, Get, Scan, Put, Delete, Add, operation_parts, operation_text, OperationFits}
 use Rattle.occ_text.specs.OperationReading.{get_of, delete_of, scan_of, put_of, add_of, short_operation, long_operation, operation_of_parts, read_operation}
 use Rattle.occ_text.proofs.Numbers.{some_or_none, int_again}
 use Rattle.occ_text.proofs.Words.{both, split_joined, IsName-from_test}
 use Rattle.occ_text.proofs.Values.{Lacks, Separates, plain_differs}
-use Rattle.occ_text.proofs.Spelled.{of_key, of_cell, of_row, IsToken-name, IsToken-key, IsToken-row, IsToken-int}
-use Rattle.occ_text.proofs.Readers.{name_again, key_again, row_again}
+use Rattle.occ_text.proofs.Spelled.{of_key, of_end, of_cell, of_row, IsToken-name, IsToken-key, IsToken-end, IsToken-row, IsToken-int}
+use Rattle.occ_text.proofs.Readers.{name_again, key_again, end_again, row_again}
 use Rattle.occ_text.proofs.OperationsTaken.{operation_takes}
 
 -- ---- no colon stands in a part
@@ -39,8 +40,11 @@ letter_is_no_colon byte h e = absurd (omega (arith, leb-true 97 byte (both (leb 
 name_lacks : (name : List ℕ) → IsName name → Lacks 58 name
 name_lacks name fits = All-weaker (λ (byte : ℕ). is_ascii_lowercase byte ≡ true) (λ (byte : ℕ). byte ≢ 58) letter_is_no_colon name fits.letters
 
-key_lacks : (key : Key) → KeyFits key → Lacks 58 (key_text key)
-key_lacks key fits = of_key (λ byte. byte ≢ 58) key colon_separates fits
+key_lacks : (version : Version) (key : Key) → KeyFits version key → Lacks 58 (key_text key)
+key_lacks version key fits = of_key (λ byte. byte ≢ 58) version key colon_separates (λ e. omega arith) fits
+
+end_lacks : (version : Version) (end : Option Key) → EndFits version end → Lacks 58 (end_text end)
+end_lacks version end fits = of_end (λ byte. byte ≢ 58) version end colon_separates (λ e. omega arith) (λ e. omega arith) fits
 
 row_lacks : (row : Row) → RowFits row → Lacks 58 (row_text row)
 row_lacks row fits = of_row (λ byte. byte ≢ 58) row colon_separates (λ e. omega arith) fits.each
@@ -61,8 +65,11 @@ part_name name fits = record { token = IsToken-name name fits; lacks = name_lack
 part_word : (word : List ℕ) → is_name word ≡ true → Part word
 part_word word h = part_name word (IsName-from_test word h)
 
-part_key : (key : Key) → KeyFits key → Part (key_text key)
-part_key key fits = record { token = IsToken-key key fits; lacks = key_lacks key fits }
+part_key : (version : Version) (key : Key) → KeyFits version key → Part (key_text key)
+part_key version key fits = record { token = IsToken-key version key fits; lacks = key_lacks version key fits }
+
+part_end : (version : Version) (end : Option Key) → EndFits version end → Part (end_text end)
+part_end version end fits = record { token = IsToken-end version end fits; lacks = end_lacks version end fits }
 
 part_row : (row : Row) → RowFits row → Part (row_text row)
 part_row row fits = record { token = IsToken-row row fits; lacks = row_lacks row fits }
@@ -76,13 +83,13 @@ three_parts {a = a} {b = b} {c = c} p q r = All-cons Part a (b ∷ c ∷ []) p (
 four_parts : {a b c d : List ℕ} → Part a → Part b → Part c → Part d → All Part (a ∷ b ∷ c ∷ d ∷ [])
 four_parts {a = a} {b = b} {c = c} {d = d} p q r s = All-cons Part a (b ∷ c ∷ d ∷ []) p (three_parts q r s)
 
-each_part : (operation : Operation) → OperationFits operation → All Part (operation_parts operation)
+each_part : (version : Version) (operation : Operation) → OperationFits version operation → All Part (operation_parts operation)
 unfolding is_name
-each_part (Get table key) fits = three_parts (part_word (codes "get") refl) (part_name table fits.0) (part_key key fits.1)
-each_part (Scan table lower upper) fits = four_parts (part_word (codes "scan") refl) (part_name table fits.0) (part_key lower fits.1) (part_key upper fits.2)
-each_part (Put table key row) fits = four_parts (part_word (codes "put") refl) (part_name table fits.0) (part_key key fits.1) (part_row row fits.2)
-each_part (Delete table key) fits = three_parts (part_word (codes "delete") refl) (part_name table fits.0) (part_key key fits.1)
-each_part (Add table key amount) fits = four_parts (part_word (codes "add") refl) (part_name table fits.0) (part_key key fits.1) (part_int amount fits.2)
+each_part version (Get table key) fits = three_parts (part_word (codes "get") refl) (part_name table fits.0) (part_key version key fits.1)
+each_part version (Scan table lower upper) fits = four_parts (part_word (codes "scan") refl) (part_name table fits.0) (part_end version lower fits.1) (part_end version upper fits.2)
+each_part version (Put table key row) fits = four_parts (part_word (codes "put") refl) (part_name table fits.0) (part_key version key fits.1) (part_row row fits.2)
+each_part version (Delete table key) fits = three_parts (part_word (codes "delete") refl) (part_name table fits.0) (part_key version key fits.1)
+each_part version (Add table key amount) fits = four_parts (part_word (codes "add") refl) (part_name table fits.0) (part_key version key fits.1) (part_int amount fits.2)
 
 parts_some : (operation : Operation) → 0 < length (operation_parts operation)
 parts_some (Get table key) = omega arith
@@ -93,25 +100,25 @@ parts_some (Add table key amount) = omega arith
 
 -- ---- what is spelled is read
 
-parts_again : (operation : Operation) → OperationFits operation → operation_of_parts (operation_parts operation) ≡ Some operation
+parts_again : (version : Version) (operation : Operation) → OperationFits version operation → operation_of_parts version (operation_parts operation) ≡ Some operation
 unfolding operation_of_parts short_operation long_operation get_of delete_of scan_of put_of add_of
-parts_again (Get table key) fits = rw (name_again table fits.0, key_again key fits.1) refl
-parts_again (Scan table lower upper) fits = rw (name_again table fits.0, key_again lower fits.1, key_again upper fits.2) refl
-parts_again (Put table key row) fits = rw (name_again table fits.0, key_again key fits.1, row_again row fits.2) refl
-parts_again (Delete table key) fits = rw (name_again table fits.0, key_again key fits.1) refl
-parts_again (Add table key amount) fits = rw (name_again table fits.0, key_again key fits.1, int_again amount fits.2) refl
+parts_again version (Get table key) fits = rw (name_again table fits.0, key_again version key fits.1) refl
+parts_again version (Scan table lower upper) fits = rw (name_again table fits.0, end_again version lower fits.1, end_again version upper fits.2) refl
+parts_again version (Put table key row) fits = rw (name_again table fits.0, key_again version key fits.1, row_again row fits.2) refl
+parts_again version (Delete table key) fits = rw (name_again table fits.0, key_again version key fits.1) refl
+parts_again version (Add table key amount) fits = rw (name_again table fits.0, key_again version key fits.1, int_again amount fits.2) refl
 
-pub operation_again : (operation : Operation) → OperationFits operation → read_operation (operation_text operation) ≡ Some operation
+pub operation_again : (version : Version) (operation : Operation) → OperationFits version operation → read_operation version (operation_text operation) ≡ Some operation
 unfolding read_operation
-operation_again operation fits =
-    ap operation_of_parts (split_joined 58 (operation_parts operation) (parts_some operation) (All-weaker Part (Lacks 58) (λ part p. p.lacks) (operation_parts operation) (each_part operation fits)))
-    ∙ parts_again operation fits
+operation_again version operation fits =
+    ap (operation_of_parts version) (split_joined 58 (operation_parts operation) (parts_some operation) (All-weaker Part (Lacks 58) (λ part p. p.lacks) (operation_parts operation) (each_part version operation fits)))
+    ∙ parts_again version operation fits
 
 -- the reader of operations is right
-pub operation_reads : (token : List ℕ) → Reads operation_text OperationFits token (read_operation token)
-operation_reads token = record {
-  found = some_or_none (read_operation token) (λ operation. (token ≡ operation_text operation) × OperationFits operation) (λ operation h. operation_takes token operation h);
-  again = λ operation fits e. ap read_operation e ∙ operation_again operation fits;
+pub operation_reads : (version : Version) (token : List ℕ) → Reads operation_text (OperationFits version) token (read_operation version token)
+operation_reads version token = record {
+  found = some_or_none (read_operation version token) (λ operation. (token ≡ operation_text operation) × OperationFits version operation) (λ operation h. operation_takes version token operation h);
+  again = λ operation fits e. ap (read_operation version) e ∙ operation_again version operation fits;
 }
 
 -- ---- an operation is a token
@@ -132,5 +139,5 @@ joined (a ∷ b ∷ more) some each =
           (All-cons (λ byte. is_ascii_graphic byte ≡ true) 58 (join_with_byte 58 (b ∷ more)) refl rest.graphic);
     }
 
-pub IsToken-operation : (operation : Operation) → OperationFits operation → IsToken (operation_text operation)
-IsToken-operation operation fits = joined (operation_parts operation) (parts_some operation) (each_part operation fits)
+pub IsToken-operation : (version : Version) (operation : Operation) → OperationFits version operation → IsToken (operation_text operation)
+IsToken-operation version operation fits = joined (operation_parts operation) (parts_some operation) (each_part version operation fits)

@@ -4,11 +4,12 @@ use Rattle.std.specs.Str.{bytes_eq}
 use Rattle.std.proofs.lemmas.Slice.Eq.{bytes_eq-Decides}
 use Rattle.occ_types.specs.Key.{Key}
 use Rattle.occ_types.specs.Row.{Row}
-use Rattle.occ_text.specs.Spelling.{key_text, row_text, IsName, KeyFits, RowFits}
+use Rattle.occ_text.specs.declared.versions.Version.{Version}
+use Rattle.occ_text.specs.Spelling.{key_text, end_text, row_text, IsName, KeyFits, EndFits, RowFits}
 use Rattle.occ_text.specs.Reading.{Reads, name_of}
-use Rattle.occ_text.specs.Escapes.{read_key, read_row}
+use Rattle.occ_text.specs.Escapes.{read_key, read_end, read_row}
 use Rattle.occ_text.proofs.Words.{name_reads}
-use Rattle.occ_text.proofs.Values.{key_reads, row_reads}
+use Rattle.occ_text.proofs.Values.{key_reads, end_reads, row_reads}
 
 -- ---- from what is right of a reader
 
@@ -18,8 +19,11 @@ takes {spell = spell} {fits = fits} {token = token} reads x e = subst (λ o. IfS
 pub name_again : (name : List ℕ) → IsName name → name_of name ≡ Some name
 name_again name fits = (name_reads name).again name fits refl
 
-pub key_again : (key : Key) → KeyFits key → read_key (key_text key) ≡ Some key
-key_again key fits = (key_reads (key_text key)).again key fits refl
+pub key_again : (version : Version) (key : Key) → KeyFits version key → read_key version (key_text key) ≡ Some key
+key_again version key fits = (key_reads version (key_text key)).again key fits refl
+
+pub end_again : (version : Version) (end : Option Key) → EndFits version end → read_end version (end_text end) ≡ Some end
+end_again version end fits = (end_reads version (end_text end)).again end fits refl
 
 pub row_again : (row : Row) → RowFits row → read_row (row_text row) ≡ Some row
 row_again row fits = (row_reads (row_text row)).again row fits refl

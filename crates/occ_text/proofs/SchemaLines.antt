@@ -6,15 +6,16 @@ use Rattle.std.specs.Char.{is_ascii_lowercase}
 use Rattle.std.specs.Cmp.Lexicographic.{pointwise}
 use Rattle.std.proofs.lemmas.Bool.{ltb-true, lt-ltb, leb-true, le-leb}
 use Rattle.std.proofs.lemmas.List.Folds.{list_any-append}
-use Rattle.std.proofs.lemmas.List.Elements.{All-nil, All-cons, All-head, All-tail}
+use Rattle.std.proofs.lemmas.List.Elements.{All-nil, All-cons, All-head, All-tail, All-append}
 use Rattle.std.proofs.lemmas.List.Sums.{AllPass-from_list_all, list_all-from_AllPass}
 use Rattle.occ_types.specs.declared.fault.Fault.{Fault}
 use Rattle.occ_types.specs.declared.fault.Fault.TheVariants.{BadSchema}
 use Rattle.occ_types.specs.Schema.{Table, fault_if, is_name, are_tables, check_tables}
 use Rattle.occ_types.specs.Fits.{has_name}
+use Rattle.occ_text.specs.declared.versions.Version.{Version}
 use Rattle.occ_text.specs.Spelling.{IsName}
 use Rattle.occ_text.specs.Reading.{is_token}
-use Rattle.occ_text.specs.Headers.{table_text, TableFits}
+use Rattle.occ_text.specs.Headers.{table_text, KindFits, KindsFit, TableFits, TableHasLine}
 use Rattle.occ_text.specs.HeaderReading.{table_of_tokens, table_of_line}
 use Rattle.occ_text.specs.HeaderTaking.{TablesSoFar, if_free, table_behind, GoesOn}
 use Rattle.occ_text.proofs.Escapes.{some_is, bind_value}
@@ -97,6 +98,18 @@ each_fits (table ∷ tables) h =
     let s = first_table table tables h in
     All-cons TableFits table tables (fits_of table tables s) (each_fits tables s.rest)
 
+-- and those of kinds that a version has have lines in its texts
+pub has_lines : (version : Version) (tables : List Table) → are_tables tables ≡ true → KindsFit version tables → All (TableHasLine version) tables
+has_lines version [] h k = All-nil (TableHasLine version)
+has_lines version (table ∷ tables) h k =
+    let s = first_table table tables h in
+    All-cons (TableHasLine version) table tables (record { fits = fits_of table tables s; key = All-head (λ t. KindFits version t.key) table tables k })
+    (has_lines version tables s.rest (All-tail (λ t. KindFits version t.key) table tables k))
+
+last_kind : (version : Version) (tables : List Table) (table : Table) (more : List Table) → KindsFit version (tables ++ table ∷ more) → KindFits version table.key
+last_kind version [] table more k = All-head (λ t. KindFits version t.key) table more k
+last_kind version (first ∷ tables) table more k = last_kind version tables table more (All-tail (λ t. KindFits version t.key) first (tables ++ table ∷ more) k)
+
 last_fits : (tables : List Table) (table : Table) (more : List Table) → are_tables (tables ++ table ∷ more) ≡ true → TableFits table
 last_fits [] table more h = fits_of table more (first_table table more h)
 last_fits (first ∷ tables) table more h = last_fits tables table more (first_table first (tables ++ table ∷ more) h).rest
@@ -128,30 +141,31 @@ one_more (first ∷ tables) table h fits free =
 
 pub record IsSchema (tables : List Table) : Type 0 where
   pub some : 1 ≤ length tables
-  pub so_far : TablesSoFar tables
+  pub few : length tables ≤ 32
+  pub each : are_tables tables ≡ true
 
 pub IsSchema-from_check : (tables : List Table) → check_tables tables ≡ None → IsSchema tables
 IsSchema-from_check tables h =
     let p = both (leb 1 (length tables) && leb (length tables) 32) (are_tables tables) (no_fault _ BadSchema h) in
     let q = both (leb 1 (length tables)) (leb (length tables) 32) p.0 in
-    record { some = leb-true 1 (length tables) q.0; so_far = record { few = leb-true (length tables) 32 q.1; each = p.1 } }
+    record { some = leb-true 1 (length tables) q.0; few = leb-true (length tables) 32 q.1; each = p.1 }
 
-pub check-from_IsSchema : (tables : List Table) → 1 ≤ length tables → TablesSoFar tables → check_tables tables ≡ None
-check-from_IsSchema tables some so_far = rw (le-leb 1 (length tables) some, le-leb (length tables) 32 so_far.few, so_far.each) refl
+pub check-from_IsSchema : (version : Version) (tables : List Table) → 1 ≤ length tables → TablesSoFar version tables → check_tables tables ≡ None
+check-from_IsSchema version tables some so_far = rw (le-leb 1 (length tables) some, le-leb (length tables) 32 so_far.few, so_far.each) refl
 
 -- ---- which line stands behind those of some tables
 
-table_again : (table : Table) → TableFits table → table_of_line (table_text table) ≡ Some table
-table_again table fits = (table_reads (table_text table)).again table fits refl
+table_again : (version : Version) (table : Table) → TableHasLine version table → table_of_line version (table_text table) ≡ Some table
+table_again version table fits = (table_reads version (table_text table)).again table fits refl
 
-same_table : (a b : Table) → TableFits a → TableFits b → table_text a ≡ table_text b → a ≡ b
-same_table a b p q e = some_is a b (sym (table_again a p) ∙ ap table_of_line e ∙ table_again b q)
+same_table : (version : Version) (a b : Table) → TableHasLine version a → TableHasLine version b → table_text a ≡ table_text b → a ≡ b
+same_table version a b p q e = some_is a b (sym (table_again version a p) ∙ ap (table_of_line version) e ∙ table_again version b q)
 
-steps_is_no_table : (table : Table) → TableFits table → codes "steps" ≡ table_text table → ⊥
+steps_is_no_table : (version : Version) (table : Table) → TableHasLine version table → codes "steps" ≡ table_text table → ⊥
 unfolding is_token table_of_line table_of_tokens
-steps_is_no_table table fits e =
-    let none : table_of_line (codes "steps") ≡ None = ap (option_and_then table_of_tokens) (tokens_again (codes "steps" ∷ []) (one_token (IsToken-from_test (codes "steps") refl))) in
-    let is : None ≡ Some table = sym none ∙ ap table_of_line e ∙ table_again table fits in
+steps_is_no_table version table fits e =
+    let none : table_of_line version (codes "steps") ≡ None = ap (option_and_then (table_of_tokens version)) (tokens_again (codes "steps" ∷ []) (one_token (IsToken-from_test (codes "steps") refl))) in
+    let is : None ≡ Some table = sym none ∙ ap (table_of_line version) e ∙ table_again version table fits in
     cc is
 
 abbrev pub first_line : List (List ℕ) → List ℕ
@@ -170,68 +184,70 @@ behind_more x y xs ys line same (inl p) = inl ((λ i. same i ∷ p.0 i), p.1)
 behind_more x y xs ys line same (inr p) = inr (p.0, p.1, (λ i. same i ∷ p.2 i), p.3)
 
 -- it is `steps` behind all of them, or the line of the next table
-which_line : (all tables : List Table) (line : List ℕ) (more : List (List ℕ)) → All TableFits all → All TableFits tables
+which_line : (version : Version) (all tables : List Table) (line : List ℕ) (more : List (List ℕ)) → All (TableHasLine version) all → All (TableHasLine version) tables
     → map table_text all ++ codes "steps" ∷ [] ≡ map table_text tables ++ line ∷ more → Behind all tables line
-which_line [] [] line more p q e = inl (refl, sym (ap first_line e))
-which_line [] (y ∷ ys) line more p q e = absurd (steps_is_no_table y (All-head TableFits y ys q) (ap first_line e))
-which_line (x ∷ xs) [] line more p q e = inr (x, xs, refl, sym (ap first_line e))
-which_line (x ∷ xs) (y ∷ ys) line more p q e =
-    behind_more x y xs ys line (same_table x y (All-head TableFits x xs p) (All-head TableFits y ys q) (ap first_line e))
-    (which_line xs ys line more (All-tail TableFits x xs p) (All-tail TableFits y ys q) (ap later_lines e))
+which_line version [] [] line more p q e = inl (refl, sym (ap first_line e))
+which_line version [] (y ∷ ys) line more p q e = absurd (steps_is_no_table version y (All-head (TableHasLine version) y ys q) (ap first_line e))
+which_line version (x ∷ xs) [] line more p q e = inr (x, xs, refl, sym (ap first_line e))
+which_line version (x ∷ xs) (y ∷ ys) line more p q e =
+    behind_more x y xs ys line (same_table version x y (All-head (TableHasLine version) x xs p) (All-head (TableHasLine version) y ys q) (ap first_line e))
+    (which_line version xs ys line more (All-tail (TableHasLine version) x xs p) (All-tail (TableHasLine version) y ys q) (ap later_lines e))
 
 -- where a line goes on, it is `steps`, or it is read
-goes_on : (tables : List Table) (line : List ℕ) → TablesSoFar tables → GoesOn tables line
-    → ((check_tables tables ≡ None) × (line ≡ codes "steps")) ⊎ ((table : Table) × TableFits table × (line ≡ table_text table) × (table_behind tables line ≡ Some table))
+goes_on : (version : Version) (tables : List Table) (line : List ℕ) → TablesSoFar version tables → GoesOn version tables line
+    → ((check_tables tables ≡ None) × (line ≡ codes "steps")) ⊎ ((table : Table) × TableHasLine version table × (line ≡ table_text table) × (table_behind version tables line ≡ Some table))
 unfolding table_behind
-goes_on tables line so_far g =
+goes_on version tables line so_far g =
     let s = IsSchema-from_check g.0 g.1 in
-    elim (which_line g.0 tables line g.2 (each_fits g.0 s.so_far.each) (each_fits tables so_far.each) g.3) [
+    elim (which_line version g.0 tables line g.3 (has_lines version g.0 s.each g.2) (has_lines version tables so_far.each so_far.kinds) g.4) [
       | inl p ↦ inl (subst (λ (l : List Table). check_tables l ≡ None) p.0 g.1, p.1)
       | inr p ↦
           let table = p.0 in
           let all = p.2 in
-          let whole : TablesSoFar (tables ++ p.0 ∷ p.1) = subst TablesSoFar p.2 s.so_far in
+          let all_so_far : TablesSoFar version g.0 = record { few = s.few; each = s.each; kinds = g.2 } in
+          let whole : TablesSoFar version (tables ++ p.0 ∷ p.1) = subst (TablesSoFar version) p.2 all_so_far in
           let free = name_is_free tables p.0 p.1 whole.each in
           let few = whole.few in
           let lt : length tables < 32 = omega (arith, length-append tables (p.0 ∷ p.1)) in
-          let fits = last_fits tables p.0 p.1 whole.each in
-          inr (p.0, fits, p.3, ap (option_and_then (if_free tables)) (ap table_of_line p.3 ∙ table_again p.0 fits) ∙ rw (lt-ltb (length tables) 32 lt, free) refl)
+          let fits : TableHasLine version p.0 = record { fits = last_fits tables p.0 p.1 whole.each; key = last_kind version tables p.0 p.1 whole.kinds } in
+          inr (p.0, fits, p.3, ap (option_and_then (if_free tables)) (ap (table_of_line version) p.3 ∙ table_again version p.0 fits) ∙ rw (lt-ltb (length tables) 32 lt, free) refl)
     ]
 
 -- ---- the ends
 
 -- a line that isn't `steps` and isn't read can't stand
-pub line_refused : (tables : List Table) (line : List ℕ) → TablesSoFar tables → (line ≡ codes "steps" → ⊥) → table_behind tables line ≡ None → GoesOn tables line → ⊥
-line_refused tables line so_far other none g = elim (goes_on tables line so_far g) [
+pub line_refused : (version : Version) (tables : List Table) (line : List ℕ) → TablesSoFar version tables → (line ≡ codes "steps" → ⊥) → table_behind version tables line ≡ None → GoesOn version tables line → ⊥
+line_refused version tables line so_far other none g = elim (goes_on version tables line so_far g) [
   | inl p ↦ other p.1
   | inr p ↦ let e : None ≡ Some p.0 = sym none ∙ p.3 in cc e
 ]
 
 -- `steps` can't stand where the tables make no schema
-pub steps_refused : (tables : List Table) (fault : Fault) → TablesSoFar tables → check_tables tables ≡ Some fault → GoesOn tables (codes "steps") → ⊥
-steps_refused tables fault so_far bad g = elim (goes_on tables (codes "steps") so_far g) [
+pub steps_refused : (version : Version) (tables : List Table) (fault : Fault) → TablesSoFar version tables → check_tables tables ≡ Some fault → GoesOn version tables (codes "steps") → ⊥
+steps_refused version tables fault so_far bad g = elim (goes_on version tables (codes "steps") so_far g) [
   | inl p ↦ let e : None ≡ Some fault = sym p.0 ∙ bad in cc e
-  | inr p ↦ steps_is_no_table p.0 p.1 p.2
+  | inr p ↦ steps_is_no_table version p.0 p.1 p.2
 ]
 
 -- a table that was read behind others stands behind them
-pub record Next (tables : List Table) (line : List ℕ) (table : Table) : Type 0 where
+pub record Next (version : Version) (tables : List Table) (line : List ℕ) (table : Table) : Type 0 where
   pub spelled : line ≡ table_text table
-  pub so_far : TablesSoFar (tables ++ table ∷ [])
+  pub so_far : TablesSoFar version (tables ++ table ∷ [])
 
-pub table_next : (tables : List Table) (line : List ℕ) (table : Table) → TablesSoFar tables → table_behind tables line ≡ Some table → Next tables line table
+pub table_next : (version : Version) (tables : List Table) (line : List ℕ) (table : Table) → TablesSoFar version tables → table_behind version tables line ≡ Some table → Next version tables line table
 unfolding table_behind
-table_next tables line table so_far h =
-    let b = bind_value (table_of_line line) (if_free tables) table h in
-    let read = takes (table_reads line) b.0 b.1 in
+table_next version tables line table so_far h =
+    let b = bind_value (table_of_line version line) (if_free tables) table h in
+    let read = takes (table_reads version line) b.0 b.1 in
     let named = list_any (has_name b.0.name) tables in
     let t = tested (ltb (length tables) 32 && not named) (Some b.0) table b.2 in
     let p = both (ltb (length tables) 32) (not named) t.0 in
     let lt = ltb-true (length tables) 32 p.0 in
-    subst (Next tables line) (some_is b.0 table t.1) (record {
+    subst (Next version tables line) (some_is b.0 table t.1) (record {
       spelled = read.0;
       so_far = record {
         few = omega (arith, length-append tables (b.0 ∷ []));
-        each = one_more tables b.0 so_far.each read.1 (is_not named p.1);
+        each = one_more tables b.0 so_far.each read.1.fits (is_not named p.1);
+        kinds = All-append (λ t. KindFits version t.key) tables (b.0 ∷ []) so_far.kinds (All-cons (λ t. KindFits version t.key) b.0 [] read.1.key (All-nil (λ t. KindFits version t.key)));
       };
     })

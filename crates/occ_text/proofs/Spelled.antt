@@ -1,5 +1,5 @@
 -- The bytes that stand in the spelling of a decimal, a key or a cell.
-use Rattle.std.proofs.Common.{◌≡◌, ℕ, suc, pos, negsuc, ◌+◌, ◌-◌, ◌^◌, ◌<◌, ◌≤◌, Bool, true, false, leb, ◌/◌, ◌%◌, List, [], ◌∷◌, length, FitsSigned, w64, refl, sym, subst, inl, inr, arith}
+use Rattle.std.proofs.Common.{◌≡◌, ℕ, suc, pos, negsuc, ◌+◌, ◌-◌, ◌^◌, ◌<◌, ◌≤◌, Bool, true, false, leb, ◌/◌, ◌%◌, List, [], ◌∷◌, length, Option, Some, None, FitsSigned, w64, refl, sym, subst, inl, inr, arith}
 use Rattle.std.specs.List.{All}
 use Rattle.std.specs.Prelude.{ℤ}
 use Rattle.std.specs.Fmt.{decimal, signed_decimal}
@@ -13,9 +13,12 @@ use Rattle.std.proofs.lemmas.Fmt.{decimal_nonempty}
 use Rattle.std.proofs.lemmas.Int.{ints}
 use Rattle.occ_types.specs.Key.{Key}
 use Rattle.occ_types.specs.Key as keys
+use Rattle.occ_types.specs.KeyPart.{KeyPart}
+use Rattle.occ_types.specs.KeyPart as parts
 use Rattle.occ_types.specs.Row.{Cell, Row}
 use Rattle.occ_types.specs.Row as rows
-use Rattle.occ_text.specs.Spelling.{is_plain, hex_digit, escaped_byte, escaped, key_text, cell_text, row_text, IsToken, IsName, KeyFits, CellFits, RowFits}
+use Rattle.occ_text.specs.declared.versions.Version.{Version}
+use Rattle.occ_text.specs.Spelling.{is_plain, hex_digit, escaped_byte, escaped, part_text, key_text, end_text, cell_text, row_text, IsToken, IsName, PartFits, KeyFits, EndFits, CellFits, RowFits}
 use Rattle.occ_text.proofs.Numbers.{decimal_digits}
 use Rattle.occ_text.proofs.Escapes.{low_digit, high_digit, plain_spelling, escape_spelling}
 use Rattle.occ_text.proofs.Words.{both}
@@ -72,9 +75,19 @@ of_cell P (rows.Int (pos n)) s fits = of_decimal P n s (pos_small n fits)
 of_cell P (rows.Int (negsuc n)) s fits = All-cons P 45 (decimal (suc n)) s.minus (of_decimal P (suc n) s (negsuc_small n fits))
 of_cell P (rows.Text bytes) s fits = All-cons P 39 (escaped bytes) s.quote (of_escaped P bytes s fits.small)
 
-pub of_key : (P : ℕ → Type 0) (key : Key) → OfSpellings P → KeyFits key → All P (key_text key)
-of_key P (keys.Num n) s fits = of_decimal P n s fits
-of_key P (keys.Text bytes) s fits = All-cons P 39 (escaped bytes) s.quote (of_escaped P bytes s fits.small)
+pub of_part : (P : ℕ → Type 0) (part : KeyPart) → OfSpellings P → PartFits part → All P (part_text part)
+of_part P (parts.Num n) s fits = of_decimal P n s fits
+of_part P (parts.Text bytes) s fits = All-cons P 39 (escaped bytes) s.quote (of_escaped P bytes s fits.small)
+
+pub of_key : (P : ℕ → Type 0) (version : Version) (key : Key) → OfSpellings P → P 43 → KeyFits version key → All P (key_text key)
+of_key P version (keys.Num n) s plus fits = of_part P (parts.Num n) s fits
+of_key P version (keys.Text bytes) s plus fits = of_part P (parts.Text bytes) s fits
+of_key P version (keys.Pair a b) s plus fits =
+    All-append P (part_text a) (43 ∷ part_text b) (of_part P a s fits.1) (All-cons P 43 (part_text b) plus (of_part P b s fits.2))
+
+pub of_end : (P : ℕ → Type 0) (version : Version) (end : Option Key) → OfSpellings P → P 42 → P 43 → EndFits version end → All P (end_text end)
+of_end P version None s star plus fits = All-cons P 42 [] star (All-nil P)
+of_end P version (Some key) s star plus fits = of_key P version key s plus fits
 
 pub of_row : (P : ℕ → Type 0) (cells : Row) → OfSpellings P → P 44 → All CellFits cells → All P (row_text cells)
 of_row P [] s comma each = All-nil P
@@ -116,12 +129,24 @@ IsToken-decimal n small = record { some = decimal_nonempty n small; graphic = of
 pub IsToken-name : (name : List ℕ) → IsName name → IsToken name
 IsToken-name name fits = record { some = fits.some; graphic = All-weaker (λ byte. is_ascii_lowercase byte ≡ true) Graphic letter_is_graphic name fits.letters }
 
-key_some : (key : Key) → KeyFits key → 0 < length (key_text key)
-key_some (keys.Num n) fits = decimal_nonempty n fits
-key_some (keys.Text bytes) fits = omega arith
+part_some : (part : KeyPart) → PartFits part → 0 < length (part_text part)
+part_some (parts.Num n) fits = decimal_nonempty n fits
+part_some (parts.Text bytes) fits = omega arith
 
-pub IsToken-key : (key : Key) → KeyFits key → IsToken (key_text key)
-IsToken-key key fits = record { some = key_some key fits; graphic = of_key Graphic key graphic fits }
+key_some : (version : Version) (key : Key) → KeyFits version key → 0 < length (key_text key)
+key_some version (keys.Num n) fits = part_some (parts.Num n) fits
+key_some version (keys.Text bytes) fits = part_some (parts.Text bytes) fits
+key_some version (keys.Pair a b) fits = omega (arith, length-append (part_text a) (43 ∷ part_text b))
+
+pub IsToken-key : (version : Version) (key : Key) → KeyFits version key → IsToken (key_text key)
+IsToken-key version key fits = record { some = key_some version key fits; graphic = of_key Graphic version key graphic refl fits }
+
+end_some : (version : Version) (end : Option Key) → EndFits version end → 0 < length (end_text end)
+end_some version None fits = omega arith
+end_some version (Some key) fits = key_some version key fits
+
+pub IsToken-end : (version : Version) (end : Option Key) → EndFits version end → IsToken (end_text end)
+IsToken-end version end fits = record { some = end_some version end fits; graphic = of_end Graphic version end graphic refl refl fits }
 
 cell_some : (cell : Cell) → CellFits cell → 0 < length (cell_text cell)
 cell_some (rows.Int (pos n)) fits = decimal_nonempty n (pos_small n fits)

@@ -1,6 +1,7 @@
 -- The lines of steps: what is read is spelled so, and what is spelled so is read again.
 use Rattle.std.proofs.Common.{◌≡◌, ℕ, List, Some, ap, ◌∙◌}
 use Rattle.std.specs.Prelude.{option_and_then}
+use Rattle.occ_text.specs.declared.versions.Version.{Version}
 use Rattle.occ_text.specs.Spelling.{line_text}
 use Rattle.occ_text.specs.Reading.{Reads, tokens_of}
 use Rattle.occ_text.specs.Steps.{Step, step_tokens, step_text, StepFits}
@@ -11,21 +12,21 @@ use Rattle.occ_text.proofs.Words.{tokens_takes, tokens_again}
 use Rattle.occ_text.proofs.StepsTaken.{tokens_take}
 use Rattle.occ_text.proofs.StepsSpelled.{tokens_again_of, step_AreTokens}
 
-line_takes : (line : List ℕ) (step : Step) → step_of_line line ≡ Some step → (line ≡ step_text step) × StepFits step
+line_takes : (version : Version) (line : List ℕ) (step : Step) → step_of_line version line ≡ Some step → (line ≡ step_text step) × StepFits version step
 unfolding step_of_line
-line_takes line step h =
-    let t = bind_value (tokens_of line) step_of_tokens step h in
-    let r = tokens_take t.0 step t.2 in
+line_takes version line step h =
+    let t = bind_value (tokens_of line) (step_of_tokens version) step h in
+    let r = tokens_take version t.0 step t.2 in
     ((tokens_takes line t.0 t.1).0 ∙ ap line_text r.spelled, r.fits)
 
-line_again : (step : Step) → StepFits step → step_of_line (step_text step) ≡ Some step
+line_again : (version : Version) (step : Step) → StepFits version step → step_of_line version (step_text step) ≡ Some step
 unfolding step_of_line
-line_again step fits =
-    ap (option_and_then step_of_tokens) (tokens_again (step_tokens step) (step_AreTokens step fits)) ∙ tokens_again_of step fits
+line_again version step fits =
+    ap (option_and_then (step_of_tokens version)) (tokens_again (step_tokens step) (step_AreTokens version step fits)) ∙ tokens_again_of version step fits
 
 -- the reader of steps is right
-pub step_reads : (line : List ℕ) → Reads step_text StepFits line (step_of_line line)
-step_reads line = record {
-  found = some_or_none (step_of_line line) (λ step. (line ≡ step_text step) × StepFits step) (λ step h. line_takes line step h);
-  again = λ step fits e. ap step_of_line e ∙ line_again step fits;
+pub step_reads : (version : Version) (line : List ℕ) → Reads step_text (StepFits version) line (step_of_line version line)
+step_reads version line = record {
+  found = some_or_none (step_of_line version line) (λ step. (line ≡ step_text step) × StepFits version step) (λ step h. line_takes version line step h);
+  again = λ step fits e. ap (step_of_line version) e ∙ line_again version step fits;
 }

@@ -4,6 +4,7 @@ use Rattle.std.specs.Prelude.{codes}
 use Rattle.std.specs.Str.{bytes_eq}
 use Rattle.std.specs.Fmt.{decimal}
 use Rattle.std.proofs.lemmas.List.Elements.{All-cons}
+use Rattle.occ_text.specs.declared.versions.Version.{Version}
 use Rattle.occ_text.specs.declared.steps.Act.{Act}
 use Rattle.occ_text.specs.declared.steps.Act.TheVariants as acts
 use Rattle.occ_text.specs.Spelling.{IsToken, AreTokens}
@@ -14,8 +15,8 @@ use Rattle.occ_text.proofs.Numbers.{number_again}
 use Rattle.occ_text.proofs.Words.{IsToken-from_test}
 use Rattle.occ_text.specs.Operations.{operation_text}
 use Rattle.occ_text.proofs.OperationTokens.{operations_again, AreTokens-operations}
-use Rattle.occ_text.proofs.Readers.{name_again, key_again, row_again}
-use Rattle.occ_text.proofs.Spelled.{IsToken-decimal, IsToken-name, IsToken-key, IsToken-row}
+use Rattle.occ_text.proofs.Readers.{name_again, key_again, end_again, row_again}
+use Rattle.occ_text.proofs.Spelled.{IsToken-decimal, IsToken-name, IsToken-key, IsToken-end, IsToken-row}
 use Rattle.occ_text.proofs.TokenLists.{one_token, more_tokens, two_tokens, four_tokens, five_tokens, six_tokens}
 
 act_again : (act : Act) → act_of (act_word act) ≡ Some act
@@ -46,22 +47,22 @@ act_alone acts.Write = refl
 act_alone acts.Finish = refl
 act_alone acts.BackUp = refl
 
-pub tokens_again_of : (step : Step) → StepFits step → step_of_tokens (step_tokens step) ≡ Some step
+pub tokens_again_of : (version : Version) (step : Step) → StepFits version step → step_of_tokens version (step_tokens step) ≡ Some step
 unfolding step_of_tokens counted_step alone_of_tokens alone_step bare_step act_step short_step last_step long_step get_step delete_step forge_step scan_step put_step raw_step
-tokens_again_of (Does act session) fits = rw (act_alone act, act_again act, number_again 255 session (lit< tt) fits) refl
-tokens_again_of (Get session table key) fits = rw (number_again 255 session (lit< tt) fits.0, name_again table fits.1, key_again key fits.2) refl
-tokens_again_of (Scan session table lower upper) fits =
-    rw (number_again 255 session (lit< tt) fits.0, name_again table fits.1, key_again lower fits.2, key_again upper fits.3) refl
-tokens_again_of (Put session table key row) fits =
-    rw (number_again 255 session (lit< tt) fits.0, name_again table fits.1, key_again key fits.2, row_again row fits.3) refl
-tokens_again_of (Delete session table key) fits = rw (number_again 255 session (lit< tt) fits.0, name_again table fits.1, key_again key fits.2) refl
-tokens_again_of (Forge session number start) fits =
+tokens_again_of version (Does act session) fits = rw (act_alone act, act_again act, number_again 255 session (lit< tt) fits) refl
+tokens_again_of version (Get session table key) fits = rw (number_again 255 session (lit< tt) fits.0, name_again table fits.1, key_again version key fits.2) refl
+tokens_again_of version (Scan session table lower upper) fits =
+    rw (number_again 255 session (lit< tt) fits.0, name_again table fits.1, end_again version lower fits.2, end_again version upper fits.3) refl
+tokens_again_of version (Put session table key row) fits =
+    rw (number_again 255 session (lit< tt) fits.0, name_again table fits.1, key_again version key fits.2, row_again row fits.3) refl
+tokens_again_of version (Delete session table key) fits = rw (number_again 255 session (lit< tt) fits.0, name_again table fits.1, key_again version key fits.2) refl
+tokens_again_of version (Forge session number start) fits =
     rw (number_again 255 session (lit< tt) fits.0, number_again (2 ^ 32 - 1) number (lit< tt) fits.1, number_again (2 ^ 64 - 1) start (lit< tt) fits.2) refl
-tokens_again_of (RawRead session number start table key) fits =
-    rw (number_again 255 session (lit< tt) fits.0, number_again (2 ^ 32 - 1) number (lit< tt) fits.1, number_again (2 ^ 64 - 1) start (lit< tt) fits.2, name_again table fits.3, key_again key fits.4) refl
-tokens_again_of (Alone session operations) fits = rw (number_again 255 session (lit< tt) fits.0, operations_again operations fits.1 fits.2) refl
-tokens_again_of Show fits = refl
-tokens_again_of Checkpoint fits = refl
+tokens_again_of version (RawRead session number start table key) fits =
+    rw (number_again 255 session (lit< tt) fits.0, number_again (2 ^ 32 - 1) number (lit< tt) fits.1, number_again (2 ^ 64 - 1) start (lit< tt) fits.2, name_again table fits.3, key_again version key fits.4) refl
+tokens_again_of version (Alone session operations) fits = rw (number_again 255 session (lit< tt) fits.0, operations_again version operations fits.1 fits.2) refl
+tokens_again_of version Show fits = refl
+tokens_again_of version Checkpoint fits = refl
 
 IsToken-act : (act : Act) → IsToken (act_word act)
 unfolding is_token
@@ -85,23 +86,23 @@ IsToken-transaction number le = IsToken-decimal number (omega arith)
 IsToken-start : (start : ℕ) → start ≤ 2 ^ 64 - 1 → IsToken (decimal start)
 IsToken-start start le = IsToken-decimal start (omega arith)
 
-pub step_AreTokens : (step : Step) → StepFits step → AreTokens (step_tokens step)
+pub step_AreTokens : (version : Version) (step : Step) → StepFits version step → AreTokens (step_tokens step)
 unfolding is_token
-step_AreTokens (Does act session) fits = two_tokens (IsToken-act act) (IsToken-session session fits)
-step_AreTokens (Get session table key) fits =
-    four_tokens (IsToken-from_test (codes "get") refl) (IsToken-session session fits.0) (IsToken-name table fits.1) (IsToken-key key fits.2)
-step_AreTokens (Scan session table lower upper) fits =
-    five_tokens (IsToken-from_test (codes "scan") refl) (IsToken-session session fits.0) (IsToken-name table fits.1) (IsToken-key lower fits.2) (IsToken-key upper fits.3)
-step_AreTokens (Put session table key row) fits =
-    five_tokens (IsToken-from_test (codes "put") refl) (IsToken-session session fits.0) (IsToken-name table fits.1) (IsToken-key key fits.2) (IsToken-row row fits.3)
-step_AreTokens (Delete session table key) fits =
-    four_tokens (IsToken-from_test (codes "delete") refl) (IsToken-session session fits.0) (IsToken-name table fits.1) (IsToken-key key fits.2)
-step_AreTokens (Forge session number start) fits =
+step_AreTokens version (Does act session) fits = two_tokens (IsToken-act act) (IsToken-session session fits)
+step_AreTokens version (Get session table key) fits =
+    four_tokens (IsToken-from_test (codes "get") refl) (IsToken-session session fits.0) (IsToken-name table fits.1) (IsToken-key version key fits.2)
+step_AreTokens version (Scan session table lower upper) fits =
+    five_tokens (IsToken-from_test (codes "scan") refl) (IsToken-session session fits.0) (IsToken-name table fits.1) (IsToken-end version lower fits.2) (IsToken-end version upper fits.3)
+step_AreTokens version (Put session table key row) fits =
+    five_tokens (IsToken-from_test (codes "put") refl) (IsToken-session session fits.0) (IsToken-name table fits.1) (IsToken-key version key fits.2) (IsToken-row row fits.3)
+step_AreTokens version (Delete session table key) fits =
+    four_tokens (IsToken-from_test (codes "delete") refl) (IsToken-session session fits.0) (IsToken-name table fits.1) (IsToken-key version key fits.2)
+step_AreTokens version (Forge session number start) fits =
     four_tokens (IsToken-from_test (codes "forge") refl) (IsToken-session session fits.0) (IsToken-transaction number fits.1) (IsToken-start start fits.2)
-step_AreTokens (RawRead session number start table key) fits =
-    six_tokens (IsToken-from_test (codes "rawread") refl) (IsToken-session session fits.0) (IsToken-transaction number fits.1) (IsToken-start start fits.2) (IsToken-name table fits.3) (IsToken-key key fits.4)
-step_AreTokens (Alone session operations) fits =
+step_AreTokens version (RawRead session number start table key) fits =
+    six_tokens (IsToken-from_test (codes "rawread") refl) (IsToken-session session fits.0) (IsToken-transaction number fits.1) (IsToken-start start fits.2) (IsToken-name table fits.3) (IsToken-key version key fits.4)
+step_AreTokens version (Alone session operations) fits =
     more_tokens (codes "alone") (decimal session ∷ map operation_text operations) (IsToken-from_test (codes "alone") refl)
-    (record { some = omega arith; each = All-cons IsToken (decimal session) (map operation_text operations) (IsToken-session session fits.0) (AreTokens-operations operations fits.2) })
-step_AreTokens Show fits = one_token (IsToken-from_test (codes "show") refl)
-step_AreTokens Checkpoint fits = one_token (IsToken-from_test (codes "checkpoint") refl)
+    (record { some = omega arith; each = All-cons IsToken (decimal session) (map operation_text operations) (IsToken-session session fits.0) (AreTokens-operations version operations fits.2) })
+step_AreTokens version Show fits = one_token (IsToken-from_test (codes "show") refl)
+step_AreTokens version Checkpoint fits = one_token (IsToken-from_test (codes "checkpoint") refl)

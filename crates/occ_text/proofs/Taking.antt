@@ -21,9 +21,10 @@ use Rattle.occ_text.specs.declared.faults.LineFault.{LineFault}
 use Rattle.occ_text.specs.declared.faults.LineFault.TheVariants as line_faults
 use Rattle.occ_text.specs.declared.faults.ReadFault.{ReadFault}
 use Rattle.occ_text.specs.declared.faults.ReadFault.TheVariants as faults
+use Rattle.occ_text.specs.declared.versions.Version.{Version}
 use Rattle.occ_text.specs.Reading.{Reads}
 use Rattle.occ_text.specs.Escapes.{Gives}
-use Rattle.occ_text.specs.Headers.{table_text}
+use Rattle.occ_text.specs.Headers.{table_text, KindsFit}
 use Rattle.occ_text.specs.HeaderReading.{table_of_line}
 use Rattle.occ_text.specs.Faults.{told, widened}
 use Rattle.occ_text.specs.Line.{IsLine, CannotStand, AtEnd, NoLine, OtherLine, NoneTaken, Taken, lines_text}
@@ -69,41 +70,41 @@ another_line Y fits wanted shown line a b test taken alone same is not_it =
     OtherLine line b taken alone (λ p. let yes = is.1 (same ∙ p.2) in let e : false ≡ true = sym not_it ∙ yes in cc e)
 
 -- the line of a table is taken
-pub next_read : (tables : List Table) (table : Table) (shown line : List ℕ) (a b : Option (List ℕ)) (first last : ℕ) → TablesSoFar tables → Consumes a b (line ++ 10 ∷ []) × (last ≡ first + 1) × IsLine line → shown ≡ line → table_behind tables shown ≡ Some table
-    → Consumes a b (table_text table ++ 10 ∷ []) × TablesSoFar (tables ++ table ∷ []) × (last ≡ first + 1)
-next_read tables table shown line a b first last so_far taken same read =
-    let n = table_next tables shown table so_far read in
+pub next_read : (version : Version) (tables : List Table) (table : Table) (shown line : List ℕ) (a b : Option (List ℕ)) (first last : ℕ) → TablesSoFar version tables → Consumes a b (line ++ 10 ∷ []) × (last ≡ first + 1) × IsLine line → shown ≡ line → table_behind version tables shown ≡ Some table
+    → Consumes a b (table_text table ++ 10 ∷ []) × TablesSoFar version (tables ++ table ∷ []) × (last ≡ first + 1)
+next_read version tables table shown line a b first last so_far taken same read =
+    let n = table_next version tables shown table so_far read in
     (subst (λ (l : List ℕ). Consumes a b (l ++ 10 ∷ [])) (sym same ∙ n.spelled) taken.0, n.so_far, taken.1)
 
 -- a line that can't stand behind those of the tables, or memory was refused for it
-pub next_unread : {X Y : Type 0} (view : X → Table) (seen : Y → Table) (read : Result Y Unread) (fault : ReadFault) (result : Result (Option X) ReadFault) (tables : List Table) (shown again line : List ℕ) (a b : Option (List ℕ)) (n first last : ℕ) (test : Bool)
-    → TablesSoFar tables → Consumes a b (line ++ 10 ∷ []) × (last ≡ first + 1) × IsLine line → shown ≡ line → again ≡ line → (IsTrue test ↔ shown ≡ codes "steps") → test ≡ false
-    → Gives seen read (table_behind tables again) → Err fault ≡ told read n → result ≡ Err fault → n ≡ last → NextTaken view result tables a b first last
-next_unread view seen (Ok x) fault result tables shown again line a b n first last test so_far taken same too is not_it gives told_so ends here = absurd cc
-next_unread view seen (Err unread.Malformed) fault result tables shown again line a b n first last test so_far taken same too is not_it gives told_so ends here =
+pub next_unread : {X Y : Type 0} (version : Version) (view : X → Table) (seen : Y → Table) (read : Result Y Unread) (fault : ReadFault) (result : Result (Option X) ReadFault) (tables : List Table) (shown again line : List ℕ) (a b : Option (List ℕ)) (n first last : ℕ) (test : Bool)
+    → TablesSoFar version tables → Consumes a b (line ++ 10 ∷ []) × (last ≡ first + 1) × IsLine line → shown ≡ line → again ≡ line → (IsTrue test ↔ shown ≡ codes "steps") → test ≡ false
+    → Gives seen read (table_behind version tables again) → Err fault ≡ told read n → result ≡ Err fault → n ≡ last → NextTaken version view result tables a b first last
+next_unread version view seen (Ok x) fault result tables shown again line a b n first last test so_far taken same too is not_it gives told_so ends here = absurd cc
+next_unread version view seen (Err unread.Malformed) fault result tables shown again line a b n first last test so_far taken same too is not_it gives told_so ends here =
     let other : line ≡ codes "steps" → ⊥ = λ e. let yes = is.1 (same ∙ e) in let f : false ≡ true = sym not_it ∙ yes in cc f in
-    let refused = line_refused tables line so_far other (ap (table_behind tables) (sym too) ∙ gives) in
+    let refused = line_refused version tables line so_far other (ap (table_behind version tables) (sym too) ∙ gives) in
     let malformed : fault ≡ faults.Malformed n = cc told_so in
-    subst (λ (r : Result (Option _) ReadFault). NextTaken view r tables a b first last) (sym (ends ∙ ap Err malformed)) (OtherLine line b taken.0 taken.2 refused, here ∙ taken.1)
-next_unread view seen (Err unread.Memory) fault result tables shown again line a b n first last test so_far taken same too is not_it gives told_so ends here =
+    subst (λ (r : Result (Option _) ReadFault). NextTaken version view r tables a b first last) (sym (ends ∙ ap Err malformed)) (OtherLine line b taken.0 taken.2 refused, here ∙ taken.1)
+next_unread version view seen (Err unread.Memory) fault result tables shown again line a b n first last test so_far taken same too is not_it gives told_so ends here =
     let memory : fault ≡ faults.Memory = cc told_so in
-    subst (λ (r : Result (Option _) ReadFault). NextTaken view r tables a b first last) (sym (ends ∙ ap Err memory)) tt
+    subst (λ (r : Result (Option _) ReadFault). NextTaken version view r tables a b first last) (sym (ends ∙ ap Err memory)) tt
 
 -- ---- the table of a line behind others
 
-pub behind_read : {X : Type 0} (view : X → Table) (tables : List X) (line name : List ℕ) (table : Table) (taken : Bool) → table_of_line line ≡ Some table → length tables < 32 → name ≡ table.name
-    → taken ≡ list_any (λ t. has_name name (view t)) tables → taken ≡ false → table_behind (map view tables) line ≡ Some table
+pub behind_read : {X : Type 0} (version : Version) (view : X → Table) (tables : List X) (line name : List ℕ) (table : Table) (taken : Bool) → table_of_line version line ≡ Some table → length tables < 32 → name ≡ table.name
+    → taken ≡ list_any (λ t. has_name name (view t)) tables → taken ≡ false → table_behind version (map view tables) line ≡ Some table
 unfolding table_behind
-behind_read view tables line name table taken read few called is free =
+behind_read version view tables line name table taken read few called is free =
     let none : list_any (has_name table.name) (map view tables) ≡ false =
     list_any-map (has_name table.name) view tables ∙ ap (λ (n : List ℕ). list_any (λ t. has_name n (view t)) tables) (sym called) ∙ sym is ∙ free in
     let n = length-map tables view in
     ap (option_and_then (if_free (map view tables))) read ∙ rw (none, lt-ltb (length (map view tables)) 32 (omega arith)) refl
 
-pub behind_taken : {X : Type 0} (view : X → Table) (tables : List X) (line name : List ℕ) (table : Table) (taken : Bool) → table_of_line line ≡ Some table → length tables < 32 → name ≡ table.name
-    → taken ≡ list_any (λ t. has_name name (view t)) tables → taken ≡ true → table_behind (map view tables) line ≡ None
+pub behind_taken : {X : Type 0} (version : Version) (view : X → Table) (tables : List X) (line name : List ℕ) (table : Table) (taken : Bool) → table_of_line version line ≡ Some table → length tables < 32 → name ≡ table.name
+    → taken ≡ list_any (λ t. has_name name (view t)) tables → taken ≡ true → table_behind version (map view tables) line ≡ None
 unfolding table_behind
-behind_taken view tables line name table taken read few called is clash =
+behind_taken version view tables line name table taken read few called is clash =
     let some : list_any (has_name table.name) (map view tables) ≡ true =
     list_any-map (has_name table.name) view tables ∙ ap (λ (n : List ℕ). list_any (λ t. has_name n (view t)) tables) (sym called) ∙ sym is ∙ clash in
     let n = length-map tables view in
@@ -118,27 +119,28 @@ lines_more lines line = flat_map-append (λ (l : List ℕ). l ++ 10 ∷ []) line
 pub taken_more : (lines : List (List ℕ)) (line : List ℕ) (a b c : Option (List ℕ)) → Consumes a b (lines_text lines) → Consumes b c (line ++ 10 ∷ []) → Consumes a c (lines_text (lines ++ line ∷ []))
 taken_more lines line a b c p q = subst (Consumes a c) (sym (lines_more lines line)) (Consumes-trans a b c (lines_text lines) (line ++ 10 ∷ []) p q)
 
-pub record Pushed (tables : List Table) (a c : Option (List ℕ)) (first last : ℕ) : Type 0 where
+pub record Pushed (version : Version) (tables : List Table) (a c : Option (List ℕ)) (first last : ℕ) : Type 0 where
   pub taken : Consumes a c (lines_text (map table_text tables))
-  pub so_far : TablesSoFar tables
+  pub so_far : TablesSoFar version tables
   pub number : last ≡ first + length tables
 
-pub table_pushed : (tables shown : List Table) (table : Table) (a b c : Option (List ℕ)) (first mid last : ℕ) → shown ≡ tables → Consumes a b (lines_text (map table_text tables)) → mid ≡ first + length tables
-    → Consumes b c (table_text table ++ 10 ∷ []) × TablesSoFar (shown ++ table ∷ []) × (last ≡ mid + 1) → Pushed (tables ++ table ∷ []) a c first last
-table_pushed tables shown table a b c first mid last same taken number next =
+pub table_pushed : (version : Version) (tables shown : List Table) (table : Table) (a b c : Option (List ℕ)) (first mid last : ℕ) → shown ≡ tables → Consumes a b (lines_text (map table_text tables)) → mid ≡ first + length tables
+    → Consumes b c (table_text table ++ 10 ∷ []) × TablesSoFar version (shown ++ table ∷ []) × (last ≡ mid + 1) → Pushed version (tables ++ table ∷ []) a c first last
+table_pushed version tables shown table a b c first mid last same taken number next =
     let step = next.2 in
     record {
       taken = subst (λ (l : List (List ℕ)). Consumes a c (lines_text l)) (sym (map-append table_text tables (table ∷ []))) (taken_more (map table_text tables) (table_text table) a b c taken next.0);
-      so_far = subst (λ (l : List Table). TablesSoFar (l ++ table ∷ [])) same next.1;
+      so_far = subst (λ (l : List Table). TablesSoFar version (l ++ table ∷ [])) same next.1;
       number = omega (arith, length-append tables (table ∷ []));
     }
 
-pub tables_end : (tables schema : List Table) (a b c : Option (List ℕ)) (first mid last : ℕ) → Consumes a b (lines_text (map table_text tables)) → mid ≡ first + length tables → Consumes b c (codes "steps" ++ 10 ∷ []) × (last ≡ mid + 1)
-    → (check_tables tables ≡ None) × (schema ≡ tables) → Consumes a c (lines_text (map table_text schema ++ codes "steps" ∷ [])) × (check_tables schema ≡ None) × (last ≡ first + length schema + 1)
-tables_end tables schema a b c first mid last taken number next good =
+pub tables_end : (version : Version) (tables schema : List Table) (a b c : Option (List ℕ)) (first mid last : ℕ) → Consumes a b (lines_text (map table_text tables)) → mid ≡ first + length tables → Consumes b c (codes "steps" ++ 10 ∷ []) × (last ≡ mid + 1)
+    → (check_tables tables ≡ None) × (schema ≡ tables) → KindsFit version tables
+    → Consumes a c (lines_text (map table_text schema ++ codes "steps" ∷ [])) × (check_tables schema ≡ None) × KindsFit version schema × (last ≡ first + length schema + 1)
+tables_end version tables schema a b c first mid last taken number next good kinds =
     let step = next.1 in
-    subst (λ (s : List Table). Consumes a c (lines_text (map table_text s ++ codes "steps" ∷ [])) × (check_tables s ≡ None) × (last ≡ first + length s + 1)) (sym good.1)
-    (taken_more (map table_text tables) (codes "steps") a b c taken next.0, good.0, omega arith)
+    subst (λ (s : List Table). Consumes a c (lines_text (map table_text s ++ codes "steps" ∷ [])) × (check_tables s ≡ None) × KindsFit version s × (last ≡ first + length s + 1)) (sym good.1)
+    (taken_more (map table_text tables) (codes "steps") a b c taken next.0, good.0, kinds, omega arith)
 
 IsLine-steps : IsLine (codes "steps")
 IsLine-steps = record {
@@ -146,38 +148,38 @@ IsLine-steps = record {
   short = omega arith;
 }
 
-pub tables_none : (tables : List Table) (fault : Fault) (a b c : Option (List ℕ)) (first mid last n : ℕ) → Consumes a b (lines_text (map table_text tables)) → TablesSoFar tables → mid ≡ first + length tables
-    → Consumes b c (codes "steps" ++ 10 ∷ []) × (last ≡ mid + 1) → check_tables tables ≡ Some fault → n ≡ last → TablesTaken (Err (faults.Malformed n)) a c first last
-tables_none tables fault a b c first mid last n taken so_far number next bad here =
+pub tables_none : (version : Version) (tables : List Table) (fault : Fault) (a b c : Option (List ℕ)) (first mid last n : ℕ) → Consumes a b (lines_text (map table_text tables)) → TablesSoFar version tables → mid ≡ first + length tables
+    → Consumes b c (codes "steps" ++ 10 ∷ []) × (last ≡ mid + 1) → check_tables tables ≡ Some fault → n ≡ last → TablesTaken version (Err (faults.Malformed n)) a c first last
+tables_none version tables fault a b c first mid last n taken so_far number next bad here =
     let step = next.1 in
-    (tables, b, taken, so_far, (OtherLine (codes "steps") c next.0 IsLine-steps (steps_refused tables fault so_far bad), omega arith))
+    (tables, b, taken, so_far, (OtherLine (codes "steps") c next.0 IsLine-steps (steps_refused version tables fault so_far bad), omega arith))
 
 -- the tables, as the code has them
-pub table_pushed_by : {X : Type 0} (view : X → Table) (items shown pushed : List X) (x : X) (a b c : Option (List ℕ)) (first mid last : ℕ) → shown ≡ items → pushed ≡ items ++ x ∷ []
+pub table_pushed_by : {X : Type 0} (version : Version) (view : X → Table) (items shown pushed : List X) (x : X) (a b c : Option (List ℕ)) (first mid last : ℕ) → shown ≡ items → pushed ≡ items ++ x ∷ []
     → Consumes a b (lines_text (map table_text (map view items))) → mid ≡ first + length items
-    → Consumes b c (table_text (view x) ++ 10 ∷ []) × TablesSoFar (map view shown ++ view x ∷ []) × (last ≡ mid + 1)
-    → Consumes a c (lines_text (map table_text (map view pushed))) × TablesSoFar (map view pushed) × (last ≡ first + length pushed)
-table_pushed_by view items shown pushed x a b c first mid last same is taken number next =
+    → Consumes b c (table_text (view x) ++ 10 ∷ []) × TablesSoFar version (map view shown ++ view x ∷ []) × (last ≡ mid + 1)
+    → Consumes a c (lines_text (map table_text (map view pushed))) × TablesSoFar version (map view pushed) × (last ≡ first + length pushed)
+table_pushed_by version view items shown pushed x a b c first mid last same is taken number next =
     let count : mid ≡ first + length (map view items) = omega (arith, length-map items view) in
-    let p = table_pushed (map view items) (map view shown) (view x) a b c first mid last (ap (map view) same) taken count next in
+    let p = table_pushed version (map view items) (map view shown) (view x) a b c first mid last (ap (map view) same) taken count next in
     let all : map view pushed ≡ map view items ++ view x ∷ [] = ap (map view) is ∙ map-append view items (x ∷ []) in
-    let q = subst (λ (ts : List Table). Pushed ts a c first last) (sym all) p in
+    let q = subst (λ (ts : List Table). Pushed version ts a c first last) (sym all) p in
     (q.taken, q.so_far, q.number ∙ ap (λ (k : ℕ). first + k) (length-map pushed view))
 
 -- the line behind the tables wasn't taken
-pub tables_stop : (fault : ReadFault) (result : Result Schema ReadFault) (tables shown : List Table) (a b c : Option (List ℕ)) (first mid last : ℕ) → IsErrAnd result (λ e. e ≡ fault) → shown ≡ tables
-    → Consumes a b (lines_text (map table_text tables)) → TablesSoFar tables → mid ≡ first + length tables → NoneTaken (GoesOn shown) fault b c mid → TablesTaken result a c first last
-tables_stop fault (Ok schema) tables shown a b c first mid last is same taken so_far number t = absurd is
-tables_stop fault (Err e) tables shown a b c first mid last is same taken so_far number t = (
+pub tables_stop : (version : Version) (fault : ReadFault) (result : Result Schema ReadFault) (tables shown : List Table) (a b c : Option (List ℕ)) (first mid last : ℕ) → IsErrAnd result (λ e. e ≡ fault) → shown ≡ tables
+    → Consumes a b (lines_text (map table_text tables)) → TablesSoFar version tables → mid ≡ first + length tables → NoneTaken (GoesOn version shown) fault b c mid → TablesTaken version result a c first last
+tables_stop version fault (Ok schema) tables shown a b c first mid last is same taken so_far number t = absurd is
+tables_stop version fault (Err e) tables shown a b c first mid last is same taken so_far number t = (
   tables,
   b,
   taken,
   so_far,
-  subst (λ (ts : List Table). NoneTaken (GoesOn ts) e b c (first + length tables)) same (subst (NoneTaken (GoesOn shown) e b c) number (subst (λ (f : ReadFault). NoneTaken (GoesOn shown) f b c mid) (sym is) t)),
+  subst (λ (ts : List Table). NoneTaken (GoesOn version ts) e b c (first + length tables)) same (subst (NoneTaken (GoesOn version shown) e b c) number (subst (λ (f : ReadFault). NoneTaken (GoesOn version shown) f b c mid) (sym is) t)),
 )
 
 -- memory was refused for a table
-pub tables_refused : (result : Result Schema ReadFault) (tables : List Table) (a b c : Option (List ℕ)) (first last : ℕ) → IsErrAnd result (λ e. e ≡ faults.Memory) → Consumes a b (lines_text (map table_text tables)) → TablesSoFar tables
-    → TablesTaken result a c first last
-tables_refused (Ok schema) tables a b c first last is taken so_far = absurd is
-tables_refused (Err e) tables a b c first last is taken so_far = (tables, b, taken, so_far, subst (λ (f : ReadFault). NoneTaken (GoesOn tables) f b c (first + length tables)) (sym is) tt)
+pub tables_refused : (version : Version) (result : Result Schema ReadFault) (tables : List Table) (a b c : Option (List ℕ)) (first last : ℕ) → IsErrAnd result (λ e. e ≡ faults.Memory) → Consumes a b (lines_text (map table_text tables)) → TablesSoFar version tables
+    → TablesTaken version result a c first last
+tables_refused version (Ok schema) tables a b c first last is taken so_far = absurd is
+tables_refused version (Err e) tables a b c first last is taken so_far = (tables, b, taken, so_far, subst (λ (f : ReadFault). NoneTaken (GoesOn version tables) f b c (first + length tables)) (sym is) tt)

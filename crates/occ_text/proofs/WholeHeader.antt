@@ -5,27 +5,31 @@ use Rattle.std.specs.Result.{IsErrAnd}
 use Rattle.std.specs.Io.KnownBytes.{Consumes}
 use Rattle.std.proofs.KnownBytes.{Consumes-nil, Consumes-trans}
 use Rattle.std.proofs.lemmas.List.{length-map}
+use Rattle.std.proofs.lemmas.List.Elements.{All-nil, All-cons}
 use Rattle.std.proofs.lemmas.Grind.{flat_map-append}
 use Rattle.occ_types.specs.declared.kind.Kind.TheVariants as cells
 use Rattle.occ_types.specs.declared.kind.KeyKind.TheVariants as keys
 use Rattle.occ_types.specs.Schema.{Table, Schema, check_tables}
 use Rattle.occ_text.specs.declared.headers.Limits.{Limits}
+use Rattle.occ_text.specs.declared.versions.Version.{Version}
+use Rattle.occ_text.specs.declared.versions.Version.TheVariants.{One}
 use Rattle.occ_text.specs.declared.faults.LineFault.{LineFault}
 use Rattle.occ_text.specs.declared.faults.ReadFault.{ReadFault}
 use Rattle.occ_text.specs.Faults.{read_fault}
-use Rattle.occ_text.specs.Headers.{Header, Within, LimitsFit, HeaderFits, limits_of, limits_lines, header_text, table_text, count_text}
+use Rattle.occ_text.specs.Headers.{Header, Within, LimitsFit, HeaderFits, KindFits, KindsFit, limits_of, limits_lines, header_text, version_text, table_text, count_text}
 use Rattle.occ_text.specs.Line.{NoneTaken, IsSpelled, lines_text}
 use Rattle.occ_text.specs.HeaderTaking.{TablesSoFar, GoesOn, TablesTaken, BeginsLimits, LimitsTaken, BeginsHeader, HeaderTaken}
+use Rattle.occ_text.proofs.HeaderLines.{same_version}
 use Rattle.occ_text.proofs.SchemaLines.{first_line, later_lines, check-from_IsSchema}
 use Rattle.occ_text.proofs.Taking.{NoneTaken-narrower, taken_more}
 
 -- ---- limits that begin so
 
-abbrev pub of_counts : ℕ → ℕ → ℕ → Limits
-of_counts s q k = record { sessions = s; queue = q; keep = k }
+abbrev pub of_counts : Version → ℕ → ℕ → ℕ → Limits
+of_counts v s q k = record { version = v; sessions = s; queue = q; keep = k }
 
-fits_with : (s q k : ℕ) → Within 1 64 s → Within 1 1024 q → Within 1 4096 k → LimitsFit (of_counts s q k)
-fits_with s q k sf qf kf = record { sessions = sf; queue = qf; keep = kf }
+fits_with : (v : Version) (s q k : ℕ) → Within 1 64 s → Within 1 1024 q → Within 1 4096 k → LimitsFit (of_counts v s q k)
+fits_with v s q k sf qf kf = record { sessions = sf; queue = qf; keep = kf }
 
 one_within : (most : ℕ) → 1 ≤ most → Within 1 most 1
 one_within most le = record { least_count = omega arith; most_count = le }
@@ -39,21 +43,21 @@ queue_line q = count_text (codes "queue") q
 abbrev pub keep_line : ℕ → List ℕ
 keep_line k = count_text (codes "keep") k
 
-pub begins_4 : (s q k : ℕ) → Within 1 64 s → Within 1 1024 q → Within 1 4096 k → BeginsLimits (codes "occ 1" ∷ session_line s ∷ queue_line q ∷ keep_line k ∷ [])
-begins_4 s q k sf qf kf = (of_counts s q k, fits_with s q k sf qf kf, [], refl)
+pub begins_4 : (v : Version) (s q k : ℕ) → Within 1 64 s → Within 1 1024 q → Within 1 4096 k → BeginsLimits (version_text v ∷ session_line s ∷ queue_line q ∷ keep_line k ∷ [])
+begins_4 v s q k sf qf kf = (of_counts v s q k, fits_with v s q k sf qf kf, [], refl)
 
-pub begins_3 : (s q : ℕ) → Within 1 64 s → Within 1 1024 q → BeginsLimits (codes "occ 1" ∷ session_line s ∷ queue_line q ∷ [])
-begins_3 s q sf qf = (of_counts s q 1, fits_with s q 1 sf qf (one_within 4096 (omega arith)), keep_line 1 ∷ [], refl)
+pub begins_3 : (v : Version) (s q : ℕ) → Within 1 64 s → Within 1 1024 q → BeginsLimits (version_text v ∷ session_line s ∷ queue_line q ∷ [])
+begins_3 v s q sf qf = (of_counts v s q 1, fits_with v s q 1 sf qf (one_within 4096 (omega arith)), keep_line 1 ∷ [], refl)
 
-pub begins_2 : (s : ℕ) → Within 1 64 s → BeginsLimits (codes "occ 1" ∷ session_line s ∷ [])
-begins_2 s sf = (of_counts s 1 1, fits_with s 1 1 sf (one_within 1024 (omega arith)) (one_within 4096 (omega arith)), queue_line 1 ∷ keep_line 1 ∷ [], refl)
+pub begins_2 : (v : Version) (s : ℕ) → Within 1 64 s → BeginsLimits (version_text v ∷ session_line s ∷ [])
+begins_2 v s sf = (of_counts v s 1 1, fits_with v s 1 1 sf (one_within 1024 (omega arith)) (one_within 4096 (omega arith)), queue_line 1 ∷ keep_line 1 ∷ [], refl)
 
-pub begins_1 : BeginsLimits (codes "occ 1" ∷ [])
-begins_1 =
-    (of_counts 1 1 1, fits_with 1 1 1 (one_within 64 (omega arith)) (one_within 1024 (omega arith)) (one_within 4096 (omega arith)), session_line 1 ∷ queue_line 1 ∷ keep_line 1 ∷ [], refl)
+pub begins_1 : (v : Version) → BeginsLimits (version_text v ∷ [])
+begins_1 v =
+    (of_counts v 1 1 1, fits_with v 1 1 1 (one_within 64 (omega arith)) (one_within 1024 (omega arith)) (one_within 4096 (omega arith)), session_line 1 ∷ queue_line 1 ∷ keep_line 1 ∷ [], refl)
 
 begins_0 : BeginsLimits []
-begins_0 = (begins_1.0, begins_1.1, limits_lines begins_1.0, refl)
+begins_0 = let one = begins_1 One in (one.0, one.1, limits_lines one.0, refl)
 
 -- ---- the lines that were taken
 
@@ -67,8 +71,8 @@ behind_more lines line a b c first mid last so_far taken number =
     let before = so_far.number in
     record { taken = taken_more lines line a b c so_far.taken taken; number = omega (arith, length-append lines (line ∷ [])) }
 
-abbrev pub TookVersion : Option (List ℕ) → Option (List ℕ) → ℕ → ℕ → Type 0
-TookVersion a b first last = Consumes a b (codes "occ 1" ++ 10 ∷ []) × Unit {0} × (last ≡ first + 1)
+abbrev pub TookVersion : Version → Option (List ℕ) → Option (List ℕ) → ℕ → ℕ → Type 0
+TookVersion v a b first last = Consumes a b (version_text v ++ 10 ∷ []) × Unit {0} × (last ≡ first + 1)
 
 abbrev pub Took : List ℕ → ℕ → ℕ → Option (List ℕ) → Option (List ℕ) → ℕ → ℕ → Type 0
 Took word most n a b first last = Consumes a b (count_text word n ++ 10 ∷ []) × Within 1 most n × (last ≡ first + 1)
@@ -76,20 +80,20 @@ Took word most n a b first last = Consumes a b (count_text word n ++ 10 ∷ []) 
 behind_0 : (a : Option (List ℕ)) (first : ℕ) → Behind [] a a first first
 behind_0 a first = record { taken = Consumes-nil a; number = omega arith }
 
-behind_1 : (a b : Option (List ℕ)) (n0 n1 : ℕ) → TookVersion a b n0 n1 → Behind (codes "occ 1" ∷ []) a b n0 n1
-behind_1 a b n0 n1 v = behind_more [] (codes "occ 1") a a b n0 n0 n1 (behind_0 a n0) v.0 v.2
+behind_1 : (v : Version) (a b : Option (List ℕ)) (n0 n1 : ℕ) → TookVersion v a b n0 n1 → Behind (version_text v ∷ []) a b n0 n1
+behind_1 v a b n0 n1 vt = behind_more [] (version_text v) a a b n0 n0 n1 (behind_0 a n0) vt.0 vt.2
 
-behind_2 : (a b c : Option (List ℕ)) (s n0 n1 n2 : ℕ) → TookVersion a b n0 n1 → Took (codes "sessions") 64 s b c n1 n2 → Behind (codes "occ 1" ∷ session_line s ∷ []) a c n0 n2
-behind_2 a b c s n0 n1 n2 v st = behind_more (codes "occ 1" ∷ []) (session_line s) a b c n0 n1 n2 (behind_1 a b n0 n1 v) st.0 st.2
+behind_2 : (v : Version) (a b c : Option (List ℕ)) (s n0 n1 n2 : ℕ) → TookVersion v a b n0 n1 → Took (codes "sessions") 64 s b c n1 n2 → Behind (version_text v ∷ session_line s ∷ []) a c n0 n2
+behind_2 v a b c s n0 n1 n2 vt st = behind_more (version_text v ∷ []) (session_line s) a b c n0 n1 n2 (behind_1 v a b n0 n1 vt) st.0 st.2
 
-behind_3 : (a b c d : Option (List ℕ)) (s q n0 n1 n2 n3 : ℕ) → TookVersion a b n0 n1 → Took (codes "sessions") 64 s b c n1 n2 → Took (codes "queue") 1024 q c d n2 n3 → Behind (codes "occ 1" ∷ session_line s ∷ queue_line q ∷ []) a d n0 n3
-behind_3 a b c d s q n0 n1 n2 n3 v st qt = behind_more (codes "occ 1" ∷ session_line s ∷ []) (queue_line q) a c d n0 n2 n3 (behind_2 a b c s n0 n1 n2 v st) qt.0 qt.2
+behind_3 : (v : Version) (a b c d : Option (List ℕ)) (s q n0 n1 n2 n3 : ℕ) → TookVersion v a b n0 n1 → Took (codes "sessions") 64 s b c n1 n2 → Took (codes "queue") 1024 q c d n2 n3 → Behind (version_text v ∷ session_line s ∷ queue_line q ∷ []) a d n0 n3
+behind_3 v a b c d s q n0 n1 n2 n3 vt st qt = behind_more (version_text v ∷ session_line s ∷ []) (queue_line q) a c d n0 n2 n3 (behind_2 v a b c s n0 n1 n2 vt st) qt.0 qt.2
 
-pub limits_taken : (a b c d e : Option (List ℕ)) (s q k n0 n1 n2 n3 n4 : ℕ) → TookVersion a b n0 n1 → Took (codes "sessions") 64 s b c n1 n2 → Took (codes "queue") 1024 q c d n2 n3 → Took (codes "keep") 4096 k d e n3 n4
-    → Consumes a e (lines_text (limits_lines (of_counts s q k))) × LimitsFit (of_counts s q k) × (n4 ≡ n0 + 4)
-limits_taken a b c d e s q k n0 n1 n2 n3 n4 v st qt kt =
-    let all = behind_more (codes "occ 1" ∷ session_line s ∷ queue_line q ∷ []) (keep_line k) a d e n0 n3 n4 (behind_3 a b c d s q n0 n1 n2 n3 v st qt) kt.0 kt.2 in
-    (all.taken, fits_with s q k st.1 qt.1 kt.1, all.number)
+pub limits_taken : (v : Version) (a b c d e : Option (List ℕ)) (s q k n0 n1 n2 n3 n4 : ℕ) → TookVersion v a b n0 n1 → Took (codes "sessions") 64 s b c n1 n2 → Took (codes "queue") 1024 q c d n2 n3 → Took (codes "keep") 4096 k d e n3 n4
+    → Consumes a e (lines_text (limits_lines (of_counts v s q k))) × LimitsFit (of_counts v s q k) × (n4 ≡ n0 + 4)
+limits_taken v a b c d e s q k n0 n1 n2 n3 n4 vt st qt kt =
+    let all = behind_more (version_text v ∷ session_line s ∷ queue_line q ∷ []) (keep_line k) a d e n0 n3 n4 (behind_3 v a b c d s q n0 n1 n2 n3 vt st qt) kt.0 kt.2 in
+    (all.taken, fits_with v s q k st.1 qt.1 kt.1, all.number)
 
 -- ---- the limits' ends
 
@@ -108,27 +112,27 @@ limits_stop IsKind fault (Err e) lines a b c first mid last is t so_far begins f
     )
 
 pub end_version : (fault : LineFault) (result : Result Limits LineFault) (a b : Option (List ℕ)) (n0 n1 : ℕ) → IsErrAnd result (λ e. e ≡ fault)
-    → NoneTaken (IsSpelled {Y = Unit {0}} (λ version. codes "occ 1") (λ version. Unit {0})) (read_fault fault) a b n0 → LimitsTaken result a b n0 n1
+    → NoneTaken (IsSpelled version_text (λ version. Unit {0})) (read_fault fault) a b n0 → LimitsTaken result a b n0 n1
 end_version fault result a b n0 n1 is t =
-    limits_stop (IsSpelled {Y = Unit {0}} (λ version. codes "occ 1") (λ version. Unit {0})) fault result [] a a b n0 n0 n1 is t (behind_0 a n0) begins_0 (omega arith)
-    (λ line g. (tt, tt, sym (ap first_line g.3)))
+    limits_stop (IsSpelled version_text (λ version. Unit {0})) fault result [] a a b n0 n0 n1 is t (behind_0 a n0) begins_0 (omega arith)
+    (λ line g. (g.0.version, tt, sym (ap first_line g.3)))
 
-pub end_sessions : (fault : LineFault) (result : Result Limits LineFault) (a b c : Option (List ℕ)) (n0 n1 n2 : ℕ) → IsErrAnd result (λ e. e ≡ fault) → TookVersion a b n0 n1
+pub end_sessions : (v : Version) (fault : LineFault) (result : Result Limits LineFault) (a b c : Option (List ℕ)) (n0 n1 n2 : ℕ) → IsErrAnd result (λ e. e ≡ fault) → TookVersion v a b n0 n1
     → NoneTaken (IsSpelled session_line (Within 1 64)) (read_fault fault) b c n1 → LimitsTaken result a c n0 n2
-end_sessions fault result a b c n0 n1 n2 is v t =
-    limits_stop (IsSpelled session_line (Within 1 64)) fault result (codes "occ 1" ∷ []) a b c n0 n1 n2 is t (behind_1 a b n0 n1 v) begins_1 (omega arith)
+end_sessions v fault result a b c n0 n1 n2 is vt t =
+    limits_stop (IsSpelled session_line (Within 1 64)) fault result (version_text v ∷ []) a b c n0 n1 n2 is t (behind_1 v a b n0 n1 vt) (begins_1 v) (omega arith)
     (λ line g. (g.0.sessions, g.1.sessions, sym (ap (λ (l : List (List ℕ)). first_line (later_lines l)) g.3)))
 
-pub end_queue : (fault : LineFault) (result : Result Limits LineFault) (a b c d : Option (List ℕ)) (s n0 n1 n2 n3 : ℕ) → IsErrAnd result (λ e. e ≡ fault) → TookVersion a b n0 n1 → Took (codes "sessions") 64 s b c n1 n2
+pub end_queue : (v : Version) (fault : LineFault) (result : Result Limits LineFault) (a b c d : Option (List ℕ)) (s n0 n1 n2 n3 : ℕ) → IsErrAnd result (λ e. e ≡ fault) → TookVersion v a b n0 n1 → Took (codes "sessions") 64 s b c n1 n2
     → NoneTaken (IsSpelled queue_line (Within 1 1024)) (read_fault fault) c d n2 → LimitsTaken result a d n0 n3
-end_queue fault result a b c d s n0 n1 n2 n3 is v st t =
-    limits_stop (IsSpelled queue_line (Within 1 1024)) fault result (codes "occ 1" ∷ session_line s ∷ []) a c d n0 n2 n3 is t (behind_2 a b c s n0 n1 n2 v st) (begins_2 s st.1) (omega arith)
+end_queue v fault result a b c d s n0 n1 n2 n3 is vt st t =
+    limits_stop (IsSpelled queue_line (Within 1 1024)) fault result (version_text v ∷ session_line s ∷ []) a c d n0 n2 n3 is t (behind_2 v a b c s n0 n1 n2 vt st) (begins_2 v s st.1) (omega arith)
     (λ line g. (g.0.queue, g.1.queue, sym (ap (λ (l : List (List ℕ)). first_line (later_lines (later_lines l))) g.3)))
 
-pub end_keep : (fault : LineFault) (result : Result Limits LineFault) (a b c d e : Option (List ℕ)) (s q n0 n1 n2 n3 n4 : ℕ) → IsErrAnd result (λ e. e ≡ fault) → TookVersion a b n0 n1 → Took (codes "sessions") 64 s b c n1 n2 → Took (codes "queue") 1024 q c d n2 n3
+pub end_keep : (v : Version) (fault : LineFault) (result : Result Limits LineFault) (a b c d e : Option (List ℕ)) (s q n0 n1 n2 n3 n4 : ℕ) → IsErrAnd result (λ e. e ≡ fault) → TookVersion v a b n0 n1 → Took (codes "sessions") 64 s b c n1 n2 → Took (codes "queue") 1024 q c d n2 n3
     → NoneTaken (IsSpelled keep_line (Within 1 4096)) (read_fault fault) d e n3 → LimitsTaken result a e n0 n4
-end_keep fault result a b c d e s q n0 n1 n2 n3 n4 is v st qt t =
-    limits_stop (IsSpelled keep_line (Within 1 4096)) fault result (codes "occ 1" ∷ session_line s ∷ queue_line q ∷ []) a d e n0 n3 n4 is t (behind_3 a b c d s q n0 n1 n2 n3 v st qt) (begins_3 s q st.1 qt.1) (omega arith)
+end_keep v fault result a b c d e s q n0 n1 n2 n3 n4 is vt st qt t =
+    limits_stop (IsSpelled keep_line (Within 1 4096)) fault result (version_text v ∷ session_line s ∷ queue_line q ∷ []) a d e n0 n3 n4 is t (behind_3 v a b c d s q n0 n1 n2 n3 vt st qt) (begins_3 v s q st.1 qt.1) (omega arith)
     (λ line g. (g.0.keep, g.1.keep, sym (ap (λ (l : List (List ℕ)). first_line (later_lines (later_lines (later_lines l)))) g.3)))
 
 -- ---- from limits to headers
@@ -140,11 +144,15 @@ example_fits : check_tables example ≡ None
 unfolding example
 example_fits = refl
 
-abbrev pub with_tables : Limits → Schema → Header
-with_tables limits tables = record { sessions = limits.sessions; queue = limits.queue; keep = limits.keep; tables = tables }
+example_kinds : (version : Version) → KindsFit version example
+unfolding example
+example_kinds version = All-cons (λ t. KindFits version t.key) _ [] tt (All-nil (λ t. KindFits version t.key))
 
-header_fits : (limits : Limits) (tables : Schema) → LimitsFit limits → check_tables tables ≡ None → HeaderFits (with_tables limits tables)
-header_fits limits tables lf tf = record { sessions = lf.sessions; queue = lf.queue; keep = lf.keep; tables = tf }
+abbrev pub with_tables : Limits → Schema → Header
+with_tables limits tables = record { version = limits.version; sessions = limits.sessions; queue = limits.queue; keep = limits.keep; tables = tables }
+
+header_fits : (limits : Limits) (tables : Schema) → LimitsFit limits → check_tables tables ≡ None → KindsFit limits.version tables → HeaderFits (with_tables limits tables)
+header_fits limits tables lf tf kf = record { sessions = lf.sessions; queue = lf.queue; keep = lf.keep; tables = tf; kinds = kf }
 
 abbrev pub table_lines : Schema → List (List ℕ)
 table_lines tables = map table_text tables ++ codes "steps" ∷ []
@@ -153,7 +161,7 @@ table_lines tables = map table_text tables ++ codes "steps" ∷ []
 header_begins : (lines : List (List ℕ)) → BeginsLimits lines → BeginsHeader lines
 header_begins lines g = (
   with_tables g.0 example,
-  header_fits g.0 example g.1 example_fits,
+  header_fits g.0 example g.1 example_fits (example_kinds g.0.version),
   g.2 ++ table_lines example,
   ap (λ (l : List (List ℕ)). l ++ table_lines example) g.3 ∙ append_assoc lines g.2 (table_lines example),
 )
@@ -173,10 +181,10 @@ limits_begin lines few g =
     let r = front_of (limits_lines (limits_of g.0)) (table_lines g.0.tables) lines g.2 (omega arith) g.3 in
     (limits_of g.0, record { sessions = g.1.sessions; queue = g.1.queue; keep = g.1.keep }, r.0, r.1)
 
-begins_tables : (limits : Limits) (tables : List Table) → LimitsFit limits → TablesSoFar tables → BeginsHeader (limits_lines limits ++ map table_text tables)
-begins_tables limits [] lf so_far = (with_tables limits example, header_fits limits example lf example_fits, table_lines example, refl)
+begins_tables : (limits : Limits) (tables : List Table) → LimitsFit limits → TablesSoFar limits.version tables → BeginsHeader (limits_lines limits ++ map table_text tables)
+begins_tables limits [] lf so_far = (with_tables limits example, header_fits limits example lf example_fits (example_kinds limits.version), table_lines example, refl)
 begins_tables limits (table ∷ tables) lf so_far =
-    (with_tables limits (table ∷ tables), header_fits limits (table ∷ tables) lf (check-from_IsSchema (table ∷ tables) (omega arith) so_far), codes "steps" ∷ [], refl)
+    (with_tables limits (table ∷ tables), header_fits limits (table ∷ tables) lf (check-from_IsSchema limits.version (table ∷ tables) (omega arith) so_far) so_far.kinds, codes "steps" ∷ [], refl)
 
 -- ---- the header's ends
 
@@ -203,10 +211,11 @@ both_lines first later a b c p q =
     subst (Consumes a c) (sym (flat_map-append (λ (l : List ℕ). l ++ 10 ∷ []) first later)) (Consumes-trans a b c (lines_text first) (lines_text later) p q)
 
 -- a line behind the tables of a header goes on
-behind_tables : (limits : Limits) (tables : List Table) (line : List ℕ) → BeginsHeader ((limits_lines limits ++ map table_text tables) ++ line ∷ []) → GoesOn tables line
+behind_tables : (limits : Limits) (tables : List Table) (line : List ℕ) → BeginsHeader ((limits_lines limits ++ map table_text tables) ++ line ∷ []) → GoesOn limits.version tables line
 behind_tables limits tables line g = (
   g.0.tables,
   g.1.tables,
+  subst (λ (v : Version). KindsFit v g.0.tables) (same_version g.0.version limits.version (ap first_line g.3)) g.1.kinds,
   g.2,
   ap (λ (l : List (List ℕ)). later_lines (later_lines (later_lines (later_lines l)))) g.3 ∙ append_assoc (map table_text tables) (line ∷ []) g.2,
 )
@@ -215,7 +224,7 @@ abbrev LimitsBehind : Limits → Option (List ℕ) → Option (List ℕ) → ℕ
 LimitsBehind limits a b first last = Consumes a b (lines_text (limits_lines limits)) × LimitsFit limits × (last ≡ first + 4)
 
 pub end_tables : {V : Type 0} (shown : V → Header) (fault : ReadFault) (result : Result V ReadFault) (limits : Limits) (a b c : Option (List ℕ)) (first mid last : ℕ) → IsErrAnd result (λ e. e ≡ fault) → first ≡ 0 → LimitsBehind limits a b first mid
-    → TablesTaken (Err fault) b c mid last → HeaderTaken shown result a c last
+    → TablesTaken limits.version (Err fault) b c mid last → HeaderTaken shown result a c last
 end_tables shown fault (Ok x) limits a b c first mid last is start f t = absurd is
 end_tables shown fault (Err e) limits a b c first mid last is start f t =
     let lines = limits_lines limits ++ map table_text t.0 in
@@ -229,14 +238,14 @@ end_tables shown fault (Err e) limits a b c first mid last is start f t =
       begins_tables limits t.0 f.1 t.3,
       omega (arith, t.3.few),
       subst (λ (f : ReadFault). NoneTaken Next f t.1 c (length lines)) (sym is) (subst (NoneTaken Next fault t.1 c) count
-          (NoneTaken-narrower (GoesOn t.0) Next fault t.1 c (mid + length t.0) (λ line g. behind_tables limits t.0 line g) t.4)),
+          (NoneTaken-narrower (GoesOn limits.version t.0) Next fault t.1 c (mid + length t.0) (λ line g. behind_tables limits t.0 line g) t.4)),
     )
 
 pub whole : (limits : Limits) (tables : Schema) (a b c : Option (List ℕ)) (first mid last : ℕ) → first ≡ 0 → LimitsBehind limits a b first mid
-    → Consumes b c (lines_text (table_lines tables)) × (check_tables tables ≡ None) × (last ≡ mid + length tables + 1)
+    → Consumes b c (lines_text (table_lines tables)) × (check_tables tables ≡ None) × KindsFit limits.version tables × (last ≡ mid + length tables + 1)
     → Consumes a c (lines_text (header_text (with_tables limits tables))) × HeaderFits (with_tables limits tables) × (last ≡ length (header_text (with_tables limits tables)))
 whole limits tables a b c first mid last start f t =
     let four = f.2 in
-    let end = t.2 in
+    let end = t.3 in
     let count : length (table_lines tables) ≡ length tables + 1 = omega (arith, length-append (map table_text tables) (codes "steps" ∷ []), length-map tables table_text) in
-    (both_lines (limits_lines limits) (table_lines tables) a b c f.0 t.0, header_fits limits tables f.1 t.1, omega arith)
+    (both_lines (limits_lines limits) (table_lines tables) a b c f.0 t.0, header_fits limits tables f.1 t.1 t.2, omega arith)

@@ -1,13 +1,17 @@
 -- Reading texts with escapes, keys, cells and rows.
-use Rattle.std.specs.Prelude.{◌≡◌, ◌+◌, ◌-◌, ◌*◌, ◌^◌, ◌==◌, ◌&&◌, ℕ, List, [], ◌∷◌, Option, Some, None, Result, Ok, Err, nat_le, if◌then◌else◌, option_map, option_and_then, drop}
+use Rattle.std.specs.Prelude.{◌≡◌, ◌+◌, ◌-◌, ◌*◌, ◌^◌, ◌==◌, ◌&&◌, ℕ, Bool, false, List, [], ◌∷◌, Option, Some, None, Result, Ok, Err, nat_le, if◌then◌else◌, option_map, option_and_then, drop, codes}
 use Rattle.std.specs.List.{slice_split}
-use Rattle.std.specs.Str.{is_utf8}
+use Rattle.std.specs.Str.{is_utf8, bytes_eq}
 use Rattle.occ_types.specs.Key.{Key}
 use Rattle.occ_types.specs.Key as keys
+use Rattle.occ_types.specs.KeyPart.{KeyPart}
+use Rattle.occ_types.specs.KeyPart as parts
 use Rattle.occ_types.specs.Row.{Cell, Row}
 use Rattle.occ_types.specs.Row as rows
 use Rattle.occ_text.specs.declared.tokens.Unread.{Unread}
 use Rattle.occ_text.specs.declared.tokens.Unread.TheVariants.{Malformed, Memory}
+use Rattle.occ_text.specs.declared.versions.Version.{Version}
+use Rattle.occ_text.specs.declared.versions.Version.TheVariants.{One, Two}
 use Rattle.occ_text.specs.Spelling.{is_plain}
 use Rattle.occ_text.specs.Reading.{begins_with, number_of, int_of}
 
@@ -59,9 +63,43 @@ if_text bytes = if is_utf8 bytes then Some bytes else None
 unfoldable pub text_of : List ℕ → Option (List ℕ)
 text_of token = if begins_with token 39 then option_and_then if_text (unescaped (drop 1 token)) else None
 
--- a key
-unfoldable pub read_key : List ℕ → Option Key
-read_key token = if begins_with token 39 then option_map keys.Text (text_of token) else option_map keys.Num (number_of (2 ^ 64 - 1) token)
+-- one part of a key of two parts
+unfoldable pub read_part : List ℕ → Option KeyPart
+read_part token = if begins_with token 39 then option_map parts.Text (text_of token) else option_map parts.Num (number_of (2 ^ 64 - 1) token)
+
+-- the key that is this part alone
+abbrev pub key_of_part : KeyPart → Key
+key_of_part (parts.Num n) = keys.Num n
+key_of_part (parts.Text bytes) = keys.Text bytes
+
+-- a key that is no pair
+unfoldable pub simple_key : List ℕ → Option Key
+simple_key token = option_map key_of_part (read_part token)
+
+-- a key of two parts
+unfoldable pub pair_key : List ℕ → List ℕ → Option Key
+pair_key first second = option_and_then (λ a. option_map (λ b. keys.Pair a b) (read_part second)) (read_part first)
+
+-- the key of what stands between the signs: one part, or two
+unfoldable pub key_of_parts : List (List ℕ) → Option Key
+key_of_parts [] = None
+key_of_parts (first ∷ []) = simple_key first
+key_of_parts (first ∷ second ∷ []) = pair_key first second
+key_of_parts (first ∷ second ∷ other ∷ more) = None
+
+-- a key: in version 1 no pair is read
+unfoldable pub read_key : Version → List ℕ → Option Key
+read_key One token = simple_key token
+read_key Two token = key_of_parts (slice_split (λ byte. byte == 43) token)
+
+-- an end that a range lacks, which version 1 can't say
+abbrev pub is_missing : Version → List ℕ → Bool
+is_missing One token = false
+is_missing Two token = bytes_eq token (codes "*")
+
+-- an end of a range
+unfoldable pub read_end : Version → List ℕ → Option (Option Key)
+read_end version token = if is_missing version token then Some None else option_map Some (read_key version token)
 
 -- a cell
 unfoldable pub read_cell : List ℕ → Option Cell

@@ -5,7 +5,10 @@ use Rattle.occ_types.specs.declared.kind.Kind.{Kind}
 use Rattle.occ_types.specs.declared.kind.Kind.TheVariants as cells
 use Rattle.occ_types.specs.declared.kind.KeyKind.{KeyKind}
 use Rattle.occ_types.specs.declared.kind.KeyKind.TheVariants as keys
+use Rattle.occ_types.specs.declared.kind.PartKind.TheVariants as parts
 use Rattle.occ_types.specs.Schema.{Table}
+use Rattle.occ_text.specs.declared.versions.Version.{Version}
+use Rattle.occ_text.specs.declared.versions.Version.TheVariants.{One, Two}
 use Rattle.occ_text.specs.Reading.{◌>>=◌, tokens_of, number_of, name_of}
 
 -- a number that isn't too small
@@ -27,8 +30,24 @@ count_of_tokens wanted least most (word ∷ number ∷ other ∷ more) = None
 unfoldable pub count_of_line : List ℕ → ℕ → ℕ → List ℕ → Option ℕ
 count_of_line wanted least most line = option_and_then (count_of_tokens wanted least most) (tokens_of line)
 
-unfoldable pub key_kind_of : List ℕ → Option KeyKind
-key_kind_of word = if bytes_eq word (codes "num") then Some keys.Num else (if bytes_eq word (codes "text") then Some keys.Text else None)
+-- the version that a text's first line says
+unfoldable pub version_of : List ℕ → Option Version
+version_of line = if bytes_eq line (codes "occ 1") then Some One else (if bytes_eq line (codes "occ 2") then Some Two else None)
+
+-- the kind of keys of two parts
+unfoldable pub pair_kind_of : List ℕ → Option KeyKind
+pair_kind_of word = if bytes_eq word (codes "num+num") then Some (keys.Pair parts.Num parts.Num)
+    else (if bytes_eq word (codes "num+text") then Some (keys.Pair parts.Num parts.Text)
+    else (if bytes_eq word (codes "text+num") then Some (keys.Pair parts.Text parts.Num)
+    else (if bytes_eq word (codes "text+text") then Some (keys.Pair parts.Text parts.Text) else None)))
+
+-- the kind of keys of two parts, which version 1 has none of
+unfoldable pub newer_kind_of : Version → List ℕ → Option KeyKind
+newer_kind_of One word = None
+newer_kind_of Two word = pair_kind_of word
+
+unfoldable pub key_kind_of : Version → List ℕ → Option KeyKind
+key_kind_of version word = if bytes_eq word (codes "num") then Some keys.Num else (if bytes_eq word (codes "text") then Some keys.Text else newer_kind_of version word)
 
 unfoldable pub kind_of : List ℕ → Option Kind
 kind_of word = if bytes_eq word (codes "int") then Some cells.Int else (if bytes_eq word (codes "text") then Some cells.Text else None)
@@ -46,20 +65,20 @@ unfoldable pub columns_of : List (List ℕ) → Option (List Kind)
 columns_of words = option_and_then if_few (kinds_of words)
 
 -- table NAME KEYKIND KIND ..
-unfoldable pub table_of_parts : List ℕ → List ℕ → List ℕ → List (List ℕ) → Option Table
-table_of_parts word called keyed words = if bytes_eq word (codes "table") then (do
+unfoldable pub table_of_parts : Version → List ℕ → List ℕ → List ℕ → List (List ℕ) → Option Table
+table_of_parts version word called keyed words = if bytes_eq word (codes "table") then (do
   name ← name_of called
-  key ← key_kind_of keyed
+  key ← key_kind_of version keyed
   columns ← columns_of words
   Some (record { name = name; key = key; columns = columns })) else None
 
 -- the table of some tokens
-unfoldable pub table_of_tokens : List (List ℕ) → Option Table
-table_of_tokens [] = None
-table_of_tokens (word ∷ []) = None
-table_of_tokens (word ∷ called ∷ []) = None
-table_of_tokens (word ∷ called ∷ keyed ∷ words) = table_of_parts word called keyed words
+unfoldable pub table_of_tokens : Version → List (List ℕ) → Option Table
+table_of_tokens version [] = None
+table_of_tokens version (word ∷ []) = None
+table_of_tokens version (word ∷ called ∷ []) = None
+table_of_tokens version (word ∷ called ∷ keyed ∷ words) = table_of_parts version word called keyed words
 
 -- the table of a line
-unfoldable pub table_of_line : List ℕ → Option Table
-table_of_line line = option_and_then table_of_tokens (tokens_of line)
+unfoldable pub table_of_line : Version → List ℕ → Option Table
+table_of_line version line = option_and_then (table_of_tokens version) (tokens_of line)

@@ -6,42 +6,44 @@ use Rattle.occ_types.specs.Schema.{Table, Schema, are_tables, check_tables}
 use Rattle.occ_types.specs.Fits.{has_name}
 use Rattle.occ_text.specs.declared.headers.Header as code_header
 use Rattle.occ_text.specs.declared.headers.Limits.{Limits}
+use Rattle.occ_text.specs.declared.versions.Version.{Version}
 use Rattle.occ_text.specs.declared.faults.LineFault.{LineFault}
 use Rattle.occ_text.specs.declared.faults.ReadFault.{ReadFault}
 use Rattle.occ_text.specs.Faults.{read_fault}
 use Rattle.occ_text.specs.Line.{NoneTaken, lines_text}
-use Rattle.occ_text.specs.Headers.{Header, HeaderFits, LimitsFit, header_text, limits_lines, table_text}
+use Rattle.occ_text.specs.Headers.{Header, HeaderFits, KindsFit, LimitsFit, header_text, limits_lines, table_text}
 use Rattle.occ_text.specs.HeaderReading.{table_of_line}
 
--- tables that further tables may make a schema of
-pub record TablesSoFar (tables : List Table) : Type 0 where
+-- tables that further tables may make a schema of, in a text of a version
+pub record TablesSoFar (version : Version) (tables : List Table) : Type 0 where
   pub few : length tables ≤ 32
   pub each : are_tables tables ≡ true
+  pub kinds : KindsFit version tables
 
 -- a table that may stand behind others: it isn't one too many, and its name is its own
 abbrev pub if_free : List Table → Table → Option Table
 if_free tables table = if nat_lt (length tables) 32 && not (list_any (has_name table.name) tables) then Some table else None
 
 -- the table of a line behind others
-unfoldable pub table_behind : List Table → List ℕ → Option Table
-table_behind tables line = option_and_then (if_free tables) (table_of_line line)
+unfoldable pub table_behind : Version → List Table → List ℕ → Option Table
+table_behind version tables line = option_and_then (if_free tables) (table_of_line version line)
 
 -- a line that may stand behind those of tables: `steps` or a table's, so that a schema's lines begin so
-abbrev pub GoesOn : List Table → List ℕ → Type 0
-GoesOn tables line = (all : Schema) × (check_tables all ≡ None) × (more : List (List ℕ)) × (map table_text all ++ codes "steps" ∷ [] ≡ map table_text tables ++ line ∷ more)
+abbrev pub GoesOn : Version → List Table → List ℕ → Type 0
+GoesOn version tables line = (all : Schema) × (check_tables all ≡ None) × KindsFit version all × (more : List (List ℕ)) × (map table_text all ++ codes "steps" ∷ [] ≡ map table_text tables ++ line ∷ more)
 
 -- the line behind those of tables is taken
-abbrev pub NextTaken : {X : Type 0} (view : X → Table) → Result (Option X) ReadFault → List Table → Option (List ℕ) → Option (List ℕ) → ℕ → ℕ → Type 0
-NextTaken view (Ok None) tables before after first last = Consumes before after (codes "steps" ++ 10 ∷ []) × (last ≡ first + 1)
-NextTaken view (Ok (Some x)) tables before after first last = Consumes before after (table_text (view x) ++ 10 ∷ []) × TablesSoFar (tables ++ view x ∷ []) × (last ≡ first + 1)
-NextTaken view (Err fault) tables before after first last = NoneTaken (GoesOn tables) fault before after first
+abbrev pub NextTaken : {X : Type 0} (version : Version) (view : X → Table) → Result (Option X) ReadFault → List Table → Option (List ℕ) → Option (List ℕ) → ℕ → ℕ → Type 0
+NextTaken version view (Ok None) tables before after first last = Consumes before after (codes "steps" ++ 10 ∷ []) × (last ≡ first + 1)
+NextTaken version view (Ok (Some x)) tables before after first last = Consumes before after (table_text (view x) ++ 10 ∷ []) × TablesSoFar version (tables ++ view x ∷ []) × (last ≡ first + 1)
+NextTaken version view (Err fault) tables before after first last = NoneTaken (GoesOn version tables) fault before after first
 
 -- all tables are taken, and `steps`; or some tables, and behind them no line that goes on
-abbrev pub TablesTaken : Result Schema ReadFault → Option (List ℕ) → Option (List ℕ) → ℕ → ℕ → Type 0
-TablesTaken (Ok tables) before after first last =
-    Consumes before after (lines_text (map table_text tables ++ codes "steps" ∷ [])) × (check_tables tables ≡ None) × (last ≡ first + length tables + 1)
-TablesTaken (Err fault) before after first last =
-    (tables : List Table) × (rest : Option (List ℕ)) × Consumes before rest (lines_text (map table_text tables)) × TablesSoFar tables × NoneTaken (GoesOn tables) fault rest after (first + length tables)
+abbrev pub TablesTaken : Version → Result Schema ReadFault → Option (List ℕ) → Option (List ℕ) → ℕ → ℕ → Type 0
+TablesTaken version (Ok tables) before after first last =
+    Consumes before after (lines_text (map table_text tables ++ codes "steps" ∷ [])) × (check_tables tables ≡ None) × KindsFit version tables × (last ≡ first + length tables + 1)
+TablesTaken version (Err fault) before after first last =
+    (tables : List Table) × (rest : Option (List ℕ)) × Consumes before rest (lines_text (map table_text tables)) × TablesSoFar version tables × NoneTaken (GoesOn version tables) fault rest after (first + length tables)
 
 -- the first lines of some limits begin so
 abbrev pub BeginsLimits : List (List ℕ) → Type 0
@@ -68,4 +70,4 @@ HeaderTaken view (Err fault) before after last =
 module _ {Z : Type 0} where
   -- the plain header
   abbrev pub header_of : code_header.Header Z → Header
-  header_of header = record { sessions = header.limits.sessions; queue = header.limits.queue; keep = header.limits.keep; tables = header.schema }
+  header_of header = record { version = header.limits.version; sessions = header.limits.sessions; queue = header.limits.queue; keep = header.limits.keep; tables = header.schema }

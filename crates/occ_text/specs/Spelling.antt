@@ -1,13 +1,17 @@
 -- The one spelling of each thing that a line may have (our own choice). These functions are the grammar.
-use Rattle.std.specs.Prelude.{◌<◌, ◌≤◌, ◌+◌, ◌/◌, ◌%◌, ◌^◌, ◌==◌, ◌||◌, ℕ, zero, suc, Bool, nat_lt, List, [], ◌∷◌, if◌then◌else◌, map, length, All, IsUtf8, FitsSigned}
+use Rattle.std.specs.Prelude.{◌≡◌, ◌<◌, ◌≤◌, ◌+◌, ◌/◌, ◌%◌, ◌^◌, ◌==◌, ◌||◌, ℕ, zero, suc, Bool, nat_lt, List, [], ◌∷◌, Option, Some, None, if◌then◌else◌, map, length, All, IsUtf8, FitsSigned, codes}
 use Rattle.std.specs.Int.{w64}
 use Rattle.std.specs.List.{flat_map, join_with_byte, AllPass}
 use Rattle.std.specs.Char.{is_ascii_alphanumeric, is_ascii_graphic, is_ascii_lowercase}
 use Rattle.std.specs.Fmt.{decimal, signed_decimal}
 use Rattle.occ_types.specs.Key.{Key}
 use Rattle.occ_types.specs.Key as keys
+use Rattle.occ_types.specs.KeyPart.{KeyPart}
+use Rattle.occ_types.specs.KeyPart as parts
 use Rattle.occ_types.specs.Row.{Cell, Row}
 use Rattle.occ_types.specs.Row as rows
+use Rattle.occ_text.specs.declared.versions.Version.{Version}
+use Rattle.occ_text.specs.declared.versions.Version.TheVariants.{Two}
 
 -- a line is its tokens, with one space between two of them
 abbrev pub line_text : List (List ℕ) → List ℕ
@@ -47,9 +51,21 @@ escaped bytes = flat_map escaped_byte bytes
 abbrev pub text_text : List ℕ → List ℕ
 text_text bytes = 39 ∷ escaped bytes
 
+-- one part of a key of two parts
+abbrev pub part_text : KeyPart → List ℕ
+part_text (parts.Num n) = decimal n
+part_text (parts.Text bytes) = text_text bytes
+
+-- a pair is its parts, with one `+` between them
 abbrev pub key_text : Key → List ℕ
 key_text (keys.Num n) = decimal n
 key_text (keys.Text bytes) = text_text bytes
+key_text (keys.Pair a b) = join_with_byte 43 (part_text a ∷ part_text b ∷ [])
+
+-- an end of a range, or `*` where there is none
+abbrev pub end_text : Option Key → List ℕ
+end_text None = codes "*"
+end_text (Some key) = key_text key
 
 abbrev pub cell_text : Cell → List ℕ
 cell_text (rows.Int z) = signed_decimal z
@@ -69,9 +85,20 @@ pub record IsText (bytes : List ℕ) : Type 0 where
   pub utf8 : IsUtf8 bytes
   pub small : All (λ byte. byte < 256) bytes
 
-abbrev pub KeyFits : Key → Type 0
-KeyFits (keys.Num n) = n < 2 ^ 64
-KeyFits (keys.Text bytes) = IsText bytes
+abbrev pub PartFits : KeyPart → Type 0
+PartFits (parts.Num n) = n < 2 ^ 64
+PartFits (parts.Text bytes) = IsText bytes
+
+-- a pair stands in texts of version 2 alone
+abbrev pub KeyFits : Version → Key → Type 0
+KeyFits version (keys.Num n) = n < 2 ^ 64
+KeyFits version (keys.Text bytes) = IsText bytes
+KeyFits version (keys.Pair a b) = (version ≡ Two) × PartFits a × PartFits b
+
+-- a range lacks an end in texts of version 2 alone
+abbrev pub EndFits : Version → Option Key → Type 0
+EndFits version None = version ≡ Two
+EndFits version (Some key) = KeyFits version key
 
 abbrev pub CellFits : Cell → Type 0
 CellFits (rows.Int z) = FitsSigned w64 z

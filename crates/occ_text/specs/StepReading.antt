@@ -5,7 +5,8 @@ use Rattle.occ_text.specs.declared.steps.Act.{Act}
 use Rattle.occ_text.specs.declared.steps.Act.TheVariants.{Begin, Abandon, Submit, Close, Enter, Serial, Decide, Write, Finish, BackUp}
 pub use Rattle.occ_text.specs.Reading.{◌>>=◌}
 use Rattle.occ_text.specs.Reading.{tokens_of, number_of, name_of}
-use Rattle.occ_text.specs.Escapes.{read_key, read_row}
+use Rattle.occ_text.specs.declared.versions.Version.{Version}
+use Rattle.occ_text.specs.Escapes.{read_key, read_end, read_row}
 use Rattle.occ_text.specs.OperationReading.{operations_of}
 use Rattle.occ_text.specs.Steps.{Step, Does, Get, Scan, Put, Delete, Forge, RawRead, Alone, Show, Checkpoint, act_word}
 
@@ -42,19 +43,19 @@ act_step word session = do
   Some (Does act s)
 
 -- get S NAME KEY
-unfoldable pub get_step : List ℕ → List ℕ → List ℕ → Option Step
-get_step session table key = do
+unfoldable pub get_step : Version → List ℕ → List ℕ → List ℕ → Option Step
+get_step version session table key = do
   s ← number_of 255 session
   t ← name_of table
-  k ← read_key key
+  k ← read_key version key
   Some (Get s t k)
 
 -- delete S NAME KEY
-unfoldable pub delete_step : List ℕ → List ℕ → List ℕ → Option Step
-delete_step session table key = do
+unfoldable pub delete_step : Version → List ℕ → List ℕ → List ℕ → Option Step
+delete_step version session table key = do
   s ← number_of 255 session
   t ← name_of table
-  k ← read_key key
+  k ← read_key version key
   Some (Delete s t k)
 
 -- the number of a transaction
@@ -74,75 +75,75 @@ forge_step session number start = do
   Some (Forge s n from)
 
 -- rawread S N START NAME KEY
-unfoldable pub raw_step : List ℕ → List ℕ → List ℕ → List ℕ → List ℕ → Option Step
-raw_step session number start table key = do
+unfoldable pub raw_step : Version → List ℕ → List ℕ → List ℕ → List ℕ → List ℕ → Option Step
+raw_step version session number start table key = do
   s ← number_of 255 session
   n ← transaction_of number
   from ← start_of start
   t ← name_of table
-  k ← read_key key
+  k ← read_key version key
   Some (RawRead s n from t k)
 
 -- scan S NAME KEY KEY
-unfoldable pub scan_step : List ℕ → List ℕ → List ℕ → List ℕ → Option Step
-scan_step session table lower upper = do
+unfoldable pub scan_step : Version → List ℕ → List ℕ → List ℕ → List ℕ → Option Step
+scan_step version session table lower upper = do
   s ← number_of 255 session
   t ← name_of table
-  l ← read_key lower
-  u ← read_key upper
+  l ← read_end version lower
+  u ← read_end version upper
   Some (Scan s t l u)
 
 -- put S NAME KEY ROW
-unfoldable pub put_step : List ℕ → List ℕ → List ℕ → List ℕ → Option Step
-put_step session table key row = do
+unfoldable pub put_step : Version → List ℕ → List ℕ → List ℕ → List ℕ → Option Step
+put_step version session table key row = do
   s ← number_of 255 session
   t ← name_of table
-  k ← read_key key
+  k ← read_key version key
   r ← read_row row
   Some (Put s t k r)
 
 -- WORD S NAME KEY, or WORD S N START
-unfoldable pub short_step : List ℕ → List ℕ → List ℕ → List ℕ → Option Step
-short_step word session second third = if bytes_eq word (codes "get") then get_step session second third
-    else (if bytes_eq word (codes "delete") then delete_step session second third
+unfoldable pub short_step : Version → List ℕ → List ℕ → List ℕ → List ℕ → Option Step
+short_step version word session second third = if bytes_eq word (codes "get") then get_step version session second third
+    else (if bytes_eq word (codes "delete") then delete_step version session second third
     else (if bytes_eq word (codes "forge") then forge_step session second third else None))
 
 -- WORD S NAME KEY LAST
-unfoldable pub last_step : List ℕ → List ℕ → List ℕ → List ℕ → List ℕ → Option Step
-last_step word session table key last = if bytes_eq word (codes "scan") then scan_step session table key last
-    else (if bytes_eq word (codes "put") then put_step session table key last else None)
+unfoldable pub last_step : Version → List ℕ → List ℕ → List ℕ → List ℕ → List ℕ → Option Step
+last_step version word session table key last = if bytes_eq word (codes "scan") then scan_step version session table key last
+    else (if bytes_eq word (codes "put") then put_step version session table key last else None)
 
 -- WORD S N START NAME KEY
-unfoldable pub long_step : List ℕ → List ℕ → List ℕ → List ℕ → List ℕ → List ℕ → Option Step
-long_step word session number start table key = if bytes_eq word (codes "rawread") then raw_step session number start table key else None
+unfoldable pub long_step : Version → List ℕ → List ℕ → List ℕ → List ℕ → List ℕ → List ℕ → Option Step
+long_step version word session number start table key = if bytes_eq word (codes "rawread") then raw_step version session number start table key else None
 
 -- the step of a word and some tokens, by their number
-unfoldable pub counted_step : List ℕ → List (List ℕ) → Option Step
-counted_step word [] = bare_step word
-counted_step word (s ∷ []) = act_step word s
-counted_step word (s ∷ t ∷ []) = None
-counted_step word (s ∷ t ∷ k ∷ []) = short_step word s t k
-counted_step word (s ∷ t ∷ k ∷ l ∷ []) = last_step word s t k l
-counted_step word (s ∷ n ∷ from ∷ t ∷ k ∷ []) = long_step word s n from t k
-counted_step word (s ∷ t ∷ k ∷ l ∷ m ∷ more ∷ others) = None
+unfoldable pub counted_step : Version → List ℕ → List (List ℕ) → Option Step
+counted_step version word [] = bare_step word
+counted_step version word (s ∷ []) = act_step word s
+counted_step version word (s ∷ t ∷ []) = None
+counted_step version word (s ∷ t ∷ k ∷ []) = short_step version word s t k
+counted_step version word (s ∷ t ∷ k ∷ l ∷ []) = last_step version word s t k l
+counted_step version word (s ∷ n ∷ from ∷ t ∷ k ∷ []) = long_step version word s n from t k
+counted_step version word (s ∷ t ∷ k ∷ l ∷ m ∷ more ∷ others) = None
 
 -- alone S OP ..
-unfoldable pub alone_step : List ℕ → List (List ℕ) → Option Step
-alone_step session tokens = do
+unfoldable pub alone_step : Version → List ℕ → List (List ℕ) → Option Step
+alone_step version session tokens = do
   s ← number_of 255 session
-  o ← operations_of tokens
+  o ← operations_of version tokens
   Some (Alone s o)
 
 -- the run alone of some tokens
-unfoldable pub alone_of_tokens : List (List ℕ) → Option Step
-alone_of_tokens [] = None
-alone_of_tokens (s ∷ tokens) = alone_step s tokens
+unfoldable pub alone_of_tokens : Version → List (List ℕ) → Option Step
+alone_of_tokens version [] = None
+alone_of_tokens version (s ∷ tokens) = alone_step version s tokens
 
 -- the step of some tokens
-unfoldable pub step_of_tokens : List (List ℕ) → Option Step
-step_of_tokens [] = None
-step_of_tokens (word ∷ tokens) = if bytes_eq word (codes "alone") then alone_of_tokens tokens else counted_step word tokens
+unfoldable pub step_of_tokens : Version → List (List ℕ) → Option Step
+step_of_tokens version [] = None
+step_of_tokens version (word ∷ tokens) = if bytes_eq word (codes "alone") then alone_of_tokens version tokens else counted_step version word tokens
 
 -- the step of a line
-unfoldable pub step_of_line : List ℕ → Option Step
-step_of_line line = option_and_then step_of_tokens (tokens_of line)
+unfoldable pub step_of_line : Version → List ℕ → Option Step
+step_of_line version line = option_and_then (step_of_tokens version) (tokens_of line)

@@ -10,25 +10,29 @@ ghost use Rattle.occ_text.specs.Escapes.{Gives};
 ghost use Rattle.occ_text.specs.Faults.{widened};
 ghost use Rattle.occ_text.specs.declared.faults.LineFault.TheVariants as line_faults;
 ghost use Rattle.occ_text.specs.declared.faults.ReadFault.TheVariants as read_faults;
-ghost use Rattle.occ_text.specs.HeaderReading.{count_of_parts, count_of_tokens, count_of_line, key_kind_of, kind_of, columns_of, table_of_parts, table_of_tokens, table_of_line};
+ghost use Rattle.occ_text.specs.HeaderReading.{version_of, count_of_parts, count_of_tokens, count_of_line, table_of_parts, table_of_tokens, table_of_line};
 ghost use Rattle.occ_text.specs.HeaderTaking.{TablesSoFar, table_behind, NextTaken, TablesTaken, LimitsTaken, HeaderTaken, header_of};
-ghost use Rattle.occ_text.specs.Headers.{count_text, table_text, Within, TableFits};
+ghost use Rattle.occ_text.specs.Headers.{version_text, count_text, table_text, Within, TableHasLine};
 ghost use Rattle.occ_text.specs.Line.{Taken, HasFailed};
 ghost use Rattle.occ_text.specs.Reading.{Reads};
 ghost use Rattle.occ_text.specs.Spelling.{IsToken};
 
 use crate::faults::{LineFault, ReadFault, read_at_line};
 use crate::input::Input;
+use crate::kinds::{columns, key_kind};
 use crate::parts::Parts;
 use crate::tokens::{Unread, is_word, name, number, tokens};
-use occ_types::limits::{MAX_COLUMNS, MAX_KEEP, MAX_QUEUE, MAX_SESSIONS, MAX_TABLES};
-use occ_types::{KeyKind, Kind, Schema, TableDef, Text};
+use crate::versions::Version;
+use occ_types::limits::{MAX_KEEP, MAX_QUEUE, MAX_SESSIONS, MAX_TABLES};
+use occ_types::{Schema, TableDef, Text};
 use std::alloc::Allocator;
 use std::io::Read;
 
-/// How a store is opened beside its tables.
+/// What the first lines of a text say: its version, and how the store is opened beside its tables.
 #[derive(Clone, Copy, Debug, PartialEq, Eq)]
 pub struct Limits {
+    /// The version of the text.
+    pub version: Version,
     /// How many sessions there are, 1 to 64.
     pub sessions: usize,
     /// How many items may wait in the queue of a session, 1 to 1,024.
@@ -40,17 +44,31 @@ pub struct Limits {
 /// How a store is opened: what a schedule begins with, and a book.
 #[derive(Drop)]
 pub struct Header<A: Allocator> {
-    /// The sessions, the queues and the window.
+    /// The version, the sessions, the queues and the window.
     pub limits: Limits,
     /// The tables.
     pub schema: Schema<A>,
 }
 
-/// Whether the line is `occ 1`.
-pub fn is_version(line: &[u8]) -> bool
-    ensures { IsTrue result ↔ line.now ≡ codes "occ 1" }
+#[tactic(auto, unfolding(crate::specs::HeaderReading::version_of))]
+fn version_value(line: &[u8]) -> Option<Version>
+    ensures { result ≡ version_of line.now }
 {
-    is_word(line, "occ 1")
+    if is_word(line, "occ 1") {
+        Some(Version::One)
+    } else if is_word(line, "occ 2") {
+        Some(Version::Two)
+    } else {
+        None
+    }
+}
+
+/// The version that a line says, `occ 1` or `occ 2`. None where the line is another one.
+pub fn version(line: &[u8]) -> Option<Version>
+    ensures exact { result ≡ version_of line.now }
+    ensures grammar { Reads version_text (λ version. Unit {0}) line.now result }
+{
+    version_value(line)
 }
 
 /// Whether the line is `steps`.
@@ -95,64 +113,22 @@ pub fn count(line: &[u8], word: &str, least: u64, most: u64) -> Option<u64>
     count_of_tokens(word, least, most, parts)
 }
 
-// The kind of keys that a word names.
-#[tactic(auto, unfolding(crate::specs::HeaderReading::key_kind_of))]
-fn key_kind(word: &[u8]) -> Option<KeyKind>
-    ensures { result ≡ key_kind_of word.now }
-{
-    if is_word(word, "num") {
-        Some(KeyKind::Num)
-    } else if is_word(word, "text") {
-        Some(KeyKind::Text)
-    } else {
-        None
-    }
-}
-
-// The kind of cells that a word names.
-#[tactic(auto, unfolding(crate::specs::HeaderReading::kind_of))]
-fn kind(word: &[u8]) -> Option<Kind>
-    ensures { result ≡ kind_of word.now }
-{
-    if is_word(word, "int") {
-        Some(Kind::Int)
-    } else if is_word(word, "text") {
-        Some(Kind::Text)
-    } else {
-        None
-    }
-}
-
-/// The kinds of the columns, 1 to 8.
-#[tactic(auto, unfolding(crate::specs::HeaderReading::columns_of))]
-fn columns<A: Allocator>(alloc: A, mut words: Parts<'_>) -> Result<Vec<Kind, A>, Unread>
-    ensures { Gives (λ kinds. kinds.items) result (columns_of words.entry) }
-{
-    let mut kinds = Vec::new(alloc);
-    while let Some(word) = words.take_part() {
-        kinds.push(kind(word).ok_or(Unread::Malformed)?)?;
-    }
-    if kinds.is_empty() || kinds.len() > MAX_COLUMNS {
-        return Err(Unread::Malformed);
-    }
-    Ok(kinds)
-}
-
 #[tactic(auto, unfolding(crate::specs::HeaderReading::table_of_parts))]
 fn table_of_parts<A: Allocator + Copy>(
     alloc: A,
+    version: Version,
     word: &[u8],
     called: &[u8],
     keyed: &[u8],
     words: Parts<'_>,
 ) -> Result<TableDef<A>, Unread>
-    ensures { Gives table_of result (table_of_parts word.now called.now keyed.now words.entry) }
+    ensures { Gives table_of result (table_of_parts version word.now called.now keyed.now words.entry) }
 {
     if !is_word(word, "table") {
         return Err(Unread::Malformed);
     }
     let name = name(called).ok_or(Unread::Malformed)?;
-    let key = key_kind(keyed).ok_or(Unread::Malformed)?;
+    let key = key_kind(version, keyed).ok_or(Unread::Malformed)?;
     let columns = columns(alloc, words)?;
     let name = Text::new(alloc, name)?;
     Ok(TableDef { name, key, columns })
@@ -160,9 +136,10 @@ fn table_of_parts<A: Allocator + Copy>(
 
 fn table_of_tokens<A: Allocator + Copy>(
     alloc: A,
+    version: Version,
     mut parts: Parts<'_>,
 ) -> Result<TableDef<A>, Unread>
-    ensures { Gives table_of result (table_of_tokens parts.entry) }
+    ensures { Gives table_of result (table_of_tokens version parts.entry) }
 {
     let Some(word) = parts.take_part() else {
         return Err(Unread::Malformed);
@@ -173,42 +150,47 @@ fn table_of_tokens<A: Allocator + Copy>(
     let Some(keyed) = parts.take_part() else {
         return Err(Unread::Malformed);
     };
-    table_of_parts(alloc, word, called, keyed, parts)
+    table_of_parts(alloc, version, word, called, keyed, parts)
 }
 
 #[tactic(auto, unfolding(crate::specs::HeaderReading::table_of_line))]
-fn table_value<A: Allocator + Copy>(alloc: A, line: &[u8]) -> Result<TableDef<A>, Unread>
-    ensures { Gives table_of result (table_of_line line.now) }
+fn table_value<A: Allocator + Copy>(
+    alloc: A,
+    version: Version,
+    line: &[u8],
+) -> Result<TableDef<A>, Unread>
+    ensures { Gives table_of result (table_of_line version line.now) }
 {
     let parts = tokens(line).ok_or(Unread::Malformed)?;
-    table_of_tokens(alloc, parts)
+    table_of_tokens(alloc, version, parts)
 }
 
-/// A table, from its line `table NAME KEYKIND KIND ..`. `Malformed` where the line is none; `Memory` where it was refused.
-pub fn table<A: Allocator + Copy>(alloc: A, line: &[u8]) -> Result<TableDef<A>, Unread>
-    ensures exact { Gives table_of result (table_of_line line.now) }
-    ensures found { IfOk result (λ table. (line.now ≡ table_text (table_of table)) × TableFits (table_of table)) }
-    ensures again { (table : plain.Table) → TableFits table → line.now ≡ table_text table → Gives table_of result (Some table) }
+/// A table of a text of this version, from its line `table NAME KEYKIND KIND ..`. `Malformed` where the line is none; `Memory`
+/// where it was refused.
+pub fn table<A: Allocator + Copy>(
+    alloc: A,
+    version: Version,
+    line: &[u8],
+) -> Result<TableDef<A>, Unread>
+    ensures exact { Gives table_of result (table_of_line version line.now) }
+    ensures found { IfOk result (λ table. (line.now ≡ table_text (table_of table)) × TableHasLine version (table_of table)) }
+    ensures again { (table : plain.Table) → TableHasLine version table → line.now ≡ table_text table → Gives table_of result (Some table) }
 {
-    table_value(alloc, line)
+    table_value(alloc, version, line)
 }
 
-// Takes the line `occ 1`.
+// Takes the line `occ 1` or `occ 2`, and answers the version.
 fn take_version<R: Read, A: Allocator>(
     input: &mut Input<A>,
     reader: &mut R,
-) -> Result<(), LineFault>
-    ensures gives { Taken (λ taken. taken) (λ version. codes "occ 1") (λ version. Unit {0}) (widened result)
+) -> Result<Version, LineFault>
+    ensures gives { Taken (λ version. version) version_text (λ version. Unit {0}) (widened result)
         (prepend_known input.old.unread (R.remaining reader.old))
         (prepend_known input.new.unread (R.remaining reader.new)) input.old.number input.new.number }
     ensures cause { IfErr result (λ fault. fault ≡ line_faults.Read → HasFailed input.new) }
 {
     input.take_line(reader)?;
-    if is_version(input.line()) {
-        Ok(())
-    } else {
-        Err(LineFault::Malformed(input.number()))
-    }
+    version(input.line()).ok_or(LineFault::Malformed(input.number()))
 }
 
 /// Takes a line of a word and a number from `least` to `most`, and answers the number.
@@ -231,7 +213,7 @@ pub fn take_count<R: Read, A: Allocator>(
     count(input.line(), word, least, most).ok_or(LineFault::Malformed(input.number()))
 }
 
-/// Takes the first four lines of a schedule or a book: `occ 1`, `sessions N`, `queue N` and `keep N`.
+/// Takes the first four lines of a schedule or a book: `occ 1` or `occ 2`, `sessions N`, `queue N` and `keep N`.
 ///
 /// `Malformed` at the first line that can't stand where it stands, also where the text ends before; `Read` where the reader
 /// fails; `TooManyLines` where a line has no number. After any of them the input is of no more use.
@@ -243,11 +225,12 @@ pub fn take_limits<R: Read, A: Allocator>(
         (prepend_known input.new.unread (R.remaining reader.new)) input.old.number input.new.number }
     ensures cause { IfErr result (λ fault. fault ≡ line_faults.Read → HasFailed input.new) }
 {
-    take_version(input, reader)?;
+    let version = take_version(input, reader)?;
     let sessions = take_count(input, reader, "sessions", 1, MAX_SESSIONS as u64)?;
     let queue = take_count(input, reader, "queue", 1, MAX_QUEUE as u64)?;
     let keep = take_count(input, reader, "keep", 1, MAX_KEEP as u64)?;
     Ok(Limits {
+        version,
         sessions: sessions as usize,
         queue: queue as usize,
         keep: keep as usize,
@@ -261,16 +244,17 @@ fn has_table<A: Allocator>(tables: &[TableDef<A>], name: &str) -> bool
     tables.iter().any(|table| table.name.as_str() == name)
 }
 
-/// The table of a line behind those of others. `Malformed` also where it is the 33rd, or its name is that of another.
+/// The table of a line behind those of others, in a text of this version. `Malformed` also where it is the 33rd, or its name is that of another.
 #[tactic(auto, unfolding(crate::specs::HeaderTaking::table_behind))]
 pub fn table_behind<A: Allocator + Copy>(
     alloc: A,
+    version: Version,
     tables: &[TableDef<A>],
     line: &[u8],
 ) -> Result<TableDef<A>, Unread>
-    ensures { Gives table_of result (table_behind (tables_of tables.now) line.now) }
+    ensures { Gives table_of result (table_behind version (tables_of tables.now) line.now) }
 {
-    let table = table(alloc, line)?;
+    let table = table(alloc, version, line)?;
     if tables.len() >= MAX_TABLES {
         return Err(Unread::Malformed);
     }
@@ -283,12 +267,13 @@ pub fn table_behind<A: Allocator + Copy>(
 /// Takes the line behind those of some tables: one more table, or nothing at `steps`.
 fn take_next<R: Read, A: Allocator + Copy>(
     alloc: A,
+    version: Version,
     input: &mut Input<A>,
     reader: &mut R,
     tables: &[TableDef<A>],
 ) -> Result<Option<TableDef<A>>, ReadFault>
-    requires { TablesSoFar (tables_of tables.now) }
-    ensures gives { NextTaken table_of result (tables_of tables.now)
+    requires { TablesSoFar version (tables_of tables.now) }
+    ensures gives { NextTaken version table_of result (tables_of tables.now)
         (prepend_known input.old.unread (R.remaining reader.old))
         (prepend_known input.new.unread (R.remaining reader.new)) input.old.number input.new.number }
     ensures cause { IfErr result (λ fault. fault ≡ read_faults.Read → HasFailed input.new) }
@@ -297,23 +282,27 @@ fn take_next<R: Read, A: Allocator + Copy>(
     if is_steps(input.line()) {
         return Ok(None);
     }
-    let table = read_at_line(table_behind(alloc, tables, input.line()), input.number())?;
+    let table = read_at_line(
+        table_behind(alloc, version, tables, input.line()),
+        input.number(),
+    )?;
     Ok(Some(table))
 }
 
 /// Takes the lines of the tables, and `steps`.
 fn take_tables<R: Read, A: Allocator + Copy>(
     alloc: A,
+    version: Version,
     input: &mut Input<A>,
     reader: &mut R,
 ) -> Result<Schema<A>, ReadFault>
-    ensures gives { TablesTaken result (prepend_known input.old.unread (R.remaining reader.old))
+    ensures gives { TablesTaken version result (prepend_known input.old.unread (R.remaining reader.old))
         (prepend_known input.new.unread (R.remaining reader.new)) input.old.number input.new.number }
     ensures cause { IfErr result (λ fault. fault ≡ read_faults.Read → HasFailed input.new) }
 {
     let mut tables = Vec::new(alloc);
     loop {
-        match take_next(alloc, input, reader, tables.as_slice())? {
+        match take_next(alloc, version, input, reader, tables.as_slice())? {
             Some(table) => tables.push(table)?,
             None => break,
         }
@@ -339,6 +328,6 @@ pub fn read_header<R: Read, A: Allocator + Copy>(
     ensures cause { IfErr result (λ fault. fault ≡ read_faults.Read → HasFailed input.new) }
 {
     let limits = take_limits(input, reader)?;
-    let schema = take_tables(alloc, input, reader)?;
+    let schema = take_tables(alloc, limits.version, input, reader)?;
     Ok(Header { limits, schema })
 }

@@ -4,6 +4,7 @@
 pub mod faults;
 pub mod headers;
 pub mod input;
+mod kinds;
 pub mod operation_reading;
 pub mod operations;
 pub mod output;
@@ -15,4 +16,5 @@ pub mod steps;
 pub mod texts;
 pub mod tokens;
 pub mod trouble;
+pub mod versions;
 pub mod writers;

@@ -14,14 +14,14 @@ pub enum Operation<'a, A: Allocator> {
         /// The key.
         key: Key<A>,
     },
-    /// `scan:NAME:KEY:KEY`: reads a range.
+    /// `scan:NAME:KEY:KEY`: reads a range, where `*` stands for a missing end.
     Scan {
         /// The table's name.
         table: &'a str,
-        /// The lower end, which lies within.
-        lower: Key<A>,
-        /// The upper end, which lies outside.
-        upper: Key<A>,
+        /// The lower end, which lies within. None: every key below the upper end.
+        lower: Option<Key<A>>,
+        /// The upper end, which lies outside. None: every key from the lower end on.
+        upper: Option<Key<A>>,
     },
     /// `put:NAME:KEY:ROW`: writes a row.
     Put {

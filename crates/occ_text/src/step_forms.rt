@@ -11,21 +11,23 @@ use crate::step_words::{self, transaction};
 use crate::steps::Step;
 use crate::texts;
 use crate::tokens::{Unread, name};
+use crate::versions::Version;
 use std::alloc::Allocator;
 
 /// `get S NAME KEY`.
 #[tactic(auto, unfolding(crate::specs::StepReading::get_step))]
-pub(crate) fn get_step<'a, A: Allocator>(
+pub(crate) fn get_step<'a, A: Allocator + Copy>(
     alloc: A,
+    version: Version,
     session: &[u8],
     table: &'a [u8],
     key: &[u8],
 ) -> Result<Step<'a, A>, Unread>
-    ensures { Gives step_of result (get_step session.now table.now key.now) }
+    ensures { Gives step_of result (get_step version session.now table.now key.now) }
 {
     let session = step_words::session(session).ok_or(Unread::Malformed)?;
     let table = name(table).ok_or(Unread::Malformed)?;
-    let key = texts::key(alloc, key)?;
+    let key = texts::key(alloc, version, key)?;
     Ok(Step::Get {
         session,
         table,
@@ -35,17 +37,18 @@ pub(crate) fn get_step<'a, A: Allocator>(
 
 /// `delete S NAME KEY`.
 #[tactic(auto, unfolding(crate::specs::StepReading::delete_step))]
-pub(crate) fn delete_step<'a, A: Allocator>(
+pub(crate) fn delete_step<'a, A: Allocator + Copy>(
     alloc: A,
+    version: Version,
     session: &[u8],
     table: &'a [u8],
     key: &[u8],
 ) -> Result<Step<'a, A>, Unread>
-    ensures { Gives step_of result (delete_step session.now table.now key.now) }
+    ensures { Gives step_of result (delete_step version session.now table.now key.now) }
 {
     let session = step_words::session(session).ok_or(Unread::Malformed)?;
     let table = name(table).ok_or(Unread::Malformed)?;
-    let key = texts::key(alloc, key)?;
+    let key = texts::key(alloc, version, key)?;
     Ok(Step::Delete {
         session,
         table,
@@ -76,17 +79,18 @@ pub(crate) fn forge_step<'a, A: Allocator>(
 #[tactic(auto, unfolding(crate::specs::StepReading::scan_step))]
 pub(crate) fn scan_step<'a, A: Allocator + Copy>(
     alloc: A,
+    version: Version,
     session: &[u8],
     table: &'a [u8],
     lower: &[u8],
     upper: &[u8],
 ) -> Result<Step<'a, A>, Unread>
-    ensures { Gives step_of result (scan_step session.now table.now lower.now upper.now) }
+    ensures { Gives step_of result (scan_step version session.now table.now lower.now upper.now) }
 {
     let session = step_words::session(session).ok_or(Unread::Malformed)?;
     let table = name(table).ok_or(Unread::Malformed)?;
-    let lower = texts::key(alloc, lower)?;
-    let upper = texts::key(alloc, upper)?;
+    let lower = texts::end(alloc, version, lower)?;
+    let upper = texts::end(alloc, version, upper)?;
     Ok(Step::Scan {
         session,
         table,
@@ -99,16 +103,17 @@ pub(crate) fn scan_step<'a, A: Allocator + Copy>(
 #[tactic(auto, unfolding(crate::specs::StepReading::put_step))]
 pub(crate) fn put_step<'a, A: Allocator + Copy>(
     alloc: A,
+    version: Version,
     session: &[u8],
     table: &'a [u8],
     key: &[u8],
     row: &[u8],
 ) -> Result<Step<'a, A>, Unread>
-    ensures { Gives step_of result (put_step session.now table.now key.now row.now) }
+    ensures { Gives step_of result (put_step version session.now table.now key.now row.now) }
 {
     let session = step_words::session(session).ok_or(Unread::Malformed)?;
     let table = name(table).ok_or(Unread::Malformed)?;
-    let key = texts::key(alloc, key)?;
+    let key = texts::key(alloc, version, key)?;
     let row = texts::row(alloc, row)?;
     Ok(Step::Put {
         session,
@@ -120,21 +125,22 @@ pub(crate) fn put_step<'a, A: Allocator + Copy>(
 
 /// `rawread S N START NAME KEY`.
 #[tactic(auto, unfolding(crate::specs::StepReading::raw_step))]
-pub(crate) fn raw_step<'a, A: Allocator>(
+pub(crate) fn raw_step<'a, A: Allocator + Copy>(
     alloc: A,
+    version: Version,
     session: &[u8],
     number: &[u8],
     start: &[u8],
     table: &'a [u8],
     key: &[u8],
 ) -> Result<Step<'a, A>, Unread>
-    ensures { Gives step_of result (raw_step session.now number.now start.now table.now key.now) }
+    ensures { Gives step_of result (raw_step version session.now number.now start.now table.now key.now) }
 {
     let session = step_words::session(session).ok_or(Unread::Malformed)?;
     let number = transaction(number).ok_or(Unread::Malformed)?;
     let start = step_words::start(start).ok_or(Unread::Malformed)?;
     let table = name(table).ok_or(Unread::Malformed)?;
-    let key = texts::key(alloc, key)?;
+    let key = texts::key(alloc, version, key)?;
     Ok(Step::RawRead {
         session,
         number,
@@ -148,13 +154,14 @@ pub(crate) fn raw_step<'a, A: Allocator>(
 #[tactic(auto, unfolding(crate::specs::StepReading::alone_step))]
 pub(crate) fn alone_step<'a, A: Allocator + Copy>(
     alloc: A,
+    version: Version,
     session: &[u8],
     tokens: Parts<'a>,
 ) -> Result<Step<'a, A>, Unread>
-    ensures { Gives step_of result (alone_step session.now tokens.entry) }
+    ensures { Gives step_of result (alone_step version session.now tokens.entry) }
 {
     let session = step_words::session(session).ok_or(Unread::Malformed)?;
-    let operations = operations(alloc, tokens)?;
+    let operations = operations(alloc, version, tokens)?;
     Ok(Step::Alone {
         session,
         operations,

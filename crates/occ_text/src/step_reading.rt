@@ -13,6 +13,7 @@ use crate::step_forms::{
 use crate::step_words::{self, act_of};
 use crate::steps::Step;
 use crate::tokens::{Unread, is_word, tokens};
+use crate::versions::Version;
 use std::alloc::Allocator;
 
 /// `show` or `checkpoint`.
@@ -41,19 +42,20 @@ fn act_step<'a, A: Allocator>(word: &[u8], session: &[u8]) -> Option<Step<'a, A>
 
 /// `WORD S NAME KEY`, or `WORD S N START`.
 #[tactic(auto, unfolding(crate::specs::StepReading::short_step))]
-fn short_step<'a, A: Allocator>(
+fn short_step<'a, A: Allocator + Copy>(
     alloc: A,
+    version: Version,
     word: &[u8],
     session: &[u8],
     second: &'a [u8],
     third: &[u8],
 ) -> Result<Step<'a, A>, Unread>
-    ensures { Gives step_of result (short_step word.now session.now second.now third.now) }
+    ensures { Gives step_of result (short_step version word.now session.now second.now third.now) }
 {
     if is_word(word, "get") {
-        get_step(alloc, session, second, third)
+        get_step(alloc, version, session, second, third)
     } else if is_word(word, "delete") {
-        delete_step(alloc, session, second, third)
+        delete_step(alloc, version, session, second, third)
     } else if is_word(word, "forge") {
         forge_step(session, second, third)
     } else {
@@ -65,18 +67,19 @@ fn short_step<'a, A: Allocator>(
 #[tactic(auto, unfolding(crate::specs::StepReading::last_step))]
 fn last_step<'a, A: Allocator + Copy>(
     alloc: A,
+    version: Version,
     word: &[u8],
     session: &[u8],
     table: &'a [u8],
     key: &[u8],
     last: &[u8],
 ) -> Result<Step<'a, A>, Unread>
-    ensures { Gives step_of result (last_step word.now session.now table.now key.now last.now) }
+    ensures { Gives step_of result (last_step version word.now session.now table.now key.now last.now) }
 {
     if is_word(word, "scan") {
-        scan_step(alloc, session, table, key, last)
+        scan_step(alloc, version, session, table, key, last)
     } else if is_word(word, "put") {
-        put_step(alloc, session, table, key, last)
+        put_step(alloc, version, session, table, key, last)
     } else {
         Err(Unread::Malformed)
     }
@@ -84,8 +87,9 @@ fn last_step<'a, A: Allocator + Copy>(
 
 /// `WORD S N START NAME KEY`.
 #[tactic(auto, unfolding(crate::specs::StepReading::long_step))]
-fn long_step<'a, A: Allocator>(
+fn long_step<'a, A: Allocator + Copy>(
     alloc: A,
+    version: Version,
     word: &[u8],
     session: &[u8],
     number: &[u8],
@@ -93,10 +97,10 @@ fn long_step<'a, A: Allocator>(
     table: &'a [u8],
     key: &[u8],
 ) -> Result<Step<'a, A>, Unread>
-    ensures { Gives step_of result (long_step word.now session.now number.now start.now table.now key.now) }
+    ensures { Gives step_of result (long_step version word.now session.now number.now start.now table.now key.now) }
 {
     if is_word(word, "rawread") {
-        raw_step(alloc, session, number, start, table, key)
+        raw_step(alloc, version, session, number, start, table, key)
     } else {
         Err(Unread::Malformed)
     }
@@ -105,10 +109,11 @@ fn long_step<'a, A: Allocator>(
 /// The step of a word and some tokens, by their number.
 fn counted_step<'a, A: Allocator + Copy>(
     alloc: A,
+    version: Version,
     word: &[u8],
     mut parts: Parts<'a>,
 ) -> Result<Step<'a, A>, Unread>
-    ensures { Gives step_of result (counted_step word.now parts.entry) }
+    ensures { Gives step_of result (counted_step version word.now parts.entry) }
 {
     let Some(session) = parts.take_part() else {
         return bare_step(word).ok_or(Unread::Malformed);
@@ -120,13 +125,13 @@ fn counted_step<'a, A: Allocator + Copy>(
         return Err(Unread::Malformed);
     };
     let Some(fourth) = parts.take_part() else {
-        return short_step(alloc, word, session, second, third);
+        return short_step(alloc, version, word, session, second, third);
     };
     let Some(fifth) = parts.take_part() else {
-        return last_step(alloc, word, session, second, third, fourth);
+        return last_step(alloc, version, word, session, second, third, fourth);
     };
     match parts.take_part() {
-        None => long_step(alloc, word, session, second, third, fourth, fifth),
+        None => long_step(alloc, version, word, session, second, third, fourth, fifth),
         Some(_) => Err(Unread::Malformed),
     }
 }
@@ -134,46 +139,56 @@ fn counted_step<'a, A: Allocator + Copy>(
 /// The run alone of some tokens.
 fn alone_of_parts<'a, A: Allocator + Copy>(
     alloc: A,
+    version: Version,
     mut parts: Parts<'a>,
 ) -> Result<Step<'a, A>, Unread>
-    ensures { Gives step_of result (alone_of_tokens parts.entry) }
+    ensures { Gives step_of result (alone_of_tokens version parts.entry) }
 {
     let Some(session) = parts.take_part() else {
         return Err(Unread::Malformed);
     };
-    alone_step(alloc, session, parts)
+    alone_step(alloc, version, session, parts)
 }
 
 /// The step of some tokens. A run alone has any number of them; every other step goes by their number.
 fn step_of_parts<'a, A: Allocator + Copy>(
     alloc: A,
+    version: Version,
     mut parts: Parts<'a>,
 ) -> Result<Step<'a, A>, Unread>
-    ensures { Gives step_of result (step_of_tokens parts.entry) }
+    ensures { Gives step_of result (step_of_tokens version parts.entry) }
 {
     let Some(word) = parts.take_part() else {
         return Err(Unread::Malformed);
     };
     if is_word(word, "alone") {
-        return alone_of_parts(alloc, parts);
+        return alone_of_parts(alloc, version, parts);
     }
-    counted_step(alloc, word, parts)
+    counted_step(alloc, version, word, parts)
 }
 
 #[tactic(auto, unfolding(crate::specs::StepReading::step_of_line))]
-fn step_value<'a, A: Allocator + Copy>(alloc: A, line: &'a [u8]) -> Result<Step<'a, A>, Unread>
-    ensures { Gives step_of result (step_of_line line.now) }
+fn step_value<'a, A: Allocator + Copy>(
+    alloc: A,
+    version: Version,
+    line: &'a [u8],
+) -> Result<Step<'a, A>, Unread>
+    ensures { Gives step_of result (step_of_line version line.now) }
 {
     let parts = tokens(line).ok_or(Unread::Malformed)?;
-    step_of_parts(alloc, parts)
+    step_of_parts(alloc, version, parts)
 }
 
-/// A step, from its line without the line feed. `Malformed` where the line is none; `Memory` where it was refused for a key,
+/// A step of a text of this version, from its line without the line feed. `Malformed` where the line is none; `Memory` where it was refused for a key,
 /// a row or a list of operations.
-pub fn read_step<'a, A: Allocator + Copy>(alloc: A, line: &'a [u8]) -> Result<Step<'a, A>, Unread>
-    ensures exact { Gives step_of result (step_of_line line.now) }
-    ensures found { IfOk result (λ step. (line.now ≡ step_text (step_of step)) × StepFits (step_of step)) }
-    ensures again { (step : plain.Step) → StepFits step → line.now ≡ step_text step → Gives step_of result (Some step) }
+pub fn read_step<'a, A: Allocator + Copy>(
+    alloc: A,
+    version: Version,
+    line: &'a [u8],
+) -> Result<Step<'a, A>, Unread>
+    ensures exact { Gives step_of result (step_of_line version line.now) }
+    ensures found { IfOk result (λ step. (line.now ≡ step_text (step_of step)) × StepFits version (step_of step)) }
+    ensures again { (step : plain.Step) → StepFits version step → line.now ≡ step_text step → Gives step_of result (Some step) }
 {
-    step_value(alloc, line)
+    step_value(alloc, version, line)
 }

@@ -49,16 +49,16 @@ pub enum Step<'a, A: Allocator> {
         /// The key.
         key: Key<A>,
     },
-    /// `scan S NAME KEY KEY`: reads a range.
+    /// `scan S NAME KEY KEY`: reads a range, where `*` stands for a missing end.
     Scan {
         /// The session, up to 255.
         session: usize,
         /// The table's name.
         table: &'a str,
-        /// The lower end, which lies within.
-        lower: Key<A>,
-        /// The upper end, which lies outside.
-        upper: Key<A>,
+        /// The lower end, which lies within. None: every key below the upper end.
+        lower: Option<Key<A>>,
+        /// The upper end, which lies outside. None: every key from the lower end on.
+        upper: Option<Key<A>>,
     },
     /// `put S NAME KEY ROW`: writes a row to the private copy.
     Put {

@@ -1,15 +1,16 @@
 //! Readers of texts, keys, cells and rows. What they read has one spelling.
 
-ghost use Rattle.std.specs.Prelude.{◌≡◌, Some, ℕ, List, option_map, IfOk};
+ghost use Rattle.std.specs.Prelude.{◌≡◌, Some, ℕ, List, Option, option_map, IfOk};
 ghost use Rattle.occ_types.specs.Key as keys;
 ghost use Rattle.occ_types.specs.Row as rows;
-ghost use Rattle.occ_types.specs.Seen.{key_of, cell_of};
-ghost use Rattle.occ_text.specs.Spelling.{is_plain, text_text, key_text, row_text, IsText, KeyFits, RowFits};
-ghost use Rattle.occ_text.specs.Escapes.{Gives, hex_value, escape_of, front_of, unescaped, text_of, read_key, read_cell, read_row};
+ghost use Rattle.occ_types.specs.Seen.{part_of, key_of, end_of, cell_of};
+ghost use Rattle.occ_text.specs.Spelling.{is_plain, text_text, key_text, end_text, row_text, IsText, KeyFits, EndFits, RowFits};
+ghost use Rattle.occ_text.specs.Escapes.{Gives, hex_value, escape_of, front_of, unescaped, text_of, read_part, simple_key, pair_key, key_of_parts, read_key, is_missing, read_end, read_cell, read_row};
 
 use crate::parts::Parts;
-use crate::tokens::{Unread, begins_with, int, number, without_first};
-use occ_types::{Cell, Key, Row, Text};
+use crate::tokens::{Unread, begins_with, int, is_word, number, without_first};
+use crate::versions::Version;
+use occ_types::{Cell, Key, KeyPart, Pair, Row, Text};
 use std::alloc::Allocator;
 
 /// Whether the byte stands for itself in a text.
@@ -83,14 +84,93 @@ fn text_value<A: Allocator>(alloc: A, token: &[u8]) -> Result<Text<A>, Unread>
     }
 }
 
-#[tactic(auto, unfolding(crate::specs::Escapes::read_key))]
-fn key_value<A: Allocator>(alloc: A, token: &[u8]) -> Result<Key<A>, Unread>
-    ensures { Gives key_of result (read_key token.now) }
+/// A number or a text.
+#[tactic(auto, unfolding(crate::specs::Escapes::read_part))]
+fn part_value<A: Allocator>(alloc: A, token: &[u8]) -> Result<KeyPart<A>, Unread>
+    ensures { Gives part_of result (read_part token.now) }
 {
     if begins_with(token, b'\'') {
-        return Ok(Key::Text(text_value(alloc, token)?));
+        return Ok(KeyPart::Text(text_value(alloc, token)?));
     }
-    Ok(Key::Num(number(token, u64::MAX).ok_or(Unread::Malformed)?))
+    Ok(KeyPart::Num(number(token, u64::MAX).ok_or(Unread::Malformed)?))
+}
+
+/// A key that is no pair.
+#[tactic(auto, unfolding(crate::specs::Escapes::simple_key))]
+fn simple_key<A: Allocator>(alloc: A, token: &[u8]) -> Result<Key<A>, Unread>
+    ensures { Gives key_of result (simple_key token.now) }
+{
+    match part_value(alloc, token)? {
+        KeyPart::Num(number) => Ok(Key::Num(number)),
+        KeyPart::Text(text) => Ok(Key::Text(text)),
+    }
+}
+
+/// A key of two parts.
+#[tactic(auto, unfolding(crate::specs::Escapes::pair_key))]
+fn pair_key<A: Allocator + Copy>(alloc: A, first: &[u8], second: &[u8]) -> Result<Key<A>, Unread>
+    ensures { Gives key_of result (pair_key first.now second.now) }
+{
+    let first = part_value(alloc, first)?;
+    let second = part_value(alloc, second)?;
+    match Pair::new(alloc, first, second) {
+        Ok(pair) => Ok(Key::Pair(pair)),
+        Err(_) => Err(Unread::Memory),
+    }
+}
+
+/// The key of what stands between the signs, by the number of its parts.
+fn key_of_parts<A: Allocator + Copy>(alloc: A, mut parts: Parts<'_>) -> Result<Key<A>, Unread>
+    ensures { Gives key_of result (key_of_parts parts.entry) }
+{
+    let Some(first) = parts.take_part() else {
+        return Err(Unread::Malformed);
+    };
+    let Some(second) = parts.take_part() else {
+        return simple_key(alloc, first);
+    };
+    match parts.take_part() {
+        None => pair_key(alloc, first, second),
+        Some(_) => Err(Unread::Malformed),
+    }
+}
+
+#[tactic(auto, unfolding(crate::specs::Escapes::read_key))]
+fn key_value<A: Allocator + Copy>(
+    alloc: A,
+    version: Version,
+    token: &[u8],
+) -> Result<Key<A>, Unread>
+    ensures { Gives key_of result (read_key version token.now) }
+{
+    match version {
+        Version::One => simple_key(alloc, token),
+        Version::Two => key_of_parts(alloc, Parts::new(token, b'+')),
+    }
+}
+
+/// Whether the token stands for an end that a range lacks, which version 1 can't say.
+fn is_missing(version: Version, token: &[u8]) -> bool
+    ensures { result ≡ is_missing version token.now }
+{
+    match version {
+        Version::One => false,
+        Version::Two => is_word(token, "*"),
+    }
+}
+
+#[tactic(auto, unfolding(crate::specs::Escapes::read_end))]
+fn end_value<A: Allocator + Copy>(
+    alloc: A,
+    version: Version,
+    token: &[u8],
+) -> Result<Option<Key<A>>, Unread>
+    ensures { Gives end_of result (read_end version token.now) }
+{
+    if is_missing(version, token) {
+        return Ok(None);
+    }
+    Ok(Some(key_value(alloc, version, token)?))
 }
 
 #[tactic(auto, unfolding(crate::specs::Escapes::read_cell))]
@@ -125,13 +205,28 @@ pub fn text<A: Allocator>(alloc: A, token: &[u8]) -> Result<Text<A>, Unread>
     text_value(alloc, token)
 }
 
-/// A key: a number of 64 bits or a text. `Malformed` where the token is none.
-pub fn key<A: Allocator>(alloc: A, token: &[u8]) -> Result<Key<A>, Unread>
-    ensures exact { Gives key_of result (read_key token.now) }
-    ensures found { IfOk result (λ key. (token.now ≡ key_text (key_of key)) × KeyFits (key_of key)) }
-    ensures again { (key : keys.Key) → KeyFits key → token.now ≡ key_text key → Gives key_of result (Some key) }
+/// A key of a text of this version: a number of 64 bits or a text; in version 2 also two of these with `+` between them.
+/// `Malformed` where the token is none.
+pub fn key<A: Allocator + Copy>(alloc: A, version: Version, token: &[u8]) -> Result<Key<A>, Unread>
+    ensures exact { Gives key_of result (read_key version token.now) }
+    ensures found { IfOk result (λ key. (token.now ≡ key_text (key_of key)) × KeyFits version (key_of key)) }
+    ensures again { (key : keys.Key) → KeyFits version key → token.now ≡ key_text key → Gives key_of result (Some key) }
 {
-    key_value(alloc, token)
+    key_value(alloc, version, token)
+}
+
+/// An end of a range in a text of this version: a key; in version 2 also `*`, where the range lacks this end. `Malformed` where
+/// the token is none.
+pub fn end<A: Allocator + Copy>(
+    alloc: A,
+    version: Version,
+    token: &[u8],
+) -> Result<Option<Key<A>>, Unread>
+    ensures exact { Gives end_of result (read_end version token.now) }
+    ensures found { IfOk result (λ end. (token.now ≡ end_text (end_of end)) × EndFits version (end_of end)) }
+    ensures again { (end : Option keys.Key) → EndFits version end → token.now ≡ end_text end → Gives end_of result (Some end) }
+{
+    end_value(alloc, version, token)
 }
 
 /// A row: one cell, or several with a comma between two of them; a cell is a whole number of 64 bits or a text. `Malformed`

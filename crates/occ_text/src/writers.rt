@@ -2,11 +2,12 @@
 
 ghost use Rattle.std.specs.Prelude.{◌≡◌, ◌<◌, ◌++◌, OnOk, string_bytes};
 ghost use Rattle.std.specs.Fmt.{decimal, signed_decimal};
-ghost use Rattle.occ_types.specs.Seen.{key_of, cell_of, row_of};
-ghost use Rattle.occ_text.specs.Spelling.{hex_digit, escaped_byte, escaped, text_text, key_text, cell_text, row_text, comma};
+ghost use Rattle.occ_types.specs.Key as keys;
+ghost use Rattle.occ_types.specs.Seen.{part_of, key_of, end_of, cell_of, row_of};
+ghost use Rattle.occ_text.specs.Spelling.{hex_digit, escaped_byte, escaped, text_text, part_text, key_text, end_text, cell_text, row_text, comma};
 
 use crate::texts::is_plain;
-use occ_types::{Cell, Key, Row, Text};
+use occ_types::{Cell, Key, KeyPart, Pair, Row, Text};
 use std::alloc::{AllocError, Allocator};
 
 /// Appends a number.
@@ -63,6 +64,24 @@ pub fn write_text<A: Allocator>(line: &mut String<A>, text: &Text<A>) -> Result<
     write_escaped(line, text.as_bytes())
 }
 
+fn write_part<A: Allocator>(line: &mut String<A>, part: &KeyPart<A>) -> Result<(), AllocError>
+    ensures { OnOk result (string_bytes line.new ≡ string_bytes line.old ++ part_text (part_of part.now)) }
+{
+    match part {
+        KeyPart::Num(number) => write_number(line, *number),
+        KeyPart::Text(text) => write_text(line, text),
+    }
+}
+
+/// Appends a key of two parts.
+fn write_pair<A: Allocator>(line: &mut String<A>, pair: &Pair<A>) -> Result<(), AllocError>
+    ensures { OnOk result (string_bytes line.new ≡ string_bytes line.old ++ key_text (keys.Pair pair.now.0 pair.now.1)) }
+{
+    write_part(line, pair.first())?;
+    line.push('+')?;
+    write_part(line, pair.second())
+}
+
 /// Appends a key.
 pub fn write_key<A: Allocator>(line: &mut String<A>, key: &Key<A>) -> Result<(), AllocError>
     ensures { OnOk result (string_bytes line.new ≡ string_bytes line.old ++ key_text (key_of key.now)) }
@@ -70,6 +89,17 @@ pub fn write_key<A: Allocator>(line: &mut String<A>, key: &Key<A>) -> Result<(),
     match key {
         Key::Num(number) => write_number(line, *number),
         Key::Text(text) => write_text(line, text),
+        Key::Pair(pair) => write_pair(line, pair),
+    }
+}
+
+/// Appends an end of a range: a key, or `*` where there is none.
+pub fn write_end<A: Allocator>(line: &mut String<A>, end: &Option<Key<A>>) -> Result<(), AllocError>
+    ensures { OnOk result (string_bytes line.new ≡ string_bytes line.old ++ end_text (end_of end.now)) }
+{
+    match end {
+        None => line.push('*'),
+        Some(key) => write_key(line, key),
     }
 }
 

@@ -4,10 +4,11 @@ use occ_devices::Device;
 use occ_text::faults::{LineFault, WriteFault};
 use occ_text::input::{Input, MAX_LINE, Next};
 use occ_text::output::Output;
-use occ_text::texts::{key, row};
+use occ_text::texts::{end, key, row};
 use occ_text::tokens::{Unread, name, tokens};
 use occ_text::trouble::{Trouble, status_of};
-use occ_text::writers::{write_key, write_row};
+use occ_text::versions::Version;
+use occ_text::writers::{write_end, write_key, write_row};
 use std::alloc::{AllocError, Global};
 use std::io::Read;
 use std::test::Fail;
@@ -155,9 +156,9 @@ fn statuses_and_texts(rt: HostRuntime) -> Result<(), Fail> {
 }
 
 /// What is read of a token, written again.
-fn read_and_written(alloc: Global, token: &[u8]) -> Result<String, Unread> {
+fn read_and_written(alloc: Global, version: Version, token: &[u8]) -> Result<String, Unread> {
     let mut line = String::new(alloc);
-    let key = key(alloc, token)?;
+    let key = key(alloc, version, token)?;
     write_key(&mut line, &key)?;
     Ok(line)
 }
@@ -174,7 +175,9 @@ fn keys_have_one_spelling(rt: HostRuntime) -> Result<(), Fail> {
         "'%00%7f",
         "'%c3%a9",
     ] {
-        let line = read_and_written(rt.alloc(), token.as_bytes()).map_err(|_| AllocError)?;
+        let line = read_and_written(rt.alloc(), Version::One, token.as_bytes()).map_err(
+            |_| AllocError,
+        )?;
         assert!(rt; line.as_str() == token, "{token}");
     }
     for token in [
@@ -195,7 +198,71 @@ fn keys_have_one_spelling(rt: HostRuntime) -> Result<(), Fail> {
         "'%ff",
     ] {
         assert!(rt;
-            read_and_written(rt.alloc(), token.as_bytes()).is_err(),
+            read_and_written(rt.alloc(), Version::One, token.as_bytes()).is_err(),
+            "{token}"
+        );
+    }
+    Ok(())
+}
+
+#[test]
+fn keys_of_two_parts_have_one_spelling(rt: HostRuntime) -> Result<(), Fail> {
+    for token in [
+        "7",
+        "'a",
+        "1+2",
+        "0+18446744073709551615",
+        "2+'",
+        "'+'",
+        "'a%2bb+'%2a",
+    ] {
+        let line = read_and_written(rt.alloc(), Version::Two, token.as_bytes()).map_err(
+            |_| AllocError,
+        )?;
+        assert!(rt; line.as_str() == token, "{token}");
+    }
+    for token in ["1+2", "2+'", "'+'"] {
+        assert!(rt;
+            read_and_written(rt.alloc(), Version::One, token.as_bytes()).is_err(),
+            "{token}"
+        );
+    }
+    for token in [
+        "", "+", "1+", "+1", "1+2+3", "1++2", "01+2", "1+02", "1+-2", "'a+b", "*", "1+*",
+    ] {
+        assert!(rt;
+            read_and_written(rt.alloc(), Version::Two, token.as_bytes()).is_err(),
+            "{token}"
+        );
+    }
+    Ok(())
+}
+
+/// What is read of an end of a range, written again.
+fn end_read_and_written(alloc: Global, version: Version, token: &[u8]) -> Result<String, Unread> {
+    let mut line = String::new(alloc);
+    let end = end(alloc, version, token)?;
+    write_end(&mut line, &end)?;
+    Ok(line)
+}
+
+#[test]
+fn an_end_may_be_missing(rt: HostRuntime) -> Result<(), Fail> {
+    for token in ["*", "7", "'a", "2+'"] {
+        let line = end_read_and_written(rt.alloc(), Version::Two, token.as_bytes()).map_err(
+            |_| AllocError,
+        )?;
+        assert!(rt; line.as_str() == token, "{token}");
+    }
+    for (version, token) in [
+        (Version::One, "*"),
+        (Version::One, "2+'"),
+        (Version::Two, "**"),
+        (Version::Two, "*1"),
+        (Version::Two, ""),
+    ] {
+        assert!(rt;
+            end_read_and_written(rt.alloc(), version, token.as_bytes()).is_err(),
             "{token}"
         );
     }

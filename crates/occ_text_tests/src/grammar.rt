@@ -6,6 +6,7 @@ use occ_text::input::Input;
 use occ_text::step_reading::read_step;
 use occ_text::steps::{Act, Step};
 use occ_text::tokens::Unread;
+use occ_text::versions::Version;
 use occ_types::{Key, KeyKind, Kind};
 use std::alloc::Global;
 use std::test::Fail;
@@ -23,7 +24,7 @@ fn lines_of_a_word_and_a_session(rt: HostRuntime) -> Result<(), Fail> {
         ("finish 100", Act::Finish, 100),
         ("backup 255", Act::BackUp, 255),
     ] {
-        let step = read_step(rt.alloc(), line.as_bytes());
+        let step = read_step(rt.alloc(), Version::One, line.as_bytes());
         assert!(rt;
             matches!(step, Ok(Step::Does { act, session }) if act == wanted && session == number),
             "{line}"
@@ -35,33 +36,42 @@ fn lines_of_a_word_and_a_session(rt: HostRuntime) -> Result<(), Fail> {
 #[test]
 fn lines_with_a_table(rt: HostRuntime) -> Result<(), Fail> {
     let alloc = rt.alloc();
-    let step = read_step(alloc, b"get 3 stock 18446744073709551615");
+    let step = read_step(alloc, Version::One, b"get 3 stock 18446744073709551615");
     assert!(rt;
         matches!(&step, Ok(Step::Get { session: 3, table, key })
         if *table == "stock" && *key == Key::Num(u64::MAX))
     );
-    let step = read_step(alloc, b"delete 3 stock 7");
+    let step = read_step(alloc, Version::One, b"delete 3 stock 7");
     assert!(rt;
         matches!(&step, Ok(Step::Delete { session: 3, table, key })
         if *table == "stock" && *key == Key::Num(7))
     );
-    let step = read_step(alloc, b"scan 3 stock 9 7");
+    let step = read_step(alloc, Version::One, b"scan 3 stock 9 7");
     assert!(rt;
         matches!(&step, Ok(Step::Scan { session: 3, table, lower, upper })
-        if *table == "stock" && *lower == Key::Num(9) && *upper == Key::Num(7))
+        if *table == "stock" && *lower == Some(Key::Num(9)) && *upper == Some(Key::Num(7)))
     );
-    let step = read_step(alloc, b"put 3 stock 7 -5,'");
+    let step = read_step(alloc, Version::One, b"put 3 stock 7 -5,'");
     assert!(rt;
         matches!(&step, Ok(Step::Put { session: 3, table, key, row })
         if *table == "stock" && *key == Key::Num(7) && row.len() == 2)
     );
-    let step = read_step(alloc, b"rawread 3 4294967295 18446744073709551615 stock 7");
+    let step = read_step(
+        alloc,
+        Version::One,
+        b"rawread 3 4294967295 18446744073709551615 stock 7",
+    );
     assert!(rt;
         matches!(&step, Ok(Step::RawRead { session: 3, number: 4294967295, start: u64::MAX, table, key })
         if *table == "stock" && *key == Key::Num(7))
     );
-    assert!(rt; matches!(read_step(alloc, b"show"), Ok(Step::Show)));
-    assert!(rt; matches!(read_step(alloc, b"checkpoint"), Ok(Step::Checkpoint)));
+    assert!(rt; matches!(read_step(alloc, Version::One, b"show"), Ok(Step::Show)));
+    assert!(rt;
+        matches!(
+            read_step(alloc, Version::One, b"checkpoint"),
+            Ok(Step::Checkpoint)
+        )
+    );
     Ok(())
 }
 
@@ -70,7 +80,7 @@ fn forged_requests(rt: HostRuntime) -> Result<(), Fail> {
     let alloc = rt.alloc();
     assert!(rt;
         matches!(
-            read_step(alloc, b"forge 0 1 0"),
+            read_step(alloc, Version::One, b"forge 0 1 0"),
             Ok(Step::Forge {
                 session: 0,
                 number: 1,
@@ -80,7 +90,11 @@ fn forged_requests(rt: HostRuntime) -> Result<(), Fail> {
     );
     assert!(rt;
         matches!(
-            read_step(alloc, b"forge 255 4294967295 18446744073709551615"),
+            read_step(
+                alloc,
+                Version::One,
+                b"forge 255 4294967295 18446744073709551615"
+            ),
             Ok(Step::Forge {
                 session: 255,
                 number: 4294967295,
@@ -139,7 +153,7 @@ fn lines_that_are_no_step(rt: HostRuntime) -> Result<(), Fail> {
         "rawread 1 1 0 t 01",
         "get 1 1 0 t 1",
     ] {
-        let step = read_step(rt.alloc(), line.as_bytes());
+        let step = read_step(rt.alloc(), Version::One, line.as_bytes());
         assert!(rt; matches!(step, Err(Unread::Malformed)), "{line:?}");
     }
     Ok(())
@@ -161,6 +175,7 @@ fn a_header_is_read(rt: HostRuntime) -> Result<(), Fail> {
             &header,
             Ok(Header {
                 limits: Limits {
+                    version: Version::One,
                     sessions: 64,
                     queue: 1024,
                     keep: 4096
@@ -185,11 +200,14 @@ fn a_header_is_read(rt: HostRuntime) -> Result<(), Fail> {
 #[test]
 fn headers_are_malformed_at_a_line(rt: HostRuntime) -> Result<(), Fail> {
     let front = "occ 1\nsessions 1\nqueue 1\nkeep 1\n";
+    let second = "occ 2\nsessions 1\nqueue 1\nkeep 1\n";
     for (start, rest, line) in [
         ("", "", 1),
         ("", "occ 1", 1),
-        ("", "occ 2\n", 1),
+        ("", "occ 3\n", 1),
+        ("", "occ 2 \n", 1),
         ("", "occ 1\n", 2),
+        ("", "occ 2\n", 2),
         ("", "occ 1\nqueue 1\n", 2),
         ("", "occ 1\nsessions 0\n", 2),
         ("", "occ 1\nsessions 65\n", 2),
@@ -198,6 +216,10 @@ fn headers_are_malformed_at_a_line(rt: HostRuntime) -> Result<(), Fail> {
         (front, "steps\n", 5),
         (front, "table a num\nsteps\n", 5),
         (front, "table a int int\nsteps\n", 5),
+        (front, "table a num+num int\nsteps\n", 5),
+        (second, "table a num+int int\nsteps\n", 5),
+        (second, "table a num+num+num int\nsteps\n", 5),
+        (second, "table a num+ int\nsteps\n", 5),
         (front, "table a num num\nsteps\n", 5),
         (front, "table A num int\nsteps\n", 5),
         (

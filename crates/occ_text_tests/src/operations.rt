@@ -5,6 +5,7 @@ use occ_text::operations::Operation;
 use occ_text::step_reading::read_step;
 use occ_text::steps::{Act, Step};
 use occ_text::tokens::Unread;
+use occ_text::versions::Version;
 use occ_types::Key;
 use std::test::Fail;
 
@@ -12,23 +13,23 @@ use std::test::Fail;
 fn each_operation_is_read(rt: HostRuntime) -> Result<(), Fail> {
     let alloc = rt.alloc();
     assert!(rt;
-        matches!(&read_operation(alloc, b"get:stock:18446744073709551615"), Ok(Operation::Get { table, key })
+        matches!(&read_operation(alloc, Version::One, b"get:stock:18446744073709551615"), Ok(Operation::Get { table, key })
         if *table == "stock" && *key == Key::Num(u64::MAX))
     );
     assert!(rt;
-        matches!(&read_operation(alloc, b"scan:stock:9:7"), Ok(Operation::Scan { table, lower, upper })
-        if *table == "stock" && *lower == Key::Num(9) && *upper == Key::Num(7))
+        matches!(&read_operation(alloc, Version::One, b"scan:stock:9:7"), Ok(Operation::Scan { table, lower, upper })
+        if *table == "stock" && *lower == Some(Key::Num(9)) && *upper == Some(Key::Num(7)))
     );
     assert!(rt;
-        matches!(&read_operation(alloc, b"put:stock:7:-5,'%3a"), Ok(Operation::Put { table, key, row })
+        matches!(&read_operation(alloc, Version::One, b"put:stock:7:-5,'%3a"), Ok(Operation::Put { table, key, row })
         if *table == "stock" && *key == Key::Num(7) && row.len() == 2)
     );
     assert!(rt;
-        matches!(&read_operation(alloc, b"delete:stock:7"), Ok(Operation::Delete { table, key })
+        matches!(&read_operation(alloc, Version::One, b"delete:stock:7"), Ok(Operation::Delete { table, key })
         if *table == "stock" && *key == Key::Num(7))
     );
     assert!(rt;
-        matches!(&read_operation(alloc, b"add:stock:7:-9223372036854775808"), Ok(Operation::Add { table, key, amount: i64::MIN })
+        matches!(&read_operation(alloc, Version::One, b"add:stock:7:-9223372036854775808"), Ok(Operation::Add { table, key, amount: i64::MIN })
         if *table == "stock" && *key == Key::Num(7))
     );
     Ok(())
@@ -61,7 +62,7 @@ fn tokens_that_are_no_operation(rt: HostRuntime) -> Result<(), Fail> {
         "add:t::1",
         "sub:t:1:1",
     ] {
-        let operation = read_operation(rt.alloc(), token.as_bytes());
+        let operation = read_operation(rt.alloc(), Version::One, token.as_bytes());
         assert!(rt; matches!(operation, Err(Unread::Malformed)), "{token:?}");
     }
     Ok(())
@@ -69,7 +70,11 @@ fn tokens_that_are_no_operation(rt: HostRuntime) -> Result<(), Fail> {
 
 #[test]
 fn runs_alone_are_read_in_order(rt: HostRuntime) -> Result<(), Fail> {
-    let step = read_step(rt.alloc(), b"alone 255 get:a:1 put:b:2:3 get:c:4");
+    let step = read_step(
+        rt.alloc(),
+        Version::One,
+        b"alone 255 get:a:1 put:b:2:3 get:c:4",
+    );
     assert!(rt;
         matches!(&step, Ok(Step::Alone { session: 255, operations })
         if matches!(operations.as_slice(), [
@@ -78,7 +83,7 @@ fn runs_alone_are_read_in_order(rt: HostRuntime) -> Result<(), Fail> {
             Operation::Get { table: "c", .. },
         ]))
     );
-    let step = read_step(rt.alloc(), b"serial 7");
+    let step = read_step(rt.alloc(), Version::One, b"serial 7");
     assert!(rt;
         matches!(
             step,
@@ -106,7 +111,7 @@ fn runs_alone_that_are_malformed(rt: HostRuntime) -> Result<(), Fail> {
         "serial 1 get:t:1",
         "serialize 1",
     ] {
-        let step = read_step(rt.alloc(), line.as_bytes());
+        let step = read_step(rt.alloc(), Version::One, line.as_bytes());
         assert!(rt; matches!(step, Err(Unread::Malformed)), "{line:?}");
     }
     Ok(())
@@ -118,7 +123,7 @@ fn more_operations_are_read_than_may_run(rt: HostRuntime) -> Result<(), Fail> {
     for _ in 0..257 {
         line.push_str(" add:t:1:1")?;
     }
-    let step = read_step(rt.alloc(), line.as_bytes());
+    let step = read_step(rt.alloc(), Version::One, line.as_bytes());
     assert!(rt; matches!(&step, Ok(Step::Alone { operations, .. }) if operations.len() == 257));
     Ok(())
 }

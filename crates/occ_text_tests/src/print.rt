@@ -5,7 +5,10 @@ use occ_print::{BookFault, write_readable_book};
 use occ_sets::{Answer, ReadSet, WriteSet};
 use occ_text::headers::Limits;
 use occ_text::output::Output;
-use occ_types::{Cell, Key, KeyKind, Kind, Object, Question, Row, Schema, TableDef, Text};
+use occ_text::versions::Version;
+use occ_types::{
+    Cell, Key, KeyKind, Kind, Object, PartKind, Question, Row, Schema, TableDef, Text,
+};
 use std::alloc::{AllocError, Global};
 use std::io;
 use std::io::{Error, ErrorKind, Write};
@@ -48,12 +51,12 @@ fn row(alloc: Global, number: i64) -> Result<Row<Global>, AllocError> {
     Ok(Row::from_cells(cells))
 }
 
-/// One table `t` with numbers as keys and one column of whole numbers.
-fn schema(alloc: Global) -> Result<Schema<Global>, AllocError> {
+/// One table `t` with keys of a kind and one column of whole numbers.
+fn schema(alloc: Global, key: KeyKind) -> Result<Schema<Global>, AllocError> {
     let mut tables = Vec::new(alloc);
     tables.push(TableDef {
         name: Text::new(alloc, "t")?,
-        key: KeyKind::Num,
+        key,
         columns: vec![in alloc; Kind::Int]?,
     })?;
     Schema::new(tables).map_err(|_| AllocError)
@@ -142,12 +145,14 @@ fn printed(
     closed: &[(usize, u64)],
     fails: usize,
 ) -> Result<(Vec<u8>, Result<(), BookFault>), AllocError> {
-    printed_on(alloc, &nothing_folded(alloc)?, log, rows, closed, fails)
+    let base = nothing_folded(alloc)?;
+    printed_on(alloc, Version::One, &base, log, rows, closed, fails)
 }
 
-/// The same on a base.
+/// The same in a version, and on a base.
 fn printed_on(
     alloc: Global,
+    version: Version,
     base: &Base<Global>,
     log: &[LogRow<Global, ()>],
     rows: &[(u64, i64)],
@@ -169,17 +174,25 @@ fn printed_on(
         calls: 0,
         fails,
     };
-    let ended = written(alloc, &mut page, &schema(alloc)?, &book);
+    let ended = written(
+        alloc,
+        version,
+        &mut page,
+        &schema(alloc, KeyKind::Num)?,
+        &book,
+    );
     Ok((page.bytes, ended))
 }
 
 fn written(
     alloc: Global,
+    version: Version,
     page: &mut Page,
     schema: &Schema<Global>,
     book: &BookView<'_, Global, ()>,
 ) -> Result<(), BookFault> {
     let limits = Limits {
+        version,
         sessions: 2,
         queue: 4,
         keep: 8,
@@ -242,12 +255,13 @@ fn a_range_is_printed_with_its_rows(rt: HostRuntime) -> Result<(), Fail> {
     Ok(())
 }
 
-// What the printing of a book answers that has a range with these ends, and how many bytes it wrote.
+// What the printing of a book in a version answers that has a range with these ends, and what it wrote.
 fn with_range(
     alloc: Global,
+    version: Version,
     lower: Option<u64>,
     upper: Option<u64>,
-) -> Result<(Result<(), BookFault>, usize), AllocError> {
+) -> Result<(Result<(), BookFault>, Vec<u8>), AllocError> {
     let question = Question::Span {
         table: 0,
         lower: lower.map(|key| Key::Num(key)),
@@ -256,18 +270,78 @@ fn with_range(
     let reads = reading(alloc, question, Answer::Rows(Vec::new(alloc)))?;
     let mut log = Vec::new(alloc);
     log.push(finished(alloc, (0, 1, 1), reads, (3, None))?)?;
-    let (bytes, ended) = printed(alloc, log.as_slice(), &[], &[], usize::MAX)?;
-    Ok((ended, bytes.len()))
+    let base = nothing_folded(alloc)?;
+    let (bytes, ended) = printed_on(alloc, version, &base, log.as_slice(), &[], &[], usize::MAX)?;
+    Ok((ended, bytes))
 }
 
 #[test]
-fn a_range_with_a_missing_end_is_not_printed(rt: HostRuntime) -> Result<(), Fail> {
+fn a_range_with_a_missing_end_is_not_printed_in_version_1(rt: HostRuntime) -> Result<(), Fail> {
     let alloc = rt.alloc();
     for (lower, upper) in [(None, Some(9)), (Some(1), None), (None, None)] {
-        assert!(rt; with_range(alloc, lower, upper)? == (Err(BookFault::MissingEnd), 0));
+        let (ended, bytes) = with_range(alloc, Version::One, lower, upper)?;
+        assert!(rt; ended == Err(BookFault::MissingEnd) && bytes.is_empty());
     }
-    let (ended, bytes) = with_range(alloc, Some(1), Some(9))?;
-    assert!(rt; ended == Ok(()) && bytes > 0);
+    let (ended, bytes) = with_range(alloc, Version::One, Some(1), Some(9))?;
+    assert!(rt; ended == Ok(()) && bytes.as_slice().starts_with(b"occ 1\n"));
+    Ok(())
+}
+
+#[test]
+fn a_missing_end_is_a_star_in_version_2(rt: HostRuntime) -> Result<(), Fail> {
+    let alloc = rt.alloc();
+    for (lower, upper, ends) in [
+        (None, Some(9), "* 9"),
+        (Some(1), None, "1 *"),
+        (None, None, "* *"),
+        (Some(1), Some(9), "1 9"),
+    ] {
+        let (ended, bytes) = with_range(alloc, Version::Two, lower, upper)?;
+        let text = format!(in alloc;
+            "occ 2\nsessions 2\nqueue 4\nkeep 8\ntable t num int\nlog 1\nrow 0 1 1 0 0 1 1 done 1\nspan t {ends} 0\ndel t 3\nmarks 0\nstate 0\ncounter 2 low 0\n"
+        )?;
+        assert!(rt; ended == Ok(()) && bytes.as_slice() == text.as_bytes());
+    }
+    Ok(())
+}
+
+// What the printing of an empty book in a version answers, where its table has keys of two parts.
+fn with_pairs(
+    alloc: Global,
+    version: Version,
+) -> Result<(Result<(), BookFault>, Vec<u8>), AllocError> {
+    let (base, tables, marks) = (
+        nothing_folded(alloc)?,
+        tables(alloc, &[])?,
+        marks(alloc, &[])?,
+    );
+    let book = BookView::<Global, ()> {
+        base: &base,
+        log: &[],
+        table: &tables,
+        marks: &marks,
+        low: 0,
+        tnc: 0,
+    };
+    let mut page = Page {
+        bytes: Vec::new(alloc),
+        calls: 0,
+        fails: usize::MAX,
+    };
+    let schema = schema(alloc, KeyKind::Pair(PartKind::Text, PartKind::Num))?;
+    let ended = written(alloc, version, &mut page, &schema, &book);
+    Ok((ended, page.bytes))
+}
+
+#[test]
+fn keys_of_two_parts_are_not_printed_in_version_1(rt: HostRuntime) -> Result<(), Fail> {
+    let alloc = rt.alloc();
+    let (ended, bytes) = with_pairs(alloc, Version::One)?;
+    assert!(rt; ended == Err(BookFault::PairKeys) && bytes.is_empty());
+    let (ended, bytes) = with_pairs(alloc, Version::Two)?;
+    let text =
+        b"occ 2\nsessions 2\nqueue 4\nkeep 8\ntable t text+num int\nlog 0\nmarks 0\nstate 0\ncounter 0 low 0\n";
+    assert!(rt; ended == Ok(()) && bytes.as_slice() == text.as_slice());
     Ok(())
 }
 
@@ -292,14 +366,22 @@ fn a_base_is_printed_behind_the_header(rt: HostRuntime) -> Result<(), Fail> {
     let alloc = rt.alloc();
     let state = tables(alloc, &[(9, 3), (4, -1)])?;
     let base = Base::from_parts(state, marks(alloc, &[(2, 6), (1, 2)])?, 8);
-    let (bytes, ended) = printed_on(alloc, &base, &[], &[(4, -1)], &[(2, 7)], usize::MAX)?;
+    let (bytes, ended) = printed_on(
+        alloc,
+        Version::One,
+        &base,
+        &[],
+        &[(4, -1)],
+        &[(2, 7)],
+        usize::MAX,
+    )?;
     assert!(rt; ended == Ok(()));
     let text =
         b"occ 1\nsessions 2\nqueue 4\nkeep 8\ntable t num int\nbase 8 2 2\nlast 1 2\nlast 2 6\nfrom t 4 -1\nfrom t 9 3\nlog 0\nmarks 1\nmark 2 7\nstate 1\nat t 4 -1\ncounter 2 low 0\n";
     assert!(rt; bytes.as_slice() == text.as_slice());
     // rows that were backed up alone were folded
     let base = Base::from_parts(tables(alloc, &[])?, marks(alloc, &[(2, 1)])?, 1);
-    let (bytes, ended) = printed_on(alloc, &base, &[], &[], &[], usize::MAX)?;
+    let (bytes, ended) = printed_on(alloc, Version::One, &base, &[], &[], &[], usize::MAX)?;
     assert!(rt; ended == Ok(()));
     let text =
         b"occ 1\nsessions 2\nqueue 4\nkeep 8\ntable t num int\nbase 1 1 0\nlast 2 1\nlog 0\nmarks 0\nstate 0\ncounter 2 low 0\n";

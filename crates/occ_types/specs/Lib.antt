@@ -1,5 +1,6 @@
 pub mod Fits
 pub mod Key
+pub mod KeyPart
 pub mod Object
 pub mod Question
 pub mod Row

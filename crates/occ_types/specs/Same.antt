@@ -7,11 +7,46 @@ use Rattle.std.specs.Cmp.{IsEquivalence, IsPartialOrder, decided, eq_by_cmp_equi
 use Rattle.std.specs.Cmp.Lexicographic.{pointwise, bytes_decides, pointwise_decides}
 use Rattle.std.specs.Hash as fed
 use Rattle.std.specs.Hash.{HashWrites}
-use Rattle.occ_types.specs.Key.{Key, Num, Text as KeyText, key_cmp, key_cmp_total, key_cmp-IsAntisymmetric}
+use Rattle.occ_types.specs.Key.{Key, Num, Text as KeyText, Pair, key_cmp, key_cmp_total, key_cmp-IsAntisymmetric}
+use Rattle.occ_types.specs.KeyPart as parts
+use Rattle.occ_types.specs.KeyPart.{KeyPart, part_cmp, part_cmp_total, part_cmp-IsAntisymmetric, pair_cmp, pair_cmp_total, pair_cmp-IsAntisymmetric}
 use Rattle.std.specs.Option.{option_eq}
 use Rattle.occ_types.specs.Row.{Cell, Int, Text as CellText, Row}
 use Rattle.occ_types.specs.Object.{Object, object_cmp, object_cmp_total, object_cmp-IsAntisymmetric}
 use Rattle.occ_types.specs.Question.{Question, One, Span}
+
+-- whether two parts of keys are equal
+abbrev pub part_same : KeyPart → KeyPart → Bool
+part_same = eq_by_cmp part_cmp
+
+pub part_same_equiv : IsEquivalence part_same
+part_same_equiv = eq_by_cmp_equiv part_cmp_total
+
+pub part_po : IsPartialOrder part_same (as_partial_cmp part_cmp)
+part_po = po part_cmp_total (λ a b. refl)
+
+-- what a part of a key feeds a hasher: which kind it has, and then its number or its text
+abbrev pub part_fed : KeyPart → HashWrites
+part_fed (parts.Num n) = fed.u8 0 ++ fed.u64 n
+part_fed (parts.Text t) = fed.u8 1 ++ fed.str t
+
+-- equal parts feed alike
+pub part_fed_alike : (a b : KeyPart) → part_same a b ≡ true → part_fed a ≡ part_fed b
+part_fed_alike a b e = ap part_fed (part_cmp-IsAntisymmetric a b ((Equal-is (part_cmp a b)).0 e))
+
+pub pair_equiv : IsEquivalence (eq_by_cmp pair_cmp)
+pair_equiv = eq_by_cmp_equiv pair_cmp_total
+
+pub pair_po : IsPartialOrder (eq_by_cmp pair_cmp) (as_partial_cmp pair_cmp)
+pair_po = po pair_cmp_total (λ a b. refl)
+
+-- what a pair feeds a hasher: its first part, and then its second
+abbrev pub pair_fed : KeyPart × KeyPart → HashWrites
+pair_fed pair = part_fed pair.0 ++ part_fed pair.1
+
+-- equal pairs feed alike
+pub pair_fed_alike : (a b : KeyPart × KeyPart) → eq_by_cmp pair_cmp a b ≡ true → pair_fed a ≡ pair_fed b
+pair_fed_alike a b e = ap pair_fed (pair_cmp-IsAntisymmetric a b ((Equal-is (pair_cmp a b)).0 e))
 
 -- whether two keys are equal
 abbrev pub key_same : Key → Key → Bool
@@ -30,10 +65,11 @@ key_same_equiv = eq_by_cmp_equiv key_cmp_total
 pub key_po : IsPartialOrder key_same (as_partial_cmp key_cmp)
 key_po = po key_cmp_total (λ a b. refl)
 
--- what a key feeds a hasher: which kind it has, and then its number or its text
+-- what a key feeds a hasher: which kind it has, and then its number, its text or its parts
 abbrev pub key_fed : Key → HashWrites
 key_fed (Num n) = fed.u8 0 ++ fed.u64 n
 key_fed (KeyText t) = fed.u8 1 ++ fed.str t
+key_fed (Pair a b) = fed.u8 2 ++ pair_fed (a, b)
 
 -- equal keys feed alike
 pub key_fed_alike : (a b : Key) → key_same a b ≡ true → key_fed a ≡ key_fed b

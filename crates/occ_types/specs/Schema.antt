@@ -1,5 +1,5 @@
 -- The tables of a store, and what fits them (our own choice). Each check answers the first fault, in the order in which the tests stand.
-use Rattle.std.specs.Prelude.{ℕ, Bool, true, false, not, nat_le, nat_lt, nat_eq, ◌&&◌, List, [], ◌∷◌, length, Option, None, Some, slice_get}
+use Rattle.std.specs.Prelude.{ℕ, Bool, true, false, not, nat_le, nat_lt, nat_eq, ◌&&◌, ◌||◌, List, [], ◌∷◌, length, Option, None, Some, slice_get}
 use Rattle.std.specs.List.{list_all, list_any}
 use Rattle.std.specs.Cmp.Lexicographic.{pointwise}
 use Rattle.std.specs.Ordering.{is_lt}
@@ -9,8 +9,12 @@ use Rattle.occ_types.specs.declared.kind.Kind.{Kind}
 use Rattle.occ_types.specs.declared.kind.Kind.TheVariants as cells
 use Rattle.occ_types.specs.declared.kind.KeyKind.{KeyKind}
 use Rattle.occ_types.specs.declared.kind.KeyKind.TheVariants as keys
+use Rattle.occ_types.specs.declared.kind.PartKind.{PartKind}
+use Rattle.occ_types.specs.declared.kind.PartKind.TheVariants as part_kinds
 use Rattle.occ_types.specs.declared.limits.TheConstants.{MAX_TABLES, MAX_COLUMNS, MAX_NAME_LETTERS, MAX_KEY_BYTES, MAX_CELL_BYTES}
-use Rattle.occ_types.specs.Key.{Key, Num, Text as KeyText, key_cmp}
+use Rattle.occ_types.specs.Key.{Key, Num, Text as KeyText, Pair, key_cmp}
+use Rattle.occ_types.specs.KeyPart as parts
+use Rattle.occ_types.specs.KeyPart.{KeyPart}
 use Rattle.occ_types.specs.Row.{Cell, Int, Text as CellText, Row}
 use Rattle.occ_types.specs.Question.{Question, One, Span}
 
@@ -34,15 +38,25 @@ first_fault [] = None
 first_fault (None ∷ tests) = first_fault tests
 first_fault (Some fault ∷ tests) = Some fault
 
+abbrev pub part_has_kind : PartKind → KeyPart → Bool
+part_has_kind part_kinds.Num (parts.Num n) = true
+part_has_kind part_kinds.Text (parts.Text t) = true
+part_has_kind kind part = false
+
+abbrev pub part_is_too_long : KeyPart → Bool
+part_is_too_long (parts.Num n) = false
+part_is_too_long (parts.Text t) = nat_lt MAX_KEY_BYTES (length t)
+
 abbrev pub key_has_kind : KeyKind → Key → Bool
 key_has_kind keys.Num (Num n) = true
-key_has_kind keys.Num (KeyText t) = false
-key_has_kind keys.Text (Num n) = false
 key_has_kind keys.Text (KeyText t) = true
+key_has_kind (keys.Pair k l) (Pair a b) = part_has_kind k a && part_has_kind l b
+key_has_kind kind key = false
 
 abbrev pub key_is_too_long : Key → Bool
 key_is_too_long (Num n) = false
 key_is_too_long (KeyText t) = nat_lt MAX_KEY_BYTES (length t)
+key_is_too_long (Pair a b) = part_is_too_long a || part_is_too_long b
 
 abbrev pub cell_has_kind : Kind → Cell → Bool
 cell_has_kind cells.Int (Int z) = true

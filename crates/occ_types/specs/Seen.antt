@@ -4,13 +4,17 @@ use Rattle.std.proofs.Common.{ap}
 use Rattle.std.specs.Option.{option_map}
 use Rattle.occ_types.specs.declared.cells.Cell as code_cell
 use Rattle.occ_types.specs.declared.cells.Cell.TheVariants as cells
+use Rattle.occ_types.specs.declared.key_parts.KeyPart as code_part
+use Rattle.occ_types.specs.declared.key_parts.KeyPart.TheVariants as code_parts
 use Rattle.occ_types.specs.declared.keys.Key as code_key
 use Rattle.occ_types.specs.declared.keys.Key.TheVariants as keys
 use Rattle.occ_types.specs.declared.objects.Object as code_object
 use Rattle.occ_types.specs.declared.questions.Question as code_question
 use Rattle.occ_types.specs.declared.questions.Question.TheVariants as questions
 use Rattle.occ_types.specs.declared.tables.TableDef as code_table
-use Rattle.occ_types.specs.Key.{Key, Num, Text as KeyText}
+use Rattle.occ_types.specs.Key.{Key, Num, Text as KeyText, Pair}
+use Rattle.occ_types.specs.KeyPart as parts
+use Rattle.occ_types.specs.KeyPart.{KeyPart}
 use Rattle.occ_types.specs.Row.{Cell, Int, Text as CellText, Row}
 use Rattle.occ_types.specs.Object.{Object}
 use Rattle.occ_types.specs.Question.{Question, One, Span}
@@ -27,10 +31,16 @@ module _ {Z : Type 0} where
   cell_of (cells.Int z) = Int z
   cell_of (cells.Text t) = CellText t
 
+  -- the plain part of a key
+  abbrev pub part_of : code_part.KeyPart Z → KeyPart
+  part_of (code_parts.Num n) = parts.Num n
+  part_of (code_parts.Text t) = parts.Text t
+
   -- the plain key
   abbrev pub key_of : code_key.Key Z → Key
   key_of (keys.Num n) = Num n
   key_of (keys.Text t) = KeyText t
+  key_of (keys.Pair p) = Pair p.0 p.1
 
   -- the plain object
   abbrev pub object_of : code_object.Object Z → Object
@@ -66,10 +76,18 @@ module _ {Z : Type 0} where
 
   -- keys that are seen alike are equal
   pub key_of-injective : (a b : code_key.Key Z) → key_of a ≡ key_of b → a ≡ b
+  key_of-injective (keys.Pair p) (keys.Pair q) e =
+      let first : p.0 ≡ q.0 = cc in
+      let second : p.1 ≡ q.1 = cc in
+      λ i. keys.Pair (first i, second i)
   key_of-injective (keys.Num m) (keys.Num n) e = cc
   key_of-injective (keys.Num m) (keys.Text t) e = cc
+  key_of-injective (keys.Num m) (keys.Pair q) e = cc
   key_of-injective (keys.Text s) (keys.Num n) e = cc
   key_of-injective (keys.Text s) (keys.Text t) e = cc
+  key_of-injective (keys.Text s) (keys.Pair q) e = cc
+  key_of-injective (keys.Pair p) (keys.Num n) e = cc
+  key_of-injective (keys.Pair p) (keys.Text t) e = cc
 
   -- objects that are seen alike are equal
   pub object_of-injective : (a b : code_object.Object Z) → object_of a ≡ object_of b → a ≡ b

@@ -6,12 +6,14 @@ ghost use Rattle.occ_types.specs.Key.{key_cmp, key_cmp_total};
 ghost use Rattle.occ_types.specs.Same.{key_same, key_same_equiv, key_po, key_fed, key_fed_alike};
 ghost use Rattle.occ_types.specs.Seen.{key_of};
 
+use crate::pairs::Pair;
 use crate::texts::Text;
 use std::alloc::{AllocError, Allocator};
 use std::cmp::Ordering;
 use std::hash::{Hash, Hasher};
 
-/// The key of a row. Numbers come by size, texts by their bytes, and every number comes before every text.
+/// The key of a row. Numbers come by size, texts by their bytes, and pairs by their first part and then by the second; every
+/// number comes before every text, and every text before every pair.
 #[derive(Drop)]
 #[derive_where(Debug)]
 pub enum Key<A: Allocator> {
@@ -19,6 +21,8 @@ pub enum Key<A: Allocator> {
     Num(u64),
     /// A text.
     Text(Text<A>),
+    /// Two parts, as an account and a number within it.
+    Pair(Pair<A>),
 }
 
 impl<A: Allocator + Clone> Clone for Key<A> {
@@ -28,6 +32,7 @@ impl<A: Allocator + Clone> Clone for Key<A> {
         match self {
             Key::Num(number) => Ok(Key::Num(*number)),
             Key::Text(text) => Ok(Key::Text(text.clone()?)),
+            Key::Pair(pair) => Ok(Key::Pair(pair.clone()?)),
         }
     }
 }
@@ -41,6 +46,7 @@ impl<A: Allocator> PartialEq for Key<A> {
         match (self, other) {
             (Key::Num(number), Key::Num(another)) => number == another,
             (Key::Text(text), Key::Text(another)) => text == another,
+            (Key::Pair(pair), Key::Pair(another)) => pair == another,
             _ => false,
         }
     }
@@ -72,9 +78,10 @@ impl<A: Allocator> Ord for Key<A> {
     fn cmp(&self, other: &Key<A>) -> Ordering {
         match (self, other) {
             (Key::Num(number), Key::Num(another)) => number.cmp(another),
-            (Key::Num(_), Key::Text(_)) => Ordering::Less,
-            (Key::Text(_), Key::Num(_)) => Ordering::Greater,
             (Key::Text(text), Key::Text(another)) => text.cmp(another),
+            (Key::Pair(pair), Key::Pair(another)) => pair.cmp(another),
+            (Key::Num(_), _) | (Key::Text(_), Key::Pair(_)) => Ordering::Less,
+            (Key::Text(_), Key::Num(_)) | (Key::Pair(_), _) => Ordering::Greater,
         }
     }
 }
@@ -93,6 +100,10 @@ impl<A: Allocator> Hash for Key<A> {
             Key::Text(text) => {
                 1u8.hash(state);
                 text.hash(state);
+            }
+            Key::Pair(pair) => {
+                2u8.hash(state);
+                pair.hash(state);
             }
         }
     }

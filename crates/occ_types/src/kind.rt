@@ -9,6 +9,15 @@ pub enum Kind {
     Text,
 }
 
+/// The kind of one part of a key of two parts.
+#[derive(Clone, Copy, Debug, PartialEq, Eq)]
+pub enum PartKind {
+    /// A number of 64 bits, without a sign.
+    Num,
+    /// A text.
+    Text,
+}
+
 /// The kind of a table's keys.
 #[derive(Clone, Copy, Debug, PartialEq, Eq)]
 pub enum KeyKind {
@@ -16,4 +25,6 @@ pub enum KeyKind {
     Num,
     /// Texts.
     Text,
+    /// Two parts, the first one of the first kind and the second one of the second.
+    Pair(PartKind, PartKind),
 }

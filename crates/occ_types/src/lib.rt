@@ -3,10 +3,12 @@
 
 mod cells;
 mod fault;
+mod key_parts;
 mod keys;
 mod kind;
 pub mod limits;
 mod objects;
+mod pairs;
 mod questions;
 mod rows;
 mod schemas;
@@ -15,9 +17,11 @@ mod texts;
 
 pub use cells::Cell;
 pub use fault::{Fault, Refused};
+pub use key_parts::KeyPart;
 pub use keys::Key;
-pub use kind::{KeyKind, Kind};
+pub use kind::{KeyKind, Kind, PartKind};
 pub use objects::Object;
+pub use pairs::Pair;
 pub use questions::Question;
 pub use rows::Row;
 pub use schemas::Schema;

@@ -3,14 +3,15 @@ ghost use Rattle.std.specs.Prelude.{◌≡◌, nat_eq, length};
 ghost use Rattle.std.specs.List.{list_any, list_all};
 ghost use Rattle.std.specs.Result.{result_err};
 ghost use Rattle.std.specs.Cmp.Lexicographic.{pointwise};
-ghost use Rattle.occ_types.specs.Schema.{check_key_in, check_row_in, check_cells, check_end, is_name, is_letter};
+ghost use Rattle.occ_types.specs.Schema.{check_key_in, check_row_in, check_cells, check_end, part_has_kind, part_is_too_long, key_has_kind, key_is_too_long, is_name, is_letter};
 ghost use Rattle.occ_types.specs.Fits.{check_cell, fits_before};
-ghost use Rattle.occ_types.specs.Seen.{cell_of, key_of, end_of, row_of, table_of, tables_of};
+ghost use Rattle.occ_types.specs.Seen.{cell_of, part_of, key_of, end_of, row_of, table_of, tables_of};
 
 use crate::cells::Cell;
 use crate::fault::Fault;
+use crate::key_parts::KeyPart;
 use crate::keys::Key;
-use crate::kind::{KeyKind, Kind};
+use crate::kind::{KeyKind, Kind, PartKind};
 use crate::limits::{MAX_CELL_BYTES, MAX_COLUMNS, MAX_KEY_BYTES, MAX_NAME_LETTERS};
 use crate::rows::Row;
 use crate::texts::Text;
@@ -29,16 +30,17 @@ pub struct TableDef<A: Allocator> {
 }
 
 impl<A: Allocator> TableDef<A> {
-    /// Whether a key fits the table: `WrongKind`, or else `TooLong`.
+    /// Whether a key fits the table: `WrongKind`, or else `TooLong`. Of a pair, the kinds of both parts are tried before any length.
     pub fn check_key(&self, key: &Key<A>) -> Result<(), Fault>
         ensures { result_err result ≡ check_key_in (table_of self.now) (key_of key.now) }
     {
-        match (self.key, key) {
-            (KeyKind::Num, Key::Num(_)) => Ok(()),
-            (KeyKind::Text, Key::Text(text)) if text.len() <= MAX_KEY_BYTES => Ok(()),
-            (KeyKind::Text, Key::Text(_)) => Err(Fault::TooLong),
-            _ => Err(Fault::WrongKind),
+        if !key_has_kind(self.key, key) {
+            return Err(Fault::WrongKind);
         }
+        if key_is_too_long(key) {
+            return Err(Fault::TooLong);
+        }
+        Ok(())
     }
 
     /// Whether an end of a range fits the table, where there is one.
@@ -77,6 +79,51 @@ impl<A: Allocator> TableDef<A> {
         ensures { result ≡ list_any (λ other. pointwise nat_eq self.now.name other.name) others.now }
     {
         others.iter().any(|other| self.name == other.name)
+    }
+}
+
+// Whether a part of a key has the kind.
+fn part_has_kind<A: Allocator>(kind: PartKind, part: &KeyPart<A>) -> bool
+    ensures { result ≡ part_has_kind kind (part_of part.now) }
+{
+    matches!(
+        (kind, part),
+        (PartKind::Num, KeyPart::Num(_)) | (PartKind::Text, KeyPart::Text(_))
+    )
+}
+
+// Whether a part of a key is a text over its limit.
+fn part_is_too_long<A: Allocator>(part: &KeyPart<A>) -> bool
+    ensures { result ≡ part_is_too_long (part_of part.now) }
+{
+    match part {
+        KeyPart::Num(_) => false,
+        KeyPart::Text(text) => text.len() > MAX_KEY_BYTES,
+    }
+}
+
+// Whether a key has the kind; of a pair, each part its own.
+fn key_has_kind<A: Allocator>(kind: KeyKind, key: &Key<A>) -> bool
+    ensures { result ≡ key_has_kind kind (key_of key.now) }
+{
+    match (kind, key) {
+        (KeyKind::Num, Key::Num(_)) => true,
+        (KeyKind::Text, Key::Text(_)) => true,
+        (KeyKind::Pair(first, second), Key::Pair(pair)) => {
+            part_has_kind(first, pair.first()) && part_has_kind(second, pair.second())
+        }
+        _ => false,
+    }
+}
+
+// Whether a text of a key is over its limit.
+fn key_is_too_long<A: Allocator>(key: &Key<A>) -> bool
+    ensures { result ≡ key_is_too_long (key_of key.now) }
+{
+    match key {
+        Key::Num(_) => false,
+        Key::Text(text) => text.len() > MAX_KEY_BYTES,
+        Key::Pair(pair) => part_is_too_long(pair.first()) || part_is_too_long(pair.second()),
     }
 }
 

@@ -1,5 +1,8 @@
 //! Each public function once, on its happy path.
-use occ_types::{Cell, Fault, Key, KeyKind, Kind, Object, Question, Row, Schema, TableDef, Text};
+use occ_types::{
+    Cell, Fault, Key, KeyKind, KeyPart, Kind, Object, Pair, PartKind, Question, Row, Schema,
+    TableDef, Text,
+};
 use std::alloc::{AllocError, Global};
 use std::cmp::Ordering;
 use std::test::Fail;
@@ -58,6 +61,71 @@ fn keys(rt: HostRuntime) -> Result<(), Fail> {
     assert_eq!(rt; word.cmp(&seven), Ordering::Greater);
     assert!(rt; Cell::Int(-1) == Cell::<Global>::Int(-1));
     assert!(rt; Cell::Text(text(alloc, "a")?) != Cell::Int(0));
+    Ok(())
+}
+
+// The key of a number and a text.
+fn pair(alloc: Global, number: u64, letters: &str) -> Result<Key<Global>, Fail> {
+    let second = KeyPart::Text(text(alloc, letters)?);
+    Ok(Key::Pair(Pair::new(alloc, KeyPart::Num(number), second)?))
+}
+
+#[test]
+fn pairs(rt: HostRuntime) -> Result<(), Fail> {
+    let alloc = rt.alloc();
+    let key = pair(alloc, 2, "a")?;
+    assert!(rt; key.clone()? == key);
+    assert!(rt; key == pair(alloc, 2, "a")?);
+    assert!(rt; key != pair(alloc, 2, "b")?);
+    assert!(rt; key != pair(alloc, 3, "a")?);
+    // By the first part, then by the second: 1 and z come before 2 and a.
+    assert!(rt; pair(alloc, 1, "z")? < key);
+    assert!(rt; pair(alloc, 2, "")? < key);
+    assert!(rt; key < pair(alloc, 2, "aa")?);
+    assert!(rt; key < pair(alloc, 10, "")?);
+    assert!(rt; Key::Num(u64::MAX) < key);
+    assert!(rt; Key::Text(text(alloc, "z")?) < key);
+    let parts = Pair::new(alloc, KeyPart::Num(2), KeyPart::Text(text(alloc, "a")?))?;
+    assert!(rt; *parts.first() == KeyPart::Num(2));
+    assert!(rt; *parts.second() == KeyPart::Text(text(alloc, "a")?));
+    assert!(rt; KeyPart::Num(9) < *parts.second());
+    Ok(())
+}
+
+#[test]
+fn pairs_fit_by_both_parts(rt: HostRuntime) -> Result<(), Fail> {
+    let alloc = rt.alloc();
+    let mut tables = shop(alloc)?;
+    tables.push(TableDef {
+        name: text(alloc, "entry")?,
+        key: KeyKind::Pair(PartKind::Num, PartKind::Text),
+        columns: vec![in alloc; Kind::Int]?,
+    })?;
+    let Ok(schema) = Schema::new(tables) else {
+        assert!(rt; false, "three good tables");
+        return Ok(());
+    };
+    let key = pair(alloc, 2, "a")?;
+    assert_eq!(rt; schema.check_key(2, &key), Ok(()));
+    assert_eq!(rt; schema.check_key(1, &key), Err(Fault::WrongKind));
+    assert_eq!(rt; schema.check_key(2, &Key::Num(2)), Err(Fault::WrongKind));
+    let both = Pair::new(alloc, KeyPart::Num(2), KeyPart::Num(2))?;
+    assert_eq!(rt;
+        schema.check_key(2, &Key::Pair(both)),
+        Err(Fault::WrongKind)
+    );
+    for (bytes, answer) in [(64, Ok(())), (65, Err(Fault::TooLong))] {
+        let long = KeyPart::Text(Text::from_string("a".repeat(alloc, bytes)?));
+        let key = Key::Pair(Pair::new(alloc, KeyPart::Num(2), long)?);
+        assert_eq!(rt; schema.check_key(2, &key), answer, "{bytes} bytes");
+    }
+    // The kinds of both parts are tried before any length.
+    let long = KeyPart::Text(Text::from_string("a".repeat(alloc, 65)?));
+    let wrong = Pair::new(alloc, long, KeyPart::Num(2))?;
+    assert_eq!(rt;
+        schema.check_key(2, &Key::Pair(wrong)),
+        Err(Fault::WrongKind)
+    );
     Ok(())
 }
 

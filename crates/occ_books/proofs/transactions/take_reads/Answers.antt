@@ -12,14 +12,14 @@ use Rattle.occ_books.proofs.transactions.take_reads.Goals as goal
 
 pub loop-init : goal.loop-init
 loop-init g c = record {
-  taken = nothing_yet (read_lines c.args.schema.now) (ReadFits c.args.schema.now) c.in_ok-reads.reads _ c.in_ok-reads.ensures;
+  taken = nothing_yet (read_lines c.args.schema.now) (ReadFits c.args.version c.args.schema.now) c.in_ok-reads.reads _ c.in_ok-reads.ensures;
   count = ap length c.in_ok-reads.ensures;
   led = λ row same. begun (reads_to_come row) _ c.args.input.now.number c.args.count;
 }
 
 pub loop-preserved : goal.loop-preserved
 loop-preserved g c = record {
-  taken = gathered_next (read_lines c.args.schema.now) (ReadFits c.args.schema.now) c.loop.reads c.note.new.reads (observation_of c.in_ok-read.read) _ _ _ c.in_ok-note.ensures c.loop.invariant.taken c.in_ok-read.ensures.taken;
+  taken = gathered_next (read_lines c.args.schema.now) (ReadFits c.args.version c.args.schema.now) c.loop.reads c.note.new.reads (observation_of c.in_ok-read.read) _ _ _ c.in_ok-note.ensures c.loop.invariant.taken c.in_ok-read.ensures.taken;
   count = count_more c.loop.reads c.note.new.reads (observation_of c.in_ok-read.read) c.loop.counter c.in_ok-note.ensures c.loop.invariant.count;
   led = λ row same.
       let more = c.args.count - (c.loop.counter + 1) in

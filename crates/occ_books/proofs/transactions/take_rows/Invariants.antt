@@ -9,7 +9,7 @@ use Rattle.occ_books.proofs.transactions.take_rows.Given as goal
 -- what was taken so far
 abbrev pub invariant-loop : goal.invariant-loop
 invariant-loop g l = record {
-  taken : Gathered (row_lines l.schema) (LogRowFits l.schema l.sessions) (prepend_known l.fn.input.unread (g.R.Read.remaining l.fn.reader)) (prepend_known l.input.unread (g.R.Read.remaining l.reader)) (log_of l.log.items);
+  taken : Gathered (row_lines l.schema) (LogRowFits l.version l.schema l.sessions) (prepend_known l.fn.input.unread (g.R.Read.remaining l.fn.reader)) (prepend_known l.input.unread (g.R.Read.remaining l.reader)) (log_of l.log.items);
   count : length l.log.items ≡ l.counter;
-  led : Led (rows_to_come (frame_of l.schema l.sessions) l.count) (rows_to_come (frame_of l.schema l.sessions) (l.count - l.counter)) (prepend_known l.fn.input.unread (g.R.Read.remaining l.fn.reader)) (prepend_known l.input.unread (g.R.Read.remaining l.reader)) l.fn.input.number l.input.number;
+  led : Led (rows_to_come (frame_of l.version l.schema l.sessions) l.count) (rows_to_come (frame_of l.version l.schema l.sessions) (l.count - l.counter)) (prepend_known l.fn.input.unread (g.R.Read.remaining l.fn.reader)) (prepend_known l.input.unread (g.R.Read.remaining l.reader)) l.fn.input.number l.input.number;
 }

@@ -12,7 +12,7 @@ use Rattle.occ_books.proofs.transactions.take_writes.Goals as goal
 
 pub loop-init : goal.loop-init
 loop-init g c = record {
-  taken = nothing_yet (λ write. write_line c.args.schema.now write ∷ []) (WriteFits c.args.schema.now) c.in_ok-writes.writes _ c.in_ok-writes.ensures;
+  taken = nothing_yet (λ write. write_line c.args.schema.now write ∷ []) (WriteFits c.args.version c.args.schema.now) c.in_ok-writes.writes _ c.in_ok-writes.ensures;
   count = ap length c.in_ok-writes.ensures;
   distinct = subst IsDistinctWrites (sym c.in_ok-writes.ensures) tt;
   led = λ row same. writes_begun c.in_ok-writes.writes row c.args.count _ c.args.input.now.number c.in_ok-writes.ensures;
@@ -23,23 +23,23 @@ loop-preserved g c =
     let added = rw c.in_ok-read_at_line.ensures.taken at c.add_write.ensures.ok in
     let unwritten = rw c.in_ok-read_at_line.ensures.taken at c.add_write.ensures.unwritten in
     record {
-      taken = gathered_next (λ write. write_line c.args.schema.now write ∷ []) (WriteFits c.args.schema.now) c.loop.writes c.add_write.new.writes (object_of c.in_ok-object.object, c.in_ok-object.row) _ _ _ added c.loop.invariant.taken c.in_ok-object.ensures.taken;
+      taken = gathered_next (λ write. write_line c.args.schema.now write ∷ []) (WriteFits c.args.version c.args.schema.now) c.loop.writes c.add_write.new.writes (object_of c.in_ok-object.object, c.in_ok-object.row) _ _ _ added c.loop.invariant.taken c.in_ok-object.ensures.taken;
       count = count_more c.loop.writes c.add_write.new.writes (object_of c.in_ok-object.object, c.in_ok-object.row) c.loop.counter added c.loop.invariant.count;
       distinct = distinct-more c.loop.writes c.add_write.new.writes (object_of c.in_ok-object.object) c.in_ok-object.row (not_some _ _ refl unwritten) added c.loop.invariant.distinct;
       led = λ row same.
-          write_more (object_of c.in_ok-object.object, c.in_ok-object.row) row c.args.schema.now c.args.count c.loop.counter c.loop.writes c.add_write.new.writes (writes_to_come row c.args.count []) _ _ _ _ _ _ same c.loop-test.true (c.loop.invariant.led row same)
+          write_more (object_of c.in_ok-object.object, c.in_ok-object.row) row c.args.version c.args.schema.now c.args.count c.loop.counter c.loop.writes c.add_write.new.writes (writes_to_come row c.args.count []) _ _ _ _ _ _ same c.loop-test.true (c.loop.invariant.led row same)
           c.in_ok-object.ensures.led unwritten added;
     }
 
 pub returns-in_err-object-clause-led : goal.returns-in_err-object-clause-led
 returns-in_err-object-clause-led g c = λ row same.
     failed c.in_err-object.field-0.0 c.from_residual-in_err-object.result (writes_to_come row c.args.count []) (λ _. rows_to_come row.frame row.rows) _ _ _ _ c.from_residual-in_err-object.ensures.1
-    (write_fails c.in_err-object.field-0.0 row c.args.schema.now c.args.count c.loop.counter (map (λ write. write.0) c.loop.writes) (writes_to_come row c.args.count []) _ _ _ _ _ same c.loop-test.true (c.loop.invariant.led row same) c.in_err-object.ensures.led)
+    (write_fails c.in_err-object.field-0.0 row c.args.version c.args.schema.now c.args.count c.loop.counter (map (λ write. write.0) c.loop.writes) (writes_to_come row c.args.count []) _ _ _ _ _ same c.loop-test.true (c.loop.invariant.led row same) c.in_err-object.ensures.led)
 
 pub returns-in_err-read_at_line-clause-led : goal.returns-in_err-read_at_line-clause-led
 returns-in_err-read_at_line-clause-led g c = λ row same.
     failed c.in_err-read_at_line.field-0.0 c.from_residual-in_err-read_at_line.result (writes_to_come row c.args.count []) (λ _. rows_to_come row.frame row.rows) _ _ _ _ c.from_residual-in_err-read_at_line.ensures.1
-    (add_fails c.add_write.result c.in_err-read_at_line.field-0.0 (object_of c.in_ok-object.object, c.in_ok-object.row) row c.args.schema.now c.args.count c.loop.counter c.number.result c.loop.writes (writes_to_come row c.args.count []) _ _ _ _ _ _ c.tables-tables.ensures.fits same
+    (add_fails c.add_write.result c.in_err-read_at_line.field-0.0 (object_of c.in_ok-object.object, c.in_ok-object.row) row c.args.version c.args.schema.now c.args.count c.loop.counter c.number.result c.loop.writes (writes_to_come row c.args.count []) _ _ _ _ _ _ c.tables-tables.ensures.fits same
     c.loop-test.true (c.loop.invariant.led row same) c.in_ok-object.ensures.led c.in_ok-object.ensures.line c.number.ensures c.add_write.ensures.err c.in_err-read_at_line.ensures.exact)
 
 pub returns-clause-led : goal.returns-clause-led

@@ -11,14 +11,14 @@ use Rattle.occ_books.proofs.whole_books.take_behind.Goals as goal
 
 pub returns-clause-taken : goal.returns-clause-taken
 returns-clause-taken g c =
-    behind_read (table_of {Z = g.row.A.Denot}) c.table_behind.result c.in_ok-table.table (tables_of c.args.tables.now) c.line-2.result.now _ _ _ c.requires (one_line _ _ _ c.in_ok-take_line.ensures.gives.0) c.line-2.ensures c.table_behind.ensures c.in_ok-table.ensures.taken
+    behind_read c.args.version (table_of {Z = g.row.A.Denot}) c.table_behind.result c.in_ok-table.table (tables_of c.args.tables.now) c.line-2.result.now _ _ _ c.requires (one_line _ _ _ c.in_ok-take_line.ensures.gives.0) c.line-2.ensures c.table_behind.ensures c.in_ok-table.ensures.taken
 
 pub returns-in_err-table-clause-led : goal.returns-in_err-table-clause-led
 returns-in_err-table-clause-led g c =
-    further_unread (table_of {Z = g.row.A.Denot}) (further_of {Z = g.row.A.Denot}) c.table_behind.result c.in_err-table.field-0.0 c.from_residual-in_err-table.result (tables_of c.args.tables.now) c.line.result.now c.line-2.result.now _ _ _ c.number.result _ _
+    further_unread c.args.version (table_of {Z = g.row.A.Denot}) (further_of {Z = g.row.A.Denot}) c.table_behind.result c.in_err-table.field-0.0 c.from_residual-in_err-table.result (tables_of c.args.tables.now) c.line.result.now c.line-2.result.now _ _ _ c.number.result _ _
     c.requires c.in_ok-take_line.ensures.gives c.line.ensures c.line-2.ensures c.in_default.ensures.grammar c.table_behind.ensures c.in_err-table.ensures.exact c.from_residual-in_err-table.ensures.1 c.number.ensures
 
 pub returns-clause-led : goal.returns-clause-led
 returns-clause-led g c =
-    next_read (tables_of c.args.tables.now) (table_of c.in_ok-table.table) c.line-2.result.now _ _ _ _ _ c.requires c.in_ok-take_line.ensures.gives c.line-2.ensures
-    (subst (λ r. Gives table_of r (table_behind (tables_of c.args.tables.now) c.line-2.result.now)) c.in_ok-table.ensures.taken c.table_behind.ensures)
+    next_read c.args.version (tables_of c.args.tables.now) (table_of c.in_ok-table.table) c.line-2.result.now _ _ _ _ _ c.requires c.in_ok-take_line.ensures.gives c.line-2.ensures
+    (subst (λ r. Gives table_of r (table_behind c.args.version (tables_of c.args.tables.now) c.line-2.result.now)) c.in_ok-table.ensures.taken c.table_behind.ensures)

@@ -11,8 +11,8 @@ use Rattle.occ_books.proofs.whole_books.take_opening.Given as goal
 abbrev pub invariant-loop-tables : goal.invariant-loop-tables
 invariant-loop-tables g l = record {
   taken : TakesLines (prepend_known l.fn.input.unread (g.R.Read.remaining l.fn.reader)) (prepend_known l.input.unread (g.R.Read.remaining l.reader)) (map table_text (tables_of l.tables.items));
-  so_far : TablesSoFar (tables_of l.tables.items);
-  led : (sessions : ℕ) → Led (Tables sessions []) (Tables sessions (tables_of l.tables.items)) (prepend_known l.fn.input.unread (g.R.Read.remaining l.fn.reader)) (prepend_known l.input.unread (g.R.Read.remaining l.reader)) l.fn.input.number l.input.number;
+  so_far : TablesSoFar l.version (tables_of l.tables.items);
+  led : (sessions : ℕ) → Led (Tables l.version sessions []) (Tables l.version sessions (tables_of l.tables.items)) (prepend_known l.fn.input.unread (g.R.Read.remaining l.fn.reader)) (prepend_known l.input.unread (g.R.Read.remaining l.reader)) l.fn.input.number l.input.number;
 }
 
 abbrev pub decreases-loop-tables : goal.decreases-loop-tables

@@ -1,6 +1,6 @@
 use Rattle.std.proofs.Common.{subst, sym, ap, ◌∙◌}
 use Rattle.std.proofs.lemmas.Result.{err_from_is_err_and}
-use Rattle.occ_types.specs.Seen.{key_of, question_of}
+use Rattle.occ_types.specs.Seen.{end_of, question_of}
 use Rattle.occ_model.specs.Event.{Answered}
 use Rattle.occ_cli.specs.Answers as says
 use Rattle.occ_cli.specs.Replaying.{MayAnswer, span_named}
@@ -13,16 +13,16 @@ use Rattle.occ_cli.proofs.asking.scan.Goals as goal
 pub returns-in_err-given : goal.returns-in_err-given
 returns-in_err-given g c =
     let p = err_from_is_err_and c.from_residual-in_err-given.result c.from_residual-in_err-given.ensures.1 in
-    scan_refused c.args.core.now.world c.args.session c.args.table.now (key_of c.args.lower) (key_of c.args.upper) c.args.copy.now (question_of c.in_ok-question.question) c.ask.new.core.world
+    scan_refused c.args.core.now.world c.args.session c.args.table.now (end_of c.args.lower) (end_of c.args.upper) c.args.copy.now (question_of c.in_ok-question.question) c.ask.new.core.world
     c.from_residual-in_err-given.result p.0 c.in_err-given.field-0.0
-    (c.in_ok-question.ensures ∙ ap (λ s. span_named s c.args.table.now (key_of c.args.lower) (key_of c.args.upper)) c.schema.ensures)
+    (c.in_ok-question.ensures ∙ ap (λ s. span_named s c.args.table.now (end_of c.args.lower) (end_of c.args.upper)) c.schema.ensures)
     p.1 p.2 c.in_err-given.ensures
 
 -- what the store answers may go under the own writes
 pub over-requires : goal.over-requires
 over-requires g c =
-    let lower = key_of c.args.lower in
-    let upper = key_of c.args.upper in
+    let lower = end_of c.args.lower in
+    let upper = end_of c.args.upper in
     let asked = c.in_ok-question.ensures ∙ ap (λ s. span_named s c.args.table.now lower upper) c.schema.ensures in
     let question = question_of c.in_ok-question.question in
     let given = sets.answer_of c.in_ok-given.given in
@@ -33,8 +33,8 @@ over-requires g c =
 -- they go over it
 pub returns : goal.returns
 returns g c =
-    let lower = key_of c.args.lower in
-    let upper = key_of c.args.upper in
+    let lower = end_of c.args.lower in
+    let upper = end_of c.args.upper in
     let asked = c.in_ok-question.ensures ∙ ap (λ s. span_named s c.args.table.now lower upper) c.schema.ensures in
     let given = sets.answer_of c.in_ok-given.given in
     scan_answered c.args.core.now.world c.args.session c.args.table.now lower upper c.args.copy.now (question_of c.in_ok-question.question) given c.ask.new.core.world c.over.result

@@ -1,11 +1,11 @@
 use Rattle.std.proofs.Common.{◌∷◌, [], Ok, refl, codes}
-use Rattle.occ_text.specs.Headers.{count_text}
+use Rattle.occ_text.specs.Headers.{version_text, count_text}
 use Rattle.occ_print.proofs.Printing.{failed, front_line, front_amid, lines_then}
 use Rattle.occ_print.proofs.books.print_limits.Goals as goal
 
 pub returns-in_err-print_version-clause-printed : goal.returns-in_err-print_version-clause-printed
 returns-in_err-print_version-clause-printed g c =
-    let occ = codes "occ 1" in
+    let occ = version_text c.args.limits.version in
     let sessions = count_text (codes "sessions") c.args.limits.sessions in
     let queue = count_text (codes "queue") c.args.limits.queue in
     let keep = count_text (codes "keep") c.args.limits.keep in
@@ -13,7 +13,7 @@ returns-in_err-print_version-clause-printed g c =
 
 pub returns-in_err-print_count-clause-printed : goal.returns-in_err-print_count-clause-printed
 returns-in_err-print_count-clause-printed g c =
-    let occ = codes "occ 1" in
+    let occ = version_text c.args.limits.version in
     let sessions = count_text (codes "sessions") c.args.limits.sessions in
     let queue = count_text (codes "queue") c.args.limits.queue in
     let keep = count_text (codes "keep") c.args.limits.keep in
@@ -22,7 +22,7 @@ returns-in_err-print_count-clause-printed g c =
 
 pub returns-in_err-print_count-2-clause-printed : goal.returns-in_err-print_count-2-clause-printed
 returns-in_err-print_count-2-clause-printed g c =
-    let occ = codes "occ 1" in
+    let occ = version_text c.args.limits.version in
     let sessions = count_text (codes "sessions") c.args.limits.sessions in
     let queue = count_text (codes "queue") c.args.limits.queue in
     let keep = count_text (codes "keep") c.args.limits.keep in
@@ -32,7 +32,7 @@ returns-in_err-print_count-2-clause-printed g c =
 
 pub returns-clause-printed : goal.returns-clause-printed
 returns-clause-printed g c =
-    let occ = codes "occ 1" in
+    let occ = version_text c.args.limits.version in
     let sessions = count_text (codes "sessions") c.args.limits.sessions in
     let queue = count_text (codes "queue") c.args.limits.queue in
     let keep = count_text (codes "keep") c.args.limits.keep in

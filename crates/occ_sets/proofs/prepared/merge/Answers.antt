@@ -1,6 +1,6 @@
 use Rattle.std.proofs.Common.{◌≡◌, ◌+◌, ◌≤◌, [], ◌∷◌, append_assoc, append-nil, length, sym, ap, subst, ◌∙◌, arith, rules, map-id}
 use Rattle.std.proofs.lemmas.List.{length_push}
-use Rattle.std.proofs.lemmas.Iterator.Consumers.{YieldsList-end}
+use Rattle.std.proofs.lemmas.Iterator.Consumers.{YieldsList-end, YieldsList-turn}
 use Rattle.std.proofs.lemmas.Iterator.Adapters.{YieldsList-from_vec}
 use Rattle.std.specs.BTreeMap.{btree_map_len}
 use Rattle.std.specs.Ordering.{on}
@@ -20,6 +20,13 @@ loop-key-preserved g c =
       omega (arith, c.lay_row.ensures.len, kept.1, length_push c.loop-key.yielded next),
       subst (λ n. length c.args.rows.items + btree_map_len c.args.own ≤ n) (sym c.lay_row.ensures.capacity) kept.2,
     )
+
+-- a row that is taken was left, so there is room for it
+pub lay_row-requires : goal.lay_row-requires
+lay_row-requires g c =
+    let turn = YieldsList-turn (YieldsList-from_vec {s = c.into_iter-key-iterator.result} c.args.rows.items (search rules) (search rules))
+    c.loop-key.yielded c.loop-key.key-iterator c.loop-key.yielded_by c.next.result c.next.new.self (c.in-Some.key, c.in-Some.row) c.in-Some.is c.next.ensures.steps in
+    record { room = omega (arith, turn.0, c.loop-key.invariant.1, c.loop-key.invariant.2) }
 
 pub lay_rest-requires : goal.lay_rest-requires
 lay_rest-requires g c =

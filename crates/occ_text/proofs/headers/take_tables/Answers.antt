@@ -8,7 +8,7 @@ pub loop-tables-preserved : goal.loop-tables-preserved
 loop-tables-preserved g c =
     let n = rw c.in-Some.is at c.in_ok-table.ensures.gives in
     let i = c.loop-tables.invariant in
-    let p = table_pushed_by table_of c.loop-tables.tables.items c.as_slice.result.now c.push.new.self.items c.in-Some.table _ _ _ c.args.input.now.number c.loop-tables.input.number _ c.as_slice.ensures.value
+    let p = table_pushed_by c.args.version table_of c.loop-tables.tables.items c.as_slice.result.now c.push.new.self.items c.in-Some.table _ _ _ c.args.input.now.number c.loop-tables.input.number _ c.as_slice.ensures.value
     c.in_ok-push-in-Some.ensures.items i.taken i.number n in
     record { taken = p.0; so_far = p.1; number = p.2 }
 
@@ -16,22 +16,22 @@ pub returns-in-Ok-clause-gives : goal.returns-in-Ok-clause-gives
 returns-in-Ok-clause-gives g c =
     let n = rw c.in-None.is at c.in_ok-table.ensures.gives in
     let i = c.loop-tables.invariant in
-    tables_end (tables_of c.loop-tables.tables.items) c.in-Ok.schema _ _ _ c.args.input.now.number c.loop-tables.input.number _ i.taken (i.number ∙ ap (λ (k : _). c.args.input.now.number + k) (sym (length-map c.loop-tables.tables.items table_of))) n c.in-Ok.ensures
+    tables_end c.args.version (tables_of c.loop-tables.tables.items) c.in-Ok.schema _ _ _ c.args.input.now.number c.loop-tables.input.number _ i.taken (i.number ∙ ap (λ (k : _). c.args.input.now.number + k) (sym (length-map c.loop-tables.tables.items table_of))) n c.in-Ok.ensures i.so_far.kinds
 
 pub returns-clause-gives : goal.returns-clause-gives
 returns-clause-gives g c =
     let n = rw c.in-None.is at c.in_ok-table.ensures.gives in
     let i = c.loop-tables.invariant in
-    tables_none (tables_of c.loop-tables.tables.items) c.in-Err.field-0.fault _ _ _ c.args.input.now.number c.loop-tables.input.number _ c.number.result i.taken i.so_far
+    tables_none c.args.version (tables_of c.loop-tables.tables.items) c.in-Err.field-0.fault _ _ _ c.args.input.now.number c.loop-tables.input.number _ c.number.result i.taken i.so_far
     (i.number ∙ ap (λ (k : _). c.args.input.now.number + k) (sym (length-map c.loop-tables.tables.items table_of))) n c.in-Err.ensures.0 c.number.ensures
 
 pub returns-in_err-table-clause-gives : goal.returns-in_err-table-clause-gives
 returns-in_err-table-clause-gives g c =
     let i = c.loop-tables.invariant in
-    tables_stop c.in_err-table.field-0.0 c.from_residual.result (tables_of c.loop-tables.tables.items) (tables_of c.as_slice.result.now) _ _ _ c.args.input.now.number c.loop-tables.input.number _ c.from_residual.ensures.1 (ap tables_of c.as_slice.ensures.value)
+    tables_stop c.args.version c.in_err-table.field-0.0 c.from_residual.result (tables_of c.loop-tables.tables.items) (tables_of c.as_slice.result.now) _ _ _ c.args.input.now.number c.loop-tables.input.number _ c.from_residual.ensures.1 (ap tables_of c.as_slice.ensures.value)
     i.taken i.so_far (i.number ∙ ap (λ (k : _). c.args.input.now.number + k) (sym (length-map c.loop-tables.tables.items table_of))) c.in_err-table.ensures.gives
 
 pub returns-in_err-push-in-Some-clause-gives : goal.returns-in_err-push-in-Some-clause-gives
 returns-in_err-push-in-Some-clause-gives g c =
     let i = c.loop-tables.invariant in
-    tables_refused c.from_residual-in_err-push-in-Some.result (tables_of c.loop-tables.tables.items) _ _ _ c.args.input.now.number _ c.from_residual-in_err-push-in-Some.ensures.1 i.taken i.so_far
+    tables_refused c.args.version c.from_residual-in_err-push-in-Some.result (tables_of c.loop-tables.tables.items) _ _ _ c.args.input.now.number _ c.from_residual-in_err-push-in-Some.ensures.1 i.taken i.so_far

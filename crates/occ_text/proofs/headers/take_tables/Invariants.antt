@@ -10,7 +10,7 @@ use Rattle.occ_text.proofs.headers.take_tables.Given as goal
 abbrev pub invariant-loop-tables : goal.invariant-loop-tables
 invariant-loop-tables g l = record {
   taken : Consumes (prepend_known l.fn.input.unread (g.R.Read.remaining l.fn.reader)) (prepend_known l.input.unread (g.R.Read.remaining l.reader)) (lines_text (map table_text (tables_of l.tables.items)));
-  so_far : TablesSoFar (tables_of l.tables.items);
+  so_far : TablesSoFar l.version (tables_of l.tables.items);
   number : l.input.number ≡ l.fn.input.number + length l.tables.items;
 }
 

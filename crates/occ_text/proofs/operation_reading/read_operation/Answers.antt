@@ -5,7 +5,7 @@ use Rattle.occ_text.proofs.OperationsSpelled.{operation_reads}
 use Rattle.occ_text.proofs.operation_reading.read_operation.Goals as goal
 
 pub returns-clause-found : goal.returns-clause-found
-returns-clause-found g c = found_by operation_of c.operation_value.result (read_operation c.args.token.now) operation_text OperationFits c.args.token.now c.operation_value.ensures (operation_reads c.args.token.now)
+returns-clause-found g c = found_by operation_of c.operation_value.result (read_operation c.args.version c.args.token.now) operation_text (OperationFits c.args.version) c.args.token.now c.operation_value.ensures (operation_reads c.args.version c.args.token.now)
 
 pub returns-clause-again : goal.returns-clause-again
-returns-clause-again g c = again_by operation_of c.operation_value.result (read_operation c.args.token.now) operation_text OperationFits c.args.token.now c.operation_value.ensures (operation_reads c.args.token.now)
+returns-clause-again g c = again_by operation_of c.operation_value.result (read_operation c.args.version c.args.token.now) operation_text (OperationFits c.args.version) c.args.token.now c.operation_value.ensures (operation_reads c.args.version c.args.token.now)

@@ -6,8 +6,8 @@ use Rattle.occ_text.proofs.step_reading.alone_of_parts.Goals as goal
 
 pub returns-in_default : goal.returns-in_default
 unfolding alone_of_tokens
-returns-in_default g c = ap alone_of_tokens c.in_default.ensures.0
+returns-in_default g c = ap (alone_of_tokens c.args.version) c.in_default.ensures.0
 
 pub returns : goal.returns
 unfolding alone_of_tokens
-returns g c = subst (λ (l : List (List ℕ)). Gives step_of c.alone_step.result (alone_of_tokens l)) (sym c.in-Some.ensures) c.alone_step.ensures
+returns g c = subst (λ (l : List (List ℕ)). Gives step_of c.alone_step.result (alone_of_tokens c.args.version l)) (sym c.in-Some.ensures) c.alone_step.ensures

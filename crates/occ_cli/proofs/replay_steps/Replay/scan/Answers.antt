@@ -1,6 +1,6 @@
 use Rattle.std.proofs.Common.{inr}
 use Rattle.std.proofs.lemmas.Result.{err_from_is_err_and}
-use Rattle.occ_types.specs.Seen.{key_of}
+use Rattle.occ_types.specs.Seen.{end_of}
 use Rattle.occ_cli.specs.Replaying.{Scans, WantsScan}
 use Rattle.occ_cli.proofs.Replaying.{by_asking, no_asker}
 use Rattle.occ_cli.proofs.replay_steps.Replay.scan.Goals as goal
@@ -10,12 +10,12 @@ returns-in_err-place g c =
     let p = err_from_is_err_and c.from_residual.result c.from_residual.ensures.1 in
     inr (no_asker c.self.inside.core.world c.self.inside.clients.items c.args.self.now c.self.view_is c.from_residual.result
     c.as_slice.result.now c.args.session p.0 c.in_err-place.field-0.0
-    (λ answer client. Scans c.args.self.now.world c.args.session c.args.table.now (key_of c.args.lower) (key_of c.args.upper) client answer c.args.self.now.world)
+    (λ answer client. Scans c.args.self.now.world c.args.session c.args.table.now (end_of c.args.lower) (end_of c.args.upper) client answer c.args.self.now.world)
     c.as_slice.ensures.value p.1 p.2 c.in_err-place.ensures)
 
 pub returns : goal.returns
 returns g c =
     by_asking c.self.inside.core.world c.self.inside.clients.items c.args.self.now c.self.view_is c.scan.result
     c.as_slice.result.now c.as_slice.ensures.value c.args.session c.in_ok-place.place c.in_ok-place.ensures c.index-client.result.now c.index-client.ensures c.scan.new.core.world
-    (λ world client. WantsScan world c.args.table.now (key_of c.args.lower) (key_of c.args.upper) client)
-    (λ world answer client. Scans world c.args.session c.args.table.now (key_of c.args.lower) (key_of c.args.upper) client answer c.scan.new.core.world) c.scan.ensures
+    (λ world client. WantsScan world c.args.table.now (end_of c.args.lower) (end_of c.args.upper) client)
+    (λ world answer client. Scans world c.args.session c.args.table.now (end_of c.args.lower) (end_of c.args.upper) client answer c.scan.new.core.world) c.scan.ensures

@@ -12,3 +12,6 @@ returns-in-Alone-clause-step g c = alone_of _ _ _ _ _ _ c.enter_alone.ensures.st
 
 pub returns-in-Err-enter_close-clause-step : goal.returns-in-Err-enter_close-clause-step
 returns-in-Err-enter_close-clause-step g c = close_of _ _ _ _ _ _ c.in-Err-enter_close.ensures (search rules)
+
+pub returns-in-Alone-clause-handed_back : goal.returns-in-Alone-clause-handed_back
+returns-in-Alone-clause-handed_back g c = rw c.in-Alone.is c.enter_alone.ensures.handed_back

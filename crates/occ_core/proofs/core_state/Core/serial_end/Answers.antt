@@ -10,3 +10,6 @@ returns-in-Alone-clause-step g c = end_of _ _ _ _ _ _ c.end_alone.ensures.step (
 
 pub returns-in-Close-clause-step : goal.returns-in-Close-clause-step
 returns-in-Close-clause-step g c = end_of _ _ _ _ _ _ c.end_close.ensures.step (search rules)
+
+pub returns-in-Alone-clause-handed_back : goal.returns-in-Alone-clause-handed_back
+returns-in-Alone-clause-handed_back g c = rw c.in-Alone.is c.end_alone.ensures.handed_back

@@ -1,7 +1,7 @@
 use Rattle.std.proofs.Common.{◌≡◌, ◌++◌, List, length, option_map}
 use Rattle.occ_types.specs.declared.kind.Kind.{Kind}
 use Rattle.occ_text.specs.HeaderReading.{kinds_of}
-use Rattle.occ_text.proofs.headers.columns.Given as goal
+use Rattle.occ_text.proofs.kinds.columns.Given as goal
 
 -- the kinds that were read and those of the words to come are the whole
 abbrev pub invariant-loop-word : goal.invariant-loop-word

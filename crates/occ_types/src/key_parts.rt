@@ -1,0 +1,99 @@
+//! Parts of a key of two parts, and their one total order.
+ghost use Rattle.std.specs.Prelude.{◌≡◌, List, ◌++◌, refl};
+ghost use Rattle.std.specs.Ordering.{on, eq_by_cmp, as_partial_cmp};
+ghost use Rattle.std.specs.Cmp.{on_per, on_equiv, on_total, on_po, po, eq_by_cmp_equiv, partial_equiv_from_equiv};
+ghost use Rattle.occ_types.specs.KeyPart.{part_cmp, part_cmp_total};
+ghost use Rattle.occ_types.specs.Same.{part_same, part_same_equiv, part_po, part_fed, part_fed_alike};
+ghost use Rattle.occ_types.specs.Seen.{part_of};
+
+use crate::texts::Text;
+use std::alloc::{AllocError, Allocator};
+use std::cmp::Ordering;
+use std::hash::{Hash, Hasher};
+
+/// One part of a key of two parts. Numbers come by size, texts by their bytes, and every number comes before every text.
+#[derive(Drop)]
+#[derive_where(Debug)]
+pub enum KeyPart<A: Allocator> {
+    /// A number of 64 bits, without a sign.
+    Num(u64),
+    /// A text.
+    Text(Text<A>),
+}
+
+impl<A: Allocator + Clone> Clone for KeyPart<A> {
+    ghost is_clone = { λ source copy. copy ≡ source };
+
+    fn clone(&self) -> Result<KeyPart<A>, AllocError> {
+        match self {
+            KeyPart::Num(number) => Ok(KeyPart::Num(*number)),
+            KeyPart::Text(text) => Ok(KeyPart::Text(text.clone()?)),
+        }
+    }
+}
+
+impl<A: Allocator> PartialEq for KeyPart<A> {
+    ghost eq = { on part_of part_same };
+
+    ghost laws = { on_per part_of (partial_equiv_from_equiv part_same_equiv) };
+
+    fn eq(&self, other: &KeyPart<A>) -> bool {
+        match (self, other) {
+            (KeyPart::Num(number), KeyPart::Num(another)) => number == another,
+            (KeyPart::Text(text), KeyPart::Text(another)) => text == another,
+            _ => false,
+        }
+    }
+}
+
+impl<A: Allocator> Eq for KeyPart<A> {
+    ghost laws = { on_equiv part_of part_same_equiv };
+}
+
+impl<A: Allocator> PartialOrd for KeyPart<A> {
+    ghost partial_cmp = { as_partial_cmp (on part_of part_cmp) };
+
+    ghost laws = { on_po part_of part_po };
+
+    fn partial_cmp(&self, other: &KeyPart<A>) -> Option<Ordering> {
+        Some(self.cmp(other))
+    }
+}
+
+impl<A: Allocator> Ord for KeyPart<A> {
+    ghost cmp = { on part_of part_cmp };
+
+    ghost total = { on_total part_of part_cmp_total };
+
+    ghost matches_partial_cmp = { λ a b. refl };
+
+    ghost matches_eq = { λ a b. refl };
+
+    fn cmp(&self, other: &KeyPart<A>) -> Ordering {
+        match (self, other) {
+            (KeyPart::Num(number), KeyPart::Num(another)) => number.cmp(another),
+            (KeyPart::Num(_), KeyPart::Text(_)) => Ordering::Less,
+            (KeyPart::Text(_), KeyPart::Num(_)) => Ordering::Greater,
+            (KeyPart::Text(text), KeyPart::Text(another)) => text.cmp(another),
+        }
+    }
+}
+
+impl<A: Allocator> Hash for KeyPart<A> {
+    ghost hash_input = { λ part. part_fed (part_of part) };
+
+    ghost respects_eq = { λ a b. part_fed_alike (part_of a) (part_of b) };
+
+    fn hash<H: Hasher>(&self, state: &mut H) {
+        match self {
+            KeyPart::Num(number) => {
+                0u8.hash(state);
+                number.hash(state);
+            }
+            KeyPart::Text(text) => {
+                1u8.hash(state);
+                text.hash(state);
+            }
+        }
+    }
+}

@@ -1,0 +1,130 @@
+//! Keys of two parts, which are seen as both.
+ghost use Rattle.std.specs.Prelude.{◌≡◌, ◌++◌, MatchResult, refl};
+ghost use Rattle.std.specs.Ordering.{eq_by_cmp, as_partial_cmp};
+ghost use Rattle.std.specs.Cmp.{partial_equiv_from_equiv};
+ghost use Rattle.occ_types.specs.declared.fault.Fault.TheVariants.{Memory};
+ghost use Rattle.occ_types.specs.KeyPart.{pair_cmp, pair_cmp_total};
+ghost use Rattle.occ_types.specs.Same.{part_fed, pair_equiv, pair_po, pair_fed, pair_fed_alike};
+ghost use Rattle.occ_types.specs.Seen.{part_of};
+
+use crate::fault::{Fault, Refused};
+use crate::key_parts::KeyPart;
+use std::alloc::{AllocError, AllocFailed, Allocator};
+use std::cmp::Ordering;
+use std::hash::{Hash, Hasher};
+use std::marker::Model;
+
+/// A key of two parts, which clauses see as the pair of the plain parts. It lies on the heap, so that other keys stay short.
+#[derive(Drop)]
+#[derive_where(Debug)]
+pub struct Pair<A: Allocator> {
+    parts: Box<(KeyPart<A>, KeyPart<A>), A>,
+}
+
+impl<A: Allocator> Model for Pair<A> {
+    ghost use Rattle.occ_types.specs.KeyPart.{KeyPart as Plain};
+
+    ghost Value = { Plain × Plain };
+
+    ghost use Rattle.occ_types.specs.Seen.{part_of};
+
+    ghost view = { λ pair. (part_of pair.parts.value.0, part_of pair.parts.value.1) };
+}
+
+impl<A: Allocator> Pair<A> {
+    /// The key of two parts. Refused with `Memory`, and the parts handed back, where there is no memory for it.
+    pub fn new(
+        alloc: A,
+        first: KeyPart<A>,
+        second: KeyPart<A>,
+    ) -> Result<Pair<A>, Refused<(KeyPart<A>, KeyPart<A>)>>
+        ensures { MatchResult result
+            (λ pair. pair ≡ (part_of first, part_of second))
+            (λ refused. (refused.fault ≡ Memory) × (refused.value.0 ≡ first) × (refused.value.1 ≡ second)) }
+    {
+        match Box::new(alloc, (first, second)) {
+            Ok(parts) => Ok(Pair { parts }),
+            Err(AllocFailed { value, .. }) => Err(Refused {
+                value,
+                fault: Fault::Memory,
+            }),
+        }
+    }
+
+    /// The first part.
+    pub fn first(&self) -> &KeyPart<A>
+        ensures { part_of result.now ≡ self.now.0 }
+    {
+        &self.parts.as_ref().0
+    }
+
+    /// The second part.
+    pub fn second(&self) -> &KeyPart<A>
+        ensures { part_of result.now ≡ self.now.1 }
+    {
+        &self.parts.as_ref().1
+    }
+}
+
+impl<A: Allocator + Clone> Clone for Pair<A> {
+    ghost is_clone = { λ source copy. copy ≡ source };
+
+    fn clone(&self) -> Result<Pair<A>, AllocError> {
+        Ok(Pair {
+            parts: self.parts.clone()?,
+        })
+    }
+}
+
+impl<A: Allocator> PartialEq for Pair<A> {
+    ghost eq = { eq_by_cmp pair_cmp };
+
+    ghost laws = { partial_equiv_from_equiv pair_equiv };
+
+    fn eq(&self, other: &Pair<A>) -> bool {
+        self.first() == other.first() && self.second() == other.second()
+    }
+}
+
+impl<A: Allocator> Eq for Pair<A> {
+    ghost laws = { pair_equiv };
+}
+
+impl<A: Allocator> PartialOrd for Pair<A> {
+    ghost partial_cmp = { as_partial_cmp pair_cmp };
+
+    ghost laws = { pair_po };
+
+    fn partial_cmp(&self, other: &Pair<A>) -> Option<Ordering> {
+        Some(self.cmp(other))
+    }
+}
+
+impl<A: Allocator> Ord for Pair<A> {
+    ghost cmp = { pair_cmp };
+
+    ghost total = { pair_cmp_total };
+
+    ghost matches_partial_cmp = { λ a b. refl };
+
+    ghost matches_eq = { λ a b. refl };
+
+    fn cmp(&self, other: &Pair<A>) -> Ordering {
+        match self.first().cmp(other.first()) {
+            Ordering::Less => Ordering::Less,
+            Ordering::Equal => self.second().cmp(other.second()),
+            Ordering::Greater => Ordering::Greater,
+        }
+    }
+}
+
+impl<A: Allocator> Hash for Pair<A> {
+    ghost hash_input = { pair_fed };
+
+    ghost respects_eq = { pair_fed_alike };
+
+    fn hash<H: Hasher>(&self, state: &mut H) {
+        self.first().hash(state);
+        self.second().hash(state);
+    }
+}
