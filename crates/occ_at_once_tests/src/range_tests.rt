@@ -45,6 +45,6 @@ fn a_range_may_have_any_number_of_rows_alone(rt: HostRuntime) -> Result<(), Fail
     let start = core.tnc();
     assert!(rt; core.scan(2, 1, start, 0, &None, &None).err() == Some(Fault::RangeTooLarge));
     assert!(rt; rows_alone(&mut core) == Ok(MAX_ANSWER_ROWS + 1));
-    assert_eq!(rt; core.tnc(), start + 1);
+    assert_eq!(rt; core.tnc(), start.saturating_add(1));
     Ok(())
 }
