@@ -22,7 +22,7 @@ pub(crate) fn store(alloc: Global, keep: usize) -> Result<Box<Core<Global>>, Fau
 pub(crate) fn request(alloc: Global, number: u64, put: Option<i64>) -> Result<Item<Global>, Fault> {
     let mut writes = WriteSet::new(alloc);
     if let Some(put) = put {
-        let row = Row::from_cells(vec![in alloc; Cell::Int(put)]?);
+        let row = Row::from_cell(Cell::Int(put));
         writes.set(0, Key::Num(1), Some(row))?;
     }
     Ok(Item::Request {
@@ -87,7 +87,7 @@ pub(crate) fn put(alloc: Global, key: u64, number: i64) -> Result<Op<Global>, Al
     Ok(Op::Put {
         table: 0,
         key: Key::Num(key),
-        row: Row::from_cells(vec![in alloc; Cell::Int(number)]?),
+        row: Row::from_cell(Cell::Int(number)),
     })
 }
 
@@ -158,7 +158,7 @@ fn tell_key(words: &mut String<Global>, key: &Key<Global>) -> Result<(), AllocEr
 }
 
 fn tell_row(words: &mut String<Global>, row: &Row<Global>) -> Result<(), AllocError> {
-    match row.cells().get(0) {
+    match row.cell(0) {
         Some(Cell::Int(number)) => write!(words, "{number}; "),
         _ => words.push_str("another row; "),
     }

@@ -99,7 +99,7 @@ fn commit_rows(
 ) -> Result<(), Fault> {
     let mut writes = WriteSet::new(alloc);
     for key in first..last {
-        let row = Row::from_cells(vec![in alloc; Cell::Int(0)]?);
+        let row = Row::from_cell(Cell::Int(0));
         writes.set(0, Key::Num(key), Some(row))?;
     }
     let start = core.tnc();

@@ -31,7 +31,7 @@ pub(crate) fn refused(
 /// A write set with one row of one number.
 pub(crate) fn one_write(alloc: Global, key: u64, number: i64) -> Result<WriteSet<Global>, Fault> {
     let mut writes = WriteSet::new(alloc);
-    let row = Row::from_cells(vec![in alloc; Cell::Int(number)]?);
+    let row = Row::from_cell(Cell::Int(number));
     writes.set(0, Key::Num(key), Some(row))?;
     Ok(writes)
 }

@@ -125,3 +125,17 @@ module _ (schema : Schema) (list : List Operation) (client : Client) (open_still
   listed answer new fits hands =
       subst (λ (g : Result ℕ Fault). Hands g answer new) (sym (by_fault None (tried ∙ fits)))
       (subst (λ (f : Option Fault). Hands (unless f (next client.queue)) answer new) (queue_refuses (next client.queue) refl) hands)
+
+-- more operations than a list may have are refused
+module _ (schema : Schema) (list : List Operation) (client : Client) (open_still : client.queue.closed ≡ false) (none_open : is_some client.copy ≡ false) (spare : nat_le MAX_NUMBER (next client.queue) ≡ false) (many : nat_lt MAX_OPERATIONS (length list) ≡ true) where
+  crowded : unfit schema list client ≡ Some faults.SetFull
+  crowded =
+      ap (λ closed. first_fault (fault_if closed faults.Closed ∷ fault_if (is_some client.copy) faults.ReadOpen ∷ numbers_exhausted (next client.queue) ∷ fault_if (nat_lt MAX_OPERATIONS (length list)) faults.SetFull ∷ check_operations schema list ∷ [])) open_still
+      ∙ (ap (λ copied. first_fault (fault_if copied faults.ReadOpen ∷ numbers_exhausted (next client.queue) ∷ fault_if (nat_lt MAX_OPERATIONS (length list)) faults.SetFull ∷ check_operations schema list ∷ [])) none_open
+      ∙ (ap (λ none. first_fault (fault_if none faults.NumbersExhausted ∷ fault_if (nat_lt MAX_OPERATIONS (length list)) faults.SetFull ∷ check_operations schema list ∷ [])) spare
+      ∙ ap (λ full. first_fault (fault_if full faults.SetFull ∷ check_operations schema list ∷ [])) many))
+
+  pub too_many : (Z : Type 0) → PlayedIn {Z = Z} client client (Err faults.SetFull) (WantsList schema list client) (λ answer. HandsIn schema list client answer client)
+  too_many Z =
+      let given = ap (λ f. and_then (unless f client) (λ c. unless (fault_if (is_full c.queue) faults.QueueFull) (next c.queue))) crowded in
+      inr (subst (λ (g : Result ℕ Fault). Given g client (says.refused faults.SetFull) client (λ number. (says.refused faults.SetFull ≡ says.Queued number) × (client ≡ record client { queue = with_item client.queue (events.Alone number list) }))) (sym given) (refl, refl))

@@ -1,6 +1,7 @@
 pub mod Closing
 pub mod OtherFaults
 pub mod HandingIn
+pub mod Lists
 pub mod Replaying
 pub mod Scanning
 pub mod Schedules

@@ -158,6 +158,13 @@ refused_stays old step fault new h =
     plays_by {C = new.world ≡ old.world} old new (says.refused fault) (λ same. same)
     (λ event reply stepped said. refusals_leave old.world new.world event fault (subst (λ (r : Reply). Step old.world event r new.world) (said fault refl) stepped)) step h
 
+-- the store answered what was asked
+pub ask_answered : (old : World) (session n m number start : ℕ) (asked question : Question) (reply : Reply) (new : World)
+    → n ≡ number → m ≡ start → question ≡ asked → Step old (events.Read session n m asked) reply new → Step old (events.Read session number start question) reply new
+ask_answered old session n m number start asked question reply new is_number is_start is_question step =
+    let event : events.Read session n m asked ≡ events.Read session number start question = cc in
+    subst (λ (x : Event). Step old x reply new) event step
+
 module _ {Z : Type 0} where
   -- the store refused a question
   pub ask_refused : (old : World) (session n m number start : ℕ) (asked question : Question) (new : World) (r : Result (code_seen.Answer Z) Fault) (e f : Fault)

@@ -36,7 +36,7 @@ fn a_backed_row_is_folded(alloc: Global) -> Result<Vec<Step<Global>, Global>, Fa
 }
 
 fn folded_number(core: &Core<Global>, key: u64) -> Option<i64> {
-    match core.base().state().row(0, &Key::Num(key))?.cells().get(0) {
+    match core.base().state().row(0, &Key::Num(key))?.cell(0) {
         Some(Cell::Int(number)) => Some(*number),
         _ => None,
     }

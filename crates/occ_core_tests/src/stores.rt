@@ -47,7 +47,7 @@ pub(crate) fn enter_with(session: usize, writes: WriteSet<Global>) -> Step<Globa
 /// The entry of one that puts one row, the number 5.
 pub(crate) fn enter(alloc: Global, session: usize, key: u64) -> Result<Step<Global>, Fault> {
     let mut writes = WriteSet::new(alloc);
-    let row = Row::from_cells(vec![in alloc; Cell::Int(5)]?);
+    let row = Row::from_cell(Cell::Int(5));
     writes.set(0, Key::Num(key), Some(row))?;
     Ok(enter_with(session, writes))
 }

@@ -46,7 +46,7 @@ fn tell(words: &mut String<Global>, reply: &Reply<Global>) -> Result<(), AllocEr
 }
 
 fn tell_row(words: &mut String<Global>, row: &Row<Global>) -> Result<(), AllocError> {
-    match row.cells().get(0) {
+    match row.cell(0) {
         Some(Cell::Int(number)) => write!(words, "row {number}; "),
         _ => words.push_str("another row; "),
     }

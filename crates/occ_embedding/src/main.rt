@@ -62,7 +62,7 @@ fn open(alloc: Global) -> Result<Core<Global>, Fault> {
 fn balance(store: &mut Core<Global>, session: usize, number: u64) -> Result<i64, Fault> {
     let start = store.tnc();
     match store.read(session, number, start, ACCOUNTS, &ACCOUNT)? {
-        Some(row) => match row.cells().first() {
+        Some(row) => match row.cell(0) {
             Some(Cell::Int(balance)) => Ok(*balance),
             _ => Ok(0),
         },
@@ -80,8 +80,7 @@ fn begin(
 ) -> Result<PrivateCopy<Global>, Fault> {
     let mut copy = PrivateCopy::new(alloc, number, store.tnc());
     let paid = balance(store, session, number)?.saturating_add(amount);
-    let row = Row::from_cells(vec![in alloc; Cell::Int(paid)]?);
-    copy.put(ACCOUNTS, ACCOUNT, row)?;
+    copy.put(ACCOUNTS, ACCOUNT, Row::from_cell(Cell::Int(paid)))?;
     Ok(copy)
 }
 

@@ -1,11 +1,15 @@
 -- What one operation adds to what the earlier ones did.
-use Rattle.std.proofs.Common.{◌≡◌, ℕ, ℤ, List, [], ◌∷◌, Option, Some, ap, ◌∙◌}
+use Rattle.std.proofs.Common.{◌≡◌, ℕ, ℤ, ◌+◌, ◌<◌, ◌≤◌, List, [], ◌∷◌, Option, Some, length, get_or, drop, sym, ap, ◌∙◌}
+use Rattle.std.proofs.lemmas.List.{drop_all}
+use Rattle.occ_types.proofs.Walks.{drop_at}
 use Rattle.occ_types.specs.Key.{Key}
 use Rattle.occ_types.specs.Question.{Question, One, Span}
 use Rattle.occ_types.specs.Row.{Row, Int}
 use Rattle.occ_model.specs.State.{State, Write, Answer, Rows, Observation, answer}
 use Rattle.occ_model.specs.Overlay.{set, overlay}
-use Rattle.occ_model.specs.Operations.{Add, Progress, asked, seen, number_in, held_sum, perform}
+use Rattle.occ_model.specs.Operations.{Add, Progress, asked, seen, number_in, held_sum, perform, perform_all}
+use Rattle.occ_sets.specs.declared.operations.Op.{Op}
+use Rattle.occ_sets.specs.Operations.{op_of, ops_of}
 use Rattle.occ_sets.specs.Overlays.{rows_over}
 use Rattle.occ_sets.proofs.Agreement.{overlay-Span}
 use Rattle.occ_operations.specs.Performed.{so_far}
@@ -38,3 +42,14 @@ ranged state before table lower upper question given laid q g l =
     ap Rows (l ∙ ap (λ q. rows_over q before.writes given) q)
     ∙ overlay-Span table lower upper before.writes given
     ∙ ap (overlay (Span table lower upper) before.writes) g
+
+module _ {Z : Type 0} where
+  -- one operation more is performed, and the rest is left
+  pub perform_more : (state : State) (operations : List (Op Z)) (i : ℕ) (o : Op Z) (before after : Progress) → i < length operations → o ≡ get_or operations i o → after ≡ perform state (op_of o) before
+      → perform_all state (ops_of (drop (i + 1) operations)) after ≡ perform_all state (ops_of (drop i operations)) before
+  perform_more state operations i o before after h e done =
+      ap (perform_all state (ops_of (drop (i + 1) operations))) done ∙ sym (ap (λ (l : List (Op Z)). perform_all state (ops_of l) before) (drop_at operations i o o h e))
+
+  -- where none is left, all are performed
+  pub performed_all : (state : State) (operations : List (Op Z)) (i : ℕ) (done all : Progress) → length operations ≤ i → perform_all state (ops_of (drop i operations)) done ≡ all → done ≡ all
+  performed_all state operations i done all h e = sym (ap (λ (l : List (Op Z)). perform_all state (ops_of l) done) (drop_all i operations h)) ∙ e

@@ -138,7 +138,7 @@ impl<A: Allocator + Copy> Performed<A> {
             key: key.clone()?,
         };
         let number = number_in(ask(&mut self.reads, &self.writes, tables, object)?);
-        let row = row_of(*self.answers.allocator(), held_sum(number, amount))?;
+        let row = row_of(held_sum(number, amount));
         self.writes.insert(table, key.clone()?, Some(row))?;
         Ok(())
     }

@@ -1,12 +1,11 @@
 //! Sums of whole numbers, and the rows that hold one.
-ghost use Rattle.std.specs.Prelude.{◌≡◌, [], ◌∷◌, IfOk, IsOkUnless};
+ghost use Rattle.std.specs.Prelude.{◌≡◌, [], ◌∷◌};
 ghost use Rattle.std.specs.Option.{option_copied};
-ghost use Rattle.occ_types.specs.declared.fault.Fault.TheVariants.{Memory};
 ghost use Rattle.occ_types.specs.Row.{Int};
 ghost use Rattle.occ_model.specs.Operations.{held_sum, number_in};
 ghost use Rattle.occ_model.specs.State.{Found};
 
-use occ_types::{Cell, Fault, Row};
+use occ_types::{Cell, Row};
 use std::alloc::Allocator;
 
 // The sum of two numbers, held at the ends of 64 bits.
@@ -23,18 +22,15 @@ pub(crate) fn number_in<A: Allocator>(row: Option<&Row<A>>) -> i64
     let Some(row) = row else {
         return 0;
     };
-    match row.cells() {
-        [Cell::Int(number)] => *number,
+    match (row.cell(0), row.len()) {
+        (Some(Cell::Int(number)), 1) => *number,
         _ => 0,
     }
 }
 
 // A row of one number.
-pub(crate) fn row_of<A: Allocator>(alloc: A, number: i64) -> Result<Row<A>, Fault>
-    ensures value { IfOk result (λ row. row ≡ Int number ∷ []) }
-    ensures memory { IsOkUnless result Memory }
+pub(crate) fn row_of<A: Allocator>(number: i64) -> Row<A>
+    ensures { result ≡ Int number ∷ [] }
 {
-    let mut cells = Vec::new(alloc);
-    cells.push(Cell::Int(number))?;
-    Ok(Row::from_cells(cells))
+    Row::from_cell(Cell::Int(number))
 }

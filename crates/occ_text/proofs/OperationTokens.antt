@@ -1,7 +1,10 @@
 -- The tokens of the operations of a run alone: what is read is spelled so, and what is spelled so is read again.
 use Rattle.std.proofs.Common.{◌≡◌, ℕ, ◌<◌, List, [], ◌∷◌, ◌++◌, length, map, Option, Some, None, option_map, refl, sym, ap, subst, ◌∙◌, append_assoc, arith}
+use Rattle.std.specs.Prelude.{true, false, ◌==◌}
+use Rattle.std.proofs.lemmas.Bool.{eqb-true, eq-eqb}
 use Rattle.std.specs.List.{All}
-use Rattle.std.proofs.lemmas.List.{map-append}
+use Rattle.std.specs.Option.{option_and_then}
+use Rattle.std.proofs.lemmas.List.{map-append, append-nil}
 use Rattle.std.proofs.lemmas.List.Elements.{All-nil, All-cons, All-head, All-tail}
 use Rattle.occ_text.specs.declared.versions.Version.{Version}
 use Rattle.occ_text.specs.Spelling.{IsToken}
@@ -62,6 +65,22 @@ operations_take version tokens operations h =
     let a = any_is b.0 operations b.2 in
     let all = each_takes version tokens b.0 b.1 in
     subst (Taken version tokens) a.0 (record { spelled = all.spelled; some = a.1; each = all.each })
+
+-- where no token is left, what was read is all
+pub all_read : (version : Version) (tokens rest : List (List ℕ)) (done : List Operation) → rest ≡ []
+    → option_map (λ more. done ++ more) (read_operations version rest) ≡ read_operations version tokens → operations_of version tokens ≡ if_any done
+unfolding operations_of
+all_read version tokens rest done none so_far =
+    let end = ap (λ left. option_map (λ more. done ++ more) (read_operations version left)) none in
+    ap (option_and_then if_any) (sym so_far ∙ end ∙ ap Some (append-nil done))
+
+pub none_if_empty : {X : Type 0} (view : X → Operation) (items : List X) (count : ℕ) → count ≡ length items → true ≡ (count == 0) → if_any (map view items) ≡ None
+none_if_empty view [] count e empty = refl
+none_if_empty view (x ∷ items) count e empty = let none = eqb-true count 0 (sym empty) in absurd (omega arith)
+
+pub some_if_not : {X : Type 0} (view : X → Operation) (items : List X) (count : ℕ) → count ≡ length items → false ≡ (count == 0) → if_any (map view items) ≡ Some (map view items)
+some_if_not view [] count e more = let no : false ≡ true = more ∙ eq-eqb count 0 e in cc
+some_if_not view (x ∷ items) count e more = refl
 
 each_again : (version : Version) (operations : List Operation) → All (OperationFits version) operations → read_operations version (map operation_text operations) ≡ Some operations
 each_again version [] each = refl

@@ -3,7 +3,7 @@
 ghost use Rattle.std.specs.Prelude.{◌≡◌, ◌<◌, ◌++◌, OnOk, string_bytes};
 ghost use Rattle.std.specs.Fmt.{decimal, signed_decimal};
 ghost use Rattle.occ_types.specs.Key as keys;
-ghost use Rattle.occ_types.specs.Seen.{part_of, key_of, end_of, cell_of, row_of};
+ghost use Rattle.occ_types.specs.Seen.{part_of, key_of, end_of, cell_of};
 ghost use Rattle.occ_text.specs.Spelling.{hex_digit, escaped_byte, escaped, text_text, part_text, key_text, end_text, cell_text, row_text, comma};
 
 use crate::texts::is_plain;
@@ -126,15 +126,12 @@ fn write_comma<A: Allocator>(line: &mut String<A>, place: usize) -> Result<(), A
 pub fn write_row<A: Allocator>(line: &mut String<A>, row: &Row<A>) -> Result<(), AllocError>
     ensures { OnOk result (string_bytes line.new ≡ string_bytes line.old ++ row_text row.now) }
 {
-    write_cells(line, row.cells())
-}
-
-fn write_cells<A: Allocator>(line: &mut String<A>, cells: &[Cell<A>]) -> Result<(), AllocError>
-    ensures { OnOk result (string_bytes line.new ≡ string_bytes line.old ++ row_text (row_of cells.now)) }
-{
-    for (place, cell) in cells.iter().enumerate() {
+    for place in 0..row.len() {
         write_comma(line, place)?;
-        write_cell(line, cell)?;
+        match row.cell(place) {
+            Some(cell) => write_cell(line, cell)?,
+            None => return Ok(()),
+        }
     }
     Ok(())
 }

@@ -1,20 +1,27 @@
 -- The steps of the loops that check cells and tables.
-use Rattle.std.proofs.Common.{◌≡◌, ℕ, suc, ◌+◌, ◌<◌, ◌≤◌, Bool, true, false, ◌&&◌, ◌||◌, cond, List, [], ◌∷◌, Option, None, Some, length, get_or, drop, refl, sym, ap, ◌∙◌, add-one, drop-cons}
+use Rattle.std.proofs.Common.{◌≡◌, ℕ, zero, suc, arith, ◌+◌, ◌<◌, ◌≤◌, Bool, true, false, ◌&&◌, ◌||◌, cond, List, [], ◌∷◌, Option, None, Some, length, get_or, drop, refl, sym, ap, ◌∙◌, add-one, drop-cons}
 use Rattle.std.proofs.lemmas.Iterator.Adapters.{position_from-zero}
 use Rattle.std.proofs.lemmas.List.{drop_all}
-use Rattle.std.specs.Prelude.{map}
+use Rattle.std.proofs.lemmas.Option.{slice_get_within, get_or_from_slice_get}
+use Rattle.std.specs.Prelude.{map, slice_get}
 use Rattle.std.specs.List.{list_any, position, position_from}
-use Rattle.occ_types.specs.declared.cells.Cell.{Cell}
 use Rattle.occ_types.specs.declared.tables.TableDef.{TableDef}
 use Rattle.occ_types.specs.declared.fault.Fault.{Fault}
 use Rattle.occ_types.specs.declared.kind.Kind.{Kind}
 use Rattle.occ_types.specs.Schema.{first_fault, check_cells, are_tables}
 use Rattle.occ_types.specs.Fits.{check_cell, fits_before}
-use Rattle.occ_types.specs.Seen.{cell_of, row_of, table_of, tables_of}
+use Rattle.occ_types.specs.Row.{Cell, Row}
+use Rattle.occ_types.specs.Seen.{table_of, tables_of}
 
 -- what is left from a place on begins with the element there
 pub drop_at : {X : Type 0} (xs : List X) (i : ℕ) (d x : X) → i < length xs → x ≡ get_or xs i d → drop i xs ≡ x ∷ drop (i + 1) xs
 drop_at xs i d x h e = rw add-one (drop-cons xs i d h ∙ ap (λ y. y ∷ drop (suc i) xs) (sym e))
+
+-- a place that a list has is not empty
+pub is_there : {X P : Type 0} (xs : List X) (i : ℕ) → None ≡ slice_get xs i → i < length xs → P
+is_there [] i e h = absurd (omega arith)
+is_there (x ∷ xs) zero e h = cc
+is_there (x ∷ xs) (suc i) e h = is_there xs i e (omega arith)
 
 -- a fault of the first two tests is the answer
 pub first_fault-early : (a b rest : Option Fault) (fault : Fault) → first_fault (a ∷ b ∷ []) ≡ Some fault → first_fault (a ∷ b ∷ rest ∷ []) ≡ Some fault
@@ -34,19 +41,22 @@ pub list_any-map : {X Y : Type 0} (p : Y → Bool) (f : X → Y) (xs : List X) �
 list_any-map p f [] = refl
 list_any-map p f (x ∷ xs) = ap (λ b. p (f x) || b) (list_any-map p f xs)
 
+-- the check of the cells from a place on is that of the cell there and then that of the rest
+cells_at : (kinds : List Kind) (row : Row) (i : ℕ) (d : Kind) (c : Cell) → i < length kinds → Some c ≡ slice_get row i → check_cells (drop i kinds) (drop i row) ≡ check_cells (get_or kinds i d ∷ drop (i + 1) kinds) (c ∷ drop (i + 1) row)
+cells_at kinds row i d c g e =
+    let shorter = slice_get_within row i c (sym e) in
+    let there = get_or_from_slice_get row i c c (sym e) in
+    λ j. check_cells (drop_at kinds i d (get_or kinds i d) g refl j) (drop_at row i c c shorter (sym there) j)
+
+-- a cell that fits leaves the check of the rest
+pub check_cells-fit : (kinds : List Kind) (row : Row) (i : ℕ) (d : Kind) (c : Cell) → i < length kinds → Some c ≡ slice_get row i → None ≡ check_cell (get_or kinds i d) c → check_cells (drop (i + 1) kinds) (drop (i + 1) row) ≡ check_cells (drop i kinds) (drop i row)
+check_cells-fit kinds row i d c g e fits = sym (cells_at kinds row i d c g e ∙ first_fault-late _ _ (check_cells (drop (i + 1) kinds) (drop (i + 1) row)) (sym fits))
+
+-- a cell that does not fit is the answer
+pub check_cells-fault : (kinds : List Kind) (row : Row) (i : ℕ) (d : Kind) (c : Cell) (fault : Fault) → i < length kinds → Some c ≡ slice_get row i → Some fault ≡ check_cell (get_or kinds i d) c → check_cells (drop i kinds) (drop i row) ≡ Some fault
+check_cells-fault kinds row i d c fault g e fits = cells_at kinds row i d c g e ∙ first_fault-early _ _ (check_cells (drop (i + 1) kinds) (drop (i + 1) row)) fault (sym fits)
+
 module _ {Z : Type 0} where
-  -- the check of the cells from a place on is that of the cell there and then that of the rest
-  cells_at : (kinds : List Kind) (cells : List (Cell Z)) (i : ℕ) (d : Kind) (c : Cell Z) → i < length kinds → i < length cells → c ≡ get_or cells i c → check_cells (drop i kinds) (row_of (drop i cells)) ≡ check_cells (get_or kinds i d ∷ drop (i + 1) kinds) (row_of (c ∷ drop (i + 1) cells))
-  cells_at kinds cells i d c g h e = λ j. check_cells (drop_at kinds i d (get_or kinds i d) g refl j) (row_of (drop_at cells i c c h e j))
-
-  -- a cell that fits leaves the check of the rest
-  pub check_cells-fit : (kinds : List Kind) (cells : List (Cell Z)) (i : ℕ) (d : Kind) (c : Cell Z) → i < length kinds → i < length cells → c ≡ get_or cells i c → None ≡ check_cell (get_or kinds i d) (cell_of c) → check_cells (drop (i + 1) kinds) (row_of (drop (i + 1) cells)) ≡ check_cells (drop i kinds) (row_of (drop i cells))
-  check_cells-fit kinds cells i d c g h e fits = sym (cells_at kinds cells i d c g h e ∙ first_fault-late _ _ (check_cells (drop (i + 1) kinds) (row_of (drop (i + 1) cells))) (sym fits))
-
-  -- a cell that does not fit is the answer
-  pub check_cells-fault : (kinds : List Kind) (cells : List (Cell Z)) (i : ℕ) (d : Kind) (c : Cell Z) (fault : Fault) → i < length kinds → i < length cells → c ≡ get_or cells i c → Some fault ≡ check_cell (get_or kinds i d) (cell_of c) → check_cells (drop i kinds) (row_of (drop i cells)) ≡ Some fault
-  check_cells-fault kinds cells i d c fault g h e fits = cells_at kinds cells i d c g h e ∙ first_fault-early _ _ (check_cells (drop (i + 1) kinds) (row_of (drop (i + 1) cells))) fault (sym fits)
-
   -- the test of the tables from a place on is that of the table there and then that of the rest
   pub are_tables-at : (tables : List (TableDef Z)) (i : ℕ) (t : TableDef Z) → i < length tables → t ≡ get_or tables i t → are_tables (tables_of (drop i tables)) ≡ (fits_before (table_of t) (tables_of (drop (i + 1) tables)) && are_tables (tables_of (drop (i + 1) tables)))
   are_tables-at tables i t h e = ap (λ ts. are_tables (tables_of ts)) (drop_at tables i t t h e)

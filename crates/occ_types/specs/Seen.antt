@@ -10,6 +10,8 @@ use Rattle.occ_types.specs.declared.keys.Key as code_key
 use Rattle.occ_types.specs.declared.keys.Key.TheVariants as keys
 use Rattle.occ_types.specs.declared.objects.Object as code_object
 use Rattle.occ_types.specs.declared.questions.Question as code_question
+use Rattle.occ_types.specs.declared.rows.Cells as code_cells
+use Rattle.occ_types.specs.declared.rows.Cells.TheVariants as kept
 use Rattle.occ_types.specs.declared.questions.Question.TheVariants as questions
 use Rattle.occ_types.specs.declared.tables.TableDef as code_table
 use Rattle.occ_types.specs.Key.{Key, Num, Text as KeyText, Pair}
@@ -45,6 +47,11 @@ module _ {Z : Type 0} where
   -- the plain object
   abbrev pub object_of : code_object.Object Z → Object
   object_of o = (o.table, key_of o.key)
+
+  -- what a row keeps, as a list
+  abbrev pub cells_in : code_cells.Cells Z → List (code_cell.Cell Z)
+  cells_in (kept.One cell) = cell ∷ []
+  cells_in (kept.List cells) = cells.items
 
   -- the plain cells, in their order
   abbrev pub row_of : List (code_cell.Cell Z) → Row

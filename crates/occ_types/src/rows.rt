@@ -1,6 +1,7 @@
 //! Rows of a table, which are seen as their cells.
-ghost use Rattle.std.specs.Prelude.{◌≡◌, ◌==◌, List, length};
+ghost use Rattle.std.specs.Prelude.{◌≡◌, ◌==◌, List, [], ◌∷◌, length, slice_get};
 ghost use Rattle.std.specs.Cmp.{partial_equiv_from_equiv};
+ghost use Rattle.std.specs.Option.{option_map};
 ghost use Rattle.occ_types.specs.Same.{row_same, row_same_equiv};
 ghost use Rattle.occ_types.specs.Seen.{cell_of, row_of};
 
@@ -8,57 +9,82 @@ use crate::cells::Cell;
 use std::alloc::{AllocError, Allocator};
 use std::marker::Model;
 
-/// A row of a table, which clauses see as its cells in the order of the columns.
+/// A row of a table, which clauses see as its cells in the order of the columns. A row of one number has no memory of its own.
 #[derive(Drop)]
 #[derive_where(Debug)]
 pub struct Row<A: Allocator> {
-    cells: Vec<Cell<A>, A>,
+    cells: Cells<A>,
+}
+
+// What a row keeps: one cell in the row itself, or a list.
+#[derive(Drop)]
+#[derive_where(Debug)]
+pub(crate) enum Cells<A: Allocator> {
+    One(Cell<A>),
+    List(Vec<Cell<A>, A>),
 }
 
 impl<A: Allocator> Model for Row<A> {
-    ghost use Rattle.occ_types.specs.Row.{Row as Cells};
+    ghost use Rattle.occ_types.specs.Row.{Row as Plain};
 
-    ghost Value = { Cells };
+    ghost Value = { Plain };
 
-    ghost use Rattle.occ_types.specs.Seen.{row_of};
+    ghost use Rattle.occ_types.specs.Seen.{row_of, cells_in};
 
-    ghost view = { λ row. row_of row.cells.items };
+    ghost view = { λ row. row_of (cells_in row.cells) };
 }
 
 impl<A: Allocator> Row<A> {
+    /// The row of one cell, which takes no memory.
+    pub fn from_cell(cell: Cell<A>) -> Row<A>
+        ensures { result ≡ cell_of cell ∷ [] }
+    {
+        Row {
+            cells: Cells::One(cell),
+        }
+    }
+
     /// The row of some cells, which takes no memory.
     pub fn from_cells(cells: Vec<Cell<A>, A>) -> Row<A>
         ensures { result ≡ row_of cells.items }
     {
-        Row { cells }
+        let mut cells = cells;
+        if cells.len() == 1
+            && let Some(cell) = cells.pop()
+        {
+            return Row::from_cell(cell);
+        }
+        Row {
+            cells: Cells::List(cells),
+        }
     }
 
-    /// The cells of the row, which takes no memory.
-    pub fn into_cells(self) -> Vec<Cell<A>, A>
-        ensures { row_of result.items ≡ self }
+    /// The cell at a place of the row, where it has so many.
+    pub fn cell(&self, place: usize) -> Option<&Cell<A>>
+        ensures { option_map (λ cell. cell_of cell.now) result ≡ slice_get self.now place }
     {
-        self.cells
-    }
-
-    /// The cells of the row, in the order of the columns.
-    pub fn cells(&self) -> &[Cell<A>]
-        ensures { row_of result.now ≡ self.now }
-    {
-        self.cells.as_slice()
+        match &self.cells {
+            Cells::One(cell) if place == 0 => Some(cell),
+            Cells::One(_) => None,
+            Cells::List(cells) => cells.get(place),
+        }
     }
 
     /// How many cells the row has.
     pub fn len(&self) -> usize
         ensures { result ≡ length self.now }
     {
-        self.cells.len()
+        match &self.cells {
+            Cells::One(_) => 1,
+            Cells::List(cells) => cells.len(),
+        }
     }
 
     /// Whether the row has no cell.
     pub fn is_empty(&self) -> bool
         ensures { result ≡ (length self.now == 0) }
     {
-        self.cells.is_empty()
+        self.len() == 0
     }
 }
 
@@ -66,7 +92,12 @@ impl<A: Allocator + Clone> Clone for Row<A> {
     ghost is_clone = { λ source copy. copy ≡ source };
 
     fn clone(&self) -> Result<Row<A>, AllocError> {
-        Ok(Row::from_cells(self.cells.clone()?))
+        match &self.cells {
+            Cells::One(cell) => Ok(Row::from_cell(cell.clone()?)),
+            Cells::List(cells) => Ok(Row {
+                cells: Cells::List(cells.clone()?),
+            }),
+        }
     }
 }
 
@@ -76,10 +107,26 @@ impl<A: Allocator> PartialEq for Row<A> {
     ghost laws = { partial_equiv_from_equiv row_same_equiv };
 
     fn eq(&self, other: &Row<A>) -> bool {
-        self.cells() == other.cells()
+        match (&self.cells, &other.cells) {
+            (Cells::One(cell), Cells::One(another)) => cell == another,
+            (Cells::List(cells), Cells::List(others)) => same_cells(cells, others),
+            (Cells::One(cell), Cells::List(others)) => {
+                matches!(others.as_slice(), [other] if cell == other)
+            }
+            (Cells::List(cells), Cells::One(other)) => {
+                matches!(cells.as_slice(), [cell] if cell == other)
+            }
+        }
     }
 }
 
 impl<A: Allocator> Eq for Row<A> {
     ghost laws = { row_same_equiv };
+}
+
+// Whether two lists have equal cells.
+fn same_cells<A: Allocator>(cells: &[Cell<A>], others: &[Cell<A>]) -> bool
+    ensures { result ≡ row_same (row_of cells.now) (row_of others.now) }
+{
+    cells == others
 }

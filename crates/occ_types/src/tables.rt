@@ -5,7 +5,7 @@ ghost use Rattle.std.specs.Result.{result_err};
 ghost use Rattle.std.specs.Cmp.Lexicographic.{pointwise};
 ghost use Rattle.occ_types.specs.Schema.{check_key_in, check_row_in, check_cells, check_end, part_has_kind, part_is_too_long, key_has_kind, key_is_too_long, is_name, is_letter};
 ghost use Rattle.occ_types.specs.Fits.{check_cell, fits_before};
-ghost use Rattle.occ_types.specs.Seen.{cell_of, part_of, key_of, end_of, row_of, table_of, tables_of};
+ghost use Rattle.occ_types.specs.Seen.{cell_of, part_of, key_of, end_of, table_of, tables_of};
 
 use crate::cells::Cell;
 use crate::fault::Fault;
@@ -60,7 +60,7 @@ impl<A: Allocator> TableDef<A> {
         if row.len() != self.columns.len() {
             return Err(Fault::WrongColumns);
         }
-        check_cells(self.columns.as_slice(), row.cells())
+        check_cells(self.columns.as_slice(), row)
     }
 
     /// Whether the table may stand before `later` in a schema: it has a good name that none of them has, and 1 to 8 columns.
@@ -161,12 +161,15 @@ fn check_cell<A: Allocator>(kind: Kind, cell: &Cell<A>) -> Result<(), Fault>
 }
 
 // Whether each cell fits its column.
-fn check_cells<A: Allocator>(kinds: &[Kind], cells: &[Cell<A>]) -> Result<(), Fault>
-    requires { length cells.now ≡ length kinds.now }
-    ensures { result_err result ≡ check_cells kinds.now (row_of cells.now) }
+fn check_cells<A: Allocator>(kinds: &[Kind], row: &Row<A>) -> Result<(), Fault>
+    requires { length row.now ≡ length kinds.now }
+    ensures { result_err result ≡ check_cells kinds.now row.now }
 {
     for (place, kind) in kinds.iter().enumerate() {
-        check_cell(*kind, &cells[place])?;
+        match row.cell(place) {
+            Some(cell) => check_cell(*kind, cell)?,
+            None => return Ok(()),
+        }
     }
     Ok(())
 }

@@ -64,8 +64,8 @@ fn add(key: u64, amount: i64) -> Op<Global> {
 
 // The number in a row of one number.
 fn number_of(row: &Row<Global>) -> Option<i64> {
-    match row.cells() {
-        [Cell::Int(number)] => Some(*number),
+    match (row.cell(0), row.len()) {
+        (Some(Cell::Int(number)), 1) => Some(*number),
         _ => None,
     }
 }

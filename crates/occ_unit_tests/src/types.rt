@@ -138,12 +138,24 @@ fn rows(rt: HostRuntime) -> Result<(), Fail> {
     assert!(rt; row.clone()? == row);
     let other = Row::from_cells(vec![in alloc; Cell::Int(3), Cell::Text(text(alloc, "plums")?)]?);
     assert!(rt; row != other);
-    let beginning = Row::from_cells(vec![in alloc; Cell::Int(3)]?);
-    assert!(rt; row != beginning);
-    for cell in row.cells() {
-        assert!(rt; *cell != Cell::Int(4));
-    }
-    assert_eq!(rt; row.into_cells().len(), 2);
+    assert!(rt; matches!(row.cell(0), Some(Cell::Int(3))));
+    assert!(rt; matches!(row.cell(1), Some(Cell::Text(_))));
+    assert!(rt; row.cell(2).is_none());
+    Ok(())
+}
+
+#[test]
+fn rows_of_one_cell(rt: HostRuntime) -> Result<(), Fail> {
+    let alloc = rt.alloc();
+    let row = Row::from_cells(vec![in alloc; Cell::Int(3)]?);
+    assert_eq!(rt; row.len(), 1);
+    assert!(rt; row.clone()? == row);
+    assert!(rt; row == Row::from_cell(Cell::Int(3)));
+    assert!(rt; row != Row::from_cell(Cell::Int(4)));
+    let longer = Row::from_cells(vec![in alloc; Cell::Int(3), Cell::Int(4)]?);
+    assert!(rt; row != longer);
+    assert!(rt; matches!(row.cell(0), Some(Cell::Int(3))));
+    assert!(rt; row.cell(1).is_none());
     Ok(())
 }
 

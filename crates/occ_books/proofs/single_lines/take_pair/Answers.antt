@@ -1,4 +1,4 @@
-use Rattle.std.proofs.Common.{◌≡◌, true, false, Err, sym, ◌∙◌}
+use Rattle.std.proofs.Common.{◌≡◌, true, false, Ok, Err, sym, ◌∙◌}
 use Rattle.occ_sets.specs.Seen.{rows_of}
 use Rattle.occ_print.specs.Books.{pair_line}
 use Rattle.occ_books.specs.RowLines.{pair_of, PairFits}
@@ -21,3 +21,10 @@ returns-then-not-is_above-clause-led g c =
     c.number-then-not-is_above.result _ _
     (record { line = c.take_line.new.self.line; taken = c.in_ok-take_line.ensures.gives; same = c.line.ensures; here = c.number-then-not-is_above.ensures })
     (told_alone (pair_of {Z = g.row.A.Denot}) pair_line (PairFits c.args.version c.args.schema.now c.args.table) c.line.result.now c.read_pair.result (c.in_ok-key.key, c.in_ok-key.row) reads c.in_ok-key.ensures.taken) (λ above. let e : false ≡ true = sym c.if-not-is_above.true ∙ c.is_above.ensures.1 above in cc e)
+
+pub returns-clause-led : goal.returns-clause-led
+returns-clause-led g c =
+    let t = line_read (pair_of {Z = g.row.A.Denot}) pair_line (PairFits c.args.version c.args.schema.now c.args.table) c.read_pair.result (Ok (c.in_ok-key.key, c.in_ok-key.row)) c.line.result.now _ _ c.number.result _ _
+    (record { line = c.take_line.new.self.line; taken = c.in_ok-take_line.ensures.gives; same = c.line.ensures; here = c.number.ensures })
+    (record { found = c.read_pair.ensures.found; again = c.read_pair.ensures.again }) c.in_ok-key.ensures.exact in
+    (t.0, (t.1, c.is_above.ensures.0 c.if-not-is_above.false), t.2)

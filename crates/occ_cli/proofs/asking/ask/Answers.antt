@@ -1,7 +1,7 @@
 use Rattle.std.proofs.Common.{ap}
 use Rattle.std.proofs.lemmas.Result.{err_from_is_err_and}
 use Rattle.occ_types.specs.Seen.{question_of}
-use Rattle.occ_cli.proofs.Replaying.{ask_refused}
+use Rattle.occ_cli.proofs.Replaying.{ask_refused, ask_answered}
 use Rattle.occ_cli.proofs.asking.ask.Goals as goal
 
 pub returns-in_err-row-in-One : goal.returns-in_err-row-in-One
@@ -15,3 +15,8 @@ returns-in_err-rows-in-Span g c =
     let p = err_from_is_err_and c.from_residual-in_err-rows-in-Span.result c.from_residual-in_err-rows-in-Span.ensures.1 in
     ask_refused c.args.core.now.world c.args.session c.number-in-Span.result c.start-in-Span.result c.args.copy.now.number c.args.copy.now.start _ (question_of c.args.question.now) c.scan.new.self.world
     c.from_residual-in_err-rows-in-Span.result p.0 c.in_err-rows-in-Span.field-0.0 c.number-in-Span.ensures c.start-in-Span.ensures (ap question_of c.in-Span.is) p.1 p.2 c.in_err-rows-in-Span.ensures
+
+pub returns-in_ok-rows-in-Span : goal.returns-in_ok-rows-in-Span
+returns-in_ok-rows-in-Span g c =
+    ask_answered c.args.core.now.world c.args.session c.number-in-Span.result c.start-in-Span.result c.args.copy.now.number c.args.copy.now.start _ (question_of c.args.question.now) _ c.scan.new.self.world
+    c.number-in-Span.ensures c.start-in-Span.ensures (ap question_of c.in-Span.is) c.in_ok-rows-in-Span.ensures

@@ -1,7 +1,8 @@
 use Rattle.std.proofs.Common.{◌≡◌, List, map, sym, ap, subst, ◌∙◌, inr}
 use Rattle.std.specs.Prelude.{is_some, nat_le, nat_lt}
 use Rattle.std.proofs.lemmas.List.{length-map}
-use Rattle.std.proofs.lemmas.Bool.{lt-leb, le-ltb}
+use Rattle.std.proofs.lemmas.Bool.{lt-leb, le-ltb, lt-ltb}
+use Rattle.std.proofs.lemmas.Result.{err_from_is_err_and}
 use Rattle.occ_types.specs.declared.limits.TheConstants.{MAX_NUMBER, MAX_OPERATIONS}
 use Rattle.occ_model.specs.Operations.{Operation}
 use Rattle.occ_model.specs.Refusal.{check_operations}
@@ -10,7 +11,7 @@ use Rattle.occ_queue.specs.Numbering.{next, with_item, refusal_of_submit}
 use Rattle.occ_text.specs.Operations.{operation_of}
 use Rattle.occ_cli.specs.Answers as says
 use Rattle.occ_cli.specs.Replaying.{Client, Given, unless, operation_named, operations_named, played}
-use Rattle.occ_cli.proofs.HandingIn.{listed}
+use Rattle.occ_cli.proofs.HandingIn.{listed, unlisted, too_many}
 use Rattle.occ_cli.proofs.clients.Client.alone.Goals as goal
 
 pub returns : goal.returns
@@ -30,3 +31,23 @@ returns g c =
     (λ (l : List Operation). Given (unless (refusal_of_submit client.queue (events.Alone (next client.queue) l)) (next client.queue)) client (played c.hand_in.result) c.hand_in.new.self
     (λ number. (played c.hand_in.result ≡ says.Queued number) × (c.hand_in.new.self ≡ record client { queue = with_item client.queue (events.Alone number l) })))
     fits.0 c.hand_in.ensures))
+
+pub returns-then-len-gt-MAX_OPERATIONS : goal.returns-then-len-gt-MAX_OPERATIONS
+returns-then-len-gt-MAX_OPERATIONS g c =
+    let schema = c.args.schema.now in
+    too_many schema (operations_named schema (map operation_of c.args.operations.items)) c.args.self.now
+    (sym (ap (λ (x : Client). x.queue.closed) c.self.view_is) ∙ (sym c.is_closed.ensures ∙ c.if-is_closed.false))
+    (sym (ap (λ (x : Client). is_some x.copy) c.self.view_is) ∙ (sym c.is_some.ensures ∙ c.if-is_some.false))
+    (sym (ap (λ (x : Client). nat_le MAX_NUMBER (next x.queue)) c.self.view_is) ∙ (sym (ap (nat_le MAX_NUMBER) c.next.ensures.number) ∙ lt-leb MAX_NUMBER c.next.result c.if-next-ge-MAX_NUMBER.false))
+    (ap (nat_lt MAX_OPERATIONS) (length-map (map operation_of c.args.operations.items) (operation_named schema) ∙ (length-map c.args.operations.items operation_of ∙ (sym c.args.operations.ok.0 ∙ sym c.len.ensures))) ∙ lt-ltb MAX_OPERATIONS c.len.result c.if-len-gt-MAX_OPERATIONS.true) g.row.A.Denot
+
+pub returns-in_err-operations : goal.returns-in_err-operations
+returns-in_err-operations g c =
+    let schema = c.args.schema.now in
+    let p = err_from_is_err_and c.from_residual.result c.from_residual.ensures.1 in
+    unlisted schema (operations_named schema (map operation_of c.args.operations.items)) c.args.self.now
+    (sym (ap (λ (x : Client). x.queue.closed) c.self.view_is) ∙ (sym c.is_closed.ensures ∙ c.if-is_closed.false))
+    (sym (ap (λ (x : Client). is_some x.copy) c.self.view_is) ∙ (sym c.is_some.ensures ∙ c.if-is_some.false))
+    (sym (ap (λ (x : Client). nat_le MAX_NUMBER (next x.queue)) c.self.view_is) ∙ (sym (ap (nat_le MAX_NUMBER) c.next.ensures.number) ∙ lt-leb MAX_NUMBER c.next.result c.if-next-ge-MAX_NUMBER.false))
+    (ap (nat_lt MAX_OPERATIONS) (length-map (map operation_of c.args.operations.items) (operation_named schema) ∙ (length-map c.args.operations.items operation_of ∙ (sym c.args.operations.ok.0 ∙ sym c.len.ensures))) ∙ le-ltb MAX_OPERATIONS c.len.result c.if-len-gt-MAX_OPERATIONS.false)
+    c.from_residual.result p.0 c.in_err-operations.field-0.0 p.1 p.2 c.in_err-operations.ensures

@@ -12,5 +12,5 @@ returns-clause-performed g c =
     let other = c.in_ok-clone-2.field-0 in
     let same_copy : copy ≡ key = search rules in
     let same_other : other ≡ key = search rules in
-    added c.args.tables.now.state (progress_of c.args.self.now) c.args.table (key_of key) (key_of copy) (key_of other) c.args.amount c.number_in-number.result c.in_ok-row.row _ c.ask.new.reads c.insert.new.self
+    added c.args.tables.now.state (progress_of c.args.self.now) c.args.table (key_of key) (key_of copy) (key_of other) c.args.amount c.number_in-number.result c.row_of-row.result _ c.ask.new.reads c.insert.new.self
     (ap key_of same_copy) (ap key_of same_other) c.in_ok-ask.ensures.registered c.in_ok-ask.ensures.seen c.number_in-number.ensures (search rules) c.in_ok-insert.ensures.ok
