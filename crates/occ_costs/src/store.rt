@@ -1,0 +1,277 @@
+//! The loads on a store.
+use crate::dice::Dice;
+use crate::loads::{Shape, amount};
+use occ_case::Verdict;
+use occ_core::{Core, Ended, Entry, SingleWrite};
+use occ_queue::Item;
+use occ_sets::{Op, PrivateCopy};
+use occ_types::{Cell, Fault, Key, KeyKind, Kind, Row, Schema, TableDef, Text};
+use std::alloc::Allocator;
+
+/// The place of the one table.
+const TABLE: usize = 0;
+/// How many rows are put by one transaction at first.
+const PUTS: u64 = 256;
+/// After how many rounds of transactions the log is folded.
+const FOLDED_AFTER: u64 = 10_000;
+
+/// How a transaction ends, and with what it begins.
+#[derive(Clone, Copy)]
+pub(crate) enum Way {
+    /// It reads, and then enters, is decided, writes and finishes step by step.
+    Steps,
+    /// It reads, and all the rest is one step.
+    Serial,
+    /// It is a list of operations, and one step.
+    Alone,
+}
+
+impl Way {
+    pub(crate) const ALL: [Way; 3] = [Way::Steps, Way::Serial, Way::Alone];
+
+    /// The word that names it.
+    pub(crate) fn name(self) -> &'static str {
+        match self {
+            Way::Steps => "steps",
+            Way::Serial => "serial",
+            Way::Alone => "alone",
+        }
+    }
+}
+
+/// A store with the rows of a load, and what its next transactions read and write.
+#[derive(Drop)]
+pub(crate) struct Store<A: Allocator> {
+    alloc: A,
+    core: Box<Core<A>, A>,
+    shape: Shape,
+    dice: Dice,
+}
+
+impl<A: Allocator + Copy> Store<A> {
+    /// A store with the rows of a load, put by a session behind those of the load, and folded away.
+    pub(crate) fn open(alloc: A, shape: Shape) -> Result<Store<A>, Fault> {
+        let schema = schema(alloc)?;
+        let filling = shape.together.saturating_add(1);
+        let core = Core::open(alloc, schema, filling, 8)?;
+        let mut store = Store {
+            alloc,
+            core: Box::new(alloc, core)?,
+            shape,
+            dice: Dice::new(),
+        };
+        fill(alloc, &mut store.core, filling, shape.rows)?;
+        let _folded = store.core.checkpoint()?;
+        Ok(store)
+    }
+
+    /// Does so many rounds of transactions, one of each session. The answer is how many committed.
+    pub(crate) fn play(&mut self, way: Way, rounds: u64, folds: bool) -> Result<u64, Fault> {
+        let mut committed = 0u64;
+        for round in 0..rounds {
+            let number = round.saturating_add(1);
+            let done = match way {
+                Way::Alone => self.round_alone(number)?,
+                Way::Serial | Way::Steps => self.round_by_copies(way, number)?,
+            };
+            committed = committed.saturating_add(done);
+            if folds && number % FOLDED_AFTER == 0 {
+                let _folded = self.core.checkpoint()?;
+            }
+        }
+        Ok(committed)
+    }
+
+    // One transaction of each session, as operations.
+    fn round_alone(&mut self, number: u64) -> Result<u64, Fault> {
+        let mut committed = 0u64;
+        for session in 1..=self.shape.together {
+            let operations = self.operations()?;
+            let _done = self.core.run_alone(session, number, &operations)?;
+            committed = committed.saturating_add(1);
+        }
+        Ok(committed)
+    }
+
+    // The operations of the next transaction. What is written is added, which reads it as well.
+    fn operations(&mut self) -> Result<Vec<Op<A>, A>, Fault> {
+        let (alloc, shape) = (self.alloc, self.shape);
+        let first = shape.first(&mut self.dice);
+        let mut operations = Vec::new(alloc);
+        if shape.span > 0 {
+            operations.push(Op::Scan {
+                table: TABLE,
+                lower: Some(Key::Num(first)),
+                upper: Some(Key::Num(first.saturating_add(shape.span))),
+            })?;
+        }
+        for place in 0..shape.reads.max(shape.writes) {
+            let key = Key::Num(shape.key(first, place));
+            operations.push(operation(shape, place, key))?;
+        }
+        Ok(operations)
+    }
+
+    // One transaction of each session: all begin before the first ends.
+    fn round_by_copies(&mut self, way: Way, number: u64) -> Result<u64, Fault> {
+        let mut copies = Vec::new(self.alloc);
+        for session in 1..=self.shape.together {
+            copies.push(self.begin(session, number)?)?;
+        }
+        let mut committed = 0u64;
+        for (place, copy) in copies.into_iter().enumerate() {
+            let session = place.saturating_add(1);
+            let done = match way {
+                Way::Steps => end_by_steps(&mut self.core, session, copy)?,
+                Way::Serial | Way::Alone => end_serially(&mut self.core, session, copy)?,
+            };
+            committed = committed.saturating_add(u64::from(done));
+        }
+        Ok(committed)
+    }
+
+    // Reads what the next transaction reads, and writes into its private copy.
+    fn begin(&mut self, session: usize, number: u64) -> Result<PrivateCopy<A>, Fault> {
+        let (alloc, shape, start) = (self.alloc, self.shape, self.core.tnc());
+        let first = shape.first(&mut self.dice);
+        let mut copy = PrivateCopy::new(alloc, number, start);
+        if shape.span > 0 {
+            let (lower, upper) = (first, first.saturating_add(shape.span));
+            let (lower, upper) = (Some(Key::Num(lower)), Some(Key::Num(upper)));
+            let _rows = self
+                .core
+                .scan(session, number, start, TABLE, &lower, &upper)?;
+        }
+        for place in 0..shape.reads.max(shape.writes) {
+            let key = shape.key(first, place);
+            let before = match place < shape.reads {
+                true => self.read(session, number, start, key)?,
+                false => 0,
+            };
+            if place < shape.writes {
+                let row = Row::from_cell(Cell::Int(before.saturating_add(amount(place))));
+                copy.put(TABLE, Key::Num(key), row)?;
+            }
+        }
+        Ok(copy)
+    }
+
+    // The number in a row, 0 where there is none.
+    fn read(&mut self, session: usize, number: u64, start: u64, key: u64) -> Result<i64, Fault> {
+        match self
+            .core
+            .read(session, number, start, TABLE, &Key::Num(key))?
+        {
+            Some(row) => match row.cell(0) {
+                Some(Cell::Int(number)) => Ok(*number),
+                _ => Ok(0),
+            },
+            None => Ok(0),
+        }
+    }
+}
+
+// Puts of rows of 0, from one key on and below another.
+fn puts<A: Allocator + Copy>(alloc: A, first: u64, behind: u64) -> Result<Vec<Op<A>, A>, Fault> {
+    let mut puts = Vec::new(alloc);
+    for key in first..behind {
+        puts.push(Op::Put {
+            table: TABLE,
+            key: Key::Num(key),
+            row: Row::from_cell(Cell::Int(0)),
+        })?;
+    }
+    Ok(puts)
+}
+
+// The one table, of rows of one number under number keys.
+fn schema<A: Allocator + Copy>(alloc: A) -> Result<Schema<A>, Fault> {
+    let mut tables = Vec::new(alloc);
+    tables.push(TableDef {
+        name: Text::new(alloc, "t")?,
+        key: KeyKind::Num,
+        columns: vec![in alloc; Kind::Int]?,
+    })?;
+    Ok(Schema::new(tables)?)
+}
+
+// Puts so many rows, by a session that does nothing else.
+fn fill<A: Allocator + Copy>(
+    alloc: A,
+    core: &mut Core<A>,
+    session: usize,
+    rows: u64,
+) -> Result<(), Fault> {
+    for part in 0..rows.div_ceil(PUTS) {
+        let first = part.saturating_mul(PUTS);
+        let puts = puts(alloc, first, rows.min(first.saturating_add(PUTS)))?;
+        let _done = core.run_alone(session, part.saturating_add(1), &puts)?;
+    }
+    Ok(())
+}
+
+// The operation at a place of a transaction.
+fn operation<A: Allocator>(shape: Shape, place: u64, key: Key<A>) -> Op<A> {
+    if place < shape.writes {
+        Op::Add {
+            table: TABLE,
+            key,
+            amount: amount(place),
+        }
+    } else {
+        Op::Get { table: TABLE, key }
+    }
+}
+
+// What a session hands in.
+fn request<A: Allocator>(copy: PrivateCopy<A>) -> Item<A> {
+    let (number, start, writes) = copy.into_request();
+    Item::Request {
+        number,
+        start,
+        writes,
+    }
+}
+
+// Ends a transaction in one step. The answer is whether it committed.
+fn end_serially<A: Allocator + Copy>(
+    core: &mut Core<A>,
+    session: usize,
+    copy: PrivateCopy<A>,
+) -> Result<bool, Fault> {
+    match core.serial_end(session, request(copy))? {
+        Ended::Committed(_) => Ok(true),
+        Ended::BackedUp(_) | Ended::RanAlone { .. } | Ended::MarkedClosed => Ok(false),
+    }
+}
+
+// Ends a transaction step by step. The answer is whether it committed.
+fn end_by_steps<A: Allocator + Copy>(
+    core: &mut Core<A>,
+    session: usize,
+    copy: PrivateCopy<A>,
+) -> Result<bool, Fault> {
+    let _entry: Entry<A> = core.enter(session, request(copy))?;
+    match core.decide(session)? {
+        Verdict::Commit => {
+            write_all(core, session)?;
+            let _number = core.finish(session)?;
+            Ok(true)
+        }
+        Verdict::BackUp(_) => {
+            let _number = core.back_up(session)?;
+            Ok(false)
+        }
+    }
+}
+
+// Does all single writes of the transaction that a session has under way, of which it has at most 256.
+fn write_all<A: Allocator + Copy>(core: &mut Core<A>, session: usize) -> Result<(), Fault> {
+    for _ in 0..PUTS {
+        match core.write_one(session)? {
+            SingleWrite::Wrote { .. } => {}
+            SingleWrite::NoMore => return Ok(()),
+        }
+    }
+    Ok(())
+}
