@@ -168,6 +168,18 @@ add_fails (Err unread.Malformed) fault write row version schema count counter nu
     let malformed : fault ≡ faults.Malformed number = cc is in
     subst (λ (f : ReadFault). FailsFrom f p a c first) (sym malformed) (twice_fails write row version schema count counter number writes p a b c first mid last good same lt led taken line here (twice refl))
 
+-- that a line can't be read is told of no device
+pub told_of_none : {X : Type 0} (read : Result X Unread) (fault : ReadFault) (number : ℕ) (Cause : Type 0) → Err fault ≡ told read number → fault ≡ faults.Read → Cause
+told_of_none (Ok x) fault number Cause is same = absurd cc
+told_of_none (Err unread.Memory) fault number Cause is same =
+    let memory : fault ≡ faults.Memory = cc is in
+    let clash : faults.Read ≡ faults.Memory = sym same ∙ memory in
+    cc
+told_of_none (Err unread.Malformed) fault number Cause is same =
+    let malformed : fault ≡ faults.Malformed number = cc is in
+    let clash : faults.Read ≡ faults.Malformed number = sym same ∙ malformed in
+    cc
+
 -- one more write
 pub write_more : (write : Write) (row : InRow) (version : Version) (schema : Schema) (count counter : ℕ) (writes now : List Write) (p : Place) (a b c : Option (List ℕ)) (first mid last : ℕ) → row.frame ≡ frame_of version schema row.frame.sessions → counter < count
     → Led p (writes_to_come row (count - counter) (map (λ (w : Write). w.0) writes)) a b first mid → Consumes b c (write_line schema write ++ 10 ∷ []) × WriteFits version schema write × (last ≡ mid + 1)

@@ -12,7 +12,7 @@ use Rattle.occ_model.specs.State.{Write, Observation}
 use Rattle.occ_model.specs.Log.{LogRow, Standing, Open, Writing, Done, Back, Case}
 use Rattle.occ_model.specs.Validity.{finished_within, finished_opponents, writes_of}
 use Rattle.occ_model.specs.World.{World, ReadPhase, phase_cmp, next_place, active_count, reads_under, is_held, low}
-use Rattle.std.specs.Prelude.{Result, Err}
+use Rattle.std.specs.Prelude.{Result, Ok, Err}
 use Rattle.occ_model.specs.Event.{Event, Item, Reply, Enter, Request, Entered, Refused}
 use Rattle.occ_model.specs.Refusal as refusals
 use Rattle.occ_model.specs.Refusal.{refusal, check_writes}
@@ -27,6 +27,8 @@ use Rattle.occ_core.specs.Entries.{due_fault, busy_fault, spare_fault, turn_to_e
 use Rattle.occ_log.specs.Slots.{Slot, Hold, last_of, active_from, HoldsArePlaced}
 use Rattle.occ_book.specs.Undo.{ArePlaced}
 use Rattle.occ_core.specs.declared.core_entries.Entry as code_entry
+use Rattle.occ_core.specs.declared.core_entries.Entry.TheVariants as entries
+use Rattle.occ_core.specs.Replies as replies
 use Rattle.occ_core.specs.Replies.{entry}
 use Rattle.occ_core.specs.Parts.{Parts, world_of, low_of, found_at, AreSound}
 use Rattle.occ_core.proofs.Placed.{finds_standing, row_found}
@@ -321,6 +323,12 @@ enter_whole parts world seen sound session number start writes none row case is_
 -- a fault is replied as it is
 pub entry_err : {Z : Type 0} (old new : World) (event : Event) (reply : Result (code_entry.Entry Z) Fault) (fault : Fault) → reply ≡ Err fault → Step old event (Refused fault) new → Step old event (entry reply) new
 entry_err old new event reply fault is step = subst (λ r. Step old event (entry r) new) (sym is) step
+
+-- an entry is told alike, whether a refusal hands back its item or not
+pub entry_told : {Z : Type 0} (old new : World) (event : Event) (told : code_entry.Entry Z) → Step old event (entry (Ok told)) new → Step old event (replies.entering {Z = Z} (Ok told)) new
+entry_told old new event (entries.Entered place index) step = step
+entry_told old new event (entries.RanAlone number answers) step = step
+entry_told old new event entries.MarkedClosed step = step
 
 -- the entry of a request is that of the item which it is
 pub entry_of : (old new : World) (session number start : ℕ) (writes : List Write) (item : Item) (reply : Reply) → Step old (Enter session (Request number start writes)) reply new → Request number start writes ≡ item → Step old (Enter session item) reply new

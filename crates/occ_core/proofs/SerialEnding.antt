@@ -1,5 +1,5 @@
 -- What a serial end has to show, over plain parts.
-use Rattle.std.proofs.Common.{◌≡◌, ℕ, suc, ◌+◌, ◌-◌, ◌≤◌, Bool, true, false, List, [], ◌∷◌, drop, length, map, Option, None, Some, Result, Err, refl, sym, ap, subst, ◌∙◌, arith}
+use Rattle.std.proofs.Common.{◌≡◌, ℕ, suc, ◌+◌, ◌-◌, ◌≤◌, Bool, true, false, List, [], ◌∷◌, drop, length, map, Option, None, Some, Result, Ok, Err, refl, sym, ap, subst, ◌∙◌, arith}
 use Rattle.std.specs.Prelude.{◌||◌, nat_lt, slice_get, filter}
 use Rattle.std.proofs.lemmas.Bool.{lt-ltb, ltb-false, leb-false}
 use Rattle.std.specs.FinMap as finite
@@ -24,13 +24,14 @@ use Rattle.occ_model.proofs.Entries.{verdict-validity}
 use Rattle.occ_model.proofs.Phases.{not_refused}
 use Rattle.occ_model.proofs.Steps.{passed, admitted}
 use Rattle.occ_model.proofs.InSchema.{keeps_lawful}
-use Rattle.occ_core.specs.AtOnce.{committed, backed, MayEnd, quiet_fault, turn_to_end, ending}
+use Rattle.occ_core.specs.AtOnce.{committed, backed, MayEnd, quiet_fault, turn_to_end, ending, ending_item}
 use Rattle.occ_core.specs.Entries.{spare_fault, turn_to_close, log_fault, counter_fault, room_to_enter}
 use Rattle.occ_core.specs.Parts.{Parts, world_of, found_at, AreSound}
 use Rattle.occ_core.specs.Reads.{start_fault}
 use Rattle.occ_log.specs.Slots.{active_from}
 use Rattle.occ_book.specs.Undo.{ArePlaced}
 use Rattle.occ_core.specs.declared.core_serial.Ended as code_ended
+use Rattle.occ_core.specs.declared.core_serial.Ended.TheVariants as ends
 use Rattle.occ_core.proofs.Closing.{close_refusal}
 use Rattle.occ_core.proofs.Counting.{active_counted}
 use Rattle.occ_core.proofs.Entering.{nest, nest_last, counter_is, checks_placed, open_case}
@@ -213,6 +214,13 @@ pub ending_err : {Z : Type 0} (old new : World) (event : Event) (reply : Result 
 ending_err old new event reply fault is step = subst (λ r. Step old event (ending r) new) (sym is) step
 
 -- The end of what a session hands in.
+
+-- an end is told alike, whether a refusal hands back its item or not
+pub end_told : {Z : Type 0} (old new : World) (event : Event) (told : code_ended.Ended Z) → Step old event (ending (Ok told)) new → Step old event (ending_item {Z = Z} (Ok told)) new
+end_told old new event (ends.Committed number) step = step
+end_told old new event (ends.BackedUp cause) step = step
+end_told old new event (ends.RanAlone number answers) step = step
+end_told old new event ends.MarkedClosed step = step
 
 -- the serial end of a request is that of the item which it is
 pub end_of : (old new : World) (session : ℕ) (item own : Item) (reply : Reply) → Step old (SerialEnd session own) reply new → own ≡ item → Step old (SerialEnd session item) reply new

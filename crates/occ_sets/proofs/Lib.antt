@@ -5,4 +5,5 @@ pub mod Leading
 pub mod Meetings
 pub mod Merging
 pub mod Observations
+pub mod Placed
 pub mod Refusals

@@ -15,7 +15,8 @@ use Rattle.occ_model.specs.Overlay.{own}
 use Rattle.occ_sets.specs.declared.reads.Observation as code_observation
 use Rattle.occ_sets.specs.Seen.{writes_of, observations_of}
 
-or_some : {X : Type 0} (b : Bool) (x : X) (r : Option X) → (b || is_some r) ≡ is_some (cond b (Some x) r)
+-- a look-up finds what the first value or the rest is
+pub or_some : {X : Type 0} (b : Bool) (x : X) (r : Option X) → (b || is_some r) ≡ is_some (cond b (Some x) r)
 or_some true x r = refl
 or_some false x r = refl
 
@@ -28,7 +29,12 @@ meets_question-One (w ∷ ws) table key =
     ∙ or_some (eq_by_cmp object_cmp (table, key) w.0) w.1 (own ws (table, key))
 
 module _ {Z : Type 0} where
-  -- a test of each key is a test of each write
+  -- a test of each entry is a test of each write
+  pub meets_question-entries : (question : Question) (es : List (code.Object Z × Option Row)) → list_any (λ e. asks question (object_of e.0)) es ≡ meets_question (writes_of es) question
+  meets_question-entries question [] = refl
+  meets_question-entries question (e ∷ es) = ap (λ b. asks question (object_of e.0) || b) (meets_question-entries question es)
+
+  -- and so is one of each key
   pub meets_question-keys : (question : Question) (es : List (code.Object Z × Option Row)) → list_any (λ o. asks question (object_of o)) (keys_of es) ≡ meets_question (writes_of es) question
   meets_question-keys question [] = refl
   meets_question-keys question (e ∷ es) = ap (λ b. asks question (object_of e.0) || b) (meets_question-keys question es)
@@ -39,6 +45,13 @@ module _ {Z : Type 0} where
   meets_reads-observations writes (o ∷ os) = ap (λ b. meets_question writes (question_of o.question) || b) (meets_reads-observations writes os)
 
   -- writes meet writes where they write an object of theirs
+  pub meets_writes-entries : (writes : List Write) (es : List (code.Object Z × Option Row)) → list_any (λ e. is_some (own writes (object_of e.0))) es ≡ meets_writes writes (writes_of es)
+  meets_writes-entries writes [] = refl
+  meets_writes-entries writes (e ∷ es) =
+      let first = sym (meets_question-One writes e.0.table (object_of e.0).1) in
+      let rest = meets_writes-entries writes es in
+      λ i. first i || rest i
+
   pub meets_writes-keys : (writes : List Write) (es : List (code.Object Z × Option Row)) → list_any (λ o. is_some (own writes (object_of o))) (keys_of es) ≡ meets_writes writes (writes_of es)
   meets_writes-keys writes [] = refl
   meets_writes-keys writes (e ∷ es) =

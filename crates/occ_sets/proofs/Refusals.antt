@@ -1,6 +1,6 @@
 -- Refusals for memory, where there is room.
 use Rattle.std.proofs.Common.{◌≡◌, Bool, false, cond, Result, Ok, Err, ◌∙◌, sym, ap}
-use Rattle.std.specs.Prelude.{IfErr, MatchResult}
+use Rattle.std.specs.Prelude.{IfErr, IsOk, OnOk, OnErr, MatchResult}
 use Rattle.occ_types.specs.declared.fault.Fault.TheVariants.{SetFull, Memory}
 use Rattle.occ_types.specs.declared.fault.Refused.{Refused}
 
@@ -9,3 +9,13 @@ module _ {X Y : Type 0} where
   pub told_memory : (r : Result X (Refused Y)) (full : Bool) → full ≡ false → IfErr r (λ refused. refused.fault ≡ Memory) → MatchResult r (λ _. full ≡ false) (λ refused. refused.fault ≡ cond full SetFull Memory)
   told_memory (Ok x) full room h = room
   told_memory (Err refused) full room h = h ∙ sym (ap (λ b. cond b SetFull Memory) room)
+
+-- what holds where there is a result holds
+pub when_ok : {X Y P : Type 0} (r : Result X Y) → IsOk r → OnOk r P → P
+when_ok (Ok x) ok h = h
+when_ok (Err y) ok h = cc
+
+-- what holds anyway holds at an error
+pub at_error : {X Y P : Type 0} (r : Result X Y) → P → OnErr r P
+at_error (Ok x) h = tt
+at_error (Err y) h = h

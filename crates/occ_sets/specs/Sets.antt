@@ -1,6 +1,6 @@
 -- What the sets of a transaction keep, and when they are full.
-use Rattle.std.specs.Prelude.{ℕ, ◌≤◌, Bool, ◌&&◌, not, nat_le, List, map, length, is_some}
-use Rattle.std.specs.List.{IsDistinct}
+use Rattle.std.specs.Prelude.{ℕ, ◌≤◌, Bool, ◌&&◌, not, nat_le, List, Option, map, length, is_some}
+use Rattle.std.specs.List.{IsDistinct, position}
 use Rattle.std.specs.Ordering.{eq_by_cmp}
 use Rattle.occ_types.specs.declared.limits.TheConstants.{MAX_WRITES, MAX_QUESTIONS}
 use Rattle.occ_types.specs.Object.{Object, object_cmp}
@@ -19,6 +19,10 @@ WritesOnce writes = IsDistinct (eq_by_cmp object_cmp) (objects writes)
 pub record IsWriteSet (writes : List Write) : Type 0 where
   pub few : length writes ≤ MAX_WRITES
   pub distinct : WritesOnce writes
+
+-- the place of the write of an object, or none where there is none
+abbrev pub place_in : List Write → Object → Option ℕ
+place_in writes object = position (λ write. eq_by_cmp object_cmp object write.0) writes
 
 -- whether a write of the object would be one too many: it is new, and there are as many as there may be
 abbrev pub is_full_for : List Write → Object → Bool

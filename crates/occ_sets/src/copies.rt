@@ -8,9 +8,8 @@ ghost use Rattle.occ_model.specs.Overlay.{set, own, overlay};
 ghost use Rattle.occ_sets.specs.Seen.{answer_of};
 ghost use Rattle.occ_sets.specs.Sets.{IsWriteSet, is_full_for};
 
-use crate::handles::WriteHandle;
-use crate::maps::Write;
 use crate::overlays::{over_range, over_row};
+use crate::own_writes::{OwnWrites, Write};
 use crate::reads::Answer;
 use crate::writes::WriteSet;
 use occ_types::{Fault, Key, Object, Question, Refused, Row};
@@ -23,7 +22,7 @@ use std::marker::Model;
 pub struct PrivateCopy<A: Allocator> {
     number: u64,
     start: u64,
-    writes: WriteHandle<A>,
+    writes: OwnWrites<A>,
 }
 
 impl<A: Allocator> Model for PrivateCopy<A> {
@@ -46,7 +45,7 @@ impl<A: Allocator + Copy> PrivateCopy<A> {
         PrivateCopy {
             number,
             start,
-            writes: WriteHandle::new(alloc),
+            writes: OwnWrites::new(alloc),
         }
     }
 
@@ -86,7 +85,7 @@ impl<A: Allocator> PrivateCopy<A> {
     }
 
     // The writes so far.
-    pub(crate) fn writes(&self) -> &WriteHandle<A>
+    pub(crate) fn writes(&self) -> &OwnWrites<A>
         ensures { result.now ≡ self.now.writes }
     {
         &self.writes
@@ -134,7 +133,7 @@ impl<A: Allocator> PrivateCopy<A> {
             start,
             writes,
         } = self;
-        (number, start, WriteSet::from_handle(writes))
+        (number, start, WriteSet::from_own(writes))
     }
 }
 

@@ -1,21 +1,22 @@
 //! What a transaction writes and reads: its write set, its read set, and the tests whether these meet.
 #![tactic(auto)]
 
+mod appending;
 mod copies;
-mod handles;
-mod maps;
+mod few_writes;
 mod meets;
 mod operations;
 mod overlays;
+mod own_writes;
 mod prepared;
 mod reads;
 mod shareable;
 mod writes;
 
 pub use copies::PrivateCopy;
-pub use maps::Write;
 pub use meets::{meets_reads, meets_writes};
 pub use operations::{Op, check_operations};
+pub use own_writes::Write;
 pub use prepared::Prepared;
 pub use reads::{Answer, Observation, ReadSet};
 pub use writes::WriteSet;

@@ -2,7 +2,7 @@
 ghost use Rattle.std.specs.Prelude.{◌≡◌, map};
 ghost use Rattle.occ_model.specs.State.{meets_reads, meets_writes};
 
-use crate::maps::WriteMap;
+use crate::own_writes::Content;
 use crate::reads::ReadSet;
 use crate::writes::WriteSet;
 use std::alloc::Allocator;
@@ -21,15 +21,8 @@ pub fn meets_reads<A: Allocator>(writes: &WriteSet<A>, reads: &ReadSet<A>) -> bo
 pub fn meets_writes<A: Allocator>(writes: &WriteSet<A>, others: &WriteSet<A>) -> bool
     ensures { result ≡ meets_writes writes.now others.now }
 {
-    match others.map().map() {
-        None => false,
-        Some(others) => meets_map(writes, others),
+    match others.own_writes().content() {
+        Content::Few(list) => list.iter().any(|write| writes.writes(&write.0)),
+        Content::Many(map) => map.keys().any(|object| writes.writes(object)),
     }
-}
-
-// Whether some object of a map is in the set too.
-fn meets_map<A: Allocator>(writes: &WriteSet<A>, others: &WriteMap<A>) -> bool
-    ensures { result ≡ meets_writes writes.now others.now }
-{
-    others.entries.keys().any(|object| writes.writes(object))
 }

@@ -13,7 +13,7 @@ ghost use Rattle.occ_sets.specs.Seen.{answer_of, rows_of};
 ghost use Rattle.occ_sets.specs.declared.reads.Answer.TheVariants as answers;
 ghost use Rattle.occ_types.specs.declared.fault.Fault.TheVariants.{Memory};
 
-use crate::handles::WriteHandle;
+use crate::own_writes::OwnWrites;
 use crate::reads::Answer;
 use occ_types::{Fault, Key, Object, Question, Refused, Row};
 use std::alloc::{AllocError, Allocator};
@@ -21,7 +21,7 @@ use std::collections::BTreeMap;
 
 // The answer for a single key, from the own write where there is one. A refusal hands back what was given.
 pub(crate) fn over_row<A: Allocator + Clone>(
-    writes: &WriteHandle<A>,
+    writes: &OwnWrites<A>,
     object: &Object<A>,
     given: Answer<A>,
 ) -> Result<Answer<A>, Refused<Answer<A>>>
@@ -43,7 +43,7 @@ pub(crate) fn over_row<A: Allocator + Clone>(
 
 // The answer for a range, with the own writes over its rows. A refusal hands back the rows that were given.
 pub(crate) fn over_range<A: Allocator + Copy>(
-    writes: &WriteHandle<A>,
+    writes: &OwnWrites<A>,
     question: &Question<A>,
     rows: Vec<(Key<A>, Row<A>), A>,
 ) -> Result<Answer<A>, Refused<Answer<A>>>
@@ -61,7 +61,7 @@ pub(crate) fn over_range<A: Allocator + Copy>(
 
 // Copies of the rows of a range, with the own writes over them.
 fn over_rows<A: Allocator + Copy>(
-    writes: &WriteHandle<A>,
+    writes: &OwnWrites<A>,
     question: &Question<A>,
     rows: &Vec<(Key<A>, Row<A>), A>,
 ) -> Result<Vec<(Key<A>, Row<A>), A>, AllocError>
@@ -108,7 +108,7 @@ fn put<A: Allocator + Copy>(
 fn write_all<A: Allocator + Copy>(
     seen: &mut BTreeMap<Key<A>, Row<A>, A>,
     question: &Question<A>,
-    writes: &WriteHandle<A>,
+    writes: &OwnWrites<A>,
 ) -> Result<(), AllocError>
     ensures { OnOk result (FollowsWrites (question_of question.now) seen.old.entries seen.new.entries writes.now) }
 {
@@ -122,7 +122,7 @@ fn write_all<A: Allocator + Copy>(
 fn write<A: Allocator + Copy>(
     seen: &mut BTreeMap<Key<A>, Row<A>, A>,
     question: &Question<A>,
-    writes: &WriteHandle<A>,
+    writes: &OwnWrites<A>,
     place: usize,
 ) -> Result<(), AllocError>
     ensures { OnOk result ((write : Write) → slice_get writes.now place ≡ Some write → FollowsWrite (question_of question.now) seen.old.entries seen.new.entries write) }

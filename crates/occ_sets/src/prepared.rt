@@ -15,7 +15,7 @@ ghost use Rattle.occ_sets.specs.Merging.{LaysFirst, LaysRow, Led, LedFurther, fi
 ghost use Rattle.occ_sets.specs.Seen.{rows_of};
 
 use crate::copies::PrivateCopy;
-use crate::handles::WriteHandle;
+use crate::own_writes::OwnWrites;
 use occ_types::limits::MAX_ANSWER_ROWS;
 use occ_types::{Fault, Key, Question, Row};
 use std::alloc::{AllocError, Allocator};
@@ -27,7 +27,7 @@ use std::marker::Model;
 #[derive(Drop)]
 pub struct Prepared<'a, A: Allocator> {
     question: &'a Question<A>,
-    writes: &'a WriteHandle<A>,
+    writes: &'a OwnWrites<A>,
     own: BTreeMap<Key<A>, Option<Row<A>>, A>,
     room: Vec<(Key<A>, Row<A>), A>,
 }
@@ -167,7 +167,7 @@ fn first_to<A: Allocator>(own: &BTreeMap<Key<A>, Option<Row<A>>, A>, key: &Key<A
 pub(crate) fn own_asked<A: Allocator + Copy>(
     alloc: A,
     question: &Question<A>,
-    writes: &WriteHandle<A>,
+    writes: &OwnWrites<A>,
 ) -> Result<BTreeMap<Key<A>, Option<Row<A>>, A>, AllocError>
     ensures { IfOk result (λ own. (state : State) → Led (question_of question.now) own.entries state (apply state writes.now)) }
 {
@@ -182,7 +182,7 @@ pub(crate) fn own_asked<A: Allocator + Copy>(
 fn note_write<A: Allocator + Copy>(
     own: &mut BTreeMap<Key<A>, Option<Row<A>>, A>,
     question: &Question<A>,
-    writes: &WriteHandle<A>,
+    writes: &OwnWrites<A>,
     place: usize,
 ) -> Result<(), AllocError>
     ensures { OnOk result ((write : Write) → slice_get writes.now place ≡ Some write → LedFurther (question_of question.now) own.old.entries own.new.entries write) }

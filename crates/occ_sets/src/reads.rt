@@ -6,6 +6,7 @@ ghost use Rattle.occ_sets.specs.Seen.{answer_of, observation_of, observations_of
 ghost use Rattle.occ_sets.specs.Sets.{is_full};
 ghost use Rattle.occ_sets.specs.Shareable.{held};
 
+use crate::appending::append;
 use crate::shareable::Shareable;
 use occ_types::limits::MAX_QUESTIONS;
 use occ_types::{Fault, Key, Question, Refused, Row};
@@ -191,7 +192,7 @@ fn note_in<A: Allocator + Clone>(
         Ok(observations) => observations,
         Err(content) => return (content, Err(memory(seen))),
     };
-    match observations.push(seen) {
+    match append(&mut observations, seen) {
         Ok(()) => (Shareable::Plain(observations), Ok(())),
         Err(AllocFailed { value }) => (Shareable::Plain(observations), Err(memory(value))),
     }

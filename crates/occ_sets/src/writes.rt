@@ -10,8 +10,7 @@ ghost use Rattle.occ_sets.specs.Seen.{rows_of};
 ghost use Rattle.occ_sets.specs.Sets.{WritesOnce, is_full_for};
 ghost use Rattle.occ_sets.specs.Shareable.{held};
 
-use crate::handles::WriteHandle;
-use crate::maps::Write;
+use crate::own_writes::{OwnWrites, Write};
 use crate::prepared::{merge, own_asked};
 use crate::shareable::Shareable;
 use occ_types::{Fault, Key, Object, Question, Refused, Row};
@@ -23,7 +22,7 @@ use std::mem;
 #[derive(Drop)]
 #[derive_where(Debug)]
 pub struct WriteSet<A: Allocator> {
-    content: Shareable<WriteHandle<A>, A>,
+    content: Shareable<OwnWrites<A>, A>,
 }
 
 impl<A: Allocator> Model for WriteSet<A> {
@@ -42,7 +41,7 @@ impl<A: Allocator + Copy> WriteSet<A> {
     pub fn new(alloc: A) -> WriteSet<A>
         ensures { result ≡ [] }
     {
-        WriteSet::from_handle(WriteHandle::new(alloc))
+        WriteSet::from_own(OwnWrites::new(alloc))
     }
 
     /// A set without a write, with room for `count` of them. Refused with `Memory` where there is none for it.
@@ -50,23 +49,23 @@ impl<A: Allocator + Copy> WriteSet<A> {
         ensures empty { IfOk result (λ writes. writes ≡ []) }
         ensures memory { IsOkUnless result Memory }
     {
-        let map = WriteHandle::with_capacity(alloc, count)?;
-        Ok(WriteSet::from_handle(map))
+        let writes = OwnWrites::with_capacity(alloc, count)?;
+        Ok(WriteSet::from_own(writes))
     }
 }
 
 impl<A: Allocator> WriteSet<A> {
     // The set of some writes, which takes no memory.
-    pub(crate) fn from_handle(map: WriteHandle<A>) -> WriteSet<A>
-        ensures { result ≡ map }
+    pub(crate) fn from_own(writes: OwnWrites<A>) -> WriteSet<A>
+        ensures { result ≡ writes }
     {
         WriteSet {
-            content: Shareable::Plain(map),
+            content: Shareable::Plain(writes),
         }
     }
 
     // The writes.
-    pub(crate) fn map(&self) -> &WriteHandle<A>
+    pub(crate) fn own_writes(&self) -> &OwnWrites<A>
         ensures { result.now ≡ self.now }
     {
         self.content.get()
@@ -77,7 +76,7 @@ impl<A: Allocator> WriteSet<A> {
         ensures value { result ≡ length self.now }
         ensures once { WritesOnce self.now }
     {
-        self.map().len()
+        self.own_writes().len()
     }
 
     /// Whether no object is written.
@@ -91,14 +90,14 @@ impl<A: Allocator> WriteSet<A> {
     pub fn own(&self, object: &Object<A>) -> Option<Option<&Row<A>>>
         ensures { option_map option_copied result ≡ own self.now (object_of object.now) }
     {
-        self.map().own(object)
+        self.own_writes().own(object)
     }
 
     /// Whether an object is written.
     pub fn writes(&self, object: &Object<A>) -> bool
         ensures { result ≡ is_some (own self.now (object_of object.now)) }
     {
-        self.map().writes(object)
+        self.own_writes().writes(object)
     }
 
     /// The write at a place, in the order of the first writes.
@@ -106,14 +105,14 @@ impl<A: Allocator> WriteSet<A> {
         ensures value { option_map (λ w. (object_of w.0.now, option_copied w.1)) result ≡ slice_get self.now place }
         ensures small { IfSome result (λ _. place < 2 ^ 63) }
     {
-        self.map().write_at(place)
+        self.own_writes().write_at(place)
     }
 
     /// Whether the set writes what the question asks for: one look-up for a single key, one pass for a range.
     pub fn meets(&self, question: &Question<A>) -> bool
         ensures { result ≡ meets_question self.now (question_of question.now) }
     {
-        self.map().meets(question)
+        self.own_writes().meets(question)
     }
 }
 
@@ -128,8 +127,8 @@ impl<A: Allocator + Copy> WriteSet<A> {
         ensures seen { IfOk result (λ seen. rows_of seen.items ≡ rows_over (question_of question.now) self.now (rows_of rows.items)) }
         ensures memory { IsOkUnless result Memory }
     {
-        let alloc = self.map().allocator();
-        let own = own_asked(alloc, question, self.map())?;
+        let alloc = self.own_writes().allocator();
+        let own = own_asked(alloc, question, self.own_writes())?;
         if own.len() == 0 {
             return Ok(rows);
         }
@@ -142,8 +141,8 @@ impl<A: Allocator + Copy> WriteSet<A> {
         ensures kept { self.new ≡ self.old }
         ensures memory { IsOkUnless result Memory }
     {
-        let alloc = self.map().allocator();
-        self.content.share(alloc, WriteHandle::new(alloc))?;
+        let alloc = self.own_writes().allocator();
+        self.content.share(alloc, OwnWrites::new(alloc))?;
         Ok(())
     }
 
@@ -166,7 +165,7 @@ impl<A: Allocator + Copy> WriteSet<A> {
             (λ refused. refused.fault ≡ cond (is_full_for self.old (table, key_of key)) SetFull Memory) }
     {
         let object = Object { table, key };
-        if self.map().is_full_for(&object) {
+        if self.own_writes().is_full_for(&object) {
             return Err(Refused {
                 value: (object, row),
                 fault: Fault::SetFull,
@@ -190,7 +189,7 @@ impl<A: Allocator + Copy> WriteSet<A> {
         ensures handed_back { IfErr result (λ refused. refused.value ≡ (record { table = table; key = key }, row)) }
         ensures memory { IfErr result (λ refused. refused.fault ≡ Memory) }
     {
-        let empty = WriteHandle::new(self.map().allocator());
+        let empty = OwnWrites::new(self.own_writes().allocator());
         let content = mem::replace(&mut self.content, Shareable::Plain(empty));
         let (content, done) = insert_in(content, (Object { table, key }, row));
         self.content = content;
@@ -200,19 +199,19 @@ impl<A: Allocator + Copy> WriteSet<A> {
 
 // Does a write. It is refused, and handed back, where there is no memory.
 fn insert_in<A: Allocator + Copy>(
-    content: Shareable<WriteHandle<A>, A>,
+    content: Shareable<OwnWrites<A>, A>,
     write: Write<A>,
-) -> (Shareable<WriteHandle<A>, A>, Result<(), Refused<Write<A>>>)
+) -> (Shareable<OwnWrites<A>, A>, Result<(), Refused<Write<A>>>)
     ensures ok { OnOk result.1 (held result.0 ≡ set (held content) (object_of write.0) write.1) }
     ensures err { OnErr result.1 (held result.0 ≡ held content) }
     ensures handed_back { IfErr result.1 (λ refused. refused.value ≡ write) }
     ensures memory { IfErr result.1 (λ refused. refused.fault ≡ Memory) }
 {
     match content.into_plain() {
-        Ok(mut map) => {
+        Ok(mut writes) => {
             let (object, row) = write;
-            let done = map.insert(object, row);
-            (Shareable::Plain(map), done)
+            let done = writes.insert(object, row);
+            (Shareable::Plain(writes), done)
         }
         Err(content) => (
             content,

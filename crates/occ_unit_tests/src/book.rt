@@ -260,11 +260,25 @@ fn folded_at_once(alloc: Global) -> Option<Base<Global>> {
     Some(base)
 }
 
+// The first two rows.
+fn first_rows(alloc: Global) -> Option<Vec<LogRow<Global, ()>>>
+    ensures { IfSome result (λ rows. AllFitIn 1 2 rows.items) }
+{
+    let (first, second) = (putting(alloc)?, failing(alloc)?);
+    vec![in alloc; first, second].ok()
+}
+
+// The last row.
+fn last_rows(alloc: Global) -> Option<Vec<LogRow<Global, ()>>>
+    ensures { IfSome result (λ rows. AllFitIn 1 2 rows.items) }
+{
+    let third = changing(alloc)?;
+    vec![in alloc; third].ok()
+}
+
 // The same, folded in two parts.
 fn folded_in_parts(alloc: Global) -> Option<Base<Global>> {
-    let (first, second, third) = (putting(alloc)?, failing(alloc)?, changing(alloc)?);
-    let front = vec![in alloc; first, second].ok()?;
-    let last = vec![in alloc; third].ok()?;
+    let (front, last) = (first_rows(alloc)?, last_rows(alloc)?);
     let mut base = Base::new(alloc, 1, 2).ok()?;
     fold_in(&mut base, front.as_slice()).ok()?;
     fold_in(&mut base, last.as_slice()).ok()?;

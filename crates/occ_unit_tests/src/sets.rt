@@ -86,6 +86,38 @@ fn a_second_write_takes_no_place(rt: HostRuntime) -> Result<(), Fail> {
     Ok(())
 }
 
+// Whether writes stand at the places of their keys after that of one key was done twice.
+fn keep_places(alloc: Global, count: u64, twice: u64) -> Option<bool> {
+    let mut set = WriteSet::new(alloc);
+    for key in 0..count {
+        set.set(0, Key::Num(key), None).ok()?;
+    }
+    let row = Row::from_cell(Cell::Int(1));
+    set.set(0, Key::Num(twice), Some(row)).ok()?;
+    let copy = set.clone().ok()?;
+    for place in 0..copy.len() {
+        let (object, row) = copy.write_at(place)?;
+        if object.key != Key::Num(place as u64) || row.is_some() != (place as u64 == twice) {
+            return Some(false);
+        }
+    }
+    let (last, next) = (object(0, count.saturating_sub(1)), object(0, count));
+    Some(copy.len() as u64 == count && copy.writes(&last) && !copy.writes(&next))
+}
+
+#[test]
+fn writes_keep_their_places(rt: HostRuntime) -> Result<(), Fail> {
+    let alloc = rt.alloc();
+    // Eight writes stand in a list, and more in a map.
+    for (count, twice) in [(2, 0), (8, 7), (9, 3), (9, 8), (40, 20)] {
+        assert!(rt;
+            keep_places(alloc, count, twice) == Some(true),
+            "{count} writes"
+        );
+    }
+    Ok(())
+}
+
 // How many writes two owners of one set see, after the first has done one more.
 fn shared(alloc: Global) -> Option<(usize, usize)> {
     let mut first = deletes(alloc, 1)?;

@@ -7,7 +7,9 @@ use Rattle.occ_books.specs.Places.{writes_to_come, rows_to_come}
 use Rattle.occ_books.proofs.Gathering.{nothing_yet, gathered_next, count_more}
 use Rattle.occ_books.proofs.RowTaking.{distinct-more, not_some}
 use Rattle.occ_books.proofs.Leading.{failed, turned}
-use Rattle.occ_books.proofs.RowLeading.{writes_begun, write_more, write_fails, add_fails}
+use Rattle.occ_books.proofs.RowLeading.{writes_begun, write_more, write_fails, add_fails, told_of_none}
+use Rattle.occ_text.specs.declared.faults.ReadFault.TheVariants as read_faults
+use Rattle.occ_text.proofs.Causes.{caused}
 use Rattle.occ_books.proofs.transactions.take_writes.Goals as goal
 
 pub loop-init : goal.loop-init
@@ -44,3 +46,11 @@ returns-in_err-read_at_line-clause-led g c = λ row same.
 
 pub returns-clause-led : goal.returns-clause-led
 returns-clause-led g c = λ row same. turned (λ k. writes_to_come row k (map (λ write. write.0) c.loop.writes)) (writes_to_come row c.args.count []) _ _ _ _ c.args.count c.loop.counter c.loop-test.false (c.loop.invariant.led row same)
+
+pub returns-in_err-object-clause-cause : goal.returns-in_err-object-clause-cause
+returns-in_err-object-clause-cause g c = caused c.in_err-object.field-0.0 read_faults.Read c.from_residual-in_err-object.result _ c.from_residual-in_err-object.ensures.1 c.in_err-object.ensures.cause
+
+pub returns-in_err-read_at_line-clause-cause : goal.returns-in_err-read_at_line-clause-cause
+returns-in_err-read_at_line-clause-cause g c =
+    caused c.in_err-read_at_line.field-0.0 read_faults.Read c.from_residual-in_err-read_at_line.result _ c.from_residual-in_err-read_at_line.ensures.1
+    (told_of_none c.add_write.result c.in_err-read_at_line.field-0.0 c.number.result _ c.in_err-read_at_line.ensures.exact)

@@ -1,8 +1,11 @@
 use Rattle.std.proofs.Common.{rules}
 use Rattle.occ_core.proofs.Closing.{close_of}
-use Rattle.occ_core.proofs.Entering.{entry_of}
+use Rattle.occ_core.proofs.Entering.{entry_of, entry_told}
 use Rattle.occ_core.proofs.RunsAlone.{alone_of}
 use Rattle.occ_core.proofs.core_state.Core.enter.Goals as goal
+
+pub returns-in-Ok-clause-step : goal.returns-in-Ok-clause-step
+returns-in-Ok-clause-step g c = entry_of _ _ _ _ _ _ _ _ (entry_told _ _ _ c.in-Ok.entry c.in-Ok.ensures.step) (search rules)
 
 pub returns-in-Err-clause-step : goal.returns-in-Err-clause-step
 returns-in-Err-clause-step g c = entry_of _ _ _ _ _ _ _ _ c.in-Err.ensures.step (search rules)

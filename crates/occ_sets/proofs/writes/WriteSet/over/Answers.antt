@@ -18,8 +18,8 @@ returns-then-len-eq0-clause-seen g c =
     let count : length own ≡ 0 = omega (arith, c.len.ensures.len, c.if-len-eq0.true) in
     let none : own ≡ [] = nil_from_length own count in
     sym (ap (λ own. rows_of (merged (on key_of key_cmp) rows own)) none ∙ ap rows_of (merged_none rows))
-    ∙ merged_over q c.requires.answered.0 c.map-2.result.now rows own c.requires.answered.1 c.len.ensures.ordered c.in_ok-own.ensures
-    ∙ ap (λ writes. rows_over q writes (rows_of rows)) c.map-2.ensures
+    ∙ merged_over q c.requires.answered.0 c.own_writes-2.result.now rows own c.requires.answered.1 c.len.ensures.ordered c.in_ok-own.ensures
+    ∙ ap (λ writes. rows_over q writes (rows_of rows)) c.own_writes-2.ensures
 
 -- the writes that are asked for are laid over the rows
 pub returns-clause-seen : goal.returns-clause-seen
@@ -27,5 +27,5 @@ returns-clause-seen g c =
     let q = question_of c.args.question.now in
     let rows = c.args.rows.items in
     ap rows_of c.merge.ensures.rows
-    ∙ merged_over q c.requires.answered.0 c.map-2.result.now rows c.in_ok-own.own.entries c.requires.answered.1 c.merge.ensures.ordered c.in_ok-own.ensures
-    ∙ ap (λ writes. rows_over q writes (rows_of rows)) c.map-2.ensures
+    ∙ merged_over q c.requires.answered.0 c.own_writes-2.result.now rows c.in_ok-own.own.entries c.requires.answered.1 c.merge.ensures.ordered c.in_ok-own.ensures
+    ∙ ap (λ writes. rows_over q writes (rows_of rows)) c.own_writes-2.ensures

@@ -1,0 +1,12 @@
+-- What clauses see of the writes of one transaction, in a list or in a map: the plain writes, in the order of the first writes of their objects.
+use Rattle.std.specs.Prelude.{List}
+use Rattle.occ_model.specs.State.{Write}
+use Rattle.occ_sets.specs.declared.own_writes.Content as code
+use Rattle.occ_sets.specs.declared.own_writes.Content.TheVariants.{Few, Many}
+use Rattle.occ_sets.specs.Seen.{writes_of}
+
+module _ {Z : Type 0} where
+  -- all writes
+  abbrev pub written : code.Content Z → List Write
+  written (Few list) = writes_of list.items
+  written (Many map) = writes_of map.value.entries

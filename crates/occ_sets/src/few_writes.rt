@@ -1,0 +1,41 @@
+//! A few writes of one transaction in a list, which is searched from its beginning.
+ghost use Rattle.std.specs.Prelude.{◌≡◌};
+ghost use Rattle.std.specs.Option.{option_copied, option_map};
+ghost use Rattle.occ_types.specs.Seen.{object_of, question_of};
+ghost use Rattle.occ_model.specs.State.{meets_question};
+ghost use Rattle.occ_model.specs.Overlay.{own};
+ghost use Rattle.occ_sets.specs.Seen.{writes_of};
+ghost use Rattle.occ_sets.specs.Sets.{place_in};
+
+use crate::own_writes::Write;
+use occ_types::{Object, Question, Row};
+use std::alloc::Allocator;
+
+/// The place of the write of an object, or none where there is none.
+pub(crate) fn place_of<A: Allocator>(writes: &[Write<A>], object: &Object<A>) -> Option<usize>
+    ensures { result ≡ place_in (writes_of writes.now) (object_of object.now) }
+{
+    writes.iter().position(|write| *object == write.0)
+}
+
+/// The own write of an object: none where there is none, and else its new row, or none where it is deleted.
+pub(crate) fn own_in<'a, A: Allocator>(
+    writes: &'a [Write<A>],
+    object: &Object<A>,
+) -> Option<Option<&'a Row<A>>>
+    ensures { option_map option_copied result ≡ own (writes_of writes.now) (object_of object.now) }
+{
+    match writes.iter().find(|write| *object == write.0) {
+        None => None,
+        Some(write) => Some(write.1.as_ref()),
+    }
+}
+
+/// Whether some write is of what the question asks for.
+pub(crate) fn meets_few<A: Allocator>(writes: &[Write<A>], question: &Question<A>) -> bool
+    ensures { result ≡ meets_question (writes_of writes.now) (question_of question.now) }
+{
+    writes
+        .iter()
+        .any(|write| question.asks(write.0.table, &write.0.key))
+}

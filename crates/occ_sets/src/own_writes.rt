@@ -1,0 +1,395 @@
+//! The writes of one transaction, by their objects.
+ghost use Rattle.std.specs.Prelude.{◌≡◌, ◌<◌, ◌≤◌, ◌+◌, ◌^◌, [], false, cond, length, slice_get, is_some, None, IfOk, IfErr, IfSome, OnOk, OnErr, MatchResult};
+ghost use Rattle.std.specs.Option.{option_copied, option_map};
+ghost use Rattle.indexmap.specs.IndexMap.{spare};
+ghost use Rattle.occ_types.specs.declared.fault.Fault.TheVariants.{SetFull, Memory};
+ghost use Rattle.occ_types.specs.declared.limits.TheConstants as limit;
+ghost use Rattle.occ_types.specs.Seen.{object_of, question_of};
+ghost use Rattle.occ_model.specs.State.{meets_question};
+ghost use Rattle.occ_model.specs.Overlay.{set, own};
+ghost use Rattle.occ_sets.specs.OwnWrites.{written};
+ghost use Rattle.occ_sets.specs.Seen.{writes_of};
+ghost use Rattle.occ_sets.specs.Sets.{WritesOnce, is_full_for};
+
+use crate::appending::append;
+use crate::few_writes::{meets_few, own_in, place_of};
+use indexmap::IndexMap;
+use occ_types::limits::MAX_WRITES;
+use occ_types::{Fault, Object, Question, Refused, Row};
+use std::alloc::{AllocError, AllocFailed, Allocator};
+use std::hash::{BuildHasherDefault, FoldHasher};
+use std::marker::Model;
+use std::mem;
+
+/// A write: an object with its new row, or with none where it is deleted.
+pub type Write<A> = (Object<A>, Option<Row<A>>);
+
+/// Writes in the order of the first writes of their objects, which are found by their hashes.
+pub(crate) type WriteMap<A> = IndexMap<
+    Object<A>,
+    Option<Row<A>>,
+    BuildHasherDefault<FoldHasher>,
+    A,
+>;
+
+/// The most writes that stand in a list. A transaction that writes no more takes one request for memory for them.
+const FEW: usize = 8;
+
+/// The writes of one transaction, in the order of the first writes of their objects. Clauses see the list of the plain writes.
+#[derive(Drop)]
+#[derive_where(Debug)]
+pub(crate) struct OwnWrites<A: Allocator> {
+    content: Content<A>,
+}
+
+/// Where writes stand.
+#[derive(Drop)]
+#[derive_where(Debug)]
+pub(crate) enum Content<A: Allocator> {
+    /// A few, in a list that is searched from its beginning.
+    Few(Vec<Write<A>, A>),
+    /// More, in a map behind a handle, so that they are short to move.
+    Many(Box<WriteMap<A>, A>),
+}
+
+impl<A: Allocator> Model for OwnWrites<A> {
+    ghost use Rattle.std.specs.Prelude.{List};
+    ghost use Rattle.occ_model.specs.State.{Write};
+
+    ghost Value = { List Write };
+
+    ghost use Rattle.occ_sets.specs.OwnWrites.{written};
+    ghost use Rattle.occ_sets.specs.Sets.{WritesOnce};
+
+    ghost view = { λ w. written w.content };
+
+    ghost invariant = { λ w. WritesOnce (written w.content) };
+}
+
+impl<A: Allocator + Copy> OwnWrites<A> {
+    /// No writes, which take no memory.
+    pub(crate) fn new(alloc: A) -> OwnWrites<A>
+        ensures { result ≡ [] }
+    {
+        OwnWrites {
+            content: Content::Few(Vec::new(alloc)),
+        }
+    }
+
+    /// No writes, with room for `count` of them. An error where there is no memory for it.
+    pub(crate) fn with_capacity(alloc: A, count: usize) -> Result<OwnWrites<A>, AllocError>
+        ensures { IfOk result (λ writes. writes ≡ []) }
+    {
+        let content = content_for(alloc, count)?;
+        Ok(OwnWrites { content })
+    }
+
+    /// What takes the memory of the writes.
+    pub(crate) fn allocator(&self) -> A {
+        match &self.content {
+            Content::Few(list) => *list.allocator(),
+            Content::Many(map) => *map.allocator(),
+        }
+    }
+}
+
+impl<A: Allocator> OwnWrites<A> {
+    /// The writes, where they stand.
+    pub(crate) fn content(&self) -> &Content<A>
+        ensures { written result.now ≡ self.now }
+    {
+        &self.content
+    }
+
+    /// How many objects are written.
+    pub(crate) fn len(&self) -> usize
+        ensures value { result ≡ length self.now }
+        ensures small { result < 2 ^ 63 }
+        ensures once { WritesOnce self.now }
+    {
+        match &self.content {
+            Content::Few(list) => list.len(),
+            Content::Many(map) => map.len(),
+        }
+    }
+
+    /// Whether a write of the object would be one too many for a transaction: it is new, and there are 256 writes or more.
+    pub(crate) fn is_full_for(&self, object: &Object<A>) -> bool
+        ensures { result ≡ is_full_for self.now (object_of object.now) }
+    {
+        self.len() >= MAX_WRITES && !self.writes(object)
+    }
+
+    /// The own write of an object: none where there is none, and else its new row, or none where it is deleted.
+    pub(crate) fn own(&self, object: &Object<A>) -> Option<Option<&Row<A>>>
+        ensures { option_map option_copied result ≡ own self.now (object_of object.now) }
+    {
+        match &self.content {
+            Content::Few(list) => own_in(list.as_slice(), object),
+            Content::Many(map) => map.get(object).map(|row| row.as_ref()),
+        }
+    }
+
+    /// Whether an object is written.
+    pub(crate) fn writes(&self, object: &Object<A>) -> bool
+        ensures { result ≡ is_some (own self.now (object_of object.now)) }
+    {
+        self.own(object).is_some()
+    }
+
+    /// The write at a place, in the order of the first writes.
+    pub(crate) fn write_at(&self, place: usize) -> Option<(&Object<A>, Option<&Row<A>>)>
+        ensures value { option_map (λ w. (object_of w.0.now, option_copied w.1)) result ≡ slice_get self.now place }
+        ensures within { IfSome result (λ _. place < length self.now) }
+        ensures small { IfSome result (λ _. place < 2 ^ 63) }
+    {
+        if place >= self.len() {
+            return None;
+        }
+        match &self.content {
+            Content::Few(list) => match list.get(place) {
+                None => None,
+                Some(write) => Some((&write.0, write.1.as_ref())),
+            },
+            Content::Many(map) => match map.get_index(place) {
+                None => None,
+                Some((object, row)) => Some((object, row.as_ref())),
+            },
+        }
+    }
+
+    /// Whether the writes are of what the question asks for: one look-up for a single key, one pass for a range.
+    pub(crate) fn meets(&self, question: &Question<A>) -> bool
+        ensures { result ≡ meets_question self.now (question_of question.now) }
+    {
+        match (&self.content, question) {
+            (Content::Few(list), _) => meets_few(list.as_slice(), question),
+            (Content::Many(_), Question::One(object)) => self.writes(object),
+            (Content::Many(map), Question::Span { .. }) => map
+                .keys()
+                .any(|object| question.asks(object.table, &object.key)),
+        }
+    }
+}
+
+impl<A: Allocator + Copy> OwnWrites<A> {
+    /// Writes an object, or deletes it where `row` is none. A new object goes last; one that is there keeps its place and takes the new row, which needs no memory. A new one is refused with `Memory` where there is none for it. That leaves the writes as they were and hands the write back.
+    pub(crate) fn insert(
+        &mut self,
+        object: Object<A>,
+        row: Option<Row<A>>,
+    ) -> Result<(), Refused<Write<A>>>
+        ensures ok { OnOk result (self.new ≡ set self.old (object_of object) row) }
+        ensures err { OnErr result (self.new ≡ self.old) }
+        ensures handed_back { IfErr result (λ refused. refused.value ≡ (object, row)) }
+        ensures memory { IfErr result (λ refused. refused.fault ≡ Memory) }
+        ensures only_new { OnErr result (own self.old (object_of object) ≡ None) }
+    {
+        let empty = OwnWrites::new(self.allocator());
+        let OwnWrites { content } = mem::replace(self, empty);
+        let (content, done) = insert_in(content, (object, row));
+        self.content = content;
+        done
+    }
+
+    /// Writes an object as `insert` does, for a transaction. A new object is refused with `SetFull` where there are 256 writes or more, and else with `Memory` where there is none for it; both leave the writes as they were and hand the write back.
+    pub(crate) fn set(
+        &mut self,
+        object: Object<A>,
+        row: Option<Row<A>>,
+    ) -> Result<(), Refused<Write<A>>>
+        ensures ok { OnOk result (self.new ≡ set self.old (object_of object) row) }
+        ensures err { OnErr result (self.new ≡ self.old) }
+        ensures handed_back { IfErr result (λ refused. refused.value ≡ (object, row)) }
+
+        // `Memory` comes only where there is room for the write, and neither comes to an object that is there.
+        ensures fault { MatchResult result
+            (λ _. is_full_for self.old (object_of object) ≡ false)
+            (λ refused. refused.fault ≡ cond (is_full_for self.old (object_of object)) SetFull Memory) }
+        ensures only_new { OnErr result (own self.old (object_of object) ≡ None) }
+        ensures few { length self.old ≤ limit.MAX_WRITES → length self.new ≤ limit.MAX_WRITES }
+    {
+        if self.is_full_for(&object) {
+            return Err(Refused {
+                value: (object, row),
+                fault: Fault::SetFull,
+            });
+        }
+        self.insert(object, row)
+    }
+}
+
+// Room for so many writes.
+fn content_for<A: Allocator + Copy>(alloc: A, count: usize) -> Result<Content<A>, AllocError>
+    ensures { IfOk result (λ content. written content ≡ []) }
+{
+    if count <= FEW {
+        return Ok(Content::Few(Vec::with_capacity(alloc, count)?));
+    }
+    let map = WriteMap::with_capacity(alloc, count)?;
+    in_a_box(alloc, map)
+}
+
+// A map behind a handle.
+fn in_a_box<A: Allocator>(alloc: A, map: WriteMap<A>) -> Result<Content<A>, AllocError>
+    ensures { IfOk result (λ content. written content ≡ writes_of map.entries) }
+{
+    match Box::new(alloc, map) {
+        Ok(map) => Ok(Content::Many(map)),
+        Err(AllocFailed { .. }) => Err(AllocError),
+    }
+}
+
+// Does a write. It is refused, and handed back, where there is no memory.
+fn insert_in<A: Allocator + Copy>(
+    content: Content<A>,
+    write: Write<A>,
+) -> (Content<A>, Result<(), Refused<Write<A>>>)
+    requires { WritesOnce (written content) }
+    ensures ok { OnOk result.1 (written result.0 ≡ set (written content) (object_of write.0) write.1) }
+    ensures err { OnErr result.1 (written result.0 ≡ written content) }
+    ensures handed_back { IfErr result.1 (λ refused. refused.value ≡ write) }
+    ensures memory { IfErr result.1 (λ refused. refused.fault ≡ Memory) }
+    ensures only_new { OnErr result.1 (own (written content) (object_of write.0) ≡ None) }
+{
+    match content {
+        Content::Few(list) => insert_in_list(list, write),
+        Content::Many(map) => insert_in_map(map, write),
+    }
+}
+
+// Does a write on those of a list, which go into a map where they are no longer few. It is refused, and handed back, where there is no memory.
+fn insert_in_list<A: Allocator + Copy>(
+    mut list: Vec<Write<A>, A>,
+    write: Write<A>,
+) -> (Content<A>, Result<(), Refused<Write<A>>>)
+    requires { WritesOnce (writes_of list.items) }
+    ensures ok { OnOk result.1 (written result.0 ≡ set (writes_of list.items) (object_of write.0) write.1) }
+    ensures err { OnErr result.1 (written result.0 ≡ writes_of list.items) }
+    ensures handed_back { IfErr result.1 (λ refused. refused.value ≡ write) }
+    ensures memory { IfErr result.1 (λ refused. refused.fault ≡ Memory) }
+    ensures only_new { OnErr result.1 (own (writes_of list.items) (object_of write.0) ≡ None) }
+{
+    match place_of(list.as_slice(), &write.0) {
+        Some(place) => {
+            list[place].1 = write.1;
+            (Content::Few(list), Ok(()))
+        }
+        None => insert_new(list, write),
+    }
+}
+
+// Does a write of a new object on those of a list.
+fn insert_new<A: Allocator + Copy>(
+    mut list: Vec<Write<A>, A>,
+    write: Write<A>,
+) -> (Content<A>, Result<(), Refused<Write<A>>>)
+    requires once { WritesOnce (writes_of list.items) }
+    requires new { own (writes_of list.items) (object_of write.0) ≡ None }
+    ensures ok { OnOk result.1 (written result.0 ≡ set (writes_of list.items) (object_of write.0) write.1) }
+    ensures err { OnErr result.1 (written result.0 ≡ writes_of list.items) }
+    ensures handed_back { IfErr result.1 (λ refused. refused.value ≡ write) }
+    ensures memory { IfErr result.1 (λ refused. refused.fault ≡ Memory) }
+{
+    if list.len() < FEW {
+        return match append(&mut list, write) {
+            Ok(()) => (Content::Few(list), Ok(())),
+            Err(AllocFailed { value }) => (Content::Few(list), Err(memory(value))),
+        };
+    }
+    match into_map(list) {
+        Ok(map) => insert_in_map(map, write),
+        Err(list) => (Content::Few(list), Err(memory(write))),
+    }
+}
+
+// Does a write on those of a map. It is refused, and handed back, where there is no memory.
+fn insert_in_map<A: Allocator + Copy>(
+    mut map: Box<WriteMap<A>, A>,
+    write: Write<A>,
+) -> (Content<A>, Result<(), Refused<Write<A>>>)
+    ensures ok { OnOk result.1 (written result.0 ≡ set (writes_of map.value.entries) (object_of write.0) write.1) }
+    ensures err { OnErr result.1 (written result.0 ≡ writes_of map.value.entries) }
+    ensures handed_back { IfErr result.1 (λ refused. refused.value ≡ write) }
+    ensures memory { IfErr result.1 (λ refused. refused.fault ≡ Memory) }
+    ensures only_new { OnErr result.1 (own (writes_of map.value.entries) (object_of write.0) ≡ None) }
+{
+    let (object, row) = write;
+    match map.insert(object, row) {
+        Ok(_) => (Content::Many(map), Ok(())),
+        Err(AllocFailed { value }) => (Content::Many(map), Err(memory(value))),
+    }
+}
+
+// There is no memory for a write.
+fn memory<A: Allocator>(value: Write<A>) -> Refused<Write<A>>
+    ensures { result ≡ record { value = value; fault = Memory } }
+{
+    Refused {
+        value,
+        fault: Fault::Memory,
+    }
+}
+
+// A map with the writes of a list and room for as many more. The list is handed back where there is no memory for it.
+fn into_map<A: Allocator + Copy>(
+    list: Vec<Write<A>, A>,
+) -> Result<Box<WriteMap<A>, A>, Vec<Write<A>, A>>
+    requires { WritesOnce (writes_of list.items) }
+    ensures ok { IfOk result (λ map. writes_of map.value.entries ≡ writes_of list.items) }
+    ensures err { IfErr result (λ back. back ≡ list) }
+{
+    let alloc = *list.allocator();
+    let Ok(map) = WriteMap::with_capacity(alloc, list.len().saturating_mul(2)) else {
+        return Err(list);
+    };
+    let Ok(mut map) = Box::new(alloc, map) else {
+        return Err(list);
+    };
+    fill(&mut map, list);
+    Ok(map)
+}
+
+// Moves writes of distinct objects into a map without a write that has room for them.
+fn fill<A: Allocator + Copy>(map: &mut WriteMap<A>, list: Vec<Write<A>, A>)
+    requires empty { map.old.entries ≡ [] }
+    requires room { length list.items ≤ spare map.old }
+    requires once { WritesOnce (writes_of list.items) }
+    ensures { writes_of map.new.entries ≡ writes_of list.items }
+{
+    for (object, row) in list {
+        put(map, object, row);
+    }
+}
+
+// Does a write on a map that has room for it.
+fn put<A: Allocator + Copy>(map: &mut WriteMap<A>, object: Object<A>, row: Option<Row<A>>)
+    requires { 0 < spare map.old }
+    ensures done { writes_of map.new.entries ≡ set (writes_of map.old.entries) (object_of object) row }
+    ensures room { spare map.old ≤ spare map.new + 1 }
+{
+    let _done = map.insert(object, row);
+}
+
+impl<A: Allocator + Clone> Clone for OwnWrites<A> {
+    ghost is_clone = { λ source copy. copy ≡ source };
+
+    fn clone(&self) -> Result<OwnWrites<A>, AllocError> {
+        let content = copied(&self.content)?;
+        Ok(OwnWrites { content })
+    }
+}
+
+// A copy of the writes.
+fn copied<A: Allocator + Clone>(content: &Content<A>) -> Result<Content<A>, AllocError>
+    ensures { IfOk result (λ copy. written copy ≡ written content.now) }
+{
+    match content {
+        Content::Few(list) => Ok(Content::Few(list.clone()?)),
+        Content::Many(map) => {
+            let plain: &WriteMap<A> = map;
+            let alloc = plain.allocator().clone()?;
+            in_a_box(alloc, plain.clone()?)
+        }
+    }
+}
