@@ -1,7 +1,6 @@
 //! Books of logs of which a beginning was folded.
 
-use crate::tests::{audited, changed};
-use occ_text::trouble::Trouble;
+use crate::tests::{audited, changed, is_malformed};
 use std::test::Fail;
 
 /// The first row was folded; of the two that stand one has finished.
@@ -76,9 +75,8 @@ fn judges_books_with_a_base(rt: HostRuntime) -> Result<(), Fail> {
 }
 
 #[test]
-fn finds_the_malformed_line_of_a_base(rt: HostRuntime) -> Result<(), Fail> {
-    let alloc = rt.alloc();
-    let cases: [(&str, &str, u64); 28] = [
+fn finds_the_malformed_base_line(rt: HostRuntime) -> Result<(), Fail> {
+    let changes: [(&str, &str, u64); 13] = [
         ("base 1 1 1", "base 0 1 1", 6),
         ("base 1 1 1", "base 01 1 1", 6),
         ("base 1 1 1", "base 1 1", 6),
@@ -96,6 +94,16 @@ fn finds_the_malformed_line_of_a_base(rt: HostRuntime) -> Result<(), Fail> {
             "base 1 1 1\ntable t num int",
             5,
         ),
+    ];
+    for change in changes {
+        assert!(rt; is_malformed(rt.alloc(), FOLDED, change)?, "{change:?}");
+    }
+    Ok(())
+}
+
+#[test]
+fn finds_the_malformed_line_of_a_base(rt: HostRuntime) -> Result<(), Fail> {
+    let changes: [(&str, &str, u64); 15] = [
         ("last 1 1", "last 0 1", 7),
         ("last 1 1", "last 3 1", 7),
         ("last 1 1", "mark 1 1", 7),
@@ -112,14 +120,8 @@ fn finds_the_malformed_line_of_a_base(rt: HostRuntime) -> Result<(), Fail> {
         ("log 2\n", "table u num int\nlog 2\n", 9),
         ("log 2\n", "", 9),
     ];
-    for (old, new, line) in cases {
-        let text = changed(alloc, FOLDED, old, new)?;
-        let (outcome, written) = audited(alloc, text.as_str())?;
-        assert!(rt;
-            outcome == Err(Trouble::Malformed(line)),
-            "{old} to {new}: {outcome:?}"
-        );
-        assert!(rt; written.is_empty(), "{old} to {new}");
+    for change in changes {
+        assert!(rt; is_malformed(rt.alloc(), FOLDED, change)?, "{change:?}");
     }
     Ok(())
 }

@@ -120,143 +120,171 @@ fn judges_books(rt: HostRuntime) -> Result<(), Fail> {
     Ok(())
 }
 
+/// Whether a book is malformed at this line where one part is replaced, and nothing is written then.
+pub(crate) fn is_malformed(
+    alloc: Global,
+    text: &str,
+    change: (&str, &str, u64),
+) -> Result<bool, AllocError> {
+    let (old, new, line) = change;
+    let text = changed(alloc, text, old, new)?;
+    let (outcome, written) = audited(alloc, text.as_str())?;
+    Ok(outcome == Err(Trouble::Malformed(line)) && written.is_empty())
+}
+
 #[test]
-fn finds_the_malformed_line(rt: HostRuntime) -> Result<(), Fail> {
-    let alloc = rt.alloc();
-    let cases: [(&str, &str, &str, u64); 69] = [
-        (LOST_UPDATE, "occ 1", "occ 3", 1),
-        (PAIRS, "occ 2", "occ 1", 5),
-        (PAIRS, "num+text", "num+int", 5),
-        (PAIRS, "num+text", "num", 8),
-        (PAIRS, "put q 1+'z 1", "put q 1 1", 8),
-        (PAIRS, "put q 1+'z 1", "put q 'z+1 1", 8),
-        (PAIRS, "span q 2+' * 0", "span q 2+' ** 0", 10),
-        (PAIRS, "span q 2+' * 0", "span q 2+' 1+' 0", 10),
-        (PAIRS, "state 2\nat q 1+'z 1\n", "state 2\nat q 3+' 1\n", 15),
-        (LOST_UPDATE, "sessions 2", "sessions 0", 2),
-        (LOST_UPDATE, "sessions 2", "sessions 65", 2),
-        (LOST_UPDATE, "queue 4", "queue 4 ", 3),
-        (LOST_UPDATE, "keep 8\n", "", 4),
-        (LOST_UPDATE, "table t num int\n", "", 5),
-        (LOST_UPDATE, "log 3\n", "steps\n", 6),
-        (LOST_UPDATE, "log 3", "log 03", 6),
-        (LOST_UPDATE, "log 3", "log 18446744073709551616", 6),
-        (LOST_UPDATE, "log 3", "log 18446744073709551615", 16),
-        (LOST_UPDATE, "log 3", "log 4", 16),
-        (LOST_UPDATE, "log 3", "log 2", 13),
-        (LOST_UPDATE, "row 0", "raw 0", 7),
-        (LOST_UPDATE, "row 0 1 1", "row 0 3 1", 7),
-        (LOST_UPDATE, "row 0 1 1", "row 0 0 1", 7),
-        (LOST_UPDATE, "row 0 1 1", "row 18446744073709551616 1 1", 7),
-        (LOST_UPDATE, "0 0 1 1 done 1", "0 0 257 1 done 1", 9),
-        (LOST_UPDATE, "0 0 1 1 done 1", "0 0 1 257 done 1", 10),
+fn finds_the_malformed_line_of_a_header(rt: HostRuntime) -> Result<(), Fail> {
+    let changes: [(&str, &str, u64); 12] = [
+        ("occ 1", "occ 3", 1),
+        ("sessions 2", "sessions 0", 2),
+        ("sessions 2", "sessions 65", 2),
+        ("queue 4", "queue 4 ", 3),
+        ("keep 8\n", "", 4),
+        ("table t num int\n", "", 5),
+        ("log 3\n", "steps\n", 6),
+        ("log 3", "log 03", 6),
+        ("log 3", "log 18446744073709551616", 6),
+        ("log 3", "log 18446744073709551615", 16),
+        ("log 3", "log 4", 16),
+        ("log 3", "log 2", 13),
+    ];
+    for change in changes {
+        assert!(rt;
+            is_malformed(rt.alloc(), LOST_UPDATE, change)?,
+            "{change:?}"
+        );
+    }
+    Ok(())
+}
+
+#[test]
+fn finds_the_malformed_key_of_two_parts(rt: HostRuntime) -> Result<(), Fail> {
+    let changes: [(&str, &str, u64); 8] = [
+        ("occ 2", "occ 1", 5),
+        ("num+text", "num+int", 5),
+        ("num+text", "num", 8),
+        ("put q 1+'z 1", "put q 1 1", 8),
+        ("put q 1+'z 1", "put q 'z+1 1", 8),
+        ("span q 2+' * 0", "span q 2+' ** 0", 10),
+        ("span q 2+' * 0", "span q 2+' 1+' 0", 10),
+        ("state 2\nat q 1+'z 1\n", "state 2\nat q 3+' 1\n", 15),
+    ];
+    for change in changes {
+        assert!(rt; is_malformed(rt.alloc(), PAIRS, change)?, "{change:?}");
+    }
+    Ok(())
+}
+
+#[test]
+fn finds_the_malformed_row(rt: HostRuntime) -> Result<(), Fail> {
+    let changes: [(&str, &str, u64); 17] = [
+        ("row 0", "raw 0", 7),
+        ("row 0 1 1", "row 0 3 1", 7),
+        ("row 0 1 1", "row 0 0 1", 7),
+        ("row 0 1 1", "row 18446744073709551616 1 1", 7),
+        ("0 0 1 1 done 1", "0 0 257 1 done 1", 9),
+        ("0 0 1 1 done 1", "0 0 1 257 done 1", 10),
+        ("0 0 1 1 done 1", "0 0 18446744073709551615 1 done 1", 9),
+        ("0 0 1 1 done 1", "0 0 1 18446744073709551615 done 1", 10),
+        ("0 0 1 1 done 1", "0 0 18446744073709551616 1 done 1", 7),
+        ("0 0 1 1 done 1", "0 0 1 18446744073709551616 done 1", 7),
+        ("0 0 1 1 done 1", "0 0 1 1 done", 7),
+        ("0 0 1 1 done 1", "0 0 1 1 done 1 1", 7),
+        ("0 0 1 1 done 1", "0 0 1 1 writing 2", 7),
+        ("0 0 1 1 done 1", "0 0 1 1 open 1", 7),
+        ("0 0 1 1 done 1", "0 0 2 1 done 1", 9),
+        ("0 0 1 1 done 1", "0 0 0 1 done 1", 8),
+        ("0 0 1 1 done 1", "0 0 1 2 done 1", 10),
+    ];
+    for change in changes {
+        assert!(rt;
+            is_malformed(rt.alloc(), LOST_UPDATE, change)?,
+            "{change:?}"
+        );
+    }
+    Ok(())
+}
+
+#[test]
+fn finds_the_malformed_read_or_write(rt: HostRuntime) -> Result<(), Fail> {
+    let changes: [(&str, &str, u64); 12] = [
+        ("one t 7 none", "one u 7 none", 8),
+        ("one t 7 none", "one t '7 none", 8),
+        ("one t 7 none", "one t 7 1,2", 8),
+        ("one t 7 none", "one t 7 None", 8),
+        ("one t 7 none", "one t 7", 8),
+        ("one t 7 none", "span t 7 7 0", 8),
+        ("one t 7 none", "span t 7 9 1", 9),
+        ("one t 7 none", "span t 7 9 18446744073709551615", 9),
+        ("one t 7 none", "span t * 9 0", 8),
+        ("put t 7 1", "put t 7 '1", 9),
+        ("put t 7 1", "del t 7 1", 9),
         (
-            LOST_UPDATE,
-            "0 0 1 1 done 1",
-            "0 0 18446744073709551615 1 done 1",
-            9,
-        ),
-        (
-            LOST_UPDATE,
-            "0 0 1 1 done 1",
-            "0 0 1 18446744073709551615 done 1",
-            10,
-        ),
-        (
-            LOST_UPDATE,
-            "0 0 1 1 done 1",
-            "0 0 18446744073709551616 1 done 1",
-            7,
-        ),
-        (
-            LOST_UPDATE,
-            "0 0 1 1 done 1",
-            "0 0 1 18446744073709551616 done 1",
-            7,
-        ),
-        (LOST_UPDATE, "0 0 1 1 done 1", "0 0 1 1 done", 7),
-        (LOST_UPDATE, "0 0 1 1 done 1", "0 0 1 1 done 1 1", 7),
-        (LOST_UPDATE, "0 0 1 1 done 1", "0 0 1 1 writing 2", 7),
-        (LOST_UPDATE, "0 0 1 1 done 1", "0 0 1 1 open 1", 7),
-        (LOST_UPDATE, "0 0 1 1 done 1", "0 0 2 1 done 1", 9),
-        (LOST_UPDATE, "0 0 1 1 done 1", "0 0 0 1 done 1", 8),
-        (LOST_UPDATE, "0 0 1 1 done 1", "0 0 1 2 done 1", 10),
-        (LOST_UPDATE, "one t 7 none", "one u 7 none", 8),
-        (LOST_UPDATE, "one t 7 none", "one t '7 none", 8),
-        (LOST_UPDATE, "one t 7 none", "one t 7 1,2", 8),
-        (LOST_UPDATE, "one t 7 none", "one t 7 None", 8),
-        (LOST_UPDATE, "one t 7 none", "one t 7", 8),
-        (LOST_UPDATE, "one t 7 none", "span t 7 7 0", 8),
-        (LOST_UPDATE, "one t 7 none", "span t 7 9 1", 9),
-        (
-            LOST_UPDATE,
-            "one t 7 none",
-            "span t 7 9 18446744073709551615",
-            9,
-        ),
-        (LOST_UPDATE, "one t 7 none", "span t * 9 0", 8),
-        (LOST_UPDATE, "put t 7 1", "put t 7 '1", 9),
-        (LOST_UPDATE, "put t 7 1", "del t 7 1", 9),
-        (
-            LOST_UPDATE,
             "0 0 1 1 done 1\none t 7 none\nput t 7 1",
             "0 0 1 2 done 1\none t 7 none\nput t 7 1\ndel t 7",
             10,
         ),
+    ];
+    for change in changes {
+        assert!(rt;
+            is_malformed(rt.alloc(), LOST_UPDATE, change)?,
+            "{change:?}"
+        );
+    }
+    Ok(())
+}
+
+#[test]
+fn finds_the_malformed_line_of_marks_and_tables(rt: HostRuntime) -> Result<(), Fail> {
+    let changes: [(&str, &str, u64); 14] = [
         (
-            WIDE,
             "pair 'apple 5,'red\npair 'nut%20mix 2,'",
             "pair 'nut%20mix 2,'\npair 'apple 5,'red",
             14,
         ),
         (
-            WIDE,
             "pair 'apple 5,'red\npair 'nut%20mix 2,'",
             "pair 'apple 5,'red\npair 'apple 5,'red",
             14,
         ),
-        (WIDE, "pair 'nut%20mix 2,'", "pair 'nut%20mix 2", 14),
-        (WIDE, "pair 'nut%20mix 2,'", "pair 7 2,'", 14),
-        (WIDE, "marks 1", "marks 0", 22),
-        (WIDE, "marks 1", "marks 2", 23),
-        (WIDE, "marks 1\nmark 3 2", "marks 2\nmark 3 2\nmark 3 2", 23),
-        (WIDE, "marks 1\nmark 3 2", "marks 2\nmark 3 2\nmark 1 2", 23),
-        (WIDE, "mark 3 2", "mark 4 2", 22),
-        (WIDE, "mark 3 2", "mark 0 2", 22),
-        (WIDE, "state 1\n", "state 2\nat note 1 'x\n", 25),
-        (WIDE, "state 1\n", "state 2\nat stock 'nut%20mix 2,'\n", 25),
-        (WIDE, "state 1\n", "state 2\nat stock 'o 2,'\n", 25),
-        (WIDE, "state 1\n", "state 2\n", 25),
-        (LOST_UPDATE, "counter 2 low 0\n", "", 19),
-        (LOST_UPDATE, "counter 2 low 0\n", "counter 2 low 0", 19),
-        (LOST_UPDATE, "counter 2 low 0\n", "counter 2 low\n", 19),
+        ("pair 'nut%20mix 2,'", "pair 'nut%20mix 2", 14),
+        ("pair 'nut%20mix 2,'", "pair 7 2,'", 14),
+        ("marks 1", "marks 0", 22),
+        ("marks 1", "marks 2", 23),
+        ("marks 1\nmark 3 2", "marks 2\nmark 3 2\nmark 3 2", 23),
+        ("marks 1\nmark 3 2", "marks 2\nmark 3 2\nmark 1 2", 23),
+        ("mark 3 2", "mark 4 2", 22),
+        ("mark 3 2", "mark 0 2", 22),
+        ("state 1\n", "state 2\nat note 1 'x\n", 25),
+        ("state 1\n", "state 2\nat stock 'nut%20mix 2,'\n", 25),
+        ("state 1\n", "state 2\nat stock 'o 2,'\n", 25),
+        ("state 1\n", "state 2\n", 25),
+    ];
+    for change in changes {
+        assert!(rt; is_malformed(rt.alloc(), WIDE, change)?, "{change:?}");
+    }
+    Ok(())
+}
+
+#[test]
+fn finds_the_malformed_end(rt: HostRuntime) -> Result<(), Fail> {
+    let changes: [(&str, &str, u64); 6] = [
+        ("counter 2 low 0\n", "", 19),
+        ("counter 2 low 0\n", "counter 2 low 0", 19),
+        ("counter 2 low 0\n", "counter 2 low\n", 19),
+        ("counter 2 low 0\n", "counter 2 low 0\naudit maybe\n", 20),
         (
-            LOST_UPDATE,
-            "counter 2 low 0\n",
-            "counter 2 low 0\naudit maybe\n",
-            20,
-        ),
-        (
-            LOST_UPDATE,
             "counter 2 low 0\n",
             "counter 2 low 0\naudit yes\naudit yes\n",
             21,
         ),
-        (
-            LOST_UPDATE,
-            "counter 2 low 0\n",
-            "counter 2 low 0\naudit yes",
-            20,
-        ),
+        ("counter 2 low 0\n", "counter 2 low 0\naudit yes", 20),
     ];
-    for (text, old, new, line) in cases {
-        let text = changed(alloc, text, old, new)?;
-        let (outcome, written) = audited(alloc, text.as_str())?;
+    for change in changes {
         assert!(rt;
-            outcome == Err(Trouble::Malformed(line)),
-            "{old} to {new}: {outcome:?}"
+            is_malformed(rt.alloc(), LOST_UPDATE, change)?,
+            "{change:?}"
         );
-        assert!(rt; written.is_empty(), "{old} to {new}");
     }
     Ok(())
 }

@@ -1,5 +1,5 @@
 //! What the verdict on a transaction depends on.
-ghost use Rattle.std.specs.Prelude.{◌≡◌, map};
+ghost use Rattle.std.specs.Prelude.{◌≡◌, map, IfOk};
 
 use occ_sets::{ReadSet, WriteSet};
 use std::alloc::{AllocError, Allocator};
@@ -79,31 +79,42 @@ impl<A: Allocator + Clone> Clone for Case<A> {
     }
 }
 
-/// The case of a transaction that is not decided yet, with the index that names it.
+/// The case of a transaction that is not decided yet, with the index that names it. The case stands behind a handle, so that the
+/// row of the log that has it is short, also when it is decided. Clauses see the index and the plain case.
 #[derive(Drop)]
 pub struct OpenCase<A: Allocator> {
     index: u64,
-    case: Case<A>,
+    case: Box<Case<A>, A>,
+}
+
+impl<A: Allocator> Model for OpenCase<A> {
+    ghost use Rattle.std.specs.Prelude.{ℕ};
+    ghost use Rattle.occ_model.specs.Log.{Case as PlainCase};
+
+    ghost Value = { ℕ × PlainCase };
+
+    ghost view = { λ o. (o.index, o.case.value) };
 }
 
 impl<A: Allocator> OpenCase<A> {
-    /// A case under an index.
-    pub fn new(index: u64, case: Case<A>) -> OpenCase<A>
-        ensures { result ≡ record { index = index; case = case } }
+    /// A case under an index. An error where there is no memory for its handle.
+    pub fn new(alloc: A, index: u64, case: Case<A>) -> Result<OpenCase<A>, AllocError>
+        ensures { IfOk result (λ made. made ≡ (index, case)) }
     {
-        OpenCase { index, case }
+        let case = Box::new(alloc, case)?;
+        Ok(OpenCase { index, case })
     }
 
     /// The index that names the case.
     pub fn index(&self) -> u64
-        ensures { result ≡ self.now.index }
+        ensures { result ≡ self.now.0 }
     {
         self.index
     }
 
     /// The case.
     pub fn case(&self) -> &Case<A>
-        ensures { result.now ≡ self.now.case }
+        ensures { result.now ≡ self.now.1 }
     {
         &self.case
     }

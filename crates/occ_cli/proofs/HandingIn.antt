@@ -10,7 +10,7 @@ use Rattle.occ_types.specs.declared.fault.Fault.{Fault}
 use Rattle.occ_types.specs.Schema.{Schema, first_fault}
 use Rattle.occ_model.specs.Operations.{Operation}
 use Rattle.occ_model.specs.Refusal.{check_operation, check_operations}
-use Rattle.occ_model.proofs.Steps.{passed}
+use Rattle.occ_model.proofs.Admitted.{passed}
 use Rattle.occ_sets.specs.declared.operations.Op as code_op
 use Rattle.occ_sets.specs.Operations.{op_of, ops_of}
 use Rattle.occ_text.specs.declared.operations.Operation as code_operation

@@ -13,7 +13,7 @@ use Rattle.occ_model.specs.World.{World}
 use Rattle.occ_model.specs.Event.{Reply, Read, Answered, Refused}
 use Rattle.occ_model.specs.Refusal as refusals
 use Rattle.occ_model.specs.Step.{Step, refused, starved, taken}
-use Rattle.occ_model.proofs.Steps.{passed}
+use Rattle.occ_model.proofs.Admitted.{passed}
 use Rattle.occ_sets.specs.Sets.{Copied}
 use Rattle.occ_cli.specs.declared.answers.Answer as code_answer
 use Rattle.occ_cli.specs.Answers.{answer_of}

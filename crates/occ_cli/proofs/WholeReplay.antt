@@ -163,6 +163,12 @@ no_read P fault (Ok done) is = absurd is
 no_read P write_faults.Write (Err e) is = λ (read : e ≡ troubles.Read). absurd cc
 no_read P write_faults.Memory (Err e) is = λ (read : e ≡ troubles.Read). absurd cc
 
+-- a failed write is told for the cause that the fault behind it has
+pub wrote_for_cause : {T : Type 0} (Cause : Type 0) (fault : WriteFault) (result : Result T Trouble) → IsErrAnd result (λ e. e ≡ write_trouble fault) → (fault ≡ write_faults.Write → Cause) → IfErr result (λ e. e ≡ troubles.Write → Cause)
+wrote_for_cause Cause fault (Ok done) is cause = absurd is
+wrote_for_cause Cause write_faults.Write (Err e) is cause = λ (write : e ≡ troubles.Write). cause refl
+wrote_for_cause Cause write_faults.Memory (Err e) is cause = λ (write : e ≡ troubles.Write). absurd cc
+
 -- ---- from what was pushed to what was written
 
 -- all that was pushed was sent

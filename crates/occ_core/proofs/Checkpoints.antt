@@ -7,7 +7,7 @@ use Rattle.occ_types.specs.declared.fault.Fault.{Fault}
 use Rattle.occ_types.specs.declared.fault.Fault.TheVariants as faults
 use Rattle.occ_types.specs.Schema.{Schema, fault_if}
 use Rattle.occ_model.specs.State.{Write}
-use Rattle.occ_model.specs.Log.{LogRow, Standing, Open, Writing, Done, Back, Base, last_folded, is_active, is_open}
+use Rattle.occ_model.specs.Log.{Case, LogRow, Standing, Open, Writing, Done, Back, Base, last_folded, is_active, is_open}
 use Rattle.occ_model.specs.Content.{QuestionFits, RowFits, WriteIs, RowIs}
 use Rattle.occ_model.specs.Event.{Checkpoint, Folded, Refused}
 use Rattle.occ_model.specs.Refusal.{refusal, foldable}
@@ -21,7 +21,6 @@ use Rattle.occ_model.proofs.Tests as tests
 use Rattle.occ_book.specs.Base.{AllFitIn}
 use Rattle.occ_book.specs.Undo.{ArePlaced}
 use Rattle.occ_book.specs.declared.rows.LogRow as code_row
-use Rattle.occ_case.specs.declared.cases.OpenCase as code_open
 use Rattle.occ_log.specs.Rows.{log_of, log_row_of}
 use Rattle.occ_log.specs.Slots.{Hold, IsHeldAt}
 use Rattle.occ_log.proofs.Opponents.{some_finished, any-finished}
@@ -283,12 +282,12 @@ pub begins_later : (first place count new : ℕ) (rows : List LogRow) → count 
 begins_later first place count new rows less same is = let n = first_count count rows less in omega arith
 
 module _ {Z : Type 0} where
-  pub first_fit : (tables sessions n : ℕ) (rows : List (code_row.LogRow Z (code_open.OpenCase Z))) → AllFit tables sessions (log_of rows) → AllFitIn tables sessions (take n rows)
+  pub first_fit : (tables sessions n : ℕ) (rows : List (code_row.LogRow Z (ℕ × Case))) → AllFit tables sessions (log_of rows) → AllFitIn tables sessions (take n rows)
   first_fit tables sessions zero rows all = tt
   first_fit tables sessions (suc n) [] all = tt
   first_fit tables sessions (suc n) (row ∷ rows) all = (record { session = all.0.session; placed = all.0.placed }, first_fit tables sessions n rows all.1)
 
-  pub first_rows : (n : ℕ) (rows : List (code_row.LogRow Z (code_open.OpenCase Z))) → log_of (take n rows) ≡ take n (log_of rows)
+  pub first_rows : (n : ℕ) (rows : List (code_row.LogRow Z (ℕ × Case))) → log_of (take n rows) ≡ take n (log_of rows)
   first_rows zero rows = refl
   first_rows (suc n) [] = refl
   first_rows (suc n) (row ∷ rows) = ap (λ l. log_row_of row ∷ l) (first_rows n rows)

@@ -15,7 +15,7 @@ use Rattle.occ_model.specs.Refusal.{refusal}
 use Rattle.occ_model.specs.Step.{Step, taken}
 use Rattle.occ_model.proofs.Tests as tests
 use Rattle.occ_model.proofs.Phases.{not_refused}
-use Rattle.occ_model.proofs.Steps.{passed}
+use Rattle.occ_model.proofs.Admitted.{passed}
 use Rattle.occ_model.proofs.InSchema.{keeps_lawful}
 use Rattle.occ_core.specs.Reads.{session_fault, closed_fault}
 use Rattle.occ_core.specs.Entries.{due_fault, busy_fault, turn_to_close}

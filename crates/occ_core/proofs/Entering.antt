@@ -19,7 +19,7 @@ use Rattle.occ_model.specs.Refusal.{refusal, check_writes}
 use Rattle.occ_model.specs.Step.{Step, starved, IsCaseOf, entering}
 use Rattle.occ_model.proofs.Tests as tests
 use Rattle.occ_model.proofs.Phases.{not_refused}
-use Rattle.occ_model.proofs.Steps.{passed}
+use Rattle.occ_model.proofs.Admitted.{passed}
 use Rattle.std.specs.List.{list_any}
 use Rattle.occ_log.specs.Phases.{reads_of}
 use Rattle.occ_core.specs.Reads.{session_fault, closed_fault, start_fault}

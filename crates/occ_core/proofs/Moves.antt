@@ -22,7 +22,7 @@ use Rattle.occ_model.proofs.Tests as tests
 use Rattle.occ_model.proofs.Logs.{standing_at}
 use Rattle.occ_model.proofs.Turns.{latest-push}
 use Rattle.occ_model.proofs.Phases.{not_refused}
-use Rattle.occ_model.proofs.Steps.{passed}
+use Rattle.occ_model.proofs.Admitted.{passed}
 use Rattle.occ_model.proofs.InSchema.{keeps_lawful}
 use Rattle.occ_log.specs.Slots.{Slot, Hold, held_from, IsHeldAt}
 use Rattle.occ_core.specs.Parts.{Parts, world_of, low_of, Stands, HasRow, AreSound, SlotIsTrue}

@@ -23,7 +23,7 @@ use Rattle.occ_model.specs.State.{State, Write}
 use Rattle.occ_model.specs.Step.{Step, refused, starved, taken}
 use Rattle.occ_model.specs.World.{World, ReadPhase, phase_cmp, active_count}
 use Rattle.occ_model.proofs.Phases.{not_refused, phase_cmp_total, phase_cmp-IsAntisymmetric}
-use Rattle.occ_model.proofs.Steps.{passed}
+use Rattle.occ_model.proofs.Admitted.{passed}
 use Rattle.occ_model.proofs.InSchema.{keeps_lawful}
 use Rattle.occ_model.proofs.Tests as tests
 use Rattle.occ_core.specs.AtOnce.{committed, MayEnd, quiet_fault}

@@ -186,7 +186,7 @@ impl<A: Allocator + Copy> Core<A> {
             active,
         );
         let place = self.log.next_place();
-        let open_case = OpenCase::new(place as u64, case);
+        let open_case = OpenCase::new(self.alloc, place as u64, case)?;
         Ok(LogRow {
             place,
             session: transaction.session,

@@ -7,6 +7,7 @@ use occ_queue::Item;
 use occ_sets::{Op, PrivateCopy};
 use occ_types::{Cell, Fault, Key, KeyKind, Kind, Row, Schema, TableDef, Text};
 use std::alloc::Allocator;
+use std::collections::VecDeque;
 
 /// The place of the one table.
 const TABLE: usize = 0;
@@ -46,6 +47,8 @@ pub(crate) struct Store<A: Allocator> {
     core: Box<Core<A>, A>,
     shape: Shape,
     dice: Dice,
+    // The private copies of a round. Their room is kept from round to round, since it is no cost of the store.
+    copies: VecDeque<PrivateCopy<A>, A>,
 }
 
 impl<A: Allocator + Copy> Store<A> {
@@ -59,6 +62,7 @@ impl<A: Allocator + Copy> Store<A> {
             core: Box::new(alloc, core)?,
             shape,
             dice: Dice::new(),
+            copies: VecDeque::new(alloc),
         };
         fill(alloc, &mut store.core, filling, shape.rows)?;
         let _folded = store.core.checkpoint()?;
@@ -114,13 +118,15 @@ impl<A: Allocator + Copy> Store<A> {
 
     // One transaction of each session: all begin before the first ends.
     fn round_by_copies(&mut self, way: Way, number: u64) -> Result<u64, Fault> {
-        let mut copies = Vec::new(self.alloc);
         for session in 1..=self.shape.together {
-            copies.push(self.begin(session, number)?)?;
+            let copy = self.begin(session, number)?;
+            self.copies.push_back(copy)?;
         }
         let mut committed = 0u64;
-        for (place, copy) in copies.into_iter().enumerate() {
-            let session = place.saturating_add(1);
+        for session in 1..=self.shape.together {
+            let Some(copy) = self.copies.pop_front() else {
+                return Ok(committed);
+            };
             let done = match way {
                 Way::Steps => end_by_steps(&mut self.core, session, copy)?,
                 Way::Serial | Way::Alone => end_serially(&mut self.core, session, copy)?,

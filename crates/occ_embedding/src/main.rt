@@ -24,18 +24,23 @@ fn main(rt: HostRuntime) -> ExitCode {
     }
 }
 
-/// Two payments that overlap, the second one tried again, then one in a single step, a checkpoint, and the balance.
+/// A store, and what is done in it, told line by line.
 fn pay(alloc: Global) -> Result<String, Fault> {
     let mut lines = String::new(alloc);
     let mut store = open(alloc)?;
-    pay_both(alloc, &mut store, &mut lines)?;
-    let again = begin(alloc, &mut store, 2, 2, 12)?;
-    tell(&mut lines, 2, commit(&mut store, 2, again)?)?;
-    tell(&mut lines, 1, Some(pay_alone(&mut store, 1, 2, 8)?))?;
-    shorten(&mut store, &mut lines)?;
-    let balance = balance(&mut store, 1, 3)?;
-    writeln!(lines, "the account has {balance}").or(Err(Fault::Memory))?;
+    pay_into(alloc, &mut store, &mut lines)?;
     Ok(lines)
+}
+
+/// Two payments that overlap, the second one tried again, then one in a single step, a checkpoint, and the balance.
+fn pay_into(alloc: Global, store: &mut Core<Global>, lines: &mut String) -> Result<(), Fault> {
+    pay_both(alloc, store, lines)?;
+    let again = begin(alloc, store, 2, 2, 12)?;
+    tell(lines, 2, commit(store, 2, again)?)?;
+    tell(lines, 1, Some(pay_alone(store, 1, 2, 8)?))?;
+    shorten(store, lines)?;
+    let balance = balance(store, 1, 3)?;
+    writeln!(lines, "the account has {balance}").or(Err(Fault::Memory))
 }
 
 /// Two payments of two sessions, of which both begin before either ends.

@@ -6,7 +6,7 @@ use Rattle.std.specs.Option.{option_map, option_copied}
 use Rattle.std.specs.Slice.{IsItemAt}
 use Rattle.std.proofs.lemmas.Option.{slice_get-map}
 use Rattle.occ_book.proofs.Views.{table-at}
-use Rattle.occ_model.specs.Log.{LogRow, is_open}
+use Rattle.occ_model.specs.Log.{Case, LogRow, is_open}
 use Rattle.occ_log.specs.Slots.{Slot, Hold, idle_slots, last_of, HoldsArePlaced}
 use Rattle.occ_book.specs.Undo.{ArePlaced}
 use Rattle.occ_log.proofs.Places.{slice_get-other}
@@ -14,7 +14,6 @@ use Rattle.occ_model.proofs.Tests as tests
 use Rattle.occ_log.specs.Rows.{standing_of, log_row_of, log_of, slot_of, slots_of}
 use Rattle.occ_book.specs.declared.rows.Standing as code_standing
 use Rattle.occ_book.specs.declared.rows.Standing.TheVariants as standings
-use Rattle.occ_case.specs.declared.cases.OpenCase as code_open
 use Rattle.occ_book.specs.declared.rows.LogRow as code_row
 use Rattle.occ_log.specs.declared.sessions.SessionState as code_session
 
@@ -28,17 +27,17 @@ seen_at {X} f xs items plain k r same view is =
     copied (Some x) = refl
 
 -- a row takes another standing
-pub stood : {Z : Type 0} (rows : List (code_row.LogRow Z (code_open.OpenCase Z))) (place : ℕ) (old : code_row.LogRow Z (code_open.OpenCase Z)) (standing : code_standing.Standing (code_open.OpenCase Z)) (log : List LogRow) → log_of rows ≡ log → old ≡ get_or rows place old
+pub stood : {Z : Type 0} (rows : List (code_row.LogRow Z (ℕ × Case))) (place : ℕ) (old : code_row.LogRow Z (ℕ × Case)) (standing : code_standing.Standing (ℕ × Case)) (log : List LogRow) → log_of rows ≡ log → old ≡ get_or rows place old
     → (row : LogRow) → slice_get log place ≡ Some row → log_of (slice_set rows place (record old { standing = standing })) ≡ slice_set log place (record row { standing = standing_of standing })
 stood {Z} rows place old standing log view is row there =
     go rows place is (ap (λ l. slice_get l place) view ∙ there) ∙ ap (λ l. slice_set l place (record row { standing = standing_of standing })) view
   where
-    go : (rows : List (code_row.LogRow Z (code_open.OpenCase Z))) (place : ℕ) → old ≡ get_or rows place old → slice_get (log_of rows) place ≡ Some row
+    go : (rows : List (code_row.LogRow Z (ℕ × Case))) (place : ℕ) → old ≡ get_or rows place old → slice_get (log_of rows) place ≡ Some row
         → log_of (slice_set rows place (record old { standing = standing })) ≡ slice_set (log_of rows) place (record row { standing = standing_of standing })
     go [] place is there = cc
     go (x ∷ xs) zero is there =
         let e : log_row_of x ≡ row = cc in
-        ap (λ r. r ∷ log_of xs) (ap (λ (r : code_row.LogRow Z (code_open.OpenCase Z)). record (log_row_of r) { standing = standing_of standing }) is ∙ ap (λ (r : LogRow). record r { standing = standing_of standing }) e)
+        ap (λ r. r ∷ log_of xs) (ap (λ (r : code_row.LogRow Z (ℕ × Case)). record (log_row_of r) { standing = standing_of standing }) is ∙ ap (λ (r : LogRow). record r { standing = standing_of standing }) e)
     go (x ∷ xs) (suc place) is there = ap (λ l. log_row_of x ∷ l) (go xs place is there)
 
 -- a session is let go
@@ -59,7 +58,7 @@ idle-push zero = refl
 idle-push (suc count) = ap (λ l. record { last = 0; hold = None } ∷ l) (idle-push count) ∙ ap idle_slots (sym (let e : suc count + 1 ≡ suc (count + 1) = omega arith in e))
 
 -- a standing that no case opens
-pub not_open : {Z : Type 0} (s : code_standing.Standing (code_open.OpenCase Z)) → ((open_case : code_open.OpenCase Z) → s ≡ standings.Open open_case → ⊥) → is_open (standing_of s) ≡ false
+pub not_open : (s : code_standing.Standing (ℕ × Case)) → ((open_case : ℕ × Case) → s ≡ standings.Open open_case → ⊥) → is_open (standing_of s) ≡ false
 not_open (standings.Open open_case) not = absurd (not open_case refl)
 not_open (standings.Writing done) not = refl
 not_open (standings.Done number) not = refl

@@ -3,12 +3,11 @@ use Rattle.std.proofs.Common.{◌≡◌, ℕ, zero, suc, ◌+◌, ◌-◌, ◌<�
 use Rattle.std.specs.Prelude.{◌&&◌, ◌||◌, ◌==◌, nat_le, if◌then◌else◌, slice_get, slice_set, Vec}
 use Rattle.std.specs.List.{list_any, prefix_len}
 use Rattle.std.proofs.lemmas.Bool.{leb-true, le-leb}
-use Rattle.occ_model.specs.Log.{LogRow, Counts, is_open}
+use Rattle.occ_model.specs.Log.{Case, LogRow, Counts, is_open}
 use Rattle.occ_model.specs.Refusal.{foldable}
 use Rattle.occ_model.specs.Step.{foldable_part}
 use Rattle.occ_model.proofs.Tests as tests
 use Rattle.occ_book.specs.declared.rows.LogRow as code_row
-use Rattle.occ_case.specs.declared.cases.OpenCase as code_open
 use Rattle.occ_log.specs.Logs.{Kept, row_at, rows_of, HaveNoGap, places_from, places_in, list_at, list_of, AreListed, lists_of, has_room, KeepRoom}
 use Rattle.occ_log.specs.Rows.{standing_of, log_row_of, log_of}
 use Rattle.occ_log.proofs.Listed.{before_first, row_from, lists-length}
@@ -126,11 +125,11 @@ kept_all first (list ∷ lists) = ap (λ l. places_from first list ∷ l) (kept_
 module _ {Z : Type 0} where
   -- Tests of the rows.
 
-  pub open_rows : (rows : List (code_row.LogRow Z (code_open.OpenCase Z))) → list_any (λ row. is_open (standing_of row.standing)) rows ≡ list_any (λ row. is_open row.standing) (log_of rows)
+  pub open_rows : (rows : List (code_row.LogRow Z (ℕ × Case))) → list_any (λ row. is_open (standing_of row.standing)) rows ≡ list_any (λ row. is_open row.standing) (log_of rows)
   open_rows [] = refl
   open_rows (row ∷ rows) = ap (λ b. is_open (standing_of row.standing) || b) (open_rows rows)
 
-  pub foldable_rows : (low : ℕ) (rows : List (code_row.LogRow Z (code_open.OpenCase Z))) → prefix_len (λ row. foldable low (standing_of row.standing)) rows ≡ length (foldable_part low (log_of rows))
+  pub foldable_rows : (low : ℕ) (rows : List (code_row.LogRow Z (ℕ × Case))) → prefix_len (λ row. foldable low (standing_of row.standing)) rows ≡ length (foldable_part low (log_of rows))
   foldable_rows low [] = refl
   foldable_rows low (row ∷ rows) = go (foldable low (standing_of row.standing)) (foldable_rows low rows)
     where

@@ -7,5 +7,4 @@ pub mod Changes
 pub mod PhaseViews
 pub mod Listed
 pub mod Numbered
-pub mod Dropping
 pub mod Folding

@@ -1,8 +1,7 @@
 -- What clauses see of the log that a core keeps, and how its rows are found.
 use Rattle.std.specs.Prelude.{◌≡◌, ℕ, zero, suc, ◌-◌, Bool, true, ◌&&◌, ◌==◌, nat_lt, nat_le, List, [], ◌∷◌, map, filter, length, Option, None, Some, if◌then◌else◌, slice_get, Vec, vec_len, vec_capacity}
 use Rattle.occ_book.specs.declared.rows.LogRow as code_row
-use Rattle.occ_case.specs.declared.cases.OpenCase as code_open
-use Rattle.occ_model.specs.Log.{LogRow, Counts, numbers}
+use Rattle.occ_model.specs.Log.{Case, LogRow, Counts, numbers}
 use Rattle.occ_log.specs.Rows.{log_of}
 
 pub record Kept : Type 0 where
@@ -78,7 +77,7 @@ module _ {Z : Type 0} where
   KeepRoom old new = (place : ℕ) → slice_get (map has_room old) place ≡ Some true → slice_get (map has_room new) place ≡ Some true
 
   -- the log, of the place of its first row, its rows, and the lists of their places
-  abbrev pub kept_of : ℕ → Vec (code_row.LogRow Z (code_open.OpenCase Z)) Z → Vec (Vec ℕ Z) Z → Kept
+  abbrev pub kept_of : ℕ → Vec (code_row.LogRow Z (ℕ × Case)) Z → Vec (Vec ℕ Z) Z → Kept
   kept_of first rows lists = record {
     first = first;
     rows = log_of rows.items;

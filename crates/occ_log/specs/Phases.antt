@@ -2,7 +2,6 @@
 use Rattle.std.specs.Prelude.{◌≡◌, ℕ, ◌⊎◌, List, [], map, Option, None, Some, refl}
 use Rattle.std.proofs.Common.{inl, inr}
 use Rattle.std.specs.Coded.{Coded, code_by, coded×, coded⊎, coded_ℕ, coded_list, coded_option}
-use Rattle.std.specs.BTreeMap.{BTreeMap}
 use Rattle.std.specs.FinMap as finite
 use Rattle.std.specs.FinMap.{FinMap}
 use Rattle.occ_types.specs.Key.{Key}
@@ -67,5 +66,5 @@ module _ {Z : Type 0} where
   phase_of phase = record { start = phase.start; reads = phase.reads }
 
   -- the phases as the model has them
-  unfoldable pub phases_of : BTreeMap (ℕ × ℕ) (code_phase.Phase Z) → FinMap phase_cmp ReadPhase
-  phases_of phases = finite.from_entries (map (λ e. (e.0, phase_of e.1)) phases.entries)
+  unfoldable pub phases_of : List ((ℕ × ℕ) × code_phase.Phase Z) → FinMap phase_cmp ReadPhase
+  phases_of phases = finite.from_entries (map (λ e. (e.0, phase_of e.1)) phases)

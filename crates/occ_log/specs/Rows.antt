@@ -2,7 +2,6 @@
 use Rattle.std.specs.Prelude.{ℕ, List, map}
 use Rattle.std.specs.Option.{option_map}
 use Rattle.occ_model.specs.Log.{Case, LogRow, Standing}
-use Rattle.occ_case.specs.declared.cases.OpenCase as code_open
 use Rattle.occ_book.specs.Rows as books
 use Rattle.occ_book.specs.declared.rows.Standing as code_standing
 use Rattle.occ_book.specs.declared.rows.LogRow as code_row
@@ -10,20 +9,20 @@ use Rattle.occ_log.specs.Slots.{Slot, Hold}
 use Rattle.occ_log.specs.declared.sessions.Held as code_held
 use Rattle.occ_log.specs.declared.sessions.SessionState as code_session
 
+-- what is held of an open row: the index of its case, and the case
+abbrev pub opened : ℕ × Case → ℕ × Case
+opened open_case = open_case
+
+-- the plain standing
+abbrev pub standing_of : code_standing.Standing (ℕ × Case) → Standing
+standing_of = books.standing_of opened
+
 module _ {Z : Type 0} where
-  -- what is held of an open row: its case, and the index of that
-  abbrev pub opened : code_open.OpenCase Z → ℕ × Case
-  opened open_case = (open_case.index, open_case.case)
-
-  -- the plain standing
-  abbrev pub standing_of : code_standing.Standing (code_open.OpenCase Z) → Standing
-  standing_of = books.standing_of opened
-
   -- the plain row
-  abbrev pub log_row_of : code_row.LogRow Z (code_open.OpenCase Z) → LogRow
+  abbrev pub log_row_of : code_row.LogRow Z (ℕ × Case) → LogRow
   log_row_of = books.log_row_of opened
 
-  abbrev pub log_of : List (code_row.LogRow Z (code_open.OpenCase Z)) → List LogRow
+  abbrev pub log_of : List (code_row.LogRow Z (ℕ × Case)) → List LogRow
   log_of = books.log_of opened
 
   -- the plain hold

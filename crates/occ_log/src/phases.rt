@@ -1,5 +1,5 @@
 //! The read phases under way.
-ghost use Rattle.std.specs.Prelude.{◌≡◌, ◌==◌, ◌<◌, ◌++◌, ℕ, [], ◌∷◌, not, true, length, None, OnOk, OnErr, IfOk, IfSome, IfNone, IsOkUnless};
+ghost use Rattle.std.specs.Prelude.{◌≡◌, ◌==◌, ◌<◌, ◌++◌, [], ◌∷◌, not, length, OnOk, OnErr, IfOk, IsOkUnless};
 ghost use Rattle.std.specs.Option.{option_map};
 ghost use Rattle.std.specs.FinMap as finite;
 ghost use Rattle.occ_types.specs.declared.fault.Fault.TheVariants.{Memory};
@@ -8,10 +8,11 @@ ghost use Rattle.occ_types.specs.Seen.{question_of};
 ghost use Rattle.occ_sets.specs.Seen.{answer_of};
 ghost use Rattle.occ_log.specs.Phases.{phase_of, reads_of};
 
+use indexmap::IndexMap;
 use occ_sets::{Answer, ReadSet};
 use occ_types::{Fault, Question};
 use std::alloc::Allocator;
-use std::collections::BTreeMap;
+use std::hash::{BuildHasherDefault, FoldHasher};
 use std::marker::Model;
 
 /// A transaction as its session names it, before it enters.
@@ -51,10 +52,13 @@ impl<A: Allocator + Copy> Phase<A> {
     }
 }
 
-/// The read phases under way, by session and then by the number of their transaction. Clauses see them as a finite map.
+/// Read phases by their session and the number of their transaction.
+type PhaseMap<A> = IndexMap<(usize, u64), Phase<A>, BuildHasherDefault<FoldHasher>, A>;
+
+/// The read phases under way, which are found by the session and the number of their transaction. Their map keeps the room that it has, so phases take memory only where there are more of them than ever before. Clauses see them as a finite map.
 #[derive(Drop)]
 pub struct ReadPhases<A: Allocator> {
-    phases: BTreeMap<(usize, u64), Phase<A>, A>,
+    phases: PhaseMap<A>,
 }
 
 impl<A: Allocator> Model for ReadPhases<A> {
@@ -66,19 +70,10 @@ impl<A: Allocator> Model for ReadPhases<A> {
 
     ghost coded = { read_phases_code };
 
-    ghost view = { λ phases. phases_of phases.phases };
+    ghost view = { λ phases. phases_of phases.phases.entries };
 }
 
 impl<A: Allocator> ReadPhases<A> {
-    /// No phases, which take no memory.
-    pub fn new(alloc: A) -> ReadPhases<A>
-        ensures { result ≡ finite.empty }
-    {
-        ReadPhases {
-            phases: BTreeMap::new(alloc),
-        }
-    }
-
     /// The start of a phase, or none where it is not under way.
     pub fn start(&self, session: usize, number: u64) -> Option<u64>
         ensures { result ≡ option_map (λ phase. phase.start) (finite.get self.now (session, number)) }
@@ -104,16 +99,14 @@ impl<A: Allocator> ReadPhases<A> {
         ensures phase { option_map phase_of result ≡ finite.get self.old (session, number) }
         ensures gone { self.new ≡ finite.remove self.old (session, number) }
     {
-        self.phases.remove(&(session, number))
+        self.phases.swap_remove(&(session, number))
     }
 
-    /// Ends all phases of a session. It looks at no phase of another one, and takes no memory.
+    /// Ends all phases of a session, in one pass over those of all sessions. It takes no memory.
     pub fn drop_session(&mut self, session: usize)
         ensures { self.new ≡ finite.retain_keys self.old (λ key. not (key.0 == session)) }
     {
-        while let Some(number) = self.first_number(session) {
-            self.discard(session, number);
-        }
+        self.phases.retain(|key, _phase| key.0 != session);
     }
 
     /// Ends a phase, of which nothing is left. It takes no memory.
@@ -122,22 +115,18 @@ impl<A: Allocator> ReadPhases<A> {
     {
         let _phase = self.take(session, number);
     }
-
-    // The first number under which a session reads.
-    fn first_number(&self, session: usize) -> Option<u64>
-        ensures some { IfSome result (λ number. finite.contains_key self.now (session, number) ≡ true) }
-        ensures none { IfNone result ((number : ℕ) → finite.get self.now (session, number) ≡ None) }
-    {
-        let (key, _phase) = self.phases.range((session, 0)..).next()?;
-        if is_of(session, *key) {
-            Some(key.1)
-        } else {
-            None
-        }
-    }
 }
 
 impl<A: Allocator + Copy> ReadPhases<A> {
+    /// No phases, which take no memory.
+    pub fn new(alloc: A) -> ReadPhases<A>
+        ensures { result ≡ finite.empty }
+    {
+        ReadPhases {
+            phases: PhaseMap::new(alloc),
+        }
+    }
+
     /// One more owner of what was read in a phase, which is nothing where it is not under way. The phase goes on as it was. Refused
     /// with `Memory` where there is none, or it has too many owners to be counted, which leaves it too.
     pub fn share(&mut self, alloc: A, session: usize, number: u64) -> Result<ReadSet<A>, Fault>
@@ -179,11 +168,4 @@ impl<A: Allocator + Copy> ReadPhases<A> {
         self.phases.insert(key, phase)?;
         Ok(())
     }
-}
-
-// Whether a phase, named by its session and its number, is of this session.
-fn is_of(session: usize, phase: (usize, u64)) -> bool
-    ensures { result ≡ (phase.0 == session) }
-{
-    phase.0 == session
 }

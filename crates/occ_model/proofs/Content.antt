@@ -32,7 +32,7 @@ use Rattle.occ_model.proofs.Turns.{Around, around}
 use Rattle.occ_model.proofs.Orders.{get-own, get-other}
 use Rattle.occ_model.proofs.Folds as folds
 use Rattle.occ_model.proofs.Phases.{get-remove-from, get-retain-from, get-insert-cases, not_refused, known_reads}
-use Rattle.occ_model.proofs.Steps.{passed, Admitted, admitted}
+use Rattle.occ_model.proofs.Admitted.{passed, Admitted, admitted}
 
 -- What holds of each item of a list.
 module _ {X : Type 0} (P : X → Type 0) where

@@ -25,7 +25,8 @@ use Rattle.occ_model.proofs.Entries.{verdict-validity}
 use Rattle.occ_model.proofs.Turns.{around}
 use Rattle.occ_model.proofs.Folds.{part_rest}
 use Rattle.occ_model.proofs.Phases.{not_refused}
-use Rattle.occ_model.proofs.Steps.{passed, keeps_run, invariant_resumed}
+use Rattle.occ_model.proofs.Admitted.{passed}
+use Rattle.occ_model.proofs.Steps.{keeps_run, invariant_resumed}
 
 -- What the log looks like after a step, seen from one place: nothing at it moved but by a legal turn.
 module _ (place : ℕ) (valid : LogRow → Verdict) (fixed : (row : LogRow) (standing : Standing) → valid (standing_at row standing) ≡ valid row) where

@@ -27,7 +27,8 @@ use Rattle.occ_model.specs.declared.verdict.Verdict.{Verdict}
 use Rattle.occ_model.specs.declared.verdict.Verdict.TheVariants as verdicts
 use Rattle.occ_model.proofs.Tests as tests
 use Rattle.occ_model.proofs.Phases.{not_refused}
-use Rattle.occ_model.proofs.Steps.{passed, keeps, invariant_resumed}
+use Rattle.occ_model.proofs.Admitted.{passed}
+use Rattle.occ_model.proofs.Steps.{keeps, invariant_resumed}
 use Rattle.occ_model.specs.Laws.{RunsStayInSchema}
 use Rattle.occ_model.proofs.Content.{keeps_content}
 

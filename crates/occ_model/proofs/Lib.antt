@@ -6,6 +6,10 @@ pub mod Turns
 pub mod Orders
 pub mod Folds
 pub mod Phases
+pub mod Admitted
+pub mod Arrivals
+pub mod WritePhases
+pub mod AtOnce
 pub mod Steps
 pub mod Content
 pub mod InSchema

@@ -26,7 +26,8 @@ use Rattle.occ_model.proofs.Tests as tests
 use Rattle.occ_model.proofs.Logs.{standing_at}
 use Rattle.occ_model.proofs.Turns.{latest-at}
 use Rattle.occ_model.proofs.Orders.{apart}
-use Rattle.occ_model.proofs.Steps.{admitted, held-own}
+use Rattle.occ_model.proofs.Admitted.{admitted}
+use Rattle.occ_model.proofs.Arrivals.{held-own}
 
 -- a test that isn't met refuses nothing
 unmet : (b : Bool) (fault : Fault) → b ≡ false → fault_if b fault ≡ None

@@ -44,13 +44,18 @@ impl Scenario {
     // Runs it over an empty store. The answer is how many calls were made again, and all that was answered.
     fn run<A: Allocator + Copy>(self, alloc: A, paper: Global) -> Option<(u64, String)> {
         let mut client = Client::open(alloc, paper)?;
-        match self {
-            Scenario::Copies => client.copy_and_send()?,
-            Scenario::Overlap => client.overlap()?,
-            Scenario::AtOnce => client.at_once()?,
-            Scenario::Steps => client.in_steps()?,
-        }
+        self.play(&mut client)?;
         Some(client.give_back())
+    }
+
+    // Makes its calls.
+    fn play<A: Allocator + Copy>(self, client: &mut Client<A>) -> Option<()> {
+        match self {
+            Scenario::Copies => client.copy_and_send(),
+            Scenario::Overlap => client.overlap(),
+            Scenario::AtOnce => client.at_once(),
+            Scenario::Steps => client.in_steps(),
+        }
     }
 }
 

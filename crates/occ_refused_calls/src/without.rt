@@ -15,17 +15,20 @@ use std::alloc::{Allocator, Global};
 pub(crate) fn work_without_memory(paper: Global) -> Option<()> {
     let lent = Refusing::new(paper, Plan::Nothing);
     let mut client = Client::open(&lent, paper)?;
+    end_all(&lent, &mut client)?;
+    drop(client);
+    holds(lent.bytes_out() == 0)
+}
+
+// What is under way comes to its end while every request is refused, and one call alone wants memory.
+fn end_all(lent: &Refusing<Global>, client: &mut Client<&Refusing<Global>>) -> Option<()> {
     client.get_under_way()?;
     let mut queue = client.queue()?;
     let last = client.deletions()?;
     lent.follow(Plan::From(lent.requests()));
     client.end_without_memory()?;
     pass_through(&mut queue, last)?;
-    drop(queue);
-    // the one that wanted some
-    holds(lent.refused() == 1)?;
-    drop(client);
-    holds(lent.bytes_out() == 0)
+    holds(lent.refused() == 1)
 }
 
 // A request goes through a queue, and so does the closing mark.
@@ -127,7 +130,12 @@ impl<A: Allocator + Copy> Client<A> {
 pub(crate) fn others_want_memory(paper: Global) -> Option<()> {
     let lent = Refusing::new(paper, Plan::Nothing);
     let mut client = Client::open(&lent, paper)?;
-    let key = key(&lent, "a")?;
+    want_memory(&lent, &mut client)
+}
+
+// A read, an entry and the others of their kind, and what the store shows before and after.
+fn want_memory(lent: &Refusing<Global>, client: &mut Client<&Refusing<Global>>) -> Option<()> {
+    let key = key(client.alloc, "a")?;
     let put = client.put_one("b")?;
     lent.follow(Plan::From(0));
     let before = client.shown()?;

@@ -34,44 +34,66 @@ fn lines_of_a_word_and_a_session(rt: HostRuntime) -> Result<(), Fail> {
 }
 
 #[test]
-fn lines_with_a_table(rt: HostRuntime) -> Result<(), Fail> {
-    let alloc = rt.alloc();
-    let step = read_step(alloc, Version::One, b"get 3 stock 18446744073709551615");
+fn a_line_that_gets(rt: HostRuntime) -> Result<(), Fail> {
+    let step = read_step(
+        rt.alloc(),
+        Version::One,
+        b"get 3 stock 18446744073709551615",
+    );
     assert!(rt;
         matches!(&step, Ok(Step::Get { session: 3, table, key })
         if *table == "stock" && *key == Key::Num(u64::MAX))
     );
-    let step = read_step(alloc, Version::One, b"delete 3 stock 7");
+    Ok(())
+}
+
+#[test]
+fn a_line_that_deletes(rt: HostRuntime) -> Result<(), Fail> {
+    let step = read_step(rt.alloc(), Version::One, b"delete 3 stock 7");
     assert!(rt;
         matches!(&step, Ok(Step::Delete { session: 3, table, key })
         if *table == "stock" && *key == Key::Num(7))
     );
-    let step = read_step(alloc, Version::One, b"scan 3 stock 9 7");
+    Ok(())
+}
+
+#[test]
+fn a_line_that_scans(rt: HostRuntime) -> Result<(), Fail> {
+    let step = read_step(rt.alloc(), Version::One, b"scan 3 stock 9 7");
     assert!(rt;
         matches!(&step, Ok(Step::Scan { session: 3, table, lower, upper })
         if *table == "stock" && *lower == Some(Key::Num(9)) && *upper == Some(Key::Num(7)))
     );
-    let step = read_step(alloc, Version::One, b"put 3 stock 7 -5,'");
+    Ok(())
+}
+
+#[test]
+fn a_line_that_puts(rt: HostRuntime) -> Result<(), Fail> {
+    let step = read_step(rt.alloc(), Version::One, b"put 3 stock 7 -5,'");
     assert!(rt;
         matches!(&step, Ok(Step::Put { session: 3, table, key, row })
         if *table == "stock" && *key == Key::Num(7) && row.len() == 2)
     );
-    let step = read_step(
-        alloc,
-        Version::One,
-        b"rawread 3 4294967295 18446744073709551615 stock 7",
-    );
+    Ok(())
+}
+
+#[test]
+fn a_line_that_reads_under_a_number(rt: HostRuntime) -> Result<(), Fail> {
+    let line = b"rawread 3 4294967295 18446744073709551615 stock 7";
+    let step = read_step(rt.alloc(), Version::One, line);
     assert!(rt;
         matches!(&step, Ok(Step::RawRead { session: 3, number: 4294967295, start: u64::MAX, table, key })
         if *table == "stock" && *key == Key::Num(7))
     );
-    assert!(rt; matches!(read_step(alloc, Version::One, b"show"), Ok(Step::Show)));
-    assert!(rt;
-        matches!(
-            read_step(alloc, Version::One, b"checkpoint"),
-            Ok(Step::Checkpoint)
-        )
-    );
+    Ok(())
+}
+
+#[test]
+fn lines_of_one_word(rt: HostRuntime) -> Result<(), Fail> {
+    let step = read_step(rt.alloc(), Version::One, b"show");
+    assert!(rt; matches!(step, Ok(Step::Show)));
+    let step = read_step(rt.alloc(), Version::One, b"checkpoint");
+    assert!(rt; matches!(step, Ok(Step::Checkpoint)));
     Ok(())
 }
 

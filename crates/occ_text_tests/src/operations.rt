@@ -10,26 +10,54 @@ use occ_types::Key;
 use std::test::Fail;
 
 #[test]
-fn each_operation_is_read(rt: HostRuntime) -> Result<(), Fail> {
-    let alloc = rt.alloc();
+fn an_operation_that_gets(rt: HostRuntime) -> Result<(), Fail> {
+    let operation = read_operation(rt.alloc(), Version::One, b"get:stock:18446744073709551615");
     assert!(rt;
-        matches!(&read_operation(alloc, Version::One, b"get:stock:18446744073709551615"), Ok(Operation::Get { table, key })
+        matches!(&operation, Ok(Operation::Get { table, key })
         if *table == "stock" && *key == Key::Num(u64::MAX))
     );
+    Ok(())
+}
+
+#[test]
+fn an_operation_that_scans(rt: HostRuntime) -> Result<(), Fail> {
+    let operation = read_operation(rt.alloc(), Version::One, b"scan:stock:9:7");
     assert!(rt;
-        matches!(&read_operation(alloc, Version::One, b"scan:stock:9:7"), Ok(Operation::Scan { table, lower, upper })
+        matches!(&operation, Ok(Operation::Scan { table, lower, upper })
         if *table == "stock" && *lower == Some(Key::Num(9)) && *upper == Some(Key::Num(7)))
     );
+    Ok(())
+}
+
+#[test]
+fn an_operation_that_puts(rt: HostRuntime) -> Result<(), Fail> {
+    let operation = read_operation(rt.alloc(), Version::One, b"put:stock:7:-5,'%3a");
     assert!(rt;
-        matches!(&read_operation(alloc, Version::One, b"put:stock:7:-5,'%3a"), Ok(Operation::Put { table, key, row })
+        matches!(&operation, Ok(Operation::Put { table, key, row })
         if *table == "stock" && *key == Key::Num(7) && row.len() == 2)
     );
+    Ok(())
+}
+
+#[test]
+fn an_operation_that_deletes(rt: HostRuntime) -> Result<(), Fail> {
+    let operation = read_operation(rt.alloc(), Version::One, b"delete:stock:7");
     assert!(rt;
-        matches!(&read_operation(alloc, Version::One, b"delete:stock:7"), Ok(Operation::Delete { table, key })
+        matches!(&operation, Ok(Operation::Delete { table, key })
         if *table == "stock" && *key == Key::Num(7))
     );
+    Ok(())
+}
+
+#[test]
+fn an_operation_that_adds(rt: HostRuntime) -> Result<(), Fail> {
+    let operation = read_operation(
+        rt.alloc(),
+        Version::One,
+        b"add:stock:7:-9223372036854775808",
+    );
     assert!(rt;
-        matches!(&read_operation(alloc, Version::One, b"add:stock:7:-9223372036854775808"), Ok(Operation::Add { table, key, amount: i64::MIN })
+        matches!(&operation, Ok(Operation::Add { table, key, amount: i64::MIN })
         if *table == "stock" && *key == Key::Num(7))
     );
     Ok(())

@@ -379,7 +379,12 @@ fn a_base_is_printed_behind_the_header(rt: HostRuntime) -> Result<(), Fail> {
     let text =
         b"occ 1\nsessions 2\nqueue 4\nkeep 8\ntable t num int\nbase 8 2 2\nlast 1 2\nlast 2 6\nfrom t 4 -1\nfrom t 9 3\nlog 0\nmarks 1\nmark 2 7\nstate 1\nat t 4 -1\ncounter 2 low 0\n";
     assert!(rt; bytes.as_slice() == text.as_slice());
-    // rows that were backed up alone were folded
+    Ok(())
+}
+
+#[test]
+fn a_base_of_rows_that_were_backed_up_has_no_rows(rt: HostRuntime) -> Result<(), Fail> {
+    let alloc = rt.alloc();
     let base = Base::from_parts(tables(alloc, &[])?, marks(alloc, &[(2, 1)])?, 1);
     let (bytes, ended) = printed_on(alloc, Version::One, &base, &[], &[], &[], usize::MAX)?;
     assert!(rt; ended == Ok(()));

@@ -156,7 +156,7 @@ fn an_open_row_is_seen(rt: HostRuntime) -> Result<(), Fail> {
         &mut log,
         1,
         3,
-        Standing::Open(OpenCase::new(0, case)),
+        Standing::Open(OpenCase::new(alloc, 0, case)?),
     )?;
     assert!(rt; log.has_open());
     assert_eq!(rt; log.foldable(9), 3);

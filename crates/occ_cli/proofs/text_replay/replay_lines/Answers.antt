@@ -1,7 +1,7 @@
 use Rattle.std.proofs.Common.{Ok, Err, ◌∙◌, ap}
 use Rattle.std.proofs.lemmas.Result.{err_from_is_err_and}
 use Rattle.occ_text.specs.HeaderTaking.{header_of}
-use Rattle.occ_cli.proofs.WholeReplay.{header_stopped, turns_stopped, all_closed, all_cut, no_read}
+use Rattle.occ_cli.proofs.WholeReplay.{header_stopped, turns_stopped, all_closed, all_cut, no_read, wrote_for_cause}
 use Rattle.occ_cli.proofs.text_replay.replay_lines.Goals as goal
 
 pub returns-in_err-header-clause-gives : goal.returns-in_err-header-clause-gives
@@ -22,6 +22,9 @@ returns-in_err-close-clause-gives g c =
 
 pub returns-in_err-close-clause-unread : goal.returns-in_err-close-clause-unread
 returns-in_err-close-clause-unread g c = no_read _ c.in_err-close.field-0.0 c.from_residual-in_err-close.result c.from_residual-in_err-close.ensures.1
+
+pub returns-in_err-close-clause-unwritten : goal.returns-in_err-close-clause-unwritten
+returns-in_err-close-clause-unwritten g c = wrote_for_cause _ c.in_err-close.field-0.0 c.from_residual-in_err-close.result c.from_residual-in_err-close.ensures.1 c.in_err-close.ensures.cause
 
 pub returns-clause-gives : goal.returns-clause-gives
 returns-clause-gives g c =

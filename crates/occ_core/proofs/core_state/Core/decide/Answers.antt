@@ -23,7 +23,7 @@ stand-requires g c = ap is_some c.in_ok-place.ensures.row
 
 pub invariant_of-self : goal.invariant_of-self
 invariant_of-self g c = record {
-  sound = (decide_whole (parts_of c.self.inside) c.args.self.now.world (ap (λ s. s.world) c.self.view_is) c.self.invariant.sound c.args.session c.in_ok-place.place (log_row_of c.in_ok-place.row.now) c.in-Open.open.index c.in-Open.open.case
+  sound = (decide_whole (parts_of c.self.inside) c.args.self.now.world (ap (λ s. s.world) c.self.view_is) c.self.invariant.sound c.args.session c.in_ok-place.place (log_row_of c.in_ok-place.row.now) c.in-Open.open.0 c.in-Open.open.1
       c.in_ok-place.ensures.place (in_log c.self.inside.log c.in_ok-place.place (log_row_of c.in_ok-place.row.now) c.self.invariant.log_match.begins c.in_ok-place.ensures.row) (ap standing_of c.in-Open.is) c.verdict-verdict.result (c.verdict-verdict.ensures ∙ ap verdict c.case.ensures) c.stand.new.self.rows
       (stood_in c.self.inside.log c.in_ok-place.place _ c.stand.new.self.rows c.self.invariant.log_match.begins (c.stand.ensures.rows (log_row_of c.in_ok-place.row.now) c.in_ok-place.ensures.row) ∙ ap (λ s. slice_set c.self.inside.log.rows (c.in_ok-place.place - c.self.inside.base.base.place) (record (log_row_of c.in_ok-place.row.now) { standing = s })) c.decided.ensures)).1;
   tables_match = c.self.invariant.tables_match;
@@ -35,6 +35,6 @@ invariant_of-self g c = record {
 
 pub returns : goal.returns
 returns g c =
-    (decide_whole (parts_of c.self.inside) c.args.self.now.world (ap (λ s. s.world) c.self.view_is) c.self.invariant.sound c.args.session c.in_ok-place.place (log_row_of c.in_ok-place.row.now) c.in-Open.open.index c.in-Open.open.case
+    (decide_whole (parts_of c.self.inside) c.args.self.now.world (ap (λ s. s.world) c.self.view_is) c.self.invariant.sound c.args.session c.in_ok-place.place (log_row_of c.in_ok-place.row.now) c.in-Open.open.0 c.in-Open.open.1
     c.in_ok-place.ensures.place (in_log c.self.inside.log c.in_ok-place.place (log_row_of c.in_ok-place.row.now) c.self.invariant.log_match.begins c.in_ok-place.ensures.row) (ap standing_of c.in-Open.is) c.verdict-verdict.result (c.verdict-verdict.ensures ∙ ap verdict c.case.ensures) c.stand.new.self.rows
     (stood_in c.self.inside.log c.in_ok-place.place _ c.stand.new.self.rows c.self.invariant.log_match.begins (c.stand.ensures.rows (log_row_of c.in_ok-place.row.now) c.in_ok-place.ensures.row) ∙ ap (λ s. slice_set c.self.inside.log.rows (c.in_ok-place.place - c.self.inside.base.base.place) (record (log_row_of c.in_ok-place.row.now) { standing = s })) c.decided.ensures)).0

@@ -1,16 +1,10 @@
-use Rattle.std.proofs.Common.{◌<◌, sym, ap, subst, ◌∙◌}
-use Rattle.std.specs.FinMap.{FinMap, retain_keys, len}
-use Rattle.occ_model.specs.World.{ReadPhase, phase_cmp}
-use Rattle.occ_log.proofs.Dropping.{is_other, dropped_one, dropped_all, fewer}
+use Rattle.std.proofs.Common.{rules}
+use Rattle.std.specs.Prelude.{◌==◌, not}
+use Rattle.indexmap.proofs.CallerLemmas.{filter-RetainsPairs}
+use Rattle.occ_log.proofs.PhaseViews.{phases-retained}
 use Rattle.occ_log.proofs.phases.ReadPhases.drop_session.Goals as goal
 
-pub loop-number-smaller : goal.loop-number-smaller
-loop-number-smaller g c =
-    subst (λ (p : FinMap phase_cmp ReadPhase). len p < len c.loop-number.self) (sym c.discard.ensures) (fewer c.loop-number.self (c.args.session, c.in-Some.number) c.in-Some.ensures.some)
-
-pub loop-number-preserved : goal.loop-number-preserved
-loop-number-preserved g c =
-    ap (λ p. retain_keys p (is_other c.args.session)) c.discard.ensures ∙ dropped_one c.loop-number.self c.args.session c.in-Some.number ∙ c.loop-number.invariant
-
 pub returns : goal.returns
-returns g c = dropped_all c.loop-number.self c.args.session c.in_default.ensures.none ∙ c.loop-number.invariant
+returns g c =
+    phases-retained c.self.inside.phases.entries c.retain.new.self.entries (λ key. not (key.0 == c.args.session)) c.args.self.now c.self.view_is
+    (filter-RetainsPairs _ (λ e. not (e.0.0 == c.args.session)) _ (λ k v b w f said. search rules) c.self.inside.phases.entries c.retain.new.self.entries c.retain.ensures.filtered)

@@ -9,7 +9,7 @@ use Rattle.occ_log.proofs.phases.ReadPhases.share.Goals as goal
 pub returns-in_default-clause-shared : goal.returns-in_default-clause-shared
 returns-in_default-clause-shared g c =
     let at = sym (ap option_copied_mut c.in_default.is) ∙ c.get_mut.ensures.value in
-    c.new.ensures ∙ ap reads_of (phase-found c.self.inside.phases (c.args.session, c.args.number) None c.args.self.now c.self.view_is at)
+    c.new.ensures ∙ ap reads_of (phase-found c.self.inside.phases.entries (c.args.session, c.args.number) None c.args.self.now c.self.view_is at)
 
 -- the phase has the reads that it had
 pub returns-in_err-share-clause-kept : goal.returns-in_err-share-clause-kept
@@ -17,23 +17,23 @@ returns-in_err-share-clause-kept g c =
     let at = sym (ap option_copied_mut c.in-Some.is) ∙ c.get_mut.ensures.value in
     let was = c.in-Some.phase.now in
     let phase : code_phase.Phase g.row.A.Denot = record { start = was.start; reads = c.share.new.self } in
-    phases-same c.self.inside.phases (c.get_mut.follows.lender phase) (c.args.session, c.args.number) was phase c.args.self.now c.self.view_is at ((c.get_mut.follows.holds phase).3 (subst IsSome at refl)).0 refl c.share.ensures.kept
+    phases-same c.self.inside.phases.entries (c.get_mut.follows.lender phase).entries (c.args.session, c.args.number) was phase c.args.self.now c.self.view_is at ((c.get_mut.follows.holds phase).3 (subst IsSome at refl)).0 refl c.share.ensures.kept
 
 pub returns-in_err-shared-clause-kept : goal.returns-in_err-shared-clause-kept
 returns-in_err-shared-clause-kept g c =
     let at = sym (ap option_copied_mut c.in-Some.is) ∙ c.get_mut.ensures.value in
     let was = c.in-Some.phase.now in
     let phase : code_phase.Phase g.row.A.Denot = record { start = was.start; reads = c.share.new.self } in
-    phases-same c.self.inside.phases (c.get_mut.follows.lender phase) (c.args.session, c.args.number) was phase c.args.self.now c.self.view_is at ((c.get_mut.follows.holds phase).3 (subst IsSome at refl)).0 refl c.share.ensures.kept
+    phases-same c.self.inside.phases.entries (c.get_mut.follows.lender phase).entries (c.args.session, c.args.number) was phase c.args.self.now c.self.view_is at ((c.get_mut.follows.holds phase).3 (subst IsSome at refl)).0 refl c.share.ensures.kept
 
 pub returns-clause-kept : goal.returns-clause-kept
 returns-clause-kept g c =
     let at = sym (ap option_copied_mut c.in-Some.is) ∙ c.get_mut.ensures.value in
     let was = c.in-Some.phase.now in
     let phase : code_phase.Phase g.row.A.Denot = record { start = was.start; reads = c.share.new.self } in
-    phases-same c.self.inside.phases (c.get_mut.follows.lender phase) (c.args.session, c.args.number) was phase c.args.self.now c.self.view_is at ((c.get_mut.follows.holds phase).3 (subst IsSome at refl)).0 refl c.share.ensures.kept
+    phases-same c.self.inside.phases.entries (c.get_mut.follows.lender phase).entries (c.args.session, c.args.number) was phase c.args.self.now c.self.view_is at ((c.get_mut.follows.holds phase).3 (subst IsSome at refl)).0 refl c.share.ensures.kept
 
 pub returns-clause-shared : goal.returns-clause-shared
 returns-clause-shared g c =
     let at = sym (ap option_copied_mut c.in-Some.is) ∙ c.get_mut.ensures.value in
-    c.in_ok-shared.ensures.cases ∙ c.share.ensures.kept ∙ ap reads_of (phase-found c.self.inside.phases (c.args.session, c.args.number) (Some c.in-Some.phase.now) c.args.self.now c.self.view_is at)
+    c.in_ok-shared.ensures.cases ∙ c.share.ensures.kept ∙ ap reads_of (phase-found c.self.inside.phases.entries (c.args.session, c.args.number) (Some c.in-Some.phase.now) c.args.self.now c.self.view_is at)

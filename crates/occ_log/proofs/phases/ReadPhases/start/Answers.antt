@@ -6,8 +6,8 @@ use Rattle.occ_log.proofs.phases.ReadPhases.start.Goals as goal
 
 pub returns-in-Some : goal.returns-in-Some
 returns-in-Some g c =
-    ap (option_map (λ (phase : ReadPhase). phase.start)) (phase-found c.self.inside.phases (c.args.session, c.args.number) (Some c.in-Some.phase.now) c.args.self.now c.self.view_is (sym (ap option_copied c.in-Some.is) ∙ c.get.ensures.value))
+    ap (option_map (λ (phase : ReadPhase). phase.start)) (phase-found c.self.inside.phases.entries (c.args.session, c.args.number) (Some c.in-Some.phase.now) c.args.self.now c.self.view_is (sym (ap option_copied c.in-Some.is) ∙ c.get.ensures.value))
 
 pub returns-in-None : goal.returns-in-None
 returns-in-None g c =
-    ap (option_map (λ (phase : ReadPhase). phase.start)) (phase-found c.self.inside.phases (c.args.session, c.args.number) None c.args.self.now c.self.view_is (sym (ap option_copied c.in-None.is) ∙ c.get.ensures.value))
+    ap (option_map (λ (phase : ReadPhase). phase.start)) (phase-found c.self.inside.phases.entries (c.args.session, c.args.number) None c.args.self.now c.self.view_is (sym (ap option_copied c.in-None.is) ∙ c.get.ensures.value))
