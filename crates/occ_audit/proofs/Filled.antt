@@ -14,7 +14,7 @@ use Rattle.occ_types.specs.Seen.{key_of}
 use Rattle.occ_types.specs.declared.keys.Key as code_key
 use Rattle.occ_book.specs.Kept.{seen}
 use Rattle.occ_model.specs.State.{State, Rows, answer}
-use Rattle.occ_model.proofs.RangeLaws.{answers_range}
+use Rattle.occ_model.proofs.RangeAnswers.{answers_range}
 use Rattle.occ_model.proofs.States.{same_state}
 use Rattle.occ_model.proofs.Tests.{decided}
 use Rattle.occ_audit.specs.Replica.{IsTaken, lent, row_under, AreRowsOf, state_of}

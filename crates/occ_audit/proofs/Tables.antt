@@ -15,7 +15,7 @@ use Rattle.occ_types.specs.Key.{Key}
 use Rattle.occ_types.specs.Question.{InRange}
 use Rattle.occ_types.specs.Row.{Row}
 use Rattle.occ_model.specs.State.{State, Rows}
-use Rattle.occ_model.proofs.RangeLaws.{answers_range}
+use Rattle.occ_model.proofs.RangeAnswers.{answers_range}
 use Rattle.occ_model.proofs.States.{same_state}
 use Rattle.occ_model.proofs.Tests.{decided}
 use Rattle.occ_audit.specs.Replica.{SameTable}

@@ -22,7 +22,7 @@ use Rattle.occ_sets.specs.Sets.{WritesOnce, objects}
 use Rattle.occ_model.specs.State.{State, Write, Answer, Found, answer, put, apply}
 use Rattle.occ_model.specs.Overlay.{own}
 use Rattle.occ_model.specs.RangeLaws.{IsDistinctWrites}
-use Rattle.occ_model.proofs.RangeLaws.{overlays_answer}
+use Rattle.occ_model.proofs.OwnWrites.{overlays_answer}
 use Rattle.occ_model.proofs.States.{same, same_object, get-put, same_state}
 use Rattle.occ_model.proofs.Tests.{decided}
 use Rattle.occ_book.specs.LastWrites.{writes_in}

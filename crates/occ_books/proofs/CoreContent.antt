@@ -16,7 +16,7 @@ use Rattle.occ_model.specs.State.{State, Write, Answer, Found, Rows, Observation
 use Rattle.occ_model.specs.RangeLaws.{IsRangeAnswer}
 use Rattle.occ_model.specs.Content.{StateIs, WriteIs, ReadIs, QuestionFits}
 use Rattle.occ_model.specs.Content as content
-use Rattle.occ_model.proofs.RangeLaws.{answers_range}
+use Rattle.occ_model.proofs.RangeAnswers.{answers_range}
 use Rattle.occ_text.specs.declared.versions.Version.{Version}
 use Rattle.occ_text.specs.Spelling.{KeyFits, RowFits}
 use Rattle.occ_books.specs.RowLines.{FoundFits, PairFits, WriteFits, AtFits}

@@ -13,7 +13,7 @@ use Rattle.occ_types.specs.Seen.{table_asked}
 use Rattle.occ_model.specs.State.{Write, Observation, Rows}
 use Rattle.occ_model.specs.Overlay.{set, own}
 use Rattle.occ_model.specs.RangeLaws.{IsDistinctWrites}
-use Rattle.occ_model.proofs.RangeLaws.{sets_own}
+use Rattle.occ_model.proofs.OwnWrites.{sets_own}
 use Rattle.occ_model.specs.Log.{LogRow, Standing}
 use Rattle.occ_model.specs.declared.verdict.Cause.TheVariants.{Conflict, TooOld}
 use Rattle.occ_text.specs.declared.versions.Version.{Version}

@@ -7,4 +7,5 @@ pub mod Scanning
 pub mod Schedules
 pub mod Settings
 pub mod Starving
+pub mod StoreSteps
 pub mod WholeReplay

@@ -12,7 +12,7 @@ use Rattle.occ_text.specs.Steps as steps
 use Rattle.occ_cli.specs.Answers.{Answer}
 use Rattle.occ_cli.specs.Replaying.{Replayed, AtMostOneStep, Plays}
 use Rattle.occ_cli.specs.Schedules.{Turn, PlaysAll}
-use Rattle.occ_cli.proofs.Replaying.{plays_steps}
+use Rattle.occ_cli.proofs.StoreSteps.{plays_steps}
 
 abbrev AreKept : World → World → Type 0
 AreKept old new = new.settings ≡ old.settings

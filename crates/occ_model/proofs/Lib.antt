@@ -18,5 +18,7 @@ pub mod Decisions
 pub mod SerialEnds
 pub mod Checkpoints
 pub mod Headlines
-pub mod RangeLaws
+pub mod RangeAnswers
+pub mod Meetings
+pub mod OwnWrites
 pub mod WorkedExamples

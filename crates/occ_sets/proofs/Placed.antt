@@ -17,7 +17,7 @@ use Rattle.occ_types.specs.Seen.{object_of}
 use Rattle.occ_model.specs.State.{Write}
 use Rattle.occ_model.specs.Overlay.{set, own}
 use Rattle.occ_model.specs.RangeLaws.{set_all}
-use Rattle.occ_model.proofs.RangeLaws.{sets_own}
+use Rattle.occ_model.proofs.OwnWrites.{sets_own}
 use Rattle.occ_sets.specs.Seen.{write_of, writes_of}
 use Rattle.occ_sets.specs.Sets.{WritesOnce, objects, place_in}
 use Rattle.occ_sets.proofs.Entries.{tied}

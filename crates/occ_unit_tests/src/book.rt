@@ -158,21 +158,34 @@ fn row(alloc: Global) -> LogRow<Global, ()> {
     }
 }
 
-#[test]
-fn books(rt: HostRuntime) -> Result<(), Fail> {
-    let alloc = rt.alloc();
-    let (Some(table), Some(marks)) = (stock(alloc), closed(alloc)) else {
-        assert!(rt; false, "there is memory");
-        return Ok(());
-    };
-    let base = Base::from_parts(Tables::new(alloc, 1)?, Marks::new(alloc, 2)?, 3);
-    let book = Book {
+// A book with two rows, which goes on from a base at the place 3.
+fn book(alloc: Global) -> Option<Book<Global, ()>> {
+    let table = stock(alloc)?;
+    let marks = closed(alloc)?;
+    let base = base_at(alloc, 3)?;
+    let log = vec![in alloc; row(alloc), row(alloc)].ok()?;
+    Some(Book {
         base,
-        log: vec![in alloc; row(alloc), row(alloc).clone()?]?,
+        log,
         table,
         marks,
         low: 0,
         tnc: 1,
+    })
+}
+
+// A base of one table and two sessions, without rows and marks.
+fn base_at(alloc: Global, place: usize) -> Option<Base<Global>> {
+    let tables = Tables::new(alloc, 1).ok()?;
+    let marks = Marks::new(alloc, 2).ok()?;
+    Some(Base::from_parts(tables, marks, place))
+}
+
+#[test]
+fn books(rt: HostRuntime) -> Result<(), Fail> {
+    let Some(book) = book(rt.alloc()) else {
+        assert!(rt; false, "there is memory");
+        return Ok(());
     };
     let lent = book.view();
     assert_eq!(rt; lent.base.place(), 3);
@@ -182,6 +195,13 @@ fn books(rt: HostRuntime) -> Result<(), Fail> {
     assert_eq!(rt; lent.marks.len(), 1);
     assert_eq!(rt; lent.low, 0);
     assert_eq!(rt; lent.tnc, 1);
+    Ok(())
+}
+
+#[test]
+fn rows_are_copied(rt: HostRuntime) -> Result<(), Fail> {
+    let copy = row(rt.alloc()).clone()?;
+    assert!(rt; copy.standing == Standing::Back(Cause::Conflict));
     Ok(())
 }
 
@@ -294,21 +314,36 @@ fn folded_back(alloc: Global) -> Option<Base<Global>> {
     Some(base)
 }
 
+// Whether a base has what the three rows leave.
+fn has_three_rows(alloc: Global, base: &Base<Global>) -> bool {
+    has_rows(alloc, base.state(), &[(7, 4), (8, 5)])
+        && base.last(1) == Some(2)
+        && base.last(2) == Some(1)
+        && base.numbers().len() == 2
+        && base.place() == 3
+}
+
 #[test]
-fn bases(rt: HostRuntime) -> Result<(), Fail> {
+fn rows_fold_at_once(rt: HostRuntime) -> Result<(), Fail> {
     let alloc = rt.alloc();
-    let (Some(whole), Some(parts)) = (folded_at_once(alloc), folded_in_parts(alloc)) else {
+    let Some(base) = folded_at_once(alloc) else {
         assert!(rt; false, "there is memory");
         return Ok(());
     };
-    let copy = parts.clone()?;
-    for base in [&whole, &parts, &copy] {
-        assert!(rt; has_rows(alloc, base.state(), &[(7, 4), (8, 5)]));
-        assert!(rt; base.last(1) == Some(2));
-        assert!(rt; base.last(2) == Some(1));
-        assert_eq!(rt; base.numbers().len(), 2);
-        assert_eq!(rt; base.place(), 3);
-    }
+    assert!(rt; has_three_rows(alloc, &base));
+    Ok(())
+}
+
+#[test]
+fn rows_fold_in_parts(rt: HostRuntime) -> Result<(), Fail> {
+    let alloc = rt.alloc();
+    let Some(base) = folded_in_parts(alloc) else {
+        assert!(rt; false, "there is memory");
+        return Ok(());
+    };
+    assert!(rt; has_three_rows(alloc, &base));
+    let copy = base.clone()?;
+    assert!(rt; has_three_rows(alloc, &copy));
     Ok(())
 }
 

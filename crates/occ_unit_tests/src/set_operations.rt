@@ -33,24 +33,35 @@ fn add(table: usize) -> Op<Global> {
     }
 }
 
+// What the check of an addition to a table answers. None where there is no memory for the schema.
+fn added(alloc: Global, table: usize) -> Option<Result<(), Fault>> {
+    let schema = schema(alloc)?;
+    Some(add(table).check(&schema))
+}
+
 #[test]
 fn whole_numbers_alone_are_added_to(rt: HostRuntime) -> Result<(), Fail> {
     let alloc = rt.alloc();
-    let Some(schema) = schema(alloc) else {
-        assert!(rt; false, "three good tables");
-        return Ok(());
-    };
-    assert_eq!(rt; add(0).check(&schema), Ok(()));
-    assert_eq!(rt; add(1).check(&schema), Err(Fault::WrongColumns));
-    assert_eq!(rt; add(2).check(&schema), Err(Fault::WrongKind));
-    assert_eq!(rt; add(3).check(&schema), Err(Fault::NoTable));
+    assert_eq!(rt; added(alloc, 0), Some(Ok(())));
+    assert_eq!(rt; added(alloc, 1), Some(Err(Fault::WrongColumns)));
+    assert_eq!(rt; added(alloc, 2), Some(Err(Fault::WrongKind)));
+    assert_eq!(rt; added(alloc, 3), Some(Err(Fault::NoTable)));
+    Ok(())
+}
+
+// What the check of three operations answers, of which the last two don't fit.
+fn three_checked(alloc: Global) -> Option<Result<(), Fault>> {
+    let schema = schema(alloc)?;
     let put = Op::Put {
         table: 1,
         key: Key::Num(1),
         row: Row::from_cells(Vec::new(alloc)),
     };
-    let operations = [add(0), put, add(2)];
-    let refused = check_operations(&schema, &operations);
-    assert_eq!(rt; refused, Err(Fault::WrongColumns));
+    Some(check_operations(&schema, &[add(0), put, add(2)]))
+}
+
+#[test]
+fn the_first_operation_that_does_not_fit_is_told(rt: HostRuntime) -> Result<(), Fail> {
+    assert_eq!(rt; three_checked(rt.alloc()), Some(Err(Fault::WrongColumns)));
     Ok(())
 }

@@ -35,16 +35,30 @@ fn texts(rt: HostRuntime) -> Result<(), Fail> {
     assert_eq!(rt; word.len(), 6);
     assert_eq!(rt; word.as_bytes(), "häher".as_bytes());
     assert!(rt; !word.is_empty());
-    assert!(rt; text(alloc, "")?.is_empty());
     assert!(rt; word.clone()? == word);
-    // By bytes and not by length: Z comes before a, and a prefix before what it begins.
-    assert!(rt; text(alloc, "Z")? < text(alloc, "a")?);
-    assert!(rt; text(alloc, "abc")? < text(alloc, "b")?);
-    assert!(rt; text(alloc, "ab")? < text(alloc, "abc")?);
     assert_eq!(rt;
         format!(in alloc; "{word:?}")?.as_str(),
         "Text { text: \"häher\" }"
     );
+    Ok(())
+}
+
+// How a text stands to another.
+fn texts_compared(alloc: Global, one: &str, other: &str) -> Result<(bool, Ordering), Fail> {
+    let one = text(alloc, one)?;
+    let other = text(alloc, other)?;
+    Ok((one == other, one.cmp(&other)))
+}
+
+#[test]
+fn texts_are_ordered_by_their_bytes(rt: HostRuntime) -> Result<(), Fail> {
+    // Not by length: Z comes before a, and a prefix before what it begins.
+    for (one, other) in [("Z", "a"), ("abc", "b"), ("ab", "abc"), ("", "a")] {
+        let told = texts_compared(rt.alloc(), one, other)?;
+        assert!(rt; told == (false, Ordering::Less), "{one} and {other}");
+    }
+    assert!(rt; texts_compared(rt.alloc(), "", "")? == (true, Ordering::Equal));
+    assert!(rt; text(rt.alloc(), "")?.is_empty());
     Ok(())
 }
 
@@ -70,21 +84,49 @@ fn pair(alloc: Global, number: u64, letters: &str) -> Result<Key<Global>, Fail> 
     Ok(Key::Pair(Pair::new(alloc, KeyPart::Num(number), second)?))
 }
 
+// How the key of a number and a text stands to another.
+fn pairs_compared(
+    alloc: Global,
+    one: (u64, &str),
+    other: (u64, &str),
+) -> Result<(bool, Ordering), Fail> {
+    let one = pair(alloc, one.0, one.1)?;
+    let other = pair(alloc, other.0, other.1)?;
+    Ok((one == other, one.cmp(&other)))
+}
+
 #[test]
-fn pairs(rt: HostRuntime) -> Result<(), Fail> {
+fn pairs_are_ordered_by_the_first_part_and_then_by_the_second(rt: HostRuntime) -> Result<(), Fail> {
+    let cases = [
+        ((1, "z"), (2, "a")),
+        ((2, ""), (2, "a")),
+        ((2, "a"), (2, "b")),
+        ((2, "a"), (2, "aa")),
+        ((2, "a"), (3, "a")),
+        ((2, "a"), (10, "")),
+    ];
+    for (one, other) in cases {
+        let told = pairs_compared(rt.alloc(), one, other)?;
+        assert!(rt; told == (false, Ordering::Less), "{one:?} and {other:?}");
+    }
+    let same = pairs_compared(rt.alloc(), (2, "a"), (2, "a"))?;
+    assert!(rt; same == (true, Ordering::Equal));
+    Ok(())
+}
+
+#[test]
+fn pairs_come_after_numbers_and_texts(rt: HostRuntime) -> Result<(), Fail> {
     let alloc = rt.alloc();
     let key = pair(alloc, 2, "a")?;
     assert!(rt; key.clone()? == key);
-    assert!(rt; key == pair(alloc, 2, "a")?);
-    assert!(rt; key != pair(alloc, 2, "b")?);
-    assert!(rt; key != pair(alloc, 3, "a")?);
-    // By the first part, then by the second: 1 and z come before 2 and a.
-    assert!(rt; pair(alloc, 1, "z")? < key);
-    assert!(rt; pair(alloc, 2, "")? < key);
-    assert!(rt; key < pair(alloc, 2, "aa")?);
-    assert!(rt; key < pair(alloc, 10, "")?);
     assert!(rt; Key::Num(u64::MAX) < key);
     assert!(rt; Key::Text(text(alloc, "z")?) < key);
+    Ok(())
+}
+
+#[test]
+fn pairs_have_two_parts(rt: HostRuntime) -> Result<(), Fail> {
+    let alloc = rt.alloc();
     let parts = Pair::new(alloc, KeyPart::Num(2), KeyPart::Text(text(alloc, "a")?))?;
     assert!(rt; *parts.first() == KeyPart::Num(2));
     assert!(rt; *parts.second() == KeyPart::Text(text(alloc, "a")?));
@@ -92,40 +134,53 @@ fn pairs(rt: HostRuntime) -> Result<(), Fail> {
     Ok(())
 }
 
+// A schema whose table at the place 2 has keys of a number and a text.
+fn shop_with_pairs(alloc: Global) -> Option<Schema<Global>> {
+    let entry = TableDef {
+        name: text(alloc, "entry").ok()?,
+        key: KeyKind::Pair(PartKind::Num, PartKind::Text),
+        columns: vec![in alloc; Kind::Int].ok()?,
+    };
+    let mut tables = shop(alloc).ok()?;
+    tables.push(entry).ok()?;
+    Schema::new(tables).ok()
+}
+
+// What the check of a key answers. None where there is no memory for the schema.
+fn fits(alloc: Global, table: usize, key: &Key<Global>) -> Option<Result<(), Fault>> {
+    let schema = shop_with_pairs(alloc)?;
+    Some(schema.check_key(table, key))
+}
+
 #[test]
 fn pairs_fit_by_both_parts(rt: HostRuntime) -> Result<(), Fail> {
     let alloc = rt.alloc();
-    let mut tables = shop(alloc)?;
-    tables.push(TableDef {
-        name: text(alloc, "entry")?,
-        key: KeyKind::Pair(PartKind::Num, PartKind::Text),
-        columns: vec![in alloc; Kind::Int]?,
-    })?;
-    let Ok(schema) = Schema::new(tables) else {
-        assert!(rt; false, "three good tables");
-        return Ok(());
-    };
     let key = pair(alloc, 2, "a")?;
-    assert_eq!(rt; schema.check_key(2, &key), Ok(()));
-    assert_eq!(rt; schema.check_key(1, &key), Err(Fault::WrongKind));
-    assert_eq!(rt; schema.check_key(2, &Key::Num(2)), Err(Fault::WrongKind));
-    let both = Pair::new(alloc, KeyPart::Num(2), KeyPart::Num(2))?;
-    assert_eq!(rt;
-        schema.check_key(2, &Key::Pair(both)),
-        Err(Fault::WrongKind)
-    );
+    assert_eq!(rt; fits(alloc, 2, &key), Some(Ok(())));
+    assert_eq!(rt; fits(alloc, 1, &key), Some(Err(Fault::WrongKind)));
+    assert_eq!(rt; fits(alloc, 2, &Key::Num(2)), Some(Err(Fault::WrongKind)));
+    let both = Key::Pair(Pair::new(alloc, KeyPart::Num(2), KeyPart::Num(2))?);
+    assert_eq!(rt; fits(alloc, 2, &both), Some(Err(Fault::WrongKind)));
+    Ok(())
+}
+
+#[test]
+fn parts_of_pairs_have_64_bytes_at_most(rt: HostRuntime) -> Result<(), Fail> {
+    let alloc = rt.alloc();
     for (bytes, answer) in [(64, Ok(())), (65, Err(Fault::TooLong))] {
         let long = KeyPart::Text(Text::from_string("a".repeat(alloc, bytes)?));
         let key = Key::Pair(Pair::new(alloc, KeyPart::Num(2), long)?);
-        assert_eq!(rt; schema.check_key(2, &key), answer, "{bytes} bytes");
+        assert_eq!(rt; fits(alloc, 2, &key), Some(answer), "{bytes} bytes");
     }
-    // The kinds of both parts are tried before any length.
+    Ok(())
+}
+
+#[test]
+fn kinds_of_both_parts_are_tried_before_any_length(rt: HostRuntime) -> Result<(), Fail> {
+    let alloc = rt.alloc();
     let long = KeyPart::Text(Text::from_string("a".repeat(alloc, 65)?));
-    let wrong = Pair::new(alloc, long, KeyPart::Num(2))?;
-    assert_eq!(rt;
-        schema.check_key(2, &Key::Pair(wrong)),
-        Err(Fault::WrongKind)
-    );
+    let wrong = Key::Pair(Pair::new(alloc, long, KeyPart::Num(2))?);
+    assert_eq!(rt; fits(alloc, 2, &wrong), Some(Err(Fault::WrongKind)));
     Ok(())
 }
 

@@ -1,4 +1,4 @@
-use Rattle.occ_model.proofs.RangeLaws as laws
+use Rattle.occ_model.proofs.OwnWrites as laws
 use Rattle.occ_model.proofs.ranges.own_writes_are_seen.Goals as goal
 
 pub returns : goal.returns

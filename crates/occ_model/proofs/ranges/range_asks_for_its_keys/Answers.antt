@@ -1,4 +1,4 @@
-use Rattle.occ_model.proofs.RangeLaws as laws
+use Rattle.occ_model.proofs.RangeAnswers as laws
 use Rattle.occ_model.proofs.ranges.range_asks_for_its_keys.Goals as goal
 
 pub returns : goal.returns

@@ -1,4 +1,4 @@
-use Rattle.occ_model.proofs.RangeLaws as laws
+use Rattle.occ_model.proofs.OwnWrites as laws
 use Rattle.occ_model.proofs.ranges.unasked_writes_are_unseen.Goals as goal
 
 pub returns : goal.returns

@@ -1,4 +1,4 @@
-use Rattle.occ_model.proofs.RangeLaws as laws
+use Rattle.occ_model.proofs.Meetings as laws
 use Rattle.occ_model.proofs.ranges.writes_meet_writes.Goals as goal
 
 pub returns : goal.returns

@@ -1,0 +1,141 @@
+-- What a step of a replay does to the store: nothing, or one step of it.
+use Rattle.std.proofs.Common.{◌≡◌, ℕ, ◌-◌, List, [], Option, Some, None, Result, Ok, Err, refl, ap, subst, inl, inr}
+use Rattle.std.specs.Prelude.{slice_set, MatchOption}
+use Rattle.occ_types.specs.Key.{Key}
+use Rattle.occ_types.specs.declared.fault.Fault.{Fault}
+use Rattle.occ_types.specs.declared.fault.Fault.TheVariants as faults
+use Rattle.occ_model.specs.State.{Write}
+use Rattle.occ_model.specs.State as states
+use Rattle.occ_model.specs.Event.{Event, Item, Reply}
+use Rattle.occ_model.specs.Event as events
+use Rattle.occ_model.specs.Step.{Step}
+use Rattle.occ_model.proofs.Headlines.{refusals_leave}
+use Rattle.occ_types.specs.Question.{Question, One}
+use Rattle.occ_types.specs.Row.{Row}
+use Rattle.occ_model.specs.Overlay.{own}
+use Rattle.occ_text.specs.Steps as steps
+use Rattle.occ_text.specs.declared.steps.Act.TheVariants as acts
+use Rattle.occ_sets.specs.Sets.{Copied}
+use Rattle.occ_cli.specs.declared.answers.Answer.TheVariants as answers
+use Rattle.occ_cli.specs.Answers.{Answer}
+use Rattle.occ_cli.specs.Answers as says
+use Rattle.occ_cli.specs.Replaying.{AtMostOneStep, Plays, Begins, Abandons, Submits, Closes, HandsIn, operations_named, Writes, Gets, GetsIn, Scans, next_item, still_waiting, kept_after, copy_of, open_after, object_named, place_named, Client, Replayed, Given, client_of, span_named, Tells, ScansIn, ByClient, ByBoth, ByAsking, Enters, overlaid}
+
+-- where a refusal is answered, the store replied it
+abbrev pub IsSaid : Answer → Reply → Type 0
+IsSaid answer reply = (fault : Fault) → answer ≡ says.refused fault → reply ≡ events.Refused fault
+
+told_said : (reply : Reply) (answer : Answer) → answer ≡ says.Replied reply → IsSaid answer reply
+told_said reply answer tells fault is = cc
+
+-- the own writes leave a refusal as it is
+overlaid_refused : (question : Question) (writes : List Write) (reply : Reply) (fault : Fault) → overlaid question writes reply ≡ events.Refused fault → reply ≡ events.Refused fault
+overlaid_refused question writes (events.Refused known) fault is = is
+overlaid_refused question writes (events.Answered given) fault is = cc
+overlaid_refused question writes (events.Forgotten known) fault is = is
+overlaid_refused question writes (events.Entered place index) fault is = is
+overlaid_refused question writes events.Closed fault is = is
+overlaid_refused question writes (events.Decided verdict) fault is = is
+overlaid_refused question writes (events.Wrote object) fault is = is
+overlaid_refused question writes events.NoMore fault is = is
+overlaid_refused question writes (events.Finished number) fault is = is
+overlaid_refused question writes (events.BackedUp number) fault is = is
+overlaid_refused question writes (events.EndedBack cause) fault is = is
+overlaid_refused question writes (events.RanAlone number answers) fault is = is
+overlaid_refused question writes (events.Folded rows) fault is = is
+
+-- whatever is played, the store stands as it was, or it did one step, whose refusal is answered as such
+module _ {C : Type 0} (old new : Replayed) (answer : Answer) (stays : new.world ≡ old.world → C) (does : (event : Event) (reply : Reply) → Step old.world event reply new.world → IsSaid answer reply → C) where
+  given_by : {X Y : Type 0} (r : Result X Fault) (before after : Y) (P : X → Type 0) → (after ≡ before → new.world ≡ old.world) → ((x : X) → P x → C) → Given r before answer after P → C
+  given_by (Ok x) before after P same by h = by x h
+  given_by (Err fault) before after P same by h = stays (same h.1)
+
+  tells_by : (event : Event) → Tells old.world event answer new.world → C
+  tells_by event h = does event h.0 h.1 (told_said h.0 answer h.2)
+
+  own_by : (event : Event) (row : Option (Option Row)) → MatchOption row (Tells old.world event answer new.world) (λ r. (answer ≡ says.Replied (events.Answered (states.Found r))) × (new.world ≡ old.world)) → C
+  own_by event None h = tells_by event h
+  own_by event (Some row) h = stays h.1
+
+  gets_by : (session : ℕ) (name : List ℕ) (key : Key) (client : Client) → Gets old.world session name key client answer new.world → C
+  gets_by session name key client h =
+      given_by (copy_of client) old.world new.world (λ copy. GetsIn old.world session name key copy answer new.world) (λ same. same)
+      (λ copy g. given_by (object_named old.world.settings.schema name key) old.world new.world
+      (λ object. MatchOption (own copy.writes object) (Tells old.world (events.Read session copy.number copy.start (One object.0 object.1)) answer new.world) (λ row. (answer ≡ says.Replied (events.Answered (states.Found row))) × (new.world ≡ old.world))) (λ same. same)
+      (λ object m. own_by (events.Read session copy.number copy.start (One object.0 object.1)) (own copy.writes object) m) g)
+      h
+
+  scans_by : (session : ℕ) (name : List ℕ) (lower upper : Option Key) (client : Client) → Scans old.world session name lower upper client answer new.world → C
+  scans_by session name lower upper client h =
+      given_by (copy_of client) old.world new.world (λ copy. ScansIn old.world session name lower upper copy answer new.world) (λ same. same)
+      (λ copy g. given_by (span_named old.world.settings.schema name lower upper) old.world new.world
+      (λ question. (reply : Reply) × Step old.world (events.Read session copy.number copy.start question) reply new.world × (answer ≡ says.Replied (overlaid question copy.writes reply))) (λ same. same)
+      (λ question m. does (events.Read session copy.number copy.start question) m.0 m.1
+      (λ fault is. overlaid_refused question copy.writes m.0 fault (told_said (overlaid question copy.writes m.0) answer m.2 fault is))) g)
+      h
+
+  item_by : (asks : Item → Event) (client next : Client) (item : Option Item)
+      → MatchOption item ((answer ≡ says.Empty) × (next ≡ client) × (new.world ≡ old.world))
+      (λ i. (reply : Reply) × Step old.world (asks i) reply new.world × (answer ≡ says.Replied reply) × (next ≡ record client { queue = still_waiting client; kept = kept_after i reply }))
+      → C
+  item_by asks client next None h = stays h.2
+  item_by asks client next (Some i) h = does (asks i) h.0 h.1 (told_said h.0 answer h.2)
+
+  opened_by : (session : ℕ) (client next : Client) (copy : Option Copied)
+      → MatchOption copy ((answer ≡ says.refused faults.NoReadOpen) × (next ≡ client) × (new.world ≡ old.world))
+      (λ c. (reply : Reply) × Step old.world (events.Forget session c.number) reply new.world × (answer ≡ says.Replied reply) × (next ≡ record client { copy = open_after c reply }))
+      → C
+  opened_by session client next None h = stays h.2
+  opened_by session client next (Some c) h = does (events.Forget session c.number) h.0 h.1 (told_said h.0 answer h.2)
+
+  both_by : (session : ℕ) (Moves : Client → Client → Type 0) → ((client next : Client) → Moves client next → C) → ByBoth old session answer new Moves → C
+  both_by session Moves by h =
+      given_by (client_of old.clients session) old new (λ client. (next : Client) × Moves client next × (new.clients ≡ slice_set old.clients (session - 1) next))
+      (ap (λ (r : Replayed). r.world)) (λ client m. by client m.0 m.1) h
+
+  client_by : (session : ℕ) (Moves : Client → Client → Type 0) → ByClient old session answer new Moves → C
+  client_by session Moves h =
+      given_by (client_of old.clients session) old new (λ client. (next : Client) × Moves client next × (new ≡ record old { clients = slice_set old.clients (session - 1) next }))
+      (ap (λ (r : Replayed). r.world)) (λ client m. stays (ap (λ (r : Replayed). r.world) m.2)) h
+
+  asking_by : (session : ℕ) (Asks : Client → Type 0) → ((client : Client) → Asks client → C) → ByAsking old session answer new Asks → C
+  asking_by session Asks by h =
+      given_by (client_of old.clients session) old new (λ client. Asks client × (new.clients ≡ old.clients)) (ap (λ (r : Replayed). r.world)) (λ client m. by client m.0) h
+
+  pub plays_by : (step : steps.Step) → Plays old step answer new → C
+  plays_by (steps.Does acts.Begin session) h = client_by session (λ client next. Begins old.world.counter client answer next) h
+  plays_by (steps.Does acts.Abandon session) h =
+      both_by session (λ client next. Abandons old.world session client answer next new.world) (λ client next m. opened_by session client next client.copy m) h
+  plays_by (steps.Does acts.Submit session) h = client_by session (λ client next. Submits client answer next) h
+  plays_by (steps.Does acts.Close session) h = client_by session (λ client next. Closes client answer next) h
+  plays_by (steps.Does acts.Enter session) h =
+      both_by session (λ client next. Enters (events.Enter session) old.world client answer next new.world) (λ client next m. item_by (events.Enter session) client next (next_item client) m) h
+  plays_by (steps.Does acts.Serial session) h =
+      both_by session (λ client next. Enters (events.SerialEnd session) old.world client answer next new.world) (λ client next m. item_by (events.SerialEnd session) client next (next_item client) m) h
+  plays_by (steps.Does acts.Decide session) h = tells_by (events.Decide session) h.0
+  plays_by (steps.Does acts.Write session) h = tells_by (events.WriteOne session) h.0
+  plays_by (steps.Does acts.Finish session) h = tells_by (events.Finish session) h.0
+  plays_by (steps.Does acts.BackUp session) h = tells_by (events.BackUp session) h.0
+  plays_by (steps.Get session name key) h =
+      asking_by session (λ client. Gets old.world session name key client answer new.world) (λ client g. gets_by session name key client g) h
+  plays_by (steps.Scan session name lower upper) h =
+      asking_by session (λ client. Scans old.world session name lower upper client answer new.world) (λ client g. scans_by session name lower upper client g) h
+  plays_by (steps.Put session name key row) h = client_by session (λ client next. Writes old.world.settings.schema name key (Some row) client answer next) h
+  plays_by (steps.Delete session name key) h = client_by session (λ client next. Writes old.world.settings.schema name key None client answer next) h
+  plays_by (steps.Forge session number start) h = tells_by (events.Enter session (events.Request number start [])) h.0
+  plays_by (steps.RawRead session number start name key) h = tells_by (events.Read session number start (One (place_named old.world.settings.schema name) key)) h.0
+  plays_by (steps.Alone session list) h =
+      client_by session (λ client next. HandsIn old.world.settings.schema (operations_named old.world.settings.schema list) client answer next) h
+  plays_by steps.Show h = stays (ap (λ (r : Replayed). r.world) h.1)
+  plays_by steps.Checkpoint h = tells_by events.Checkpoint h.0
+
+-- whatever is played, the store does at most one step
+pub plays_steps : (old : Replayed) (step : steps.Step) (answer : Answer) (new : Replayed) → Plays old step answer new → AtMostOneStep old.world new.world
+plays_steps old step answer new h =
+    plays_by {C = AtMostOneStep old.world new.world} old new answer (λ same. inl same) (λ event reply stepped said. inr (event, reply, stepped)) step h
+
+-- where a refusal is played, the store stands as it was
+pub refused_stays : (old : Replayed) (step : steps.Step) (fault : Fault) (new : Replayed) → Plays old step (says.refused fault) new → new.world ≡ old.world
+refused_stays old step fault new h =
+    plays_by {C = new.world ≡ old.world} old new (says.refused fault) (λ same. same)
+    (λ event reply stepped said. refusals_leave old.world new.world event fault (subst (λ (r : Reply). Step old.world event r new.world) (said fault refl) stepped)) step h
