@@ -7,7 +7,7 @@ use std::fmt;
 
 /// An engine, from text to text.
 #[derive(Clone, Copy)]
-pub enum Engine {
+pub(crate) enum Engine {
     /// The replay of a schedule.
     Replay,
     /// The audit of a book.
@@ -35,20 +35,20 @@ impl Engine {
 
 /// A text, and what an engine makes of it where there is memory.
 #[derive(Clone, Copy)]
-pub struct Case<'t> {
+pub(crate) struct Case<'t> {
     /// The engine.
-    pub engine: Engine,
+    pub(crate) engine: Engine,
     /// What it reads.
-    pub text: &'t [u8],
+    pub(crate) text: &'t [u8],
     /// How it ends.
-    pub ended: Result<bool, Trouble>,
+    pub(crate) ended: Result<bool, Trouble>,
     /// All that it writes.
-    pub written: &'t [u8],
+    pub(crate) written: &'t [u8],
 }
 
 /// What was wrong with a run.
 #[derive(Clone, Copy, Debug, PartialEq, Eq)]
-pub enum Flaw {
+pub(crate) enum Flaw {
     /// It ended in another way.
     Ending,
     /// It wrote what is no beginning of the text.
@@ -69,18 +69,18 @@ impl fmt::Display for Flaw {
 
 /// How many requests for memory a run makes, and what came of refusing them in turn.
 #[derive(Clone, Copy, Debug, PartialEq, Eq)]
-pub struct Tried {
+pub(crate) struct Tried {
     /// How many requests it makes.
-    pub requests: u64,
+    pub(crate) requests: u64,
     /// How many of them were refused, each in a run of its own.
-    pub refused: u64,
+    pub(crate) refused: u64,
     /// How many of those runs came to their end as ever, and so did without the memory.
-    pub whole: u64,
+    pub(crate) whole: u64,
 }
 
 /// Runs a case once for each request for memory that it makes, with that request refused, and once more with none refused. An error is
 /// the place of the first request whose run showed a flaw.
-pub fn refuse_in_turn(alloc: Global, case: Case) -> Result<Tried, (u64, Flaw)> {
+pub(crate) fn refuse_in_turn(alloc: Global, case: Case) -> Result<Tried, (u64, Flaw)> {
     let ample = Refusing::new(alloc, Plan::Nothing);
     let mut written = Vec::new(alloc);
     let _ended = case.engine.run(&ample, case.text, &mut written);
