@@ -11,7 +11,7 @@ use Rattle.occ_types.specs.declared.kind.Kind.{Kind}
 use Rattle.occ_types.specs.Schema.{first_fault, check_cells, are_tables}
 use Rattle.occ_types.specs.Fits.{check_cell, fits_before}
 use Rattle.occ_types.specs.Row.{Cell, Row}
-use Rattle.occ_types.specs.Seen.{table_of, tables_of}
+use Rattle.occ_types.specs.PlainData.{table_of, tables_of}
 
 -- what is left from a place on begins with the element there
 pub drop_at : {X : Type 0} (xs : List X) (i : ℕ) (d x : X) → i < length xs → x ≡ get_or xs i d → drop i xs ≡ x ∷ drop (i + 1) xs

@@ -6,4 +6,4 @@ pub mod Question
 pub mod Row
 pub mod Same
 pub mod Schema
-pub mod Seen
+pub mod PlainData

@@ -3,7 +3,7 @@ ghost use Rattle.std.specs.Prelude.{◌≡◌};
 ghost use Rattle.std.specs.Ordering.{on};
 ghost use Rattle.std.specs.Cmp.{on_per, on_equiv, partial_equiv_from_equiv};
 ghost use Rattle.occ_types.specs.Same.{cell_same, cell_same_equiv};
-ghost use Rattle.occ_types.specs.Seen.{cell_of};
+ghost use Rattle.occ_types.specs.PlainData.{cell_of};
 
 use crate::texts::Text;
 use std::alloc::{AllocError, Allocator};
@@ -18,7 +18,7 @@ pub enum Cell<A: Allocator> {
     Text(Text<A>),
 }
 
-impl<A: Allocator + Clone> Clone for Cell<A> {
+impl<A: Allocator> Clone for Cell<A> {
     ghost is_clone = { λ source copy. copy ≡ source };
 
     fn clone(&self) -> Result<Cell<A>, AllocError> {

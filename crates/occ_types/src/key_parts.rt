@@ -4,7 +4,7 @@ ghost use Rattle.std.specs.Ordering.{on, eq_by_cmp, as_partial_cmp};
 ghost use Rattle.std.specs.Cmp.{on_per, on_equiv, on_total, on_po, po, eq_by_cmp_equiv, partial_equiv_from_equiv};
 ghost use Rattle.occ_types.specs.KeyPart.{part_cmp, part_cmp_total};
 ghost use Rattle.occ_types.specs.Same.{part_same, part_same_equiv, part_po, part_fed, part_fed_alike};
-ghost use Rattle.occ_types.specs.Seen.{part_of};
+ghost use Rattle.occ_types.specs.PlainData.{part_of};
 
 use crate::texts::Text;
 use std::alloc::{AllocError, Allocator};
@@ -21,7 +21,7 @@ pub enum KeyPart<A: Allocator> {
     Text(Text<A>),
 }
 
-impl<A: Allocator + Clone> Clone for KeyPart<A> {
+impl<A: Allocator> Clone for KeyPart<A> {
     ghost is_clone = { λ source copy. copy ≡ source };
 
     fn clone(&self) -> Result<KeyPart<A>, AllocError> {

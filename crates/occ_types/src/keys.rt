@@ -4,7 +4,7 @@ ghost use Rattle.std.specs.Ordering.{on, eq_by_cmp, as_partial_cmp};
 ghost use Rattle.std.specs.Cmp.{on_per, on_equiv, on_total, on_po, po, eq_by_cmp_equiv, partial_equiv_from_equiv};
 ghost use Rattle.occ_types.specs.Key.{key_cmp, key_cmp_total};
 ghost use Rattle.occ_types.specs.Same.{key_same, key_same_equiv, key_po, key_fed, key_fed_alike};
-ghost use Rattle.occ_types.specs.Seen.{key_of};
+ghost use Rattle.occ_types.specs.PlainData.{key_of};
 
 use crate::pairs::Pair;
 use crate::texts::Text;
@@ -25,7 +25,7 @@ pub enum Key<A: Allocator> {
     Pair(Pair<A>),
 }
 
-impl<A: Allocator + Clone> Clone for Key<A> {
+impl<A: Allocator> Clone for Key<A> {
     ghost is_clone = { λ source copy. copy ≡ source };
 
     fn clone(&self) -> Result<Key<A>, AllocError> {

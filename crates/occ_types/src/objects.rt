@@ -4,7 +4,7 @@ ghost use Rattle.std.specs.Ordering.{on, eq_by_cmp, as_partial_cmp};
 ghost use Rattle.std.specs.Cmp.{on_per, on_equiv, on_total, on_po, partial_equiv_from_equiv};
 ghost use Rattle.occ_types.specs.Object.{object_cmp, object_cmp_total};
 ghost use Rattle.occ_types.specs.Same.{object_same_equiv, object_po, object_fed, object_fed_alike};
-ghost use Rattle.occ_types.specs.Seen.{object_of};
+ghost use Rattle.occ_types.specs.PlainData.{object_of};
 
 use crate::keys::Key;
 use std::alloc::{AllocError, Allocator};
@@ -21,7 +21,7 @@ pub struct Object<A: Allocator> {
     pub key: Key<A>,
 }
 
-impl<A: Allocator + Clone> Clone for Object<A> {
+impl<A: Allocator> Clone for Object<A> {
     ghost is_clone = { λ source copy. copy ≡ source };
 
     fn clone(&self) -> Result<Object<A>, AllocError> {

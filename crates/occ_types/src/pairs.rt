@@ -5,7 +5,7 @@ ghost use Rattle.std.specs.Cmp.{partial_equiv_from_equiv};
 ghost use Rattle.occ_types.specs.declared.fault.Fault.TheVariants.{Memory};
 ghost use Rattle.occ_types.specs.KeyPart.{pair_cmp, pair_cmp_total};
 ghost use Rattle.occ_types.specs.Same.{part_fed, pair_equiv, pair_po, pair_fed, pair_fed_alike};
-ghost use Rattle.occ_types.specs.Seen.{part_of};
+ghost use Rattle.occ_types.specs.PlainData.{part_of};
 
 use crate::fault::{Fault, Refused};
 use crate::key_parts::KeyPart;
@@ -13,12 +13,14 @@ use std::alloc::{AllocError, AllocFailed, Allocator};
 use std::cmp::Ordering;
 use std::hash::{Hash, Hasher};
 use std::marker::Model;
+use std::sync::Arc;
 
-/// A key of two parts, which clauses see as the pair of the plain parts. It lies on the heap, so that other keys stay short.
+/// A key of two parts, which clauses see as the pair of the plain parts. Its copies share them on the heap, so that other keys stay
+/// short and a copy takes no memory.
 #[derive(Drop)]
 #[derive_where(Debug)]
 pub struct Pair<A: Allocator> {
-    parts: Box<(KeyPart<A>, KeyPart<A>), A>,
+    parts: Arc<(KeyPart<A>, KeyPart<A>), A>,
 }
 
 impl<A: Allocator> Model for Pair<A> {
@@ -26,7 +28,7 @@ impl<A: Allocator> Model for Pair<A> {
 
     ghost Value = { Plain × Plain };
 
-    ghost use Rattle.occ_types.specs.Seen.{part_of};
+    ghost use Rattle.occ_types.specs.PlainData.{part_of};
 
     ghost view = { λ pair. (part_of pair.parts.value.0, part_of pair.parts.value.1) };
 }
@@ -42,7 +44,7 @@ impl<A: Allocator> Pair<A> {
             (λ pair. pair ≡ (part_of first, part_of second))
             (λ refused. (refused.fault ≡ Memory) × (refused.value.0 ≡ first) × (refused.value.1 ≡ second)) }
     {
-        match Box::new(alloc, (first, second)) {
+        match Arc::new(alloc, (first, second)) {
             Ok(parts) => Ok(Pair { parts }),
             Err(AllocFailed { value, .. }) => Err(Refused {
                 value,
@@ -55,23 +57,25 @@ impl<A: Allocator> Pair<A> {
     pub fn first(&self) -> &KeyPart<A>
         ensures { part_of result.now ≡ self.now.0 }
     {
-        &self.parts.as_ref().0
+        let parts: &(KeyPart<A>, KeyPart<A>) = &self.parts;
+        &parts.0
     }
 
     /// The second part.
     pub fn second(&self) -> &KeyPart<A>
         ensures { part_of result.now ≡ self.now.1 }
     {
-        &self.parts.as_ref().1
+        let parts: &(KeyPart<A>, KeyPart<A>) = &self.parts;
+        &parts.1
     }
 }
 
-impl<A: Allocator + Clone> Clone for Pair<A> {
+impl<A: Allocator> Clone for Pair<A> {
     ghost is_clone = { λ source copy. copy ≡ source };
 
     fn clone(&self) -> Result<Pair<A>, AllocError> {
         Ok(Pair {
-            parts: self.parts.clone()?,
+            parts: Arc::try_clone(&self.parts)?,
         })
     }
 }

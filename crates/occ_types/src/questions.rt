@@ -4,7 +4,7 @@ ghost use Rattle.std.specs.Ordering.{on};
 ghost use Rattle.std.specs.Cmp.{on_per, on_equiv, partial_equiv_from_equiv};
 ghost use Rattle.occ_types.specs.Question.{asks, is_from, is_below};
 ghost use Rattle.occ_types.specs.Same.{question_same, question_same_equiv};
-ghost use Rattle.occ_types.specs.Seen.{key_of, end_of, question_of, table_asked};
+ghost use Rattle.occ_types.specs.PlainData.{key_of, end_of, question_of, table_asked};
 
 use crate::keys::Key;
 use crate::objects::Object;
@@ -81,7 +81,7 @@ fn is_under<A: Allocator>(upper: &Option<Key<A>>, key: &Key<A>) -> bool
     }
 }
 
-impl<A: Allocator + Clone> Clone for Question<A> {
+impl<A: Allocator> Clone for Question<A> {
     ghost is_clone = { λ source copy. copy ≡ source };
 
     fn clone(&self) -> Result<Question<A>, AllocError> {

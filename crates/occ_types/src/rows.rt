@@ -1,27 +1,29 @@
 //! Rows of a table, which are seen as their cells.
-ghost use Rattle.std.specs.Prelude.{◌≡◌, ◌==◌, List, [], ◌∷◌, length, slice_get};
+ghost use Rattle.std.specs.Prelude.{◌≡◌, ◌==◌, List, [], ◌∷◌, length, slice_get, IfOk, IsOk};
 ghost use Rattle.std.specs.Cmp.{partial_equiv_from_equiv};
 ghost use Rattle.std.specs.Option.{option_map};
 ghost use Rattle.occ_types.specs.Same.{row_same, row_same_equiv};
-ghost use Rattle.occ_types.specs.Seen.{cell_of, row_of};
+ghost use Rattle.occ_types.specs.PlainData.{cell_of, row_of};
 
 use crate::cells::Cell;
 use std::alloc::{AllocError, Allocator};
 use std::marker::Model;
+use std::sync::ArcSlice;
 
-/// A row of a table, which clauses see as its cells in the order of the columns. A row of one number has no memory of its own.
+/// A row of a table, which clauses see as its cells in the order of the columns. A row of one number has no memory of its own, and the
+/// copies of a longer one share its cells, so that a copy takes no memory.
 #[derive(Drop)]
 #[derive_where(Debug)]
 pub struct Row<A: Allocator> {
     cells: Cells<A>,
 }
 
-// What a row keeps: one cell in the row itself, or a list.
+// What a row keeps: one cell in the row itself, or a list that its copies share.
 #[derive(Drop)]
 #[derive_where(Debug)]
 pub(crate) enum Cells<A: Allocator> {
     One(Cell<A>),
-    List(Vec<Cell<A>, A>),
+    List(ArcSlice<Cell<A>, A>),
 }
 
 impl<A: Allocator> Model for Row<A> {
@@ -29,7 +31,7 @@ impl<A: Allocator> Model for Row<A> {
 
     ghost Value = { Plain };
 
-    ghost use Rattle.occ_types.specs.Seen.{row_of, cells_in};
+    ghost use Rattle.occ_types.specs.PlainData.{row_of, cells_in};
 
     ghost view = { λ row. row_of (cells_in row.cells) };
 }
@@ -44,21 +46,6 @@ impl<A: Allocator> Row<A> {
         }
     }
 
-    /// The row of some cells, which takes no memory.
-    pub fn from_cells(cells: Vec<Cell<A>, A>) -> Row<A>
-        ensures { result ≡ row_of cells.items }
-    {
-        let mut cells = cells;
-        if cells.len() == 1
-            && let Some(cell) = cells.pop()
-        {
-            return Row::from_cell(cell);
-        }
-        Row {
-            cells: Cells::List(cells),
-        }
-    }
-
     /// The cell at a place of the row, where it has so many.
     pub fn cell(&self, place: usize) -> Option<&Cell<A>>
         ensures { option_map (λ cell. cell_of cell.now) result ≡ slice_get self.now place }
@@ -66,7 +53,7 @@ impl<A: Allocator> Row<A> {
         match &self.cells {
             Cells::One(cell) if place == 0 => Some(cell),
             Cells::One(_) => None,
-            Cells::List(cells) => cells.get(place),
+            Cells::List(cells) => cells.as_slice().get(place),
         }
     }
 
@@ -88,7 +75,25 @@ impl<A: Allocator> Row<A> {
     }
 }
 
-impl<A: Allocator + Clone> Clone for Row<A> {
+impl<A: Allocator + Clone> Row<A> {
+    /// The row of some cells. One cell alone takes no memory; an error where there is none for what the copies of others share.
+    pub fn from_cells(cells: Vec<Cell<A>, A>) -> Result<Row<A>, AllocError>
+        ensures row { IfOk result (λ row. row ≡ row_of cells.items) }
+        ensures single { length cells.items ≡ 1 → IsOk result }
+    {
+        let mut cells = cells;
+        if cells.len() == 1
+            && let Some(cell) = cells.pop()
+        {
+            return Ok(Row::from_cell(cell));
+        }
+        Ok(Row {
+            cells: Cells::List(ArcSlice::from_vec(cells)?),
+        })
+    }
+}
+
+impl<A: Allocator> Clone for Row<A> {
     ghost is_clone = { λ source copy. copy ≡ source };
 
     fn clone(&self) -> Result<Row<A>, AllocError> {
@@ -109,7 +114,9 @@ impl<A: Allocator> PartialEq for Row<A> {
     fn eq(&self, other: &Row<A>) -> bool {
         match (&self.cells, &other.cells) {
             (Cells::One(cell), Cells::One(another)) => cell == another,
-            (Cells::List(cells), Cells::List(others)) => same_cells(cells, others),
+            (Cells::List(cells), Cells::List(others)) => {
+                same_cells(cells.as_slice(), others.as_slice())
+            }
             (Cells::One(cell), Cells::List(others)) => {
                 matches!(others.as_slice(), [other] if cell == other)
             }

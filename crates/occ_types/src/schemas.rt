@@ -6,7 +6,7 @@ ghost use Rattle.occ_types.specs.Schema.{check_tables, are_tables, check_key, ch
 ghost use Rattle.occ_types.specs.Fits.{check_range, has_name};
 ghost use Rattle.occ_types.specs.Question.{Span};
 ghost use Rattle.occ_types.specs.declared.fault.Fault.TheVariants.{NoTable};
-ghost use Rattle.occ_types.specs.Seen.{key_of, end_of, question_of, table_of, tables_of};
+ghost use Rattle.occ_types.specs.PlainData.{key_of, end_of, question_of, table_of, tables_of};
 
 use crate::fault::{Fault, Refused};
 use crate::keys::Key;
@@ -30,7 +30,7 @@ impl<A: Allocator> Model for Schema<A> {
 
     ghost Value = { Tables };
 
-    ghost use Rattle.occ_types.specs.Seen.{tables_of};
+    ghost use Rattle.occ_types.specs.PlainData.{tables_of};
 
     ghost view = { λ schema. tables_of schema.tables.items };
 

@@ -5,7 +5,7 @@ ghost use Rattle.std.specs.Result.{result_err};
 ghost use Rattle.std.specs.Cmp.Lexicographic.{pointwise};
 ghost use Rattle.occ_types.specs.Schema.{check_key_in, check_row_in, check_cells, check_end, part_has_kind, part_is_too_long, key_has_kind, key_is_too_long, is_name, is_letter};
 ghost use Rattle.occ_types.specs.Fits.{check_cell, fits_before};
-ghost use Rattle.occ_types.specs.Seen.{cell_of, part_of, key_of, end_of, table_of, tables_of};
+ghost use Rattle.occ_types.specs.PlainData.{cell_of, part_of, key_of, end_of, table_of, tables_of};
 
 use crate::cells::Cell;
 use crate::fault::Fault;

@@ -11,37 +11,43 @@ use std::alloc::{AllocError, Allocator};
 use std::cmp::Ordering;
 use std::hash::{Hash, Hasher};
 use std::marker::Model;
+use std::sync::ArcStr;
 
-/// A text of UTF-8, which clauses see as its bytes.
+/// A text of UTF-8, which clauses see as its bytes. Its copies share these, so that a copy takes no memory.
 #[derive(Drop)]
 #[derive_where(Debug)]
 pub struct Text<A: Allocator> {
-    text: String<A>,
+    text: ArcStr<A>,
 }
 
 impl<A: Allocator> Model for Text<A> {
-    ghost use Rattle.std.specs.Prelude.{ℕ, List, string_bytes};
+    ghost use Rattle.std.specs.Prelude.{ℕ, List};
+    ghost use Rattle.std.specs.Arc.{arc_str_bytes};
 
     ghost Value = { List ℕ };
 
-    ghost view = { λ t. string_bytes t.text };
+    ghost view = { λ t. arc_str_bytes t.text };
 }
 
-impl<A: Allocator> Text<A> {
+impl<A: Allocator + Clone> Text<A> {
     /// A copy of `text`; an error where there is no memory for it.
     pub fn new(alloc: A, text: &str) -> Result<Text<A>, AllocError>
         ensures { IfOk result (λ t. t ≡ text.now) }
     {
-        Ok(Text::from_string(String::from_str(alloc, text)?))
+        Text::from_string(String::from_str(alloc, text)?)
     }
 
-    /// The text of a string, which takes no memory.
-    pub fn from_string(text: String<A>) -> Text<A>
-        ensures { result ≡ string_bytes text }
+    /// The text of a string, which keeps the room that the string has; an error where there is no memory for what its copies share.
+    pub fn from_string(text: String<A>) -> Result<Text<A>, AllocError>
+        ensures { IfOk result (λ t. t ≡ string_bytes text) }
     {
-        Text { text }
+        Ok(Text {
+            text: ArcStr::from_string(text)?,
+        })
     }
+}
 
+impl<A: Allocator> Text<A> {
     /// The text.
     pub fn as_str(&self) -> &str
         ensures { result.now ≡ self.now }
@@ -71,11 +77,13 @@ impl<A: Allocator> Text<A> {
     }
 }
 
-impl<A: Allocator + Clone> Clone for Text<A> {
+impl<A: Allocator> Clone for Text<A> {
     ghost is_clone = { λ source copy. copy ≡ source };
 
     fn clone(&self) -> Result<Text<A>, AllocError> {
-        Ok(Text::from_string(self.text.clone()?))
+        Ok(Text {
+            text: self.text.clone()?,
+        })
     }
 }
 

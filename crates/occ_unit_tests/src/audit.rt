@@ -47,12 +47,12 @@ fn entered(
     standing: Standing<()>,
 ) -> Result<LogRow<Global, ()>, Fault> {
     let row = if found {
-        Some(Row::from_cells(Vec::new(alloc)))
+        Some(Row::from_cells(Vec::new(alloc))?)
     } else {
         None
     };
     let read = (Question::One(object()), Answer::Found(row));
-    let write = (object(), Some(Row::from_cells(Vec::new(alloc))));
+    let write = (object(), Some(Row::from_cells(Vec::new(alloc))?));
     transaction(alloc, (place, 1), read, write, standing)
 }
 
@@ -138,12 +138,12 @@ fn a_table_that_is_not_there_is_audited(rt: HostRuntime) -> Result<(), Fail> {
     };
     let mut log = Vec::new(alloc);
     let read = absent_table(Vec::new(alloc));
-    let write = (absent(), Some(Row::from_cells(Vec::new(alloc))));
+    let write = (absent(), Some(Row::from_cells(Vec::new(alloc))?));
     log.push(transaction(alloc, (0, 1), read, write, Standing::Done(1))?)?;
     // its row stands in no table
     assert!(rt; !says(alloc, log.clone()?, None)?);
     let mut rows = Vec::new(alloc);
-    rows.push((Key::Num(1), Row::from_cells(Vec::new(alloc))))?;
+    rows.push((Key::Num(1), Row::from_cells(Vec::new(alloc))?))?;
     let read = absent_table(rows);
     log.push(transaction(alloc, (1, 2), read, (absent(), None), Standing::Done(2))?)?;
     // the second row read it, and deleted it
@@ -166,7 +166,7 @@ fn a_closing_mark_is_audited(rt: HostRuntime) -> Result<(), Fail> {
 fn base(alloc: Global, place: usize, number: u64, has_row: bool) -> Result<Base<Global>, Fault> {
     let mut state = Tables::new(alloc, 3)?;
     if has_row && state.count() == 3 {
-        state.put(0, &Key::Num(7), Some(&Row::from_cells(Vec::new(alloc))))?;
+        state.put(0, &Key::Num(7), Some(&Row::from_cells(Vec::new(alloc))?))?;
     }
     let mut last = Marks::new(alloc, 1)?;
     if last.sessions() == 1 {
@@ -183,8 +183,8 @@ fn says_on(
     mark: Option<u64>,
 ) -> Result<bool, Fault> {
     let row = || Row::from_cells(Vec::new(alloc));
-    let read = (Question::One(object()), Answer::Found(Some(row())));
-    let write = (object(), Some(row()));
+    let read = (Question::One(object()), Answer::Found(Some(row()?)));
+    let write = (object(), Some(row()?));
     let mut log = Vec::new(alloc);
     let standing = Standing::Writing(0);
     log.push(transaction(alloc, (place, number), read, write, standing)?)?;

@@ -18,7 +18,7 @@ fn stock(alloc: Global) -> Option<Tables<Global>> {
         if tables.count() == 0 {
             return None;
         }
-        let row = Row::from_cells(vec![in alloc; Cell::Int(100)].ok()?);
+        let row = Row::from_cells(vec![in alloc; Cell::Int(100)].ok()?).ok()?;
         tables.put(0, &Key::Num(key), Some(&row)).ok()?;
     }
     Some(tables)
@@ -78,7 +78,7 @@ fn writes(alloc: Global, rows: &[(u64, Option<i64>)]) -> Option<WriteSet<Global>
 
 // A row of one number.
 fn row_of(alloc: Global, number: i64) -> Option<Row<Global>> {
-    Some(Row::from_cells(vec![in alloc; Cell::Int(number)].ok()?))
+    Row::from_cells(vec![in alloc; Cell::Int(number)].ok()?).ok()
 }
 
 // Whether the first table has exactly these rows of one number.

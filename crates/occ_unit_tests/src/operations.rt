@@ -8,7 +8,7 @@ use std::test::Fail;
 
 // A row of one number.
 fn row(alloc: Global, number: i64) -> Option<Row<Global>> {
-    Some(Row::from_cells(vec![in alloc; Cell::Int(number)].ok()?))
+    Row::from_cells(vec![in alloc; Cell::Int(number)].ok()?).ok()
 }
 
 // One table that has these numbers under their keys.

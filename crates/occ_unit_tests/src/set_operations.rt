@@ -55,7 +55,7 @@ fn three_checked(alloc: Global) -> Option<Result<(), Fault>> {
     let put = Op::Put {
         table: 1,
         key: Key::Num(1),
-        row: Row::from_cells(Vec::new(alloc)),
+        row: Row::from_cells(Vec::new(alloc)).ok()?,
     };
     Some(check_operations(&schema, &[add(0), put, add(2)]))
 }

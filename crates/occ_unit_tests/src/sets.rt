@@ -3,9 +3,9 @@ ghost use Rattle.std.specs.Prelude.{◌≡◌, ◌≤◌, Some, length, IfSome};
 ghost use Rattle.occ_types.specs.declared.limits.TheConstants as limit;
 ghost use Rattle.occ_types.specs.Key.{Num};
 ghost use Rattle.occ_types.specs.Question.{Span};
-ghost use Rattle.occ_types.specs.Seen.{question_of};
+ghost use Rattle.occ_types.specs.PlainData.{question_of};
 ghost use Rattle.occ_model.specs.State.{State, Rows, answer};
-ghost use Rattle.occ_sets.specs.Seen.{rows_of};
+ghost use Rattle.occ_sets.specs.PlainSets.{rows_of};
 
 use occ_sets::{Answer, Observation, PrivateCopy, ReadSet, WriteSet, meets_reads, meets_writes};
 use occ_types::limits::{MAX_ANSWER_ROWS, MAX_QUESTIONS, MAX_WRITES};
@@ -167,7 +167,7 @@ fn range() -> Question<Global>
 fn row(alloc: Global, number: i64) -> Option<Row<Global>> {
     let mut cells = Vec::new(alloc);
     cells.push(Cell::Int(number)).ok()?;
-    Some(Row::from_cells(cells))
+    Row::from_cells(cells).ok()
 }
 
 // Rows of one number each, under their keys.

@@ -168,7 +168,7 @@ fn pairs_fit_by_both_parts(rt: HostRuntime) -> Result<(), Fail> {
 fn parts_of_pairs_have_64_bytes_at_most(rt: HostRuntime) -> Result<(), Fail> {
     let alloc = rt.alloc();
     for (bytes, answer) in [(64, Ok(())), (65, Err(Fault::TooLong))] {
-        let long = KeyPart::Text(Text::from_string("a".repeat(alloc, bytes)?));
+        let long = KeyPart::Text(Text::from_string("a".repeat(alloc, bytes)?)?);
         let key = Key::Pair(Pair::new(alloc, KeyPart::Num(2), long)?);
         assert_eq!(rt; fits(alloc, 2, &key), Some(answer), "{bytes} bytes");
     }
@@ -178,7 +178,7 @@ fn parts_of_pairs_have_64_bytes_at_most(rt: HostRuntime) -> Result<(), Fail> {
 #[test]
 fn kinds_of_both_parts_are_tried_before_any_length(rt: HostRuntime) -> Result<(), Fail> {
     let alloc = rt.alloc();
-    let long = KeyPart::Text(Text::from_string("a".repeat(alloc, 65)?));
+    let long = KeyPart::Text(Text::from_string("a".repeat(alloc, 65)?)?);
     let wrong = Key::Pair(Pair::new(alloc, long, KeyPart::Num(2))?);
     assert_eq!(rt; fits(alloc, 2, &wrong), Some(Err(Fault::WrongKind)));
     Ok(())
@@ -187,11 +187,11 @@ fn kinds_of_both_parts_are_tried_before_any_length(rt: HostRuntime) -> Result<()
 #[test]
 fn rows(rt: HostRuntime) -> Result<(), Fail> {
     let alloc = rt.alloc();
-    let row = Row::from_cells(vec![in alloc; Cell::Int(3), Cell::Text(text(alloc, "pears")?)]?);
+    let row = Row::from_cells(vec![in alloc; Cell::Int(3), Cell::Text(text(alloc, "pears")?)]?)?;
     assert_eq!(rt; row.len(), 2);
     assert!(rt; !row.is_empty());
     assert!(rt; row.clone()? == row);
-    let other = Row::from_cells(vec![in alloc; Cell::Int(3), Cell::Text(text(alloc, "plums")?)]?);
+    let other = Row::from_cells(vec![in alloc; Cell::Int(3), Cell::Text(text(alloc, "plums")?)]?)?;
     assert!(rt; row != other);
     assert!(rt; matches!(row.cell(0), Some(Cell::Int(3))));
     assert!(rt; matches!(row.cell(1), Some(Cell::Text(_))));
@@ -202,12 +202,12 @@ fn rows(rt: HostRuntime) -> Result<(), Fail> {
 #[test]
 fn rows_of_one_cell(rt: HostRuntime) -> Result<(), Fail> {
     let alloc = rt.alloc();
-    let row = Row::from_cells(vec![in alloc; Cell::Int(3)]?);
+    let row = Row::from_cells(vec![in alloc; Cell::Int(3)]?)?;
     assert_eq!(rt; row.len(), 1);
     assert!(rt; row.clone()? == row);
     assert!(rt; row == Row::from_cell(Cell::Int(3)));
     assert!(rt; row != Row::from_cell(Cell::Int(4)));
-    let longer = Row::from_cells(vec![in alloc; Cell::Int(3), Cell::Int(4)]?);
+    let longer = Row::from_cells(vec![in alloc; Cell::Int(3), Cell::Int(4)]?)?;
     assert!(rt; row != longer);
     assert!(rt; matches!(row.cell(0), Some(Cell::Int(3))));
     assert!(rt; row.cell(1).is_none());
@@ -285,16 +285,16 @@ fn checks(rt: HostRuntime) -> Result<(), Fail> {
     assert_eq!(rt; schema.check_key(1, &pear), Err(Fault::WrongKind));
     assert_eq!(rt; schema.check_key(2, &pear), Err(Fault::NoTable));
     for (bytes, fits) in [(64, true), (65, false)] {
-        let long = Key::Text(Text::from_string("a".repeat(alloc, bytes)?));
+        let long = Key::Text(Text::from_string("a".repeat(alloc, bytes)?)?);
         assert_eq!(rt; schema.check_key(0, &long).is_ok(), fits, "{bytes} bytes");
     }
     for (bytes, fits) in [(256, true), (257, false)] {
-        let long = Cell::Text(Text::from_string("a".repeat(alloc, bytes)?));
-        let row = Row::from_cells(vec![in alloc; Cell::Int(1), long]?);
+        let long = Cell::Text(Text::from_string("a".repeat(alloc, bytes)?)?);
+        let row = Row::from_cells(vec![in alloc; Cell::Int(1), long]?)?;
         assert_eq!(rt; schema.check_row(0, &row).is_ok(), fits, "{bytes} bytes");
         assert_eq!(rt; schema.check_row(1, &row), Err(Fault::WrongColumns));
     }
-    let row = Row::from_cells(vec![in alloc; Cell::Int(1), Cell::Int(1)]?);
+    let row = Row::from_cells(vec![in alloc; Cell::Int(1), Cell::Int(1)]?)?;
     assert_eq!(rt; schema.check_row(0, &row), Err(Fault::WrongKind));
     for (lower, upper, answer) in [(1, 2, Ok(())), (2, 2, Err(Fault::EmptyRange))] {
         let question = Question::<Global>::Span {

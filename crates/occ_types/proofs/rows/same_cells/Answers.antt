@@ -1,6 +1,6 @@
 use Rattle.std.proofs.Common.{◌∙◌}
 use Rattle.occ_types.specs.Same.{cell_same}
-use Rattle.occ_types.specs.Seen.{cell_of}
+use Rattle.occ_types.specs.PlainData.{cell_of}
 use Rattle.occ_types.proofs.Alike.{pointwise-on}
 use Rattle.occ_types.proofs.rows.same_cells.Goals as goal
 

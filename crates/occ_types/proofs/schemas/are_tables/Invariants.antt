@@ -1,6 +1,6 @@
 use Rattle.std.proofs.Common.{◌≡◌, drop}
 use Rattle.occ_types.specs.Schema.{are_tables}
-use Rattle.occ_types.specs.Seen.{tables_of}
+use Rattle.occ_types.specs.PlainData.{tables_of}
 use Rattle.occ_types.proofs.schemas.are_tables.Given as goal
 
 -- the test of the tables that are left answers for all of them

@@ -1,7 +1,7 @@
 use Rattle.std.proofs.Common.{◌<◌, length, sym, ap, ◌∙◌, arith}
 use Rattle.std.specs.Option.{option_map}
 use Rattle.std.proofs.lemmas.Result.{err_from_is_err_and}
-use Rattle.occ_types.specs.Seen.{cell_of}
+use Rattle.occ_types.specs.PlainData.{cell_of}
 use Rattle.occ_types.specs.declared.kind.Kind.TheVariants as kinds
 use Rattle.occ_types.proofs.Walks.{is_there, check_cells-fit, check_cells-fault}
 use Rattle.occ_types.proofs.tables.check_cells.Goals as goal

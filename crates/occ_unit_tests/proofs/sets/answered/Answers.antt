@@ -4,7 +4,7 @@ use Rattle.occ_types.specs.Question.{Question, Span}
 use Rattle.occ_model.specs.State.{Rows}
 use Rattle.occ_model.specs.Overlay as model
 use Rattle.occ_model.specs.Overlay.{overlay}
-use Rattle.occ_sets.specs.Seen.{answer_of, rows_of}
+use Rattle.occ_sets.specs.PlainSets.{answer_of, rows_of}
 use Rattle.occ_unit_tests.proofs.sets.answered.Goals as goal
 
 -- with no own writes the rows are what their state answers

@@ -1,6 +1,6 @@
 use Rattle.std.proofs.Common.{ap, ◌∙◌}
 use Rattle.occ_types.proofs.Alike.{same_text_parts}
-use Rattle.occ_types.specs.Seen.{part_of}
+use Rattle.occ_types.specs.PlainData.{part_of}
 use Rattle.occ_types.proofs.key_parts.KeyPartPartialEq.eq.Goals as goal
 
 -- texts are equal exactly where their order says so

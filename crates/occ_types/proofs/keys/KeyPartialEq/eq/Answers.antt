@@ -1,6 +1,6 @@
 use Rattle.std.proofs.Common.{ap, ◌∙◌}
 use Rattle.occ_types.proofs.Alike.{same_texts}
-use Rattle.occ_types.specs.Seen.{key_of}
+use Rattle.occ_types.specs.PlainData.{key_of}
 use Rattle.occ_types.proofs.keys.KeyPartialEq.eq.Goals as goal
 
 -- texts are equal exactly where their order says so

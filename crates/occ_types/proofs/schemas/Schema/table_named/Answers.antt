@@ -1,7 +1,7 @@
 use Rattle.std.proofs.Common.{◌≡◌, true, nat_eq, ap, sym, ◌∙◌}
 use Rattle.std.specs.Cmp.Lexicographic.{pointwise}
 use Rattle.occ_types.specs.Fits.{has_name}
-use Rattle.occ_types.specs.Seen.{table_of, tables_of}
+use Rattle.occ_types.specs.PlainData.{table_of, tables_of}
 use Rattle.occ_types.proofs.Walks.{position-hit, position-none}
 use Rattle.occ_types.proofs.schemas.Schema.table_named.Goals as goal
 

@@ -2,6 +2,7 @@
 use Rattle.std.specs.Prelude.{◌≡◌, ℕ, List, [], ◌∷◌, map, Option, None, Some, refl}
 use Rattle.std.proofs.Common.{ap}
 use Rattle.std.specs.Option.{option_map}
+use Rattle.std.specs.Arc.{arc_slice_items}
 use Rattle.occ_types.specs.declared.cells.Cell as code_cell
 use Rattle.occ_types.specs.declared.cells.Cell.TheVariants as cells
 use Rattle.occ_types.specs.declared.key_parts.KeyPart as code_part
@@ -51,7 +52,7 @@ module _ {Z : Type 0} where
   -- what a row keeps, as a list
   abbrev pub cells_in : code_cells.Cells Z → List (code_cell.Cell Z)
   cells_in (kept.One cell) = cell ∷ []
-  cells_in (kept.List cells) = cells.items
+  cells_in (kept.List cells) = arc_slice_items cells
 
   -- the plain cells, in their order
   abbrev pub row_of : List (code_cell.Cell Z) → Row
