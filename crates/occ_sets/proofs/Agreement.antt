@@ -17,13 +17,13 @@ use Rattle.occ_types.specs.Object.{Object, object_cmp, object_cmp_total, object_
 use Rattle.occ_types.specs.Question.{Question, One, Span, asks}
 use Rattle.occ_types.specs.Row.{Row}
 use Rattle.occ_types.specs.Same.{key_same, key_same_equiv}
-use Rattle.occ_types.specs.Seen.{key_of, table_asked}
+use Rattle.occ_types.specs.PlainData.{key_of, table_asked}
 use Rattle.occ_types.proofs.Asked.{object_tied}
 use Rattle.occ_model.specs.State.{State, Write, Rows, answer, put}
 use Rattle.occ_model.specs.Overlay as model
 use Rattle.occ_model.specs.Overlay.{overlay}
 use Rattle.occ_sets.specs.Overlays.{Agrees, FollowsWrite, rows_over}
-use Rattle.occ_sets.specs.Seen.{rows_of}
+use Rattle.occ_sets.specs.PlainSets.{rows_of}
 
 same_object : (a b : Object) → eq_by_cmp object_cmp a b ≡ true → a ≡ b
 same_object a b e = object_cmp-IsAntisymmetric a b ((Equal-is (object_cmp a b)).0 e)

@@ -16,12 +16,12 @@ use Rattle.occ_types.specs.Object.{Object, object_cmp, object_cmp_total, object_
 use Rattle.occ_types.specs.Question.{Question, One, Span, asks}
 use Rattle.occ_types.specs.Row.{Row}
 use Rattle.occ_types.specs.Same.{key_same_equiv}
-use Rattle.occ_types.specs.Seen.{key_of, table_asked}
+use Rattle.occ_types.specs.PlainData.{key_of, table_asked}
 use Rattle.occ_model.specs.State.{State, Write, Answer, Found, Rows, answer, apply}
 use Rattle.occ_model.specs.Overlay as model
 use Rattle.occ_sets.specs.Merging.{Led, LedFurther, merged, row_after}
 use Rattle.occ_sets.specs.Overlays.{Agrees, rows_over}
-use Rattle.occ_sets.specs.Seen.{rows_of}
+use Rattle.occ_sets.specs.PlainSets.{rows_of}
 use Rattle.occ_sets.proofs.Agreement.{asks_table, unasked, asked, tied_by_key, follows-asked, agrees-empty, agrees-row, answer_of_entries}
 use Rattle.occ_sets.proofs.Merging.{found_merged, sorted_merged}
 

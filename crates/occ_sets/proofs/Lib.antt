@@ -1,6 +1,6 @@
 pub mod Agreement
 pub mod Checks
-pub mod Entries
+pub mod WriteEntries
 pub mod Leading
 pub mod Meetings
 pub mod Merging

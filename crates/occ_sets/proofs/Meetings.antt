@@ -9,11 +9,11 @@ use Rattle.occ_types.specs.Key.{Key}
 use Rattle.occ_types.specs.Object.{object_cmp}
 use Rattle.occ_types.specs.Question.{Question, One, asks}
 use Rattle.occ_types.specs.Row.{Row}
-use Rattle.occ_types.specs.Seen.{object_of, question_of}
+use Rattle.occ_types.specs.PlainData.{object_of, question_of}
 use Rattle.occ_model.specs.State.{Write, meets_question, meets_reads, meets_writes}
 use Rattle.occ_model.specs.Overlay.{own}
 use Rattle.occ_sets.specs.declared.reads.Observation as code_observation
-use Rattle.occ_sets.specs.Seen.{writes_of, observations_of}
+use Rattle.occ_sets.specs.PlainSets.{writes_of, observations_of}
 
 -- a look-up finds what the first value or the rest is
 pub or_some : {X : Type 0} (b : Bool) (x : X) (r : Option X) → (b || is_some r) ≡ is_some (cond b (Some x) r)

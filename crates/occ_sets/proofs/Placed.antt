@@ -13,14 +13,14 @@ use Rattle.std.proofs.lemmas.Map.Keys.{IsDistinct-push}
 use Rattle.occ_types.specs.declared.objects.Object as code
 use Rattle.occ_types.specs.Object.{Object, object_cmp, object_cmp_total}
 use Rattle.occ_types.specs.Row.{Row}
-use Rattle.occ_types.specs.Seen.{object_of}
+use Rattle.occ_types.specs.PlainData.{object_of}
 use Rattle.occ_model.specs.State.{Write}
 use Rattle.occ_model.specs.Overlay.{set, own}
 use Rattle.occ_model.specs.RangeLaws.{set_all}
 use Rattle.occ_model.proofs.OwnWrites.{sets_own}
-use Rattle.occ_sets.specs.Seen.{write_of, writes_of}
+use Rattle.occ_sets.specs.PlainSets.{write_of, writes_of}
 use Rattle.occ_sets.specs.Sets.{WritesOnce, objects, place_in}
-use Rattle.occ_sets.proofs.Entries.{tied}
+use Rattle.occ_sets.proofs.WriteEntries.{tied}
 use Rattle.occ_sets.proofs.Meetings.{or_some}
 
 -- whether a write is of the object

@@ -2,6 +2,6 @@ pub mod Merging
 pub mod Operations
 pub mod Overlays
 pub mod OwnWrites
-pub mod Seen
+pub mod PlainSets
 pub mod Sets
 pub mod Shareable

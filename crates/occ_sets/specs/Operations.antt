@@ -5,7 +5,7 @@ use Rattle.occ_types.specs.declared.fault.Fault.TheVariants as faults
 use Rattle.occ_types.specs.declared.kind.Kind.{Kind}
 use Rattle.occ_types.specs.declared.kind.Kind.TheVariants as cells
 use Rattle.occ_types.specs.Schema.{fault_if, first_fault}
-use Rattle.occ_types.specs.Seen.{key_of, end_of}
+use Rattle.occ_types.specs.PlainData.{key_of, end_of}
 use Rattle.occ_model.specs.Operations.{Operation, Get, Scan, Put, Delete, Add}
 use Rattle.occ_sets.specs.declared.operations.Op as code
 use Rattle.occ_sets.specs.declared.operations.Op.TheVariants as ops

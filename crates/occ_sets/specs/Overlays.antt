@@ -7,7 +7,7 @@ use Rattle.occ_types.specs.declared.keys.Key as code_key
 use Rattle.occ_types.specs.Key.{Key, key_cmp}
 use Rattle.occ_types.specs.Question.{Question, asks}
 use Rattle.occ_types.specs.Row.{Row}
-use Rattle.occ_types.specs.Seen.{key_of, table_asked}
+use Rattle.occ_types.specs.PlainData.{key_of, table_asked}
 use Rattle.occ_model.specs.State.{State, Write, Answer, Found, put, apply}
 use Rattle.occ_model.specs.Overlay.{rows_of}
 

@@ -3,7 +3,7 @@ use Rattle.std.specs.Prelude.{List}
 use Rattle.occ_model.specs.State.{Write}
 use Rattle.occ_sets.specs.declared.own_writes.Content as code
 use Rattle.occ_sets.specs.declared.own_writes.Content.TheVariants.{Few, Many}
-use Rattle.occ_sets.specs.Seen.{writes_of}
+use Rattle.occ_sets.specs.PlainSets.{writes_of}
 
 module _ {Z : Type 0} where
   -- all writes

@@ -3,9 +3,9 @@ ghost use Rattle.std.specs.Prelude.{◌≡◌, ◌==◌, ◌<◌, [], false, con
 ghost use Rattle.std.specs.Option.{option_copied, option_map};
 ghost use Rattle.occ_types.specs.declared.fault.Fault.TheVariants.{SetFull, Memory};
 ghost use Rattle.occ_types.specs.declared.limits.TheConstants as limit;
-ghost use Rattle.occ_types.specs.Seen.{key_of, object_of, question_of};
+ghost use Rattle.occ_types.specs.PlainData.{key_of, object_of, question_of};
 ghost use Rattle.occ_model.specs.Overlay.{set, own, overlay};
-ghost use Rattle.occ_sets.specs.Seen.{answer_of};
+ghost use Rattle.occ_sets.specs.PlainSets.{answer_of};
 ghost use Rattle.occ_sets.specs.Sets.{IsWriteSet, is_full_for};
 
 use crate::overlays::{over_range, over_row};

@@ -1,10 +1,10 @@
 //! A few writes of one transaction in a list, which is searched from its beginning.
-ghost use Rattle.std.specs.Prelude.{◌≡◌};
+ghost use Rattle.std.specs.Prelude.{◌≡◌, not, is_some};
 ghost use Rattle.std.specs.Option.{option_copied, option_map};
-ghost use Rattle.occ_types.specs.Seen.{object_of, question_of};
+ghost use Rattle.occ_types.specs.PlainData.{object_of, question_of};
 ghost use Rattle.occ_model.specs.State.{meets_question};
 ghost use Rattle.occ_model.specs.Overlay.{own};
-ghost use Rattle.occ_sets.specs.Seen.{writes_of};
+ghost use Rattle.occ_sets.specs.PlainSets.{writes_of};
 ghost use Rattle.occ_sets.specs.Sets.{place_in};
 
 use crate::own_writes::Write;
@@ -29,6 +29,13 @@ pub(crate) fn own_in<'a, A: Allocator>(
         None => None,
         Some(write) => Some(write.1.as_ref()),
     }
+}
+
+/// Whether no write is of the object.
+pub(crate) fn is_new<A: Allocator>(writes: &[Write<A>], object: &Object<A>) -> bool
+    ensures { result ≡ not (is_some (own (writes_of writes.now) (object_of object.now))) }
+{
+    own_in(writes, object).is_none()
 }
 
 /// Whether some write is of what the question asks for.

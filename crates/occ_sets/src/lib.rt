@@ -4,6 +4,7 @@
 mod appending;
 mod copies;
 mod few_writes;
+mod inserting;
 mod meets;
 mod operations;
 mod overlays;

@@ -2,7 +2,7 @@
 ghost use Rattle.std.specs.Prelude.{◌≡◌, [], ◌∷◌};
 ghost use Rattle.std.specs.Result.{result_err};
 ghost use Rattle.occ_types.specs.Schema.{first_fault, check_key};
-ghost use Rattle.occ_types.specs.Seen.{key_of};
+ghost use Rattle.occ_types.specs.PlainData.{key_of};
 ghost use Rattle.occ_model.specs.Operations.{Put};
 ghost use Rattle.occ_model.specs.Refusal.{check_number, check_operation, check_operations};
 ghost use Rattle.occ_sets.specs.Operations.{check_columns, op_of, ops_of};

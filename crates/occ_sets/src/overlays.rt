@@ -4,12 +4,12 @@ ghost use Rattle.std.specs.Map.{keys_of};
 ghost use Rattle.std.specs.List.Sorted.{IsStrictlySortedBy};
 ghost use Rattle.std.specs.Ordering.{on};
 ghost use Rattle.occ_types.specs.Key.{key_cmp};
-ghost use Rattle.occ_types.specs.Seen.{key_of, object_of, question_of, table_asked};
+ghost use Rattle.occ_types.specs.PlainData.{key_of, object_of, question_of, table_asked};
 ghost use Rattle.occ_model.specs.Overlay as model;
 ghost use Rattle.occ_model.specs.Overlay.{own};
 ghost use Rattle.occ_model.specs.State.{Write, Rows};
 ghost use Rattle.occ_sets.specs.Overlays.{Agrees, FollowsWrite, FollowsWrites, over_row, rows_over};
-ghost use Rattle.occ_sets.specs.Seen.{answer_of, rows_of};
+ghost use Rattle.occ_sets.specs.PlainSets.{answer_of, rows_of};
 ghost use Rattle.occ_sets.specs.declared.reads.Answer.TheVariants as answers;
 ghost use Rattle.occ_types.specs.declared.fault.Fault.TheVariants.{Memory};
 

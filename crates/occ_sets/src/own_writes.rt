@@ -4,22 +4,21 @@ ghost use Rattle.std.specs.Option.{option_copied, option_map};
 ghost use Rattle.indexmap.specs.IndexMap.{spare};
 ghost use Rattle.occ_types.specs.declared.fault.Fault.TheVariants.{SetFull, Memory};
 ghost use Rattle.occ_types.specs.declared.limits.TheConstants as limit;
-ghost use Rattle.occ_types.specs.Seen.{object_of, question_of};
+ghost use Rattle.occ_types.specs.PlainData.{object_of, question_of};
 ghost use Rattle.occ_model.specs.State.{meets_question};
 ghost use Rattle.occ_model.specs.Overlay.{set, own};
 ghost use Rattle.occ_sets.specs.OwnWrites.{written};
-ghost use Rattle.occ_sets.specs.Seen.{writes_of};
+ghost use Rattle.occ_sets.specs.PlainSets.{writes_of};
 ghost use Rattle.occ_sets.specs.Sets.{WritesOnce, is_full_for};
 
-use crate::appending::append;
-use crate::few_writes::{meets_few, own_in, place_of};
+use crate::few_writes::{meets_few, own_in};
+use crate::inserting::insert_in;
 use indexmap::IndexMap;
 use occ_types::limits::MAX_WRITES;
 use occ_types::{Fault, Object, Question, Refused, Row};
 use std::alloc::{AllocError, AllocFailed, Allocator};
 use std::hash::{BuildHasherDefault, FoldHasher};
 use std::marker::Model;
-use std::mem;
 
 /// A write: an object with its new row, or with none where it is deleted.
 pub type Write<A> = (Object<A>, Option<Row<A>>);
@@ -33,7 +32,7 @@ pub(crate) type WriteMap<A> = IndexMap<
 >;
 
 /// The most writes that stand in a list. A transaction that writes no more takes one request for memory for them.
-const FEW: usize = 8;
+pub(crate) const FEW: usize = 8;
 
 /// The writes of one transaction, in the order of the first writes of their objects. Clauses see the list of the plain writes.
 #[derive(Drop)]
@@ -185,11 +184,7 @@ impl<A: Allocator + Copy> OwnWrites<A> {
         ensures memory { IfErr result (λ refused. refused.fault ≡ Memory) }
         ensures only_new { OnErr result (own self.old (object_of object) ≡ None) }
     {
-        let empty = OwnWrites::new(self.allocator());
-        let OwnWrites { content } = mem::replace(self, empty);
-        let (content, done) = insert_in(content, (object, row));
-        self.content = content;
-        done
+        insert_in(&mut self.content, (object, row))
     }
 
     /// Writes an object as `insert` does, for a transaction. A new object is refused with `SetFull` where there are 256 writes or more, and else with `Memory` where there is none for it; both leave the writes as they were and hand the write back.
@@ -238,137 +233,6 @@ fn in_a_box<A: Allocator>(alloc: A, map: WriteMap<A>) -> Result<Content<A>, Allo
         Ok(map) => Ok(Content::Many(map)),
         Err(AllocFailed { .. }) => Err(AllocError),
     }
-}
-
-// Does a write. It is refused, and handed back, where there is no memory.
-fn insert_in<A: Allocator + Copy>(
-    content: Content<A>,
-    write: Write<A>,
-) -> (Content<A>, Result<(), Refused<Write<A>>>)
-    requires { WritesOnce (written content) }
-    ensures ok { OnOk result.1 (written result.0 ≡ set (written content) (object_of write.0) write.1) }
-    ensures err { OnErr result.1 (written result.0 ≡ written content) }
-    ensures handed_back { IfErr result.1 (λ refused. refused.value ≡ write) }
-    ensures memory { IfErr result.1 (λ refused. refused.fault ≡ Memory) }
-    ensures only_new { OnErr result.1 (own (written content) (object_of write.0) ≡ None) }
-{
-    match content {
-        Content::Few(list) => insert_in_list(list, write),
-        Content::Many(map) => insert_in_map(map, write),
-    }
-}
-
-// Does a write on those of a list, which go into a map where they are no longer few. It is refused, and handed back, where there is no memory.
-fn insert_in_list<A: Allocator + Copy>(
-    mut list: Vec<Write<A>, A>,
-    write: Write<A>,
-) -> (Content<A>, Result<(), Refused<Write<A>>>)
-    requires { WritesOnce (writes_of list.items) }
-    ensures ok { OnOk result.1 (written result.0 ≡ set (writes_of list.items) (object_of write.0) write.1) }
-    ensures err { OnErr result.1 (written result.0 ≡ writes_of list.items) }
-    ensures handed_back { IfErr result.1 (λ refused. refused.value ≡ write) }
-    ensures memory { IfErr result.1 (λ refused. refused.fault ≡ Memory) }
-    ensures only_new { OnErr result.1 (own (writes_of list.items) (object_of write.0) ≡ None) }
-{
-    match place_of(list.as_slice(), &write.0) {
-        Some(place) => {
-            list[place].1 = write.1;
-            (Content::Few(list), Ok(()))
-        }
-        None => insert_new(list, write),
-    }
-}
-
-// Does a write of a new object on those of a list.
-fn insert_new<A: Allocator + Copy>(
-    mut list: Vec<Write<A>, A>,
-    write: Write<A>,
-) -> (Content<A>, Result<(), Refused<Write<A>>>)
-    requires once { WritesOnce (writes_of list.items) }
-    requires new { own (writes_of list.items) (object_of write.0) ≡ None }
-    ensures ok { OnOk result.1 (written result.0 ≡ set (writes_of list.items) (object_of write.0) write.1) }
-    ensures err { OnErr result.1 (written result.0 ≡ writes_of list.items) }
-    ensures handed_back { IfErr result.1 (λ refused. refused.value ≡ write) }
-    ensures memory { IfErr result.1 (λ refused. refused.fault ≡ Memory) }
-{
-    if list.len() < FEW {
-        return match append(&mut list, write) {
-            Ok(()) => (Content::Few(list), Ok(())),
-            Err(AllocFailed { value }) => (Content::Few(list), Err(memory(value))),
-        };
-    }
-    match into_map(list) {
-        Ok(map) => insert_in_map(map, write),
-        Err(list) => (Content::Few(list), Err(memory(write))),
-    }
-}
-
-// Does a write on those of a map. It is refused, and handed back, where there is no memory.
-fn insert_in_map<A: Allocator + Copy>(
-    mut map: Box<WriteMap<A>, A>,
-    write: Write<A>,
-) -> (Content<A>, Result<(), Refused<Write<A>>>)
-    ensures ok { OnOk result.1 (written result.0 ≡ set (writes_of map.value.entries) (object_of write.0) write.1) }
-    ensures err { OnErr result.1 (written result.0 ≡ writes_of map.value.entries) }
-    ensures handed_back { IfErr result.1 (λ refused. refused.value ≡ write) }
-    ensures memory { IfErr result.1 (λ refused. refused.fault ≡ Memory) }
-    ensures only_new { OnErr result.1 (own (writes_of map.value.entries) (object_of write.0) ≡ None) }
-{
-    let (object, row) = write;
-    match map.insert(object, row) {
-        Ok(_) => (Content::Many(map), Ok(())),
-        Err(AllocFailed { value }) => (Content::Many(map), Err(memory(value))),
-    }
-}
-
-// There is no memory for a write.
-fn memory<A: Allocator>(value: Write<A>) -> Refused<Write<A>>
-    ensures { result ≡ record { value = value; fault = Memory } }
-{
-    Refused {
-        value,
-        fault: Fault::Memory,
-    }
-}
-
-// A map with the writes of a list and room for as many more. The list is handed back where there is no memory for it.
-fn into_map<A: Allocator + Copy>(
-    list: Vec<Write<A>, A>,
-) -> Result<Box<WriteMap<A>, A>, Vec<Write<A>, A>>
-    requires { WritesOnce (writes_of list.items) }
-    ensures ok { IfOk result (λ map. writes_of map.value.entries ≡ writes_of list.items) }
-    ensures err { IfErr result (λ back. back ≡ list) }
-{
-    let alloc = *list.allocator();
-    let Ok(map) = WriteMap::with_capacity(alloc, list.len().saturating_mul(2)) else {
-        return Err(list);
-    };
-    let Ok(mut map) = Box::new(alloc, map) else {
-        return Err(list);
-    };
-    fill(&mut map, list);
-    Ok(map)
-}
-
-// Moves writes of distinct objects into a map without a write that has room for them.
-fn fill<A: Allocator + Copy>(map: &mut WriteMap<A>, list: Vec<Write<A>, A>)
-    requires empty { map.old.entries ≡ [] }
-    requires room { length list.items ≤ spare map.old }
-    requires once { WritesOnce (writes_of list.items) }
-    ensures { writes_of map.new.entries ≡ writes_of list.items }
-{
-    for (object, row) in list {
-        put(map, object, row);
-    }
-}
-
-// Does a write on a map that has room for it.
-fn put<A: Allocator + Copy>(map: &mut WriteMap<A>, object: Object<A>, row: Option<Row<A>>)
-    requires { 0 < spare map.old }
-    ensures done { writes_of map.new.entries ≡ set (writes_of map.old.entries) (object_of object) row }
-    ensures room { spare map.old ≤ spare map.new + 1 }
-{
-    let _done = map.insert(object, row);
 }
 
 impl<A: Allocator + Clone> Clone for OwnWrites<A> {

@@ -8,11 +8,11 @@ ghost use Rattle.std.specs.Ordering.{on};
 ghost use Rattle.occ_types.specs.declared.fault.Fault.TheVariants.{Memory};
 ghost use Rattle.occ_types.specs.declared.limits.TheConstants as limit;
 ghost use Rattle.occ_types.specs.Key.{key_cmp};
-ghost use Rattle.occ_types.specs.Seen.{key_of, question_of};
+ghost use Rattle.occ_types.specs.PlainData.{key_of, question_of};
 ghost use Rattle.occ_model.specs.State.{State, Write, Rows, answer, apply};
 ghost use Rattle.occ_sets.specs.Overlays.{rows_over};
 ghost use Rattle.occ_sets.specs.Merging.{LaysFirst, LaysRow, Led, LedFurther, first_to, merged, rows_put};
-ghost use Rattle.occ_sets.specs.Seen.{rows_of};
+ghost use Rattle.occ_sets.specs.PlainSets.{rows_of};
 
 use crate::copies::PrivateCopy;
 use crate::own_writes::OwnWrites;
@@ -36,7 +36,7 @@ impl<'a, A: Allocator> Model for Prepared<'a, A> {
     ghost use Rattle.std.specs.Prelude.{◌≡◌, ◌+◌, ◌≤◌, [], vec_len, vec_capacity};
     ghost use Rattle.std.specs.BTreeMap.{btree_map_len};
     ghost use Rattle.occ_types.specs.declared.limits.TheConstants.{MAX_ANSWER_ROWS};
-    ghost use Rattle.occ_types.specs.Seen.{question_of};
+    ghost use Rattle.occ_types.specs.PlainData.{question_of};
     ghost use Rattle.occ_model.specs.State.{State, apply};
     ghost use Rattle.occ_sets.specs.Overlays.{Overlaid};
     ghost use Rattle.occ_sets.specs.Merging.{Led};

@@ -1,8 +1,8 @@
 //! The read set of a transaction.
 ghost use Rattle.std.specs.Prelude.{◌≡◌, ◌==◌, ◌<◌, ◌^◌, ◌++◌, [], ◌∷◌, false, cond, length, IfErr, IfOk, OnOk, OnErr, MatchResult, IsOkUnless};
 ghost use Rattle.occ_types.specs.declared.fault.Fault.TheVariants.{SetFull, Memory};
-ghost use Rattle.occ_types.specs.Seen.{question_of};
-ghost use Rattle.occ_sets.specs.Seen.{answer_of, observation_of, observations_of};
+ghost use Rattle.occ_types.specs.PlainData.{question_of};
+ghost use Rattle.occ_sets.specs.PlainSets.{answer_of, observation_of, observations_of};
 ghost use Rattle.occ_sets.specs.Sets.{is_full};
 ghost use Rattle.occ_sets.specs.Shareable.{held};
 
@@ -12,7 +12,6 @@ use occ_types::limits::MAX_QUESTIONS;
 use occ_types::{Fault, Key, Question, Refused, Row};
 use std::alloc::{AllocError, AllocFailed, Allocator};
 use std::marker::Model;
-use std::mem;
 
 /// What a question is answered.
 #[derive(Drop)]
@@ -69,7 +68,7 @@ impl<A: Allocator> Model for ReadSet<A> {
 
     ghost Value = { List Seen };
 
-    ghost use Rattle.occ_sets.specs.Seen.{observations_of};
+    ghost use Rattle.occ_sets.specs.PlainSets.{observations_of};
     ghost use Rattle.occ_sets.specs.Shareable.{held};
 
     ghost view = { λ s. observations_of (held s.content).items };
@@ -166,35 +165,30 @@ impl<A: Allocator + Copy> ReadSet<A> {
         ensures handed_back { IfErr result (λ refused. refused.value ≡ record { question = question; answer = answer }) }
         ensures memory { IfErr result (λ refused. refused.fault ≡ Memory) }
     {
-        let seen = Observation { question, answer };
-        let empty = Vec::new(*self.content.get().allocator());
-        let content = mem::replace(&mut self.content, Shareable::Plain(empty));
-        let (content, done) = note_in(content, seen);
-        self.content = content;
-        done
+        note_in(&mut self.content, Observation { question, answer })
     }
 }
 
 // Notes an observation. It is refused, and handed back, where there is no memory.
-fn note_in<A: Allocator + Clone>(
-    content: Shareable<Vec<Observation<A>, A>, A>,
+fn note_in<A: Allocator + Copy>(
+    content: &mut Shareable<Vec<Observation<A>, A>, A>,
     seen: Observation<A>,
-) -> (
-    Shareable<Vec<Observation<A>, A>, A>,
-    Result<(), Refused<Observation<A>>>,
-)
-    ensures ok { OnOk result.1 (observations_of (held result.0).items ≡ observations_of (held content).items ++ observation_of seen ∷ []) }
-    ensures err { OnErr result.1 (observations_of (held result.0).items ≡ observations_of (held content).items) }
-    ensures handed_back { IfErr result.1 (λ refused. refused.value ≡ seen) }
-    ensures memory { IfErr result.1 (λ refused. refused.fault ≡ Memory) }
+) -> Result<(), Refused<Observation<A>>>
+    ensures ok { OnOk result (observations_of (held content.new).items ≡ observations_of (held content.old).items ++ observation_of seen ∷ []) }
+    ensures err { OnErr result (observations_of (held content.new).items ≡ observations_of (held content.old).items) }
+    ensures handed_back { IfErr result (λ refused. refused.value ≡ seen) }
+    ensures memory { IfErr result (λ refused. refused.fault ≡ Memory) }
 {
-    let mut observations = match content.into_plain() {
-        Ok(observations) => observations,
-        Err(content) => return (content, Err(memory(seen))),
-    };
-    match append(&mut observations, seen) {
-        Ok(()) => (Shareable::Plain(observations), Ok(())),
-        Err(AllocFailed { value }) => (Shareable::Plain(observations), Err(memory(value))),
+    let empty = Vec::new(*content.get().allocator());
+    if content.unshare(empty).is_err() {
+        return Err(memory(seen));
+    }
+    match content {
+        Shareable::Plain(observations) => match append(observations, seen) {
+            Ok(()) => Ok(()),
+            Err(AllocFailed { value }) => Err(memory(value)),
+        },
+        Shareable::Shared(_) => unreachable!(),
     }
 }
 

@@ -1,7 +1,7 @@
 //! Values that one owner has by itself, or several owners share.
-ghost use Rattle.std.specs.Prelude.{◌≡◌, ◌⊎◌, IfOk, IfErr};
+ghost use Rattle.std.specs.Prelude.{◌≡◌, ◌⊎◌, IfOk, IfErr, OnOk, OnErr};
 ghost use Rattle.std.specs.Arc.{arc_value};
-ghost use Rattle.occ_sets.specs.Shareable.{held};
+ghost use Rattle.occ_sets.specs.Shareable.{held, IsPlain};
 
 use std::alloc::{AllocError, AllocFailed, Allocator};
 use std::mem;
@@ -51,8 +51,8 @@ impl<T: Drop, A: Allocator> Shareable<T, A> {
         }
     }
 
-    /// The value for one owner alone: from its only owner itself, and else a copy. It is handed back where there is no memory for the copy.
-    pub(crate) fn into_plain(self) -> Result<T, Shareable<T, A>>
+    // The value for one owner alone: from its only owner itself, and else a copy. It is handed back where there is no memory for the copy.
+    fn into_plain(self) -> Result<T, Shareable<T, A>>
     where
         T: Clone,
         ensures ok { IfOk result (λ value. (value ≡ held self) ⊎ T.is_clone (held self) value) }
@@ -61,6 +61,30 @@ impl<T: Drop, A: Allocator> Shareable<T, A> {
         match self {
             Shareable::Plain(value) => Ok(value),
             Shareable::Shared(shared) => unwrap_or_copy(shared),
+        }
+    }
+
+    /// From now on one owner has the value by itself: the value itself where it is the only owner, and else a copy. An error, where there is no memory for the copy, leaves the value as it was. `empty` stands for it meanwhile.
+    pub(crate) fn unshare(&mut self, empty: T) -> Result<(), AllocError>
+    where
+        T: Clone,
+        ensures alone { OnOk result (IsPlain self.new) }
+        ensures ok { OnOk result ((held self.new ≡ held self.old) ⊎ T.is_clone (held self.old) (held self.new)) }
+        ensures err { OnErr result (held self.new ≡ held self.old) }
+    {
+        if let Shareable::Plain(_) = self {
+            return Ok(());
+        }
+        let content = mem::replace(self, Shareable::Plain(empty));
+        match content.into_plain() {
+            Ok(value) => {
+                *self = Shareable::Plain(value);
+                Ok(())
+            }
+            Err(content) => {
+                *self = content;
+                Err(AllocError)
+            }
         }
     }
 }

@@ -2,11 +2,11 @@
 ghost use Rattle.std.specs.Prelude.{◌≡◌, ◌==◌, ◌<◌, ◌^◌, [], false, cond, length, slice_get, is_some, IfErr, IfSome, IfOk, OnOk, OnErr, MatchResult, IsOkUnless};
 ghost use Rattle.std.specs.Option.{option_copied, option_map};
 ghost use Rattle.occ_types.specs.declared.fault.Fault.TheVariants.{SetFull, Memory};
-ghost use Rattle.occ_types.specs.Seen.{object_of, key_of, question_of};
+ghost use Rattle.occ_types.specs.PlainData.{object_of, key_of, question_of};
 ghost use Rattle.occ_model.specs.State.{State, Rows, answer, meets_question};
 ghost use Rattle.occ_model.specs.Overlay.{set, own};
 ghost use Rattle.occ_sets.specs.Overlays.{rows_over};
-ghost use Rattle.occ_sets.specs.Seen.{rows_of};
+ghost use Rattle.occ_sets.specs.PlainSets.{rows_of};
 ghost use Rattle.occ_sets.specs.Sets.{WritesOnce, is_full_for};
 ghost use Rattle.occ_sets.specs.Shareable.{held};
 
@@ -16,7 +16,6 @@ use crate::shareable::Shareable;
 use occ_types::{Fault, Key, Object, Question, Refused, Row};
 use std::alloc::{AllocError, Allocator};
 use std::marker::Model;
-use std::mem;
 
 /// What a transaction writes: each object with its new row, or with none where it is deleted, in the order of the first writes. One owner has it by itself, or several share it, also across threads. Clauses see the list of the plain writes.
 #[derive(Drop)]
@@ -189,37 +188,33 @@ impl<A: Allocator + Copy> WriteSet<A> {
         ensures handed_back { IfErr result (λ refused. refused.value ≡ (record { table = table; key = key }, row)) }
         ensures memory { IfErr result (λ refused. refused.fault ≡ Memory) }
     {
-        let empty = OwnWrites::new(self.own_writes().allocator());
-        let content = mem::replace(&mut self.content, Shareable::Plain(empty));
-        let (content, done) = insert_in(content, (Object { table, key }, row));
-        self.content = content;
-        done
+        insert_in(&mut self.content, (Object { table, key }, row))
     }
 }
 
 // Does a write. It is refused, and handed back, where there is no memory.
 fn insert_in<A: Allocator + Copy>(
-    content: Shareable<OwnWrites<A>, A>,
+    content: &mut Shareable<OwnWrites<A>, A>,
     write: Write<A>,
-) -> (Shareable<OwnWrites<A>, A>, Result<(), Refused<Write<A>>>)
-    ensures ok { OnOk result.1 (held result.0 ≡ set (held content) (object_of write.0) write.1) }
-    ensures err { OnErr result.1 (held result.0 ≡ held content) }
-    ensures handed_back { IfErr result.1 (λ refused. refused.value ≡ write) }
-    ensures memory { IfErr result.1 (λ refused. refused.fault ≡ Memory) }
+) -> Result<(), Refused<Write<A>>>
+    ensures ok { OnOk result (held content.new ≡ set (held content.old) (object_of write.0) write.1) }
+    ensures err { OnErr result (held content.new ≡ held content.old) }
+    ensures handed_back { IfErr result (λ refused. refused.value ≡ write) }
+    ensures memory { IfErr result (λ refused. refused.fault ≡ Memory) }
 {
-    match content.into_plain() {
-        Ok(mut writes) => {
+    let empty = OwnWrites::new(content.get().allocator());
+    if content.unshare(empty).is_err() {
+        return Err(Refused {
+            value: write,
+            fault: Fault::Memory,
+        });
+    }
+    match content {
+        Shareable::Plain(writes) => {
             let (object, row) = write;
-            let done = writes.insert(object, row);
-            (Shareable::Plain(writes), done)
+            writes.insert(object, row)
         }
-        Err(content) => (
-            content,
-            Err(Refused {
-                value: write,
-                fault: Fault::Memory,
-            }),
-        ),
+        Shareable::Shared(_) => unreachable!(),
     }
 }
 

@@ -3,7 +3,7 @@ use Rattle.std.proofs.lemmas.Iterator.Search.{any_from_yields_List}
 use Rattle.std.proofs.Common.{◌≡◌, ◌∙◌, rules, tests}
 use Rattle.std.specs.List.{list_any}
 use Rattle.occ_types.specs.Question.{asks}
-use Rattle.occ_types.specs.Seen.{object_of, question_of}
+use Rattle.occ_types.specs.PlainData.{object_of, question_of}
 use Rattle.occ_sets.proofs.Meetings.{meets_question-entries}
 use Rattle.occ_sets.proofs.few_writes.meets_few.Goals as goal
 

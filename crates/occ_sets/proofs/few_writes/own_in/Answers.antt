@@ -3,7 +3,7 @@ use Rattle.std.proofs.lemmas.Iterator.Search.{find_from_yields_List}
 use Rattle.std.proofs.Common.{◌≡◌, ◌∙◌, Some, ap, sym, rules, tests}
 use Rattle.std.specs.List.{find}
 use Rattle.std.specs.Option.{option_map}
-use Rattle.occ_sets.proofs.Entries.{tied}
+use Rattle.occ_sets.proofs.WriteEntries.{tied}
 use Rattle.occ_sets.proofs.Placed.{own_found}
 use Rattle.occ_sets.proofs.few_writes.own_in.Goals as goal
 

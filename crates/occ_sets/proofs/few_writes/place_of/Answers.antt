@@ -2,7 +2,7 @@ use Rattle.std.proofs.lemmas.Iterator.{YieldsList-from_slice}
 use Rattle.std.proofs.lemmas.Iterator.Search.{position_from_yields_List}
 use Rattle.std.proofs.Common.{◌≡◌, ◌∙◌, rules, tests}
 use Rattle.std.specs.List.{position}
-use Rattle.occ_sets.proofs.Entries.{tied}
+use Rattle.occ_sets.proofs.WriteEntries.{tied}
 use Rattle.occ_sets.proofs.Placed.{place_of_entry}
 use Rattle.occ_sets.proofs.few_writes.place_of.Goals as goal
 

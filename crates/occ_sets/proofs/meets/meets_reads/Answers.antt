@@ -3,7 +3,7 @@ use Rattle.std.proofs.lemmas.Iterator.Search.{any_from_yields_List}
 use Rattle.std.proofs.Common.{◌≡◌, ◌∙◌, ap, rules, tests}
 use Rattle.std.specs.Prelude.{map}
 use Rattle.std.specs.List.{list_any}
-use Rattle.occ_types.specs.Seen.{question_of}
+use Rattle.occ_types.specs.PlainData.{question_of}
 use Rattle.occ_model.specs.State.{meets_question, meets_reads}
 use Rattle.occ_sets.proofs.Meetings.{meets_reads-observations}
 use Rattle.occ_sets.proofs.meets.meets_reads.Goals as goal

@@ -4,11 +4,11 @@ use Rattle.std.proofs.lemmas.Iterator.Search.{any_from_yields_List}
 use Rattle.std.proofs.Common.{◌≡◌, ◌∙◌, ap, sym, is_some, rules, tests}
 use Rattle.std.specs.List.{list_any}
 use Rattle.std.specs.Map.{keys_of}
-use Rattle.occ_types.specs.Seen.{object_of}
+use Rattle.occ_types.specs.PlainData.{object_of}
 use Rattle.occ_model.specs.State.{meets_writes}
 use Rattle.occ_model.specs.Overlay.{own}
 use Rattle.occ_sets.specs.OwnWrites.{written}
-use Rattle.occ_sets.specs.Seen.{writes_of}
+use Rattle.occ_sets.specs.PlainSets.{writes_of}
 use Rattle.occ_sets.proofs.Meetings.{meets_writes-entries, meets_writes-keys}
 use Rattle.occ_sets.proofs.meets.meets_writes.Goals as goal
 

@@ -1,9 +1,9 @@
 use Rattle.std.proofs.Common.{◌≡◌, sym, ap, ◌∙◌}
 use Rattle.std.proofs.lemmas.Map.Entries.{entries_from_clone}
-use Rattle.occ_types.specs.Seen.{question_of, table_asked}
+use Rattle.occ_types.specs.PlainData.{question_of, table_asked}
 use Rattle.occ_model.specs.State.{apply}
 use Rattle.occ_model.specs.Overlay as model
-use Rattle.occ_sets.specs.Seen.{rows_of}
+use Rattle.occ_sets.specs.PlainSets.{rows_of}
 use Rattle.occ_sets.specs.Overlays.{rows_over}
 use Rattle.occ_sets.proofs.Agreement.{answer_of_entries}
 use Rattle.occ_sets.proofs.overlays.over_rows.Goals as goal

@@ -1,6 +1,6 @@
 use Rattle.std.proofs.Common.{◌≡◌, true, false, Some, sym, ap, ◌∙◌}
 use Rattle.occ_types.specs.Question.{asks}
-use Rattle.occ_types.specs.Seen.{key_of, question_of, table_asked}
+use Rattle.occ_types.specs.PlainData.{key_of, question_of, table_asked}
 use Rattle.occ_sets.proofs.Agreement.{follows-asked, follows-unasked}
 use Rattle.occ_sets.proofs.overlays.put.Goals as goal
 

@@ -1,7 +1,7 @@
 use Rattle.std.proofs.Common.{[], ◌∷◌, sym, append-nil}
-use Rattle.occ_types.specs.Seen.{question_of, table_asked}
+use Rattle.occ_types.specs.PlainData.{question_of, table_asked}
 use Rattle.occ_model.specs.Overlay as model
-use Rattle.occ_sets.specs.Seen.{rows_of}
+use Rattle.occ_sets.specs.PlainSets.{rows_of}
 use Rattle.occ_sets.proofs.Agreement.{agrees-empty, agrees-row, taken}
 use Rattle.occ_sets.proofs.overlays.rows_asked.Goals as goal
 

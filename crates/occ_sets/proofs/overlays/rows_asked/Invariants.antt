@@ -1,10 +1,10 @@
 use Rattle.std.proofs.Common.{◌≡◌, List, ◌++◌, vec_len}
 use Rattle.occ_types.specs.declared.keys.Key.{Key}
 use Rattle.occ_types.specs.Row.{Row}
-use Rattle.occ_types.specs.Seen.{question_of, table_asked}
+use Rattle.occ_types.specs.PlainData.{question_of, table_asked}
 use Rattle.occ_model.specs.Overlay as model
 use Rattle.occ_sets.specs.Overlays.{Agrees}
-use Rattle.occ_sets.specs.Seen.{rows_of}
+use Rattle.occ_sets.specs.PlainSets.{rows_of}
 use Rattle.occ_sets.proofs.overlays.rows_asked.Given as goal
 
 -- the rows that are taken agree with those that are laid

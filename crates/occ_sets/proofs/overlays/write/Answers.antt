@@ -3,7 +3,7 @@ use Rattle.std.specs.Prelude.{slice_get}
 use Rattle.std.specs.Option.{option_copied}
 use Rattle.occ_types.specs.Question.{asks}
 use Rattle.occ_types.specs.Row.{Row}
-use Rattle.occ_types.specs.Seen.{key_of, object_of, question_of}
+use Rattle.occ_types.specs.PlainData.{key_of, object_of, question_of}
 use Rattle.occ_model.specs.State.{Write}
 use Rattle.occ_sets.specs.Overlays.{FollowsWrite}
 use Rattle.occ_sets.proofs.Agreement.{follows-asked, follows-unasked, follows_found}

@@ -1,9 +1,9 @@
-use Rattle.std.proofs.Common.{◌≡◌, Option, None, Some, ap, sym, subst, ◌∙◌, refl}
+use Rattle.std.proofs.Common.{◌≡◌, Option, None, Some, ap, sym, subst, ◌∙◌}
 use Rattle.std.proofs.lemmas.List.Elements.{same_from_all_zip}
 use Rattle.std.specs.Prelude.{IfOk}
 use Rattle.occ_types.specs.Row.{Row}
 use Rattle.occ_sets.specs.OwnWrites.{written}
-use Rattle.occ_sets.specs.Seen.{writes_of}
+use Rattle.occ_sets.specs.PlainSets.{writes_of}
 use Rattle.occ_sets.proofs.own_writes.copied.Goals as goal
 
 -- a copy of an entry is the same, whatever tells copies of rows apart from none

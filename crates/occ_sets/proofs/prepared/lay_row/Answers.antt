@@ -1,7 +1,7 @@
 use Rattle.std.proofs.Common.{◌≡◌, false, nat_eq, subst, sym, ◌∙◌, arith}
 use Rattle.std.specs.Ordering.{on, ordering_index}
 use Rattle.occ_types.specs.Key.{key_cmp}
-use Rattle.occ_types.specs.Seen.{key_of}
+use Rattle.occ_types.specs.PlainData.{key_of}
 use Rattle.occ_sets.proofs.Merging.{is_greater, lays_own, lays_row}
 use Rattle.occ_sets.proofs.prepared.lay_row.Goals as goal
 

@@ -2,7 +2,7 @@ use Rattle.std.proofs.Common.{◌≡◌, ◌+◌, ◌≤◌, ◌++◌, vec_len, 
 use Rattle.std.specs.BTreeMap.{btree_map_len}
 use Rattle.std.specs.Ordering.{on}
 use Rattle.occ_types.specs.Key.{key_cmp}
-use Rattle.occ_types.specs.Seen.{key_of}
+use Rattle.occ_types.specs.PlainData.{key_of}
 use Rattle.occ_sets.specs.Merging.{laid}
 use Rattle.occ_sets.proofs.prepared.lay_row.Given as goal
 

@@ -7,7 +7,7 @@ use Rattle.std.specs.Ordering.{on}
 use Rattle.occ_types.specs.declared.keys.Key as code_key
 use Rattle.occ_types.specs.Row.{Row}
 use Rattle.occ_types.specs.Key.{key_cmp}
-use Rattle.occ_types.specs.Seen.{key_of}
+use Rattle.occ_types.specs.PlainData.{key_of}
 use Rattle.occ_sets.specs.Merging.{merged}
 use Rattle.occ_sets.proofs.prepared.merge.Goals as goal
 

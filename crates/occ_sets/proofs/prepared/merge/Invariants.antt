@@ -2,7 +2,7 @@ use Rattle.std.proofs.Common.{◌≡◌, ◌+◌, ◌≤◌, ◌++◌, length, v
 use Rattle.std.specs.BTreeMap.{btree_map_len}
 use Rattle.std.specs.Ordering.{on}
 use Rattle.occ_types.specs.Key.{key_cmp}
-use Rattle.occ_types.specs.Seen.{key_of}
+use Rattle.occ_types.specs.PlainData.{key_of}
 use Rattle.occ_sets.specs.Merging.{merged}
 use Rattle.occ_sets.proofs.prepared.merge.Given as goal
 

@@ -1,7 +1,7 @@
 use Rattle.std.proofs.Common.{◌≡◌, ◌<◌, length, refl, sym, subst, ap, ◌∙◌, arith}
 use Rattle.std.specs.Prelude.{[], drop}
 use Rattle.std.proofs.lemmas.List.{drop_all}
-use Rattle.occ_types.specs.Seen.{question_of}
+use Rattle.occ_types.specs.PlainData.{question_of}
 use Rattle.occ_model.specs.State.{put, apply}
 use Rattle.occ_sets.specs.Merging.{Led}
 use Rattle.occ_sets.proofs.Agreement.{at_place, drop-slice_get}

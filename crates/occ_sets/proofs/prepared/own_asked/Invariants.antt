@@ -1,5 +1,5 @@
 use Rattle.std.proofs.Common.{◌≡◌, drop}
-use Rattle.occ_types.specs.Seen.{question_of}
+use Rattle.occ_types.specs.PlainData.{question_of}
 use Rattle.occ_model.specs.State.{State, apply}
 use Rattle.occ_sets.specs.Merging.{Led}
 use Rattle.occ_sets.proofs.prepared.own_asked.Given as goal

@@ -1,10 +1,10 @@
 use Rattle.std.proofs.Common.{sym, ap, ◌∙◌}
 use Rattle.std.proofs.lemmas.Result.{IfOk-weaker}
-use Rattle.occ_types.specs.Seen.{end_of, question_of}
+use Rattle.occ_types.specs.PlainData.{end_of, question_of}
 use Rattle.occ_model.specs.State.{Rows}
 use Rattle.occ_model.specs.Overlay.{overlay}
 use Rattle.occ_sets.specs.Overlays.{rows_over}
-use Rattle.occ_sets.specs.Seen.{answer_of, rows_of}
+use Rattle.occ_sets.specs.PlainSets.{answer_of, rows_of}
 use Rattle.occ_sets.proofs.Agreement.{overlay-Span}
 use Rattle.occ_sets.proofs.copies.PrivateCopy.overlay.Goals as goal
 

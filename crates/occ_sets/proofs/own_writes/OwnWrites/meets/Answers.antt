@@ -4,10 +4,10 @@ use Rattle.std.proofs.Common.{◌≡◌, ◌∙◌, sym, ap, rules, tests}
 use Rattle.std.specs.List.{list_any}
 use Rattle.std.specs.Map.{keys_of}
 use Rattle.occ_types.specs.Question.{asks}
-use Rattle.occ_types.specs.Seen.{key_of, object_of, question_of}
+use Rattle.occ_types.specs.PlainData.{key_of, object_of, question_of}
 use Rattle.occ_model.specs.State.{meets_question}
 use Rattle.occ_sets.specs.OwnWrites.{written}
-use Rattle.occ_sets.specs.Seen.{writes_of}
+use Rattle.occ_sets.specs.PlainSets.{writes_of}
 use Rattle.occ_sets.proofs.Meetings.{meets_question-One, meets_question-keys}
 use Rattle.occ_sets.proofs.own_writes.OwnWrites.meets.Goals as goal
 

@@ -1,7 +1,7 @@
 use Rattle.std.proofs.Common.{sym, ap, subst}
-use Rattle.occ_sets.specs.Seen.{writes_of}
+use Rattle.occ_sets.specs.PlainSets.{writes_of}
 use Rattle.occ_sets.specs.Sets.{WritesOnce}
-use Rattle.occ_sets.proofs.Entries.{none-WritesOnce}
+use Rattle.occ_sets.proofs.WriteEntries.{none-WritesOnce}
 use Rattle.occ_sets.proofs.own_writes.OwnWrites.new.Goals as goal
 
 -- nothing is written

@@ -2,8 +2,8 @@ use Rattle.std.proofs.Common.{◌≡◌, ◌∙◌, ap, sym, rules}
 use Rattle.std.specs.Option.{option_map, option_copied}
 use Rattle.occ_types.specs.Row.{Row}
 use Rattle.occ_sets.specs.OwnWrites.{written}
-use Rattle.occ_sets.specs.Seen.{writes_of}
-use Rattle.occ_sets.proofs.Entries.{own_seen}
+use Rattle.occ_sets.specs.PlainSets.{writes_of}
+use Rattle.occ_sets.proofs.WriteEntries.{own_seen}
 use Rattle.occ_sets.proofs.own_writes.OwnWrites.own.Goals as goal
 
 -- the look-up answers it

@@ -1,7 +1,7 @@
 use Rattle.std.proofs.Common.{◌∙◌, sym}
-use Rattle.occ_types.specs.Seen.{object_of}
+use Rattle.occ_types.specs.PlainData.{object_of}
 use Rattle.occ_sets.specs.Sets.{is_full_for}
-use Rattle.occ_sets.proofs.Entries.{full_for_new, few_set}
+use Rattle.occ_sets.proofs.WriteEntries.{full_for_new, few_set}
 use Rattle.occ_sets.proofs.Refusals.{told_memory}
 use Rattle.occ_sets.proofs.own_writes.OwnWrites.set.Goals as goal
 

@@ -1,6 +1,6 @@
 use Rattle.std.proofs.Common.{sym, subst}
 use Rattle.occ_sets.specs.Sets.{WritesOnce}
-use Rattle.occ_sets.proofs.Entries.{none-WritesOnce}
+use Rattle.occ_sets.proofs.WriteEntries.{none-WritesOnce}
 use Rattle.occ_sets.proofs.own_writes.OwnWrites.with_capacity.Goals as goal
 
 -- nothing is written

@@ -3,9 +3,9 @@ use Rattle.std.proofs.lemmas.Option.{slice_get-map, slice_get_read}
 use Rattle.std.specs.Prelude.{slice_get}
 use Rattle.std.specs.Option.{option_map}
 use Rattle.std.specs.Map.Iter.{deref_pair}
-use Rattle.occ_types.specs.Seen.{object_of}
+use Rattle.occ_types.specs.PlainData.{object_of}
 use Rattle.occ_sets.specs.OwnWrites.{written}
-use Rattle.occ_sets.specs.Seen.{write_of, writes_of}
+use Rattle.occ_sets.specs.PlainSets.{write_of, writes_of}
 use Rattle.occ_sets.proofs.own_writes.OwnWrites.write_at.Goals as goal
 
 -- the entry at the place

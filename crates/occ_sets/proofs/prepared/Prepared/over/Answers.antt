@@ -1,8 +1,8 @@
 use Rattle.std.proofs.Common.{ap, ◌∙◌}
-use Rattle.occ_types.specs.Seen.{question_of}
+use Rattle.occ_types.specs.PlainData.{question_of}
 use Rattle.occ_model.specs.State.{answer}
 use Rattle.occ_sets.specs.Overlays.{rows_over}
-use Rattle.occ_sets.specs.Seen.{rows_of}
+use Rattle.occ_sets.specs.PlainSets.{rows_of}
 use Rattle.occ_sets.proofs.Leading.{merged_over}
 use Rattle.occ_sets.proofs.prepared.Prepared.over.Goals as goal
 

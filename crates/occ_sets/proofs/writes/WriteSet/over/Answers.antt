@@ -2,10 +2,10 @@ use Rattle.std.proofs.Common.{◌≡◌, [], length, sym, ap, ◌∙◌, arith}
 use Rattle.std.proofs.lemmas.List.{nil_from_length}
 use Rattle.std.specs.Ordering.{on}
 use Rattle.occ_types.specs.Key.{key_cmp}
-use Rattle.occ_types.specs.Seen.{key_of, question_of}
+use Rattle.occ_types.specs.PlainData.{key_of, question_of}
 use Rattle.occ_sets.specs.Merging.{merged}
 use Rattle.occ_sets.specs.Overlays.{rows_over}
-use Rattle.occ_sets.specs.Seen.{rows_of}
+use Rattle.occ_sets.specs.PlainSets.{rows_of}
 use Rattle.occ_sets.proofs.Leading.{merged_none, merged_over}
 use Rattle.occ_sets.proofs.writes.WriteSet.over.Goals as goal
 

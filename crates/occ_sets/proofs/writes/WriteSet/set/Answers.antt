@@ -1,6 +1,6 @@
 use Rattle.std.proofs.Common.{◌∙◌, ap, sym}
 use Rattle.occ_types.specs.Object.{Object}
-use Rattle.occ_types.specs.Seen.{key_of}
+use Rattle.occ_types.specs.PlainData.{key_of}
 use Rattle.occ_sets.specs.Sets.{is_full_for}
 use Rattle.occ_sets.proofs.Refusals.{told_memory}
 use Rattle.occ_sets.proofs.writes.WriteSet.set.Goals as goal

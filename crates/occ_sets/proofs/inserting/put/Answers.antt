@@ -1,8 +1,8 @@
 use Rattle.std.proofs.Common.{◌∙◌, ap}
-use Rattle.occ_sets.specs.Seen.{writes_of}
-use Rattle.occ_sets.proofs.Entries.{set-writes_of}
+use Rattle.occ_sets.specs.PlainSets.{writes_of}
+use Rattle.occ_sets.proofs.WriteEntries.{set-writes_of}
 use Rattle.occ_sets.proofs.Refusals.{when_ok}
-use Rattle.occ_sets.proofs.own_writes.put.Goals as goal
+use Rattle.occ_sets.proofs.inserting.put.Goals as goal
 
 -- there is room, so the write is done
 pub returns-clause-done : goal.returns-clause-done

@@ -4,12 +4,12 @@ use Rattle.std.proofs.lemmas.Iterator.Consumers.{YieldsList-end, YieldsList-turn
 use Rattle.std.proofs.lemmas.Iterator.Adapters.{YieldsList-from_vec}
 use Rattle.occ_types.specs.declared.objects.Object as code
 use Rattle.occ_types.specs.Row.{Row}
-use Rattle.occ_types.specs.Seen.{object_of}
+use Rattle.occ_types.specs.PlainData.{object_of}
 use Rattle.occ_model.specs.Overlay.{set}
 use Rattle.occ_model.specs.RangeLaws.{set_all}
-use Rattle.occ_sets.specs.Seen.{writes_of}
+use Rattle.occ_sets.specs.PlainSets.{writes_of}
 use Rattle.occ_sets.proofs.Placed.{set_all_once, set_all_push}
-use Rattle.occ_sets.proofs.own_writes.fill.Goals as goal
+use Rattle.occ_sets.proofs.inserting.fill.Goals as goal
 
 -- a write that is taken was left, so there is room for it
 pub put-requires : goal.put-requires

@@ -4,7 +4,7 @@ use Rattle.occ_types.specs.declared.objects.Object as code_object
 use Rattle.occ_types.specs.declared.keys.Key as code_key
 use Rattle.occ_types.specs.Key.{Key}
 use Rattle.occ_types.specs.Row.{Row}
-use Rattle.occ_types.specs.Seen.{key_of, object_of, question_of}
+use Rattle.occ_types.specs.PlainData.{key_of, object_of, question_of}
 use Rattle.occ_model.specs.State.{Write, Answer, Found, Rows, Observation}
 use Rattle.occ_sets.specs.declared.reads.Answer as code_answer
 use Rattle.occ_sets.specs.declared.reads.Answer.TheVariants as answers

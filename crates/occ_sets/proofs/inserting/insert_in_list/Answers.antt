@@ -1,12 +1,11 @@
-use Rattle.std.proofs.Common.{◌≡◌, ◌∙◌, None, Some, set as put_at, sym, ap, arith}
-use Rattle.occ_types.specs.Seen.{object_of}
-use Rattle.occ_model.specs.Overlay.{own}
-use Rattle.occ_sets.specs.Seen.{write_of, writes_of}
+use Rattle.std.proofs.Common.{◌≡◌, ◌∙◌, [], ◌∷◌, None, Some, set as put_at, sym, ap, arith}
+use Rattle.std.proofs.lemmas.List.{map-append}
+use Rattle.occ_types.specs.PlainData.{object_of}
+use Rattle.occ_sets.specs.PlainSets.{write_of, writes_of}
 use Rattle.occ_sets.specs.Sets.{place_in}
-use Rattle.occ_sets.proofs.Entries.{length-writes_of}
-use Rattle.occ_sets.proofs.Placed.{placed_within, set_at, unplaced}
-use Rattle.occ_sets.proofs.Refusals.{at_error}
-use Rattle.occ_sets.proofs.own_writes.insert_in_list.Goals as goal
+use Rattle.occ_sets.proofs.WriteEntries.{length-writes_of}
+use Rattle.occ_sets.proofs.Placed.{placed_within, set_at, set_new, unplaced}
+use Rattle.occ_sets.proofs.inserting.insert_in_list.Goals as goal
 
 -- the place is one of the list
 pub index_mut-requires : goal.index_mut-requires
@@ -18,7 +17,7 @@ index_mut-requires g c =
 -- the write there gets the row
 pub returns-in-Some-clause-ok : goal.returns-in-Some-clause-ok
 returns-in-Some-clause-ok g c =
-    let es = c.args.list.items in
+    let es = c.args.list.now.items in
     let o = c.args.write.0 in
     let row = c.args.write.1 in
     let place = c.in-Some.place in
@@ -28,17 +27,22 @@ returns-in-Some-clause-ok g c =
     ap (λ e. writes_of (put_at es place (e.0, row))) c.index_mut.ensures.value
     ∙ set_at es o row place entry placed
 
--- without a place the object is not written
-pub insert_new-requires-clause-new : goal.insert_new-requires-clause-new
-insert_new-requires-clause-new g c =
+-- one that has no place goes last
+pub returns-in-Ok-clause-ok : goal.returns-in-Ok-clause-ok
+returns-in-Ok-clause-ok g c =
+    let es = c.args.list.now.items in
     let o = object_of c.args.write.0 in
-    let placed : place_in (writes_of c.args.list.items) o ≡ None =
+    let placed : place_in (writes_of es) o ≡ None =
     ap (λ es. place_in (writes_of es) o) (sym c.as_slice.ensures.value) ∙ sym c.place_of.ensures ∙ c.in-None.is in
-    unplaced (writes_of c.args.list.items) o placed
+    ap writes_of c.in-Ok.ensures.items
+    ∙ map-append write_of es (c.args.write ∷ [])
+    ∙ sym (set_new (writes_of es) o c.args.write.1 (unplaced (writes_of es) o placed))
 
-pub returns-in-None-clause-only_new : goal.returns-in-None-clause-only_new
-returns-in-None-clause-only_new g c =
+-- only such a one needs memory
+pub returns-in-Err-clause-only_new : goal.returns-in-Err-clause-only_new
+returns-in-Err-clause-only_new g c =
+    let es = c.args.list.now.items in
     let o = object_of c.args.write.0 in
-    let placed : place_in (writes_of c.args.list.items) o ≡ None =
+    let placed : place_in (writes_of es) o ≡ None =
     ap (λ es. place_in (writes_of es) o) (sym c.as_slice.ensures.value) ∙ sym c.place_of.ensures ∙ c.in-None.is in
-    at_error c.insert_new.result.1 (unplaced (writes_of c.args.list.items) o placed)
+    unplaced (writes_of es) o placed

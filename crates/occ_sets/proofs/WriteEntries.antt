@@ -11,11 +11,11 @@ use Rattle.occ_types.specs.declared.objects.Object as code
 use Rattle.occ_types.specs.declared.limits.TheConstants.{MAX_WRITES}
 use Rattle.occ_types.specs.Object.{Object, object_cmp}
 use Rattle.occ_types.specs.Row.{Row}
-use Rattle.occ_types.specs.Seen.{object_of}
+use Rattle.occ_types.specs.PlainData.{object_of}
 use Rattle.occ_model.specs.State.{Write}
 use Rattle.occ_model.specs.Overlay.{set, own}
 use Rattle.occ_model.proofs.OwnWrites.{sets_own}
-use Rattle.occ_sets.specs.Seen.{write_of, writes_of}
+use Rattle.occ_sets.specs.PlainSets.{write_of, writes_of}
 use Rattle.occ_sets.specs.Sets.{WritesOnce, objects, is_full_for}
 
 -- no value is none
