@@ -22,7 +22,7 @@ use Rattle.occ_model.specs.Step.{entering, IsCaseOf, read_more, entered, closed,
 use Rattle.occ_model.specs.Invariant.{commits, Chained, is_touched, IsFresh, NumbersAreBelow, OneUnderWay, ActiveAreHeld, Invariant}
 use Rattle.occ_model.proofs.Tests as tests
 use Rattle.occ_model.proofs.Logs.{serial-append, settled-append, Chained-push}
-use Rattle.occ_model.proofs.Entries.{verdict-validity, commit_means, NoneInTheWay, none_active, valid_reads}
+use Rattle.occ_model.proofs.AtEntry.{verdict-validity, commit_means, NoneInTheWay, none_active, valid_reads}
 use Rattle.occ_model.proofs.Turns
 use Rattle.occ_model.proofs.Turns.{latest-push}
 use Rattle.occ_model.proofs.Orders.{Counts-push, numbers-append, numbers-own, numbers-other, places-append, length-places, latest_number, get-own, get-other, tied, apart}

@@ -25,7 +25,7 @@ use Rattle.occ_model.specs.declared.verdict.Cause.{Cause}
 use Rattle.occ_model.proofs.Tests as tests
 use Rattle.occ_model.proofs.States.{answer-apply}
 use Rattle.occ_model.proofs.Logs.{serial-append, settled-append, ActiveAreApart, Chained-push}
-use Rattle.occ_model.proofs.Entries.{commit_means, valid_reads}
+use Rattle.occ_model.proofs.AtEntry.{commit_means, valid_reads}
 use Rattle.occ_model.proofs.Turns
 use Rattle.occ_model.proofs.Turns.{latest-push}
 use Rattle.occ_model.proofs.Phases.{get-remove-from, IsFresh-step, not_refused, known_reads}

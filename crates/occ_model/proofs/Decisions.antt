@@ -21,7 +21,7 @@ use Rattle.occ_model.specs.declared.verdict.Verdict.TheVariants as verdicts
 use Rattle.occ_model.specs.declared.verdict.Cause.TheVariants.{Conflict, TooOld}
 use Rattle.occ_model.proofs.Tests as tests
 use Rattle.occ_model.proofs.Logs.{standing_at}
-use Rattle.occ_model.proofs.Entries.{verdict-validity}
+use Rattle.occ_model.proofs.AtEntry.{verdict-validity}
 use Rattle.occ_model.proofs.Turns.{around}
 use Rattle.occ_model.proofs.Folds.{part_rest}
 use Rattle.occ_model.proofs.Phases.{not_refused}

@@ -10,7 +10,7 @@ use Rattle.occ_model.specs.Laws.{Headline, VerdictIsValidity, RefusalsLeave}
 use Rattle.occ_model.specs.declared.verdict.Verdict.{Verdict}
 use Rattle.occ_model.specs.declared.verdict.Verdict.TheVariants as verdicts
 use Rattle.std.specs.Prelude.{Option, None, Some, slice_get, MatchOption}
-use Rattle.occ_model.proofs.Entries.{verdict-validity}
+use Rattle.occ_model.proofs.AtEntry.{verdict-validity}
 use Rattle.occ_model.proofs.Steps.{keeps_run, invariant_resumed, audited, settled_quiet}
 
 pub headline : Headline

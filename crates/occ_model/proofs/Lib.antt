@@ -1,7 +1,7 @@
 pub mod Tests
 pub mod States
 pub mod Logs
-pub mod Entries
+pub mod AtEntry
 pub mod Turns
 pub mod Orders
 pub mod Folds

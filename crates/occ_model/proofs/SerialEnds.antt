@@ -12,7 +12,7 @@ use Rattle.occ_types.specs.declared.fault.Fault.TheVariants as faults
 use Rattle.occ_model.specs.State.{State, Write, put, apply}
 use Rattle.occ_model.specs.Log.{LogRow, Standing, Open, Writing, Done, Back, Case, is_open, is_back, rest, remaining}
 use Rattle.occ_model.specs.Validity.{verdict, case_at}
-use Rattle.occ_model.proofs.Entries.{verdict-validity}
+use Rattle.occ_model.proofs.AtEntry.{verdict-validity}
 use Rattle.occ_model.specs.World.{World, low, questions_under, latest, turn, reads_under, is_held, has_session}
 use Rattle.occ_model.specs.Event.{Decide, WriteOne, Finish, BackUp, Reply, Decided, Wrote, Finished, BackedUp}
 use Rattle.occ_model.specs.Refusal as refusals

@@ -4,7 +4,7 @@ use Rattle.occ_types.specs.Object.{Object}
 use Rattle.occ_types.specs.Question.{Question, One}
 use Rattle.occ_model.specs.State.{Write, Observation}
 use Rattle.occ_model.specs.Operations.{Progress}
-use Rattle.occ_sets.specs.Seen.{answer_of}
+use Rattle.occ_sets.specs.PlainSets.{answer_of}
 use Rattle.occ_operations.specs.declared.performed.Performed as code
 
 module _ {Z : Type 0} where

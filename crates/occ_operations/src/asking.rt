@@ -3,10 +3,10 @@ ghost use Rattle.std.specs.Prelude.{◌≡◌, ◌++◌, [], ◌∷◌, IfOk, On
 ghost use Rattle.std.specs.Option.{option_copied};
 ghost use Rattle.occ_types.specs.declared.fault.Fault.TheVariants.{Memory};
 ghost use Rattle.occ_types.specs.Question.{Span};
-ghost use Rattle.occ_types.specs.Seen.{end_of, object_of, question_of};
+ghost use Rattle.occ_types.specs.PlainData.{end_of, object_of, question_of};
 ghost use Rattle.occ_model.specs.Operations.{asked, seen};
 ghost use Rattle.occ_model.specs.State.{Found, Rows, answer};
-ghost use Rattle.occ_sets.specs.Seen.{rows_of};
+ghost use Rattle.occ_sets.specs.PlainSets.{rows_of};
 ghost use Rattle.occ_operations.specs.Performed.{so_far, one};
 
 use occ_book::Tables;

@@ -1,7 +1,7 @@
 //! What a list of operations did.
 ghost use Rattle.std.specs.Prelude.{◌≡◌, IfOk, OnOk, IsOkUnless, Some, None};
 ghost use Rattle.occ_types.specs.declared.fault.Fault.TheVariants.{Memory};
-ghost use Rattle.occ_types.specs.Seen.{key_of, end_of};
+ghost use Rattle.occ_types.specs.PlainData.{key_of, end_of};
 ghost use Rattle.occ_model.specs.Operations.{Get, Scan, Add, nothing_yet, perform, perform_all};
 ghost use Rattle.occ_model.specs.Overlay.{set};
 ghost use Rattle.occ_sets.specs.Operations.{op_of, ops_of};

@@ -18,9 +18,9 @@ use Rattle.occ_types.specs.Row.{Row}
 use Rattle.occ_types.proofs.Asked.{asks-Span}
 use Rattle.occ_model.specs.State.{State, Answer, Found, Rows, answer}
 use Rattle.occ_model.proofs.States.{same_state}
-use Rattle.occ_types.specs.Seen.{key_of}
+use Rattle.occ_types.specs.PlainData.{key_of}
 use Rattle.occ_types.specs.declared.keys.Key as code_key
-use Rattle.occ_book.specs.Kept.{placed, seen}
+use Rattle.occ_book.specs.Content.{placed, seen}
 use Rattle.occ_print.specs.Books.{rows_at}
 
 abbrev Entries : Type 0

@@ -2,7 +2,7 @@
 
 ghost use Rattle.std.specs.Prelude.{◌≡◌, ◌≢◌, ℕ, true, IfErr, IfSome};
 ghost use Rattle.std.specs.List.{list_all};
-ghost use Rattle.occ_types.specs.Seen.{question_of, tables_of};
+ghost use Rattle.occ_types.specs.PlainData.{question_of, tables_of};
 ghost use Rattle.occ_model.specs.Log.{Case};
 ghost use Rattle.occ_book.specs.Rows.{log_of};
 ghost use Rattle.occ_text.specs.declared.versions.Version.TheVariants as versions;

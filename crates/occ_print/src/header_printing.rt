@@ -1,7 +1,7 @@
 //! The header of a book, printed line by line.
 
 ghost use Rattle.std.specs.Prelude.{◌≡◌, ◌<◌, ◌∷◌, [], true, map, IfErr};
-ghost use Rattle.occ_types.specs.Seen.{table_of, tables_of};
+ghost use Rattle.occ_types.specs.PlainData.{table_of, tables_of};
 ghost use Rattle.occ_text.specs.Line.{lines_text};
 ghost use Rattle.occ_text.specs.Printing.{PrintGives};
 ghost use Rattle.occ_text.specs.declared.faults.WriteFault.TheVariants as write_faults;

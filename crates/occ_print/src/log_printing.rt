@@ -3,8 +3,8 @@
 ghost use Rattle.std.specs.Prelude.{◌≡◌, ℕ, ◌<◌, ◌∷◌, [], true, map, slice_get, IfErr};
 ghost use Rattle.std.specs.List.{flat_map};
 ghost use Rattle.std.specs.Option.{option_copied, option_to_list};
-ghost use Rattle.occ_types.specs.Seen.{key_of, object_of};
-ghost use Rattle.occ_sets.specs.Seen.{rows_of, answer_of, observation_of, observations_of};
+ghost use Rattle.occ_types.specs.PlainData.{key_of, object_of};
+ghost use Rattle.occ_sets.specs.PlainSets.{rows_of, answer_of, observation_of, observations_of};
 ghost use Rattle.occ_model.specs.Log.{Case};
 ghost use Rattle.occ_book.specs.Rows.{log_row_of, log_of};
 ghost use Rattle.occ_text.specs.Line.{lines_text};

@@ -2,8 +2,8 @@
 
 ghost use Rattle.std.specs.Prelude.{◌≡◌, ◌<◌, ◌∷◌, [], true, map, IfErr};
 ghost use Rattle.std.specs.FinMap as finite;
-ghost use Rattle.occ_types.specs.Seen.{key_of};
-ghost use Rattle.occ_book.specs.Kept.{placed};
+ghost use Rattle.occ_types.specs.PlainData.{key_of};
+ghost use Rattle.occ_book.specs.Content.{placed};
 ghost use Rattle.occ_book.specs.Marks.{mark_at};
 ghost use Rattle.occ_text.specs.Line.{lines_text};
 ghost use Rattle.occ_text.specs.Printing.{PrintGives};

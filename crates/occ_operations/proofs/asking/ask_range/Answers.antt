@@ -1,7 +1,7 @@
 use Rattle.std.proofs.Common.{ap, sym, ◌∙◌}
-use Rattle.occ_types.specs.Seen.{end_of, question_of}
+use Rattle.occ_types.specs.PlainData.{end_of, question_of}
 use Rattle.occ_model.specs.State.{answer}
-use Rattle.occ_sets.specs.Seen.{rows_of}
+use Rattle.occ_sets.specs.PlainSets.{rows_of}
 use Rattle.occ_operations.specs.Performed.{so_far}
 use Rattle.occ_operations.proofs.Performing.{ranged}
 use Rattle.occ_operations.proofs.asking.ask_range.Goals as goal

@@ -1,7 +1,7 @@
 use Rattle.std.proofs.lemmas.Iterator.{YieldsList-from_slice}
 use Rattle.std.proofs.lemmas.Iterator.Search.{all_from_yields_List}
 use Rattle.std.proofs.Common.{rules, tests}
-use Rattle.occ_types.specs.Seen.{question_of}
+use Rattle.occ_types.specs.PlainData.{question_of}
 use Rattle.occ_print.specs.Ends.{has_both_ends}
 use Rattle.occ_print.proofs.ends.reads_have_ends.Goals as goal
 

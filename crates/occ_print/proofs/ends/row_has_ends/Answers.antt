@@ -1,6 +1,6 @@
 use Rattle.std.proofs.Common.{◌∙◌, ap, sym}
 use Rattle.std.proofs.lemmas.List.Folds.{list_all-map}
-use Rattle.occ_sets.specs.Seen.{observation_of}
+use Rattle.occ_sets.specs.PlainSets.{observation_of}
 use Rattle.occ_print.specs.Ends.{has_both_ends, reads_have_ends}
 use Rattle.occ_print.proofs.ends.row_has_ends.Goals as goal
 

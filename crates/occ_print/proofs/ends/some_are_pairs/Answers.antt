@@ -1,7 +1,7 @@
 use Rattle.std.proofs.lemmas.Iterator.{YieldsList-from_slice}
 use Rattle.std.proofs.lemmas.Iterator.Search.{any_from_yields_List}
 use Rattle.std.proofs.Common.{◌∙◌, sym, rules, tests}
-use Rattle.occ_types.specs.Seen.{table_of}
+use Rattle.occ_types.specs.PlainData.{table_of}
 use Rattle.occ_print.specs.Ends.{is_pair}
 use Rattle.occ_print.proofs.Readable.{pairs_viewed}
 use Rattle.occ_print.proofs.ends.some_are_pairs.Goals as goal

@@ -1,4 +1,4 @@
-use Rattle.occ_types.specs.Seen.{table_of}
+use Rattle.occ_types.specs.PlainData.{table_of}
 use Rattle.occ_text.specs.Headers.{table_text}
 use Rattle.occ_print.proofs.Printing.{failed, each_more, each_front}
 use Rattle.occ_print.proofs.header_printing.print_tables.Goals as goal

@@ -1,5 +1,5 @@
 use Rattle.std.proofs.Common.{map, take}
-use Rattle.occ_types.specs.Seen.{tables_of}
+use Rattle.occ_types.specs.PlainData.{tables_of}
 use Rattle.occ_text.specs.Line.{lines_text}
 use Rattle.occ_text.specs.Printing.{Pushed}
 use Rattle.occ_text.specs.Headers.{table_text}

@@ -1,4 +1,4 @@
-use Rattle.occ_types.specs.Seen.{key_of}
+use Rattle.occ_types.specs.PlainData.{key_of}
 use Rattle.occ_print.specs.Books.{pair_line}
 use Rattle.occ_print.proofs.Printing.{failed, each_more, each_front}
 use Rattle.occ_text.specs.declared.faults.WriteFault.TheVariants as write_faults

@@ -1,5 +1,5 @@
 use Rattle.std.proofs.Common.{map, take}
-use Rattle.occ_sets.specs.Seen.{rows_of}
+use Rattle.occ_sets.specs.PlainSets.{rows_of}
 use Rattle.occ_text.specs.Line.{lines_text}
 use Rattle.occ_text.specs.Printing.{Pushed}
 use Rattle.occ_print.specs.Books.{pair_line}

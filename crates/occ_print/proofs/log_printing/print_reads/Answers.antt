@@ -1,4 +1,4 @@
-use Rattle.occ_sets.specs.Seen.{observation_of}
+use Rattle.occ_sets.specs.PlainSets.{observation_of}
 use Rattle.occ_print.specs.Books.{read_lines}
 use Rattle.occ_print.proofs.Printing.{failed, loop_more, loop_front}
 use Rattle.occ_text.specs.declared.faults.WriteFault.TheVariants as write_faults

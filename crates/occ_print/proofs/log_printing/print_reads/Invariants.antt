@@ -1,6 +1,6 @@
 use Rattle.std.proofs.Common.{take}
 use Rattle.std.specs.List.{flat_map}
-use Rattle.occ_sets.specs.Seen.{observations_of}
+use Rattle.occ_sets.specs.PlainSets.{observations_of}
 use Rattle.occ_text.specs.Line.{lines_text}
 use Rattle.occ_text.specs.Printing.{Pushed}
 use Rattle.occ_print.specs.Books.{read_lines}

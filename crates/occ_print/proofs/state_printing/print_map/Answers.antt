@@ -1,8 +1,8 @@
 use Rattle.std.proofs.Common.{[], ◌∷◌, Ok, map, ap}
 use Rattle.std.specs.Map.Iter.{deref_pair}
 use Rattle.std.proofs.lemmas.Map.Iter.{rest_more, rest_so_far, iter_end}
-use Rattle.occ_types.specs.Seen.{key_of}
-use Rattle.occ_book.specs.Kept.{placed}
+use Rattle.occ_types.specs.PlainData.{key_of}
+use Rattle.occ_book.specs.Content.{placed}
 use Rattle.occ_print.specs.Books.{entry_line}
 use Rattle.occ_print.proofs.Printing.{failed, values_more, values_front, lines_same}
 use Rattle.occ_print.proofs.TableRows.{placed_more, placed_amid}

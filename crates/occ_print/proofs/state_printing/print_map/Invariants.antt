@@ -1,6 +1,6 @@
 use Rattle.std.proofs.Common.{map}
 use Rattle.std.specs.Map.Iter.{deref_pair}
-use Rattle.occ_book.specs.Kept.{placed}
+use Rattle.occ_book.specs.Content.{placed}
 use Rattle.occ_text.specs.Line.{lines_text}
 use Rattle.occ_text.specs.Printing.{Pushed}
 use Rattle.occ_print.specs.Books.{entry_line}

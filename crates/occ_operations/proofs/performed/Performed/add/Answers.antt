@@ -1,5 +1,5 @@
 use Rattle.std.proofs.Common.{◌≡◌, ap, rules}
-use Rattle.occ_types.specs.Seen.{key_of}
+use Rattle.occ_types.specs.PlainData.{key_of}
 use Rattle.occ_operations.specs.Performed.{progress_of}
 use Rattle.occ_operations.proofs.Performing.{added}
 use Rattle.occ_operations.proofs.performed.Performed.add.Goals as goal
