@@ -1,23 +1,8 @@
 -- A state that is kept as maps of lent rows, one for each table: what it has at an object, and what a write does to it.
-use Rattle.std.proofs.Common.{◌≡◌, ℕ, nat_eq, Bool, true, false, not, ◌&&◌, cond, List, [], ◌∷◌, Option, None, Some, refl, sym, ap, subst, ◌∙◌}
-use Rattle.std.specs.Borrow.{Bor}
-use Rattle.std.specs.Map.{lookup}
-use Rattle.std.specs.Option.{option_copied}
-use Rattle.std.specs.BTreeMap.{BTreeMap}
-use Rattle.std.specs.Ordering.{nat_cmp, is_eq}
-use Rattle.std.specs.Cmp.{eq_by_cmp_equiv, nat_cmp_total, unsigned_tied, unsigned_Decides}
-use Rattle.std.specs.FinMap.{get, get-empty, get-insert, get-retain_keys}
-use Rattle.occ_types.specs.Key.{Key, Num, Text as KeyText, Pair, key_cmp_total}
-use Rattle.occ_types.specs.Object.{Object, object_cmp, object_cmp_total, object_cmp-IsAntisymmetric}
-use Rattle.occ_types.specs.Row.{Row}
-use Rattle.occ_types.specs.Same.{key_same}
-use Rattle.occ_types.specs.Seen.{key_of}
+use Rattle.std.proofs.Common.{◌≡◌, ℕ, nat_eq, Bool, true, false, not, ◌&&◌, cond, List, [], ◌∷◌, Option, None, Some, refl, sym, ap, subst, ◌∙◌, Bor, option_copied, BTreeMap, nat_cmp, is_eq, Less}
+use Rattle.occ_audit.proofs.Common.{AllByRecursion, IsStrictlySortedBy, keys_of, on, option_or, sorted_head, sorted_tail, key_cmp, key_same-decides, lookup, eq_by_cmp_equiv, nat_cmp_total, unsigned_tied, unsigned_Decides, get, get-empty, get-insert, get-retain_keys, Key, key_cmp_total, Object, object_cmp, object_cmp_total, object_cmp-IsAntisymmetric, Row, key_same, key_of, object_tied, State, put, get-put, same_state, code_of, lent, row_under, with_table, state_of}
 use Rattle.occ_types.specs.declared.keys.Key as code_key
-use Rattle.occ_types.specs.declared.keys.Key.TheVariants as keys
-use Rattle.occ_types.proofs.Asked.{object_tied}
-use Rattle.occ_model.specs.State.{State, put}
-use Rattle.occ_model.proofs.States.{same, get-put, same_state}
-use Rattle.occ_audit.specs.Replica.{lent, row_under, with_table, state_of}
+use Rattle.occ_book.proofs.Views.{alone}
 
 unless : {X : Type 0} (b : Bool) (x y : X) → cond (not b) x y ≡ cond b y x
 unless true x y = refl
@@ -27,6 +12,9 @@ unless false x y = refl
 gated : {X : Type 0} (b c : Bool) (x y z : X) → cond (b && c) x (cond b y z) ≡ cond b (cond c x y) z
 gated true c x y z = refl
 gated false c x y z = refl
+
+pub turned : (t u : ℕ) → is_eq (nat_cmp t u) ≡ nat_eq u t
+turned t u = (eq_by_cmp_equiv nat_cmp_total).symm t u ∙ unsigned_tied u t
 
 -- the rows of a table, lent
 abbrev pub Lent : Type 0 → Type 0
@@ -85,12 +73,6 @@ module _ {Z : Type 0} where
   row-found tables t key old m r view at is =
       ap option_copied is ∙ sym (row_under-lent m.entries (key_of key)) ∙ sym (get-in tables t old (Some m) view at (key_of key))
 
-  -- each key is that of the code's, behind some reference
-  pub code_of : (k : Key) → (x : Bor (code_key.Key Z)) × (key_of x.now ≡ k)
-  code_of (Num n) = (record { ref_ptr = (0, 0); now = keys.Num n }, refl)
-  code_of (KeyText s) = (record { ref_ptr = (0, 0); now = keys.Text s }, refl)
-  code_of (Pair a b) = (record { ref_ptr = (0, 0); now = keys.Pair (a, b) }, refl)
-
   -- n has these references, or none, at a key, and elsewhere what m has
   abbrev pub Changes : Lent Z → Lent Z → code_key.Key Z → Option (Bor Row) → Type 0
   Changes m n key w = (q : Bor (code_key.Key Z))
@@ -99,7 +81,7 @@ module _ {Z : Type 0} where
   pub row_under-changed : (m n : Lent Z) (key : code_key.Key Z) (w : Option (Bor Row)) → Changes m n key w → (k : Key) → row_under (lent n.entries) k ≡ cond (key_same k (key_of key)) (option_copied w) (row_under (lent m.entries) k)
   row_under-changed m n key w is k =
       row_under-lent n.entries k
-      ∙ ap option_copied (let q = code_of k in subst (λ l. lookup (λ x. key_same l (key_of x.now)) n.entries ≡ cond (key_same (key_of key) l) w (lookup (λ x. key_same l (key_of x.now)) m.entries)) q.1 (is q.0))
+      ∙ ap option_copied (let q = code_of {Z = Z} k in subst (λ l. lookup (λ x. key_same l (key_of x.now)) n.entries ≡ cond (key_same (key_of key) l) w (lookup (λ x. key_same l (key_of x.now)) m.entries)) q.1 (is (record { ref_ptr = (0, 0); now = q.0 })))
       ∙ by (key_same (key_of key) k)
       ∙ (λ i. cond ((eq_by_cmp_equiv key_cmp_total).symm (key_of key) k i) (option_copied w) (sym (row_under-lent m.entries k) i))
     where
@@ -112,37 +94,48 @@ module _ {Z : Type 0} where
   Places tables next t n = (u : ℕ) → table_at next u ≡ cond (is_eq (nat_cmp t u)) (Some n) (table_at tables u)
 
   -- a change of the map of one table at one key is a write
-  state_of-put : (tables next : List (ℕ × Lent Z)) (t : ℕ) (key : Key) (row : Option Row) (n : Lent Z) (old : State) → state_of tables ≡ old → Places tables next t n → ((k : Key) → row_under (lent n.entries) k ≡ cond (key_same k key) row (row_in (table_at tables t) k)) → state_of next ≡ put old ((t, key), row)
-  state_of-put tables next t key row n old view placed is = same_state _ _ (λ object.
+  pub state_of-put : (tables next : List (ℕ × Lent Z)) (t : ℕ) (key : Key) (row : Option Row) (o : Option (Lent Z)) (n : Lent Z) (old : State) → state_of tables ≡ old → table_at tables t ≡ o → Places tables next t n → ((k : Key) → row_under (lent n.entries) k ≡ cond (key_same k key) row (row_in o k)) → state_of next ≡ put old ((t, key), row)
+  state_of-put tables next t key row o n old view at placed is = same_state _ _ (λ object.
       get-state_of next object.0 object.1
-      ∙ ap (λ o. row_in o object.1) (placed object.0)
-      ∙ at_object object.0 object.1 (is_eq (nat_cmp t object.0)) refl
-      ∙ (λ i. cond (sym (object_tied object.0 t object.1 key) i) row (sym (get-state_of tables object.0 object.1) i))
-      ∙ ap (λ s. cond (same object (t, key)) row (get s object)) view
+      ∙ ap (λ m. row_in m object.1) (placed object.0)
+      ∙ ap (λ b. row_in (cond b (Some n) (table_at tables object.0)) object.1) (turned t object.0)
+      ∙ at_object object.0 object.1 (nat_eq object.0 t) refl
+      ∙ (λ i. cond (sym (object_tied object.0 t object.1 key) i) row (get old object))
       ∙ sym (get-put old ((t, key), row) object))
     where
-      turned : (u : ℕ) → is_eq (nat_cmp t u) ≡ nat_eq u t
-      turned u = (eq_by_cmp_equiv nat_cmp_total).symm t u ∙ unsigned_tied u t
-
-      at_object : (u : ℕ) (k : Key) (b : Bool) → is_eq (nat_cmp t u) ≡ b → row_in (cond b (Some n) (table_at tables u)) k ≡ cond (nat_eq u t && key_same k key) row (row_in (table_at tables u) k)
+      at_object : (u : ℕ) (k : Key) (b : Bool) → nat_eq u t ≡ b → row_in (cond b (Some n) (table_at tables u)) k ≡ cond (b && key_same k key) row (get old (u, k))
       at_object u k true e =
-          let here = sym (turned u) ∙ e in
-          is k
-          ∙ ap (λ v. cond (key_same k key) row (row_in (table_at tables v) k)) (sym ((unsigned_Decides u t).0 here))
-          ∙ sym (ap (λ b. cond (b && key_same k key) row (row_in (table_at tables u) k)) here)
-      at_object u k false e = sym (ap (λ b. cond (b && key_same k key) row (row_in (table_at tables u) k)) (sym (turned u) ∙ e))
+          is k ∙ ap (cond (key_same k key) row) (sym (ap (λ v. get old (v, k)) ((unsigned_Decides u t).0 e) ∙ get-in tables t old o view at k))
+      at_object u k false e = sym (get-in tables u old (table_at tables u) view refl k)
 
-  -- so it is where the table has a map
-  pub put-kept : (tables next : List (ℕ × Lent Z)) (t : ℕ) (key : code_key.Key Z) (w : Option (Bor Row)) (m n : Lent Z) (old : State) → state_of tables ≡ old → table_at tables t ≡ Some m → Places tables next t n → Changes m n key w → state_of next ≡ put old ((t, key_of key), option_copied w)
-  put-kept tables next t key w m n old view at placed is =
-      state_of-put tables next t (key_of key) (option_copied w) n old view placed (λ k.
-      row_under-changed m n key w is k
-      ∙ ap (λ o. cond (key_same k (key_of key)) (option_copied w) (row_in o k)) (sym at))
+  -- some rows of a table are lent, and these are left, in order: both together are all
+  pub record Lends (whole left : List (code_key.Key Z × Row)) (rows : Lent Z) : Type 0 where
+    pub ordered : IsStrictlySortedBy (on key_of key_cmp) (keys_of left)
+    pub all : (k : Key) → option_or (row_under left k) (row_under (lent rows.entries) k) ≡ row_under whole k
 
-  -- and where it gets one
-  pub put-new : (tables next : List (ℕ × Lent Z)) (t : ℕ) (key : code_key.Key Z) (w : Option (Bor Row)) (m n : Lent Z) (old : State) → state_of tables ≡ old → table_at tables t ≡ None → m.entries ≡ [] → Places tables next t n → Changes m n key w → state_of next ≡ put old ((t, key_of key), option_copied w)
-  put-new tables next t key w m n old view at none placed is =
-      state_of-put tables next t (key_of key) (option_copied w) n old view placed (λ k.
-      row_under-changed m n key w is k
-      ∙ ap (λ es. cond (key_same k (key_of key)) (option_copied w) (row_under (lent es) k)) none
-      ∙ ap (λ o. cond (key_same k (key_of key)) (option_copied w) (row_in o k)) (sym at))
+  below : (key : code_key.Key Z) (es : List (code_key.Key Z × Row)) → AllByRecursion (λ y. key_cmp (key_of key) (key_of y) ≡ Less) (keys_of es) → row_under es (key_of key) ≡ None
+  below key [] h = refl
+  below key (e ∷ es) h = ap (λ r. cond (is_eq r) (Some e.1) (row_under es (key_of key))) h.0 ∙ below key es h.1
+
+  pub lends-none : (whole left : List (code_key.Key Z × Row)) (rows : Lent Z) → left ≡ whole → rows.entries ≡ [] → IsStrictlySortedBy (on key_of key_cmp) (keys_of whole) → Lends whole left rows
+  lends-none whole left rows all none ordered = record {
+    ordered = subst (λ es. IsStrictlySortedBy (on key_of key_cmp) (keys_of es)) (sym all) ordered;
+    all = λ k. (λ i. option_or (row_under (all i) k) (row_under (lent (none i)) k)) ∙ alone (row_under whole k);
+  }
+
+  pub lends-more : (whole left more : List (code_key.Key Z × Row)) (key : code_key.Key Z) (row : Bor Row) (rows next : Lent Z) → left ≡ (key, row.now) ∷ more → Lends whole left rows → Changes rows next key (Some row) → Lends whole more next
+  lends-more whole left more key row rows next is lends changes = record {
+    ordered = sorted_tail _ key (keys_of more) sorted;
+    all = λ k.
+        ap (option_or (row_under more k)) (row_under-changed rows next key (Some row) changes k)
+        ∙ by k (key_same k (key_of key)) refl
+        ∙ ap (λ es. option_or (row_under es k) (row_under (lent rows.entries) k)) (sym is)
+        ∙ lends.all k;
+  }
+    where
+      sorted : IsStrictlySortedBy (on key_of key_cmp) (key ∷ keys_of more)
+      sorted = subst (λ es. IsStrictlySortedBy (on key_of key_cmp) (keys_of es)) is lends.ordered
+
+      by : (k : Key) (b : Bool) → key_same k (key_of key) ≡ b → option_or (row_under more k) (cond b (Some row.now) (row_under (lent rows.entries) k)) ≡ option_or (cond b (Some row.now) (row_under more k)) (row_under (lent rows.entries) k)
+      by k true e = ap (λ r. option_or r (Some row.now)) (ap (row_under more) ((key_same-decides k (key_of key)).0 e) ∙ below key more (sorted_head _ key (keys_of more) sorted))
+      by k false e = refl

@@ -1,11 +1,9 @@
-pub mod Walks
-pub mod Writes
+pub mod Common
 pub mod Equal
+pub mod Walks
 pub mod Lent
 pub mod Ranges
 pub mod Tables
-pub mod Filled
 pub mod Overlaid
 pub mod Orders
-pub mod Claims
 pub mod Unasked

@@ -1,101 +1,72 @@
 -- How places, numbers and closing marks are counted along a log.
-use Rattle.std.proofs.Common.{◌≡◌, ℕ, zero, suc, ◌+◌, ◌<◌, ◌≤◌, nat_eq, Bool, true, false, cond, List, [], ◌∷◌, ◌++◌, length, get_or, drop, Option, None, Some, refl, sym, ap, subst, ◌∙◌, arith}
-use Rattle.std.specs.Prelude.{map, filter, unwrap_or}
-use Rattle.std.specs.Bool.{◌==◌}
-use Rattle.std.specs.Map.{lookup}
+use Rattle.std.proofs.Common.{◌≡◌, ℕ, zero, suc, ◌+◌, ◌<◌, ◌≤◌, Bool, true, false, cond, List, [], ◌∷◌, ◌++◌, length, get_or, drop, Option, None, Some, refl, sym, ap, subst, ◌∙◌, arith, map, filter, unwrap_or, ◌==◌, BTreeMap, nat_cmp, is_eq}
+use Rattle.occ_audit.proofs.Common.{decided, lookup, FinMap, find, get-entries, unsigned_tied, unsigned_Decides, LogRow, Base, Counts, numbers, last_folded, drop_at, AreNumbered, AreClosed, AreLast, last_of, log_row_of, log_of, Iff, via}
 use Rattle.std.specs.FinMap as finite
-use Rattle.std.specs.FinMap.{FinMap, find, get-entries}
-use Rattle.std.specs.BTreeMap.{BTreeMap, get}
-use Rattle.std.specs.Ordering.{nat_cmp, is_eq}
-use Rattle.std.specs.Cmp.{unsigned_tied, unsigned_Decides}
-use Rattle.std.proofs.lemmas.Bool.Decides.{Decides-eqb}
+use Rattle.std.specs.BTreeMap.{get}
 use Rattle.occ_book.specs.Marks.{mark_at, marks_listed}
 use Rattle.occ_book.specs.declared.rows.LogRow as code_row
-use Rattle.occ_model.specs.Log.{LogRow, Base, Counts, numbers, last_folded}
-use Rattle.occ_model.proofs.Tests.{decided, clash}
-use Rattle.occ_audit.specs.Order.{AreNumbered, AreClosed, last_of}
-use Rattle.occ_audit.specs.Rows.{log_row_of, log_of}
-use Rattle.occ_audit.proofs.Walks.{left-cons}
 
 abbrev pub places : List LogRow → List ℕ
 places log = map (λ row. row.place) log
 
--- The numbers of a session count on from a first one where what is left of them counts on from its last.
-pub record Counted (whole left : List LogRow) (first last : ℕ) (session : ℕ) : Type 0 where
-  pub onward : Counts (suc first) (numbers session whole) → Counts (suc last) (numbers session left)
-  pub back : Counts (suc last) (numbers session left) → Counts (suc first) (numbers session whole)
-  pub counted : last + length (numbers session left) ≡ first + length (numbers session whole)
+-- The numbers of a session count on from a first one where those that are left count on from its last.
+pub record Counted (first : ℕ) (whole : List ℕ) (last : ℕ) (left : List ℕ) : Type 0 where
+  pub counts : Iff (Counts (suc first) whole) (Counts (suc last) left)
+  pub counted : last + length left ≡ first + length whole
 
 -- of each session, from its last one in a base on
 abbrev pub AreCounted : Base → List LogRow → List LogRow → BTreeMap ℕ ℕ → Type 0
-AreCounted base whole left last = (session : ℕ) → Counted whole left (last_folded base session) (last_of base last session) session
+AreCounted base whole left last = (session : ℕ) → Counted (last_folded base session) (numbers session whole) (last_of base last session) (numbers session left)
 
--- the numbers of a session, with a row and without it
-
-numbers_with : (session : ℕ) (row : LogRow) (left : List LogRow) → row.session ≡ session → numbers session (row ∷ left) ≡ row.number ∷ numbers session left
-numbers_with session row left e =
-    ap (λ b. map (λ r. r.number) (cond b (row ∷ filter (λ r. r.session == session) left) (filter (λ r. r.session == session) left))) ((Decides-eqb row.session session).1 e)
-
-numbers_without : (session : ℕ) (row : LogRow) (left : List LogRow) → (row.session ≡ session → ⊥) → numbers session (row ∷ left) ≡ numbers session left
-numbers_without session row left apart =
-    ap (λ b. map (λ r. r.number) (cond b (row ∷ filter (λ r. r.session == session) left) (filter (λ r. r.session == session) left)))
-    (decided (row.session == session) (λ e. absurd (apart ((Decides-eqb row.session session).0 e))) (λ e. e))
+pub numbers-cons : (session : ℕ) (row : LogRow) (left : List LogRow) → numbers session (row ∷ left) ≡ cond (row.session == session) (row.number ∷ numbers session left) (numbers session left)
+numbers-cons session row left =
+    elim (row.session == session) as (λ b. map (λ r. r.number) (cond b (row ∷ filter (λ r. r.session == session) left) (filter (λ r. r.session == session) left)) ≡ cond b (row.number ∷ numbers session left) (numbers session left)) [
+      | true ↦ refl
+      | false ↦ refl
+    ]
 
 -- what is kept of each session after a number of one
 abbrev pub IsNoted : BTreeMap ℕ ℕ → BTreeMap ℕ ℕ → ℕ → ℕ → Type 0
 IsNoted m n session number = (q : ℕ) → get nat_cmp n q ≡ cond (is_eq (nat_cmp session q)) (Some number) (get nat_cmp m q)
 
-noted_here : (base : Base) (m n : BTreeMap ℕ ℕ) (session number q : ℕ) → IsNoted m n session number → session ≡ q → last_of base n q ≡ number
-noted_here base m n session number q is e =
-    ap (λ o. unwrap_or o (last_folded base q)) (is q ∙ ap (λ b. cond b (Some number) (get nat_cmp m q)) (unsigned_tied session q ∙ (unsigned_Decides session q).1 e))
+noted : (base : Base) (m n : BTreeMap ℕ ℕ) (session number q : ℕ) → IsNoted m n session number → last_of base n q ≡ cond (session == q) number (last_of base m q)
+noted base m n session number q is =
+    ap (λ o. unwrap_or o (last_folded base q)) (is q ∙ ap (λ b. cond b (Some number) (get nat_cmp m q)) (unsigned_tied session q))
+    ∙ (elim (session == q) as (λ b. unwrap_or (cond b (Some number) (get nat_cmp m q)) (last_folded base q) ≡ cond b number (last_of base m q)) [
+      | true ↦ refl
+      | false ↦ refl
+    ])
 
-noted_elsewhere : (base : Base) (m n : BTreeMap ℕ ℕ) (session number q : ℕ) → IsNoted m n session number → (session ≡ q → ⊥) → last_of base n q ≡ last_of base m q
-noted_elsewhere base m n session number q is apart =
-    ap (λ o. unwrap_or o (last_folded base q)) (is q ∙ ap (λ b. cond b (Some number) (get nat_cmp m q)) (unsigned_tied session q ∙ decided (nat_eq session q) (λ e. absurd (apart ((unsigned_Decides session q).0 e))) (λ e. e)))
-
-counted-here : (whole left : List LogRow) (row : LogRow) (session first last next : ℕ) → Counted whole (row ∷ left) first last session → row.session ≡ session → row.number ≡ suc last → next ≡ row.number → Counted whole left first next session
-counted-here whole left row session first last next c here due is =
-    let with_row = numbers_with session row left here in
-    let on : next ≡ suc last = is ∙ due in
-    let more = ap length with_row in
+-- a number may be one of the session's, and then it is the next
+counted-one : (first last number : ℕ) (whole left : List ℕ) (b : Bool) → (b ≡ true → number ≡ suc last) → Counted first whole last (cond b (number ∷ left) left) → Counted first whole (cond b number last) left
+counted-one first last number whole left false due c = c
+counted-one first last number whole left true due c =
+    let next = due refl in
     record {
-      onward = λ h. subst (λ n. Counts (suc n) (numbers session left)) (sym on) (subst (Counts (suc last)) with_row (c.onward h)).1;
-      back = λ h. c.back (subst (Counts (suc last)) (sym with_row) (due, subst (λ n. Counts (suc n) (numbers session left)) on h));
+      counts = via c.counts (λ h. subst (λ n. Counts (suc n) left) (sym next) h.1, λ h. (next, subst (λ n. Counts (suc n) left) next h));
       counted = let k = c.counted in omega arith;
     }
 
-counted-elsewhere : (whole left : List LogRow) (row : LogRow) (session first last next : ℕ) → Counted whole (row ∷ left) first last session → (row.session ≡ session → ⊥) → next ≡ last → Counted whole left first next session
-counted-elsewhere whole left row session first last next c apart is =
-    let without = numbers_without session row left apart in
-    record {
-      onward = λ h. subst (λ n. Counts (suc n) (numbers session left)) (sym is) (subst (Counts (suc last)) without (c.onward h));
-      back = λ h. c.back (subst (Counts (suc last)) (sym without) (subst (λ n. Counts (suc n) (numbers session left)) is h));
-      counted = (λ i. is i + length (numbers session left)) ∙ ap (λ ns. last + length ns) (sym without) ∙ c.counted;
-    }
-
 counted-more : (base : Base) (whole left : List LogRow) (row : LogRow) (m n : BTreeMap ℕ ℕ) → AreCounted base whole (row ∷ left) m → row.number ≡ suc (last_of base m row.session) → IsNoted m n row.session row.number → AreCounted base whole left n
-counted-more base whole left row m n c due is session = decided (nat_eq row.session session)
-    (λ e.
-    let here = (unsigned_Decides row.session session).0 e in
-    counted-here whole left row session (last_folded base session) (last_of base m session) (last_of base n session) (c session) here (due ∙ ap (λ s. suc (last_of base m s)) here) (noted_here base m n row.session row.number session is here))
-    (λ e.
-    let apart = λ (f : row.session ≡ session). clash (nat_eq row.session session) ((unsigned_Decides row.session session).1 f) e in
-    counted-elsewhere whole left row session (last_folded base session) (last_of base m session) (last_of base n session) (c session) apart (noted_elsewhere base m n row.session row.number session is apart))
+counted-more base whole left row m n c due is session =
+    let first = last_folded base session in
+    let all = numbers session whole in
+    subst (λ l. Counted first all l (numbers session left)) (sym (noted base m n row.session row.number session is))
+    (counted-one first (last_of base m session) row.number all (numbers session left) (row.session == session)
+    (λ e. due ∙ ap (λ s. suc (last_of base m s)) ((unsigned_Decides row.session session).0 e))
+    (subst (Counted first all (last_of base m session)) (numbers-cons session row left) (c session)))
 
 -- at first nothing is kept of any session
 pub counted-none : (base : Base) (whole : List LogRow) (last : BTreeMap ℕ ℕ) → last.entries ≡ [] → AreCounted base whole whole last
 counted-none base whole last none session =
-    let folded : last_of base last session ≡ last_folded base session = ap (λ es. unwrap_or (lookup (λ x. is_eq (nat_cmp session x)) es) (last_folded base session)) none in
-    record {
-      onward = λ h. subst (λ n. Counts (suc n) (numbers session whole)) (sym folded) h;
-      back = λ h. subst (λ n. Counts (suc n) (numbers session whole)) folded h;
-      counted = ap (λ n. n + length (numbers session whole)) folded;
-    }
+    subst (λ l. Counted (last_folded base session) (numbers session whole) l (numbers session whole))
+    (sym (ap (λ es. unwrap_or (lookup (λ x. is_eq (nat_cmp session x)) es) (last_folded base session)) none))
+    (record { counts = (λ h. h, λ h. h); counted = refl })
 
 -- and at last all are counted
-pub counted-all : (base : Base) (whole left : List LogRow) (last : BTreeMap ℕ ℕ) → left ≡ [] → AreCounted base whole left last → AreNumbered base whole × ((session : ℕ) → last_of base last session ≡ last_folded base session + length (numbers session whole))
+pub counted-all : (base : Base) (whole left : List LogRow) (last : BTreeMap ℕ ℕ) → left ≡ [] → AreCounted base whole left last → AreNumbered base whole × AreLast base last whole
 counted-all base whole left last nothing c = (
-  λ session. (c session).back (subst (λ l. Counts (suc (last_of base last session)) (numbers session l)) (sym nothing) tt),
+  λ session. (c session).counts.1 (subst (λ l. Counts (suc (last_of base last session)) (numbers session l)) (sym nothing) tt),
   λ session.
       let none_left = ap (λ l. length (numbers session l)) nothing in
       let all = (c session).counted in
@@ -105,27 +76,14 @@ counted-all base whole left last nothing c = (
 -- a mark that is found among those of so many sessions from one on is of one of these
 found-within : (marks : FinMap nat_cmp ℕ) (first count session mark : ℕ) → find nat_cmp session (marks_listed marks first count) ≡ Some mark → (first ≤ session) × (session < first + count)
 found-within marks first zero session mark e = cc
-found-within marks first (suc count) session mark e = by (finite.get marks first) e (found-within marks (suc first) count session mark)
+found-within marks first (suc count) session mark e = decided (session == first)
+    (λ here. let same : session ≡ first = (unsigned_Decides session first).0 here in (omega arith, omega arith))
+    (λ apart. let later = found-within marks (suc first) count session mark (skipped (finite.get marks first) apart e) in (omega (arith, later.0), omega (arith, later.1)))
   where
-    rest : List (ℕ × ℕ)
-    rest = marks_listed marks (suc first) count
-
-    Among : Type 0
-    Among = (first ≤ session) × (session < first + suc count)
-
-    later : (find nat_cmp session rest ≡ Some mark → (suc first ≤ session) × (session < suc first + count)) → find nat_cmp session rest ≡ Some mark → Among
-    later within f = let h = within f in (omega (arith, h.0), omega (arith, h.1))
-
-    here : (other : ℕ) (b : Bool) → is_eq (nat_cmp session first) ≡ b → cond (is_eq (nat_cmp session first)) (Some other) (find nat_cmp session rest) ≡ Some mark → (find nat_cmp session rest ≡ Some mark → (suc first ≤ session) × (session < suc first + count)) → Among
-    here other true q f within =
-        let same : session ≡ first = (unsigned_Decides session first).0 (sym (unsigned_tied session first) ∙ q) in
-        (omega arith, omega arith)
-    here other false q f within =
-        later within (sym (ap (λ b. cond b (Some other) (find nat_cmp session rest)) q) ∙ f)
-
-    by : (slot : Option ℕ) → find nat_cmp session (mark_at first slot ++ rest) ≡ Some mark → (find nat_cmp session rest ≡ Some mark → (suc first ≤ session) × (session < suc first + count)) → Among
-    by None f within = later within f
-    by (Some other) f within = here other (is_eq (nat_cmp session first)) refl f within
+    skipped : (slot : Option ℕ) → (session == first) ≡ false → find nat_cmp session (mark_at first slot ++ marks_listed marks (suc first) count) ≡ Some mark → find nat_cmp session (marks_listed marks (suc first) count) ≡ Some mark
+    skipped None apart f = f
+    skipped (Some other) apart f =
+        sym (ap (λ b. cond b (Some other) (find nat_cmp session (marks_listed marks (suc first) count))) (unsigned_tied session first ∙ apart)) ∙ f
 
 -- each mark is of one of the sessions, where the marks in their order are those of the sessions in theirs
 mark-within : (marks : FinMap nat_cmp ℕ) (sessions session mark : ℕ) → finite.entries marks ≡ marks_listed marks 1 sessions → finite.get marks session ≡ Some mark → (1 ≤ session) × (session ≤ sessions)
@@ -145,15 +103,30 @@ pub closed-all : (base : Base) (marks : FinMap nat_cmp ℕ) (sessions to : ℕ) 
 closed-all base marks sessions to last listed all closed session mark at =
     let within = mark-within marks sessions session mark listed at in closed session mark (omega (arith, within.1)) at
 
-module _ {Z O : Type 0} where
+module _ {Z O : Type 0} (base : Base) (whole : List LogRow) (log : List (code_row.LogRow Z O)) (i : ℕ) (row : code_row.LogRow Z O) (m : BTreeMap ℕ ℕ) (h : i < length log) (at : row ≡ get_or log i row) (c : AreCounted base whole (log_of (drop i log)) m) where
+  here : AreCounted base whole (log_row_of row ∷ log_of (drop (i + 1) log)) m
+  here = subst (λ rows. AreCounted base whole (log_of rows) m) (drop_at log i row row h at) c
+
   -- one more row is counted
-  pub rows-counted : (base : Base) (whole : List LogRow) (log : List (code_row.LogRow Z O)) (i : ℕ) (row : code_row.LogRow Z O) (m n : BTreeMap ℕ ℕ) → i < length log → row ≡ get_or log i row → AreCounted base whole (log_of (drop i log)) m → row.number ≡ suc (last_of base m row.session) → IsNoted m n row.session row.number → AreCounted base whole (log_of (drop (i + 1) log)) n
-  rows-counted base whole log i row m n h at c due is =
-      counted-more base whole (log_of (drop (i + 1) log)) (log_row_of row) m n (subst (λ rows. AreCounted base whole (log_of rows) m) (left-cons log i row h at) c) due is
+  pub rows-counted : (n : BTreeMap ℕ ℕ) → row.number ≡ suc (last_of base m row.session) → IsNoted m n row.session row.number → AreCounted base whole (log_of (drop (i + 1) log)) n
+  rows-counted n due is = counted-more base whole (log_of (drop (i + 1) log)) (log_row_of row) m n here due is
 
   -- a number that is not due
-  pub rows-uncounted : (base : Base) (whole : List LogRow) (log : List (code_row.LogRow Z O)) (i : ℕ) (row : code_row.LogRow Z O) (m : BTreeMap ℕ ℕ) → i < length log → row ≡ get_or log i row → AreCounted base whole (log_of (drop i log)) m → (row.number ≡ suc (last_of base m row.session) → ⊥) → AreNumbered base whole → ⊥
-  rows-uncounted base whole log i row m h at c undue numbered =
+  pub rows-uncounted : (row.number ≡ suc (last_of base m row.session) → ⊥) → AreNumbered base whole → ⊥
+  rows-uncounted undue numbered =
       let left = log_of (drop (i + 1) log) in
-      let here : Counted whole (log_row_of row ∷ left) (last_folded base row.session) (last_of base m row.session) row.session = subst (λ rows. AreCounted base whole (log_of rows) m) (left-cons log i row h at) c row.session in
-      undue (subst (Counts (suc (last_of base m row.session))) (numbers_with row.session (log_row_of row) left refl) (here.onward (numbered row.session))).0
+      let own = ap (λ b. cond b (row.number ∷ numbers row.session left) (numbers row.session left)) ((unsigned_Decides row.session row.session).1 refl) in
+      undue (subst (Counts (suc (last_of base m row.session))) (numbers-cons row.session (log_row_of row) left ∙ own) ((here row.session).counts.0 (numbered row.session))).0
+
+-- closing marks are due by what is kept of the sessions just where they are so by the log
+pub closed-alike : (base : Base) (marks : FinMap nat_cmp ℕ) (last : BTreeMap ℕ ℕ) (log : List LogRow) → AreLast base last log → Iff (AreClosed base marks last) ((session mark : ℕ) → finite.get marks session ≡ Some mark → mark ≡ last_folded base session + length (numbers session log) + 1)
+closed-alike base marks last log are = (
+  λ closed session mark at. due (last_of base last session) (last_folded base session + length (numbers session log)) mark (are session) (closed session mark at),
+  λ closed session mark at. back (last_of base last session) (last_folded base session + length (numbers session log)) mark (are session) (closed session mark at),
+)
+  where
+    due : (last all mark : ℕ) → last ≡ all → mark ≡ suc last → mark ≡ all + 1
+    due last all mark p q = omega arith
+
+    back : (last all mark : ℕ) → last ≡ all → mark ≡ all + 1 → mark ≡ suc last
+    back last all mark p q = omega arith

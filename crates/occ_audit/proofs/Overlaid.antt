@@ -1,15 +1,6 @@
--- Writes of which no two are of one object: how they are taken back.
-use Rattle.std.proofs.Common.{◌≡◌, Bool, true, false, cond, List, ◌∷◌, Some, refl, sym, ap, ◌∙◌}
-use Rattle.std.specs.Ordering.{is_eq}
-use Rattle.std.specs.Cmp.{tied_itself}
-use Rattle.std.specs.FinMap.{get}
-use Rattle.occ_types.specs.Object.{Object, object_cmp_total}
-use Rattle.occ_model.specs.State.{State, Write, put, apply}
-use Rattle.occ_model.specs.Overlay.{own}
-use Rattle.occ_model.specs.RangeLaws.{IsDistinctWrites}
-use Rattle.occ_model.proofs.States.{same, same_object, get-put, same_state}
-use Rattle.occ_book.proofs.LastNotes.{over, get-own}
-use Rattle.occ_audit.proofs.Walks.{Iff}
+-- How writes of which no two are of one object are taken back, and a deletion of what is not there.
+use Rattle.std.proofs.Common.{◌≡◌, Bool, true, false, cond, List, ◌∷◌, None, Some, refl, sym, ap, ◌∙◌, is_eq}
+use Rattle.occ_audit.proofs.Common.{tied_itself, get, Object, object_cmp_total, State, Write, put, apply, own, IsDistinctWrites, same, same_object, get-put, same_state, over, get-own, Iff}
 
 -- One write is taken back: under its object the state gets what the table has. The table with all of the writes is the state just where that with the other ones is the state then.
 pub taken_back : (table state next : State) (write : Write) (writes : List Write) → IsDistinctWrites (write ∷ writes) → get state write.0 ≡ write.1 → next ≡ put state (write.0, get table write.0) → Iff (apply table (write ∷ writes) ≡ state) (apply table writes ≡ next)
@@ -38,3 +29,11 @@ taken_back table state next write writes distinct here is = (
 pub not_back : (table state : State) (write : Write) (writes : List Write) → IsDistinctWrites (write ∷ writes) → (get state write.0 ≡ write.1 → ⊥) → apply table (write ∷ writes) ≡ state → ⊥
 not_back table state write writes distinct apart e =
     apart (ap (λ s. get s write.0) (sym e) ∙ get-own (write ∷ writes) table write.0 distinct ∙ ap (λ b. over (cond b (Some write.1) (own writes write.0)) (get table write.0)) (ap is_eq (tied_itself object_cmp_total write.0)))
+
+-- to delete what is not there changes nothing
+pub put-nothing : (state : State) (object : Object) → get state object ≡ None → state ≡ put state (object, None)
+put-nothing state object none = same_state _ _ (λ other. by other (same other object) refl ∙ sym (get-put state (object, None) other))
+  where
+    by : (other : Object) (b : Bool) → same other object ≡ b → get state other ≡ cond (same other object) None (get state other)
+    by other true e = ap (get state) (same_object other object e) ∙ none ∙ sym (ap (λ b. cond b None (get state other)) e)
+    by other false e = sym (ap (λ b. cond b None (get state other)) e)

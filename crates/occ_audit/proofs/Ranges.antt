@@ -1,58 +1,8 @@
 -- What a state answers to a range, from the entries of the range's table.
-use Rattle.std.proofs.Common.{◌≡◌, ℕ, Bool, true, false, ◌&&◌, cond, List, [], ◌∷◌, length, Option, None, Some, refl, sym, ap, subst, ◌∙◌, arith}
-use Rattle.std.specs.Prelude.{map}
-use Rattle.std.specs.Bool.{Decides, ◌==◌}
-use Rattle.std.specs.Borrow.{Bor}
-use Rattle.std.specs.List.{filter, AllByRecursion}
-use Rattle.std.specs.List.Sorted.{IsStrictlySortedBy}
-use Rattle.std.specs.Map.{keys_of}
-use Rattle.std.specs.Map.Iter.{deref_pair}
-use Rattle.std.specs.Option.{option_copied, option_eq}
-use Rattle.std.specs.declared.cmp.Ordering.TheVariants.{Less}
-use Rattle.std.specs.declared.ops.Bound.{Bound}
+use Rattle.std.proofs.Common.{true, ◌≡◌, ℕ, Bool, false, List, [], ◌∷◌, length, Option, None, Some, refl, sym, ap, subst, ◌∙◌, arith, Decides, ◌==◌, Bor, option_copied, Less, is_gt}
+use Rattle.occ_audit.proofs.Common.{answers_range, AllByRecursion, IsStrictlySortedBy, keys_of, deref_pair, option_eq, Bound, entries_between, on, get, Decides-eqb, Key, key_cmp, Object, Question, One, Span, Row, row_same, row_same-decides, key_of, end_of, rows_of, State, Answer, Found, Rows, answer, is_within, is_backward, lower_bound, upper_bound, entries_within, kept-filtered, all_within, answer-within, lent, row_under, IsInOrder}
 use Rattle.std.specs.Range.Bound.{IsForward}
-use Rattle.std.specs.BTreeMap.Range.{entries_between}
-use Rattle.std.specs.declared.cmp.Ordering.{Ordering}
-use Rattle.std.specs.Ordering.{on, is_gt}
-use Rattle.std.specs.Cmp.{Equal-is, unsigned_Decides}
-use Rattle.std.specs.FinMap.{get}
-use Rattle.std.proofs.lemmas.Bool.Decides.{Decides-eqb}
-use Rattle.std.proofs.lemmas.Map.Entries.{lookup-filter-keys}
-use Rattle.occ_types.specs.Key.{Key, key_cmp, key_cmp-IsAntisymmetric}
-use Rattle.occ_types.specs.Object.{Object}
-use Rattle.occ_types.specs.Question.{Question, One, Span}
-use Rattle.occ_types.specs.Row.{Row}
-use Rattle.occ_types.specs.Same.{key_same, row_same, row_same-decides}
-use Rattle.occ_types.specs.Seen.{key_of, end_of}
 use Rattle.occ_types.specs.declared.keys.Key as code_key
-use Rattle.occ_types.proofs.Asked.{asks-Span}
-use Rattle.occ_sets.specs.Seen.{rows_of}
-use Rattle.occ_sets.proofs.Agreement.{answer_of_entries}
-use Rattle.occ_model.specs.State.{State, Answer, Found, Rows, answer}
-use Rattle.occ_book.specs.Kept.{is_within, is_backward, lower_bound, upper_bound, entries_within}
-use Rattle.occ_book.proofs.Views.{entries_within-backward}
-use Rattle.occ_book.proofs.Sizes.{all_within}
-use Rattle.occ_audit.specs.Replica.{lent, row_under, IsInOrder}
-use Rattle.occ_audit.proofs.Lent.{code_of}
-
--- a part of keys in order is in order
-
-all-filtered : {K X : Type 0} (P : K → Type 0) (p : K → Bool) (es : List (K × X)) → AllByRecursion P (keys_of es) → AllByRecursion P (keys_of (filter (λ e. p e.0) es))
-all-filtered P p [] h = h
-all-filtered {K} {X} P p (e ∷ es) h = by (p e.0) (all-filtered P p es h.1)
-  where
-    by : (b : Bool) → AllByRecursion P (keys_of (filter (λ e. p e.0) es)) → AllByRecursion P (keys_of (cond b (e ∷ filter (λ e. p e.0) es) (filter (λ e. p e.0) es)))
-    by true others = (h.0, others)
-    by false others = others
-
-sorted-filtered : {K X : Type 0} (R : K → K → Ordering) (p : K → Bool) (es : List (K × X)) → IsStrictlySortedBy R (keys_of es) → IsStrictlySortedBy R (keys_of (filter (λ e. p e.0) es))
-unfolding IsStrictlySortedBy
-sorted-filtered R p [] h = h
-sorted-filtered R p (e ∷ es) h = by (p e.0) (sorted-filtered R p es h.1)
-  where
-    by : (b : Bool) → IsStrictlySortedBy R (keys_of (filter (λ e. p e.0) es)) → IsStrictlySortedBy R (keys_of (cond b (e ∷ filter (λ e. p e.0) es) (filter (λ e. p e.0) es)))
-    by true others = (all-filtered (λ y. R e.0 y ≡ Less) p es h.0, others)
-    by false others = others
 
 -- references in order show keys in order
 
@@ -65,44 +15,10 @@ unfolding IsStrictlySortedBy
 sorted-lent [] h = h
 sorted-lent (e ∷ es) h = (all-lent (λ y. key_cmp (key_of e.0.now) (key_of y) ≡ Less) es h.0, sorted-lent es h.1)
 
--- nothing lies in a range that runs backwards
-outside : (a b : Option Key) (k : Key) → is_backward a b ≡ true → is_within a b k ≡ false
-outside a b k e =
-    let key = code_of {Z = ⊥} k in
-    subst (λ l. is_within a b l ≡ false) key.1 (by _ (is_within a b (key_of key.0.now)) (entries_within-backward a b ((key.0.now, []) ∷ []) e))
-  where
-    by : {X : Type 0} (x : X) (w : Bool) → cond w (x ∷ []) [] ≡ [] → w ≡ false
-    by x true h = cc
-    by x false h = refl
-
-nothing : {X : Type 0} (b : Bool) → ◌≡◌ {A = Option X} None (cond b None None)
-nothing true = refl
-nothing false = refl
-
-kept-filtered : {X Y : Type 0} (f : X → Y) (p : Y → Bool) (es : List X) → map f (filter (λ e. p (f e)) es) ≡ filter p (map f es)
-kept-filtered f p [] = refl
-kept-filtered {X} {Y} f p (e ∷ es) = by (p (f e)) (kept-filtered f p es)
-  where
-    by : (b : Bool) → map f (filter (λ e. p (f e)) es) ≡ filter p (map f es) → map f (cond b (e ∷ filter (λ e. p (f e)) es) (filter (λ e. p (f e)) es)) ≡ cond b (f e ∷ filter p (map f es)) (filter p (map f es))
-    by true others = ap (λ fs. f e ∷ fs) others
-    by false others = others
-
 module _ {Z : Type 0} where
-  -- rows of a table, in order, are the answer to a range where they are what is found within it
-  answer-is : (state : State) (t : ℕ) (a b : Option Key) (fs : List (code_key.Key Z × Row)) → IsStrictlySortedBy (on key_of key_cmp) (keys_of fs) → ((k : Key) → row_under fs k ≡ cond (is_within a b k) (get state (t, k)) None) → answer (Span t a b) state ≡ Rows (rows_of fs)
-  unfolding answer
-  answer-is state t a b fs sorted is =
-      ap Rows (answer_of_entries (Span t a b) fs state (record {
-        at = λ key. is (key_of key)
-            ∙ ap (λ c. cond c (get state (t, key_of key)) None) (sym (asks-Span t t a b (key_of key) ∙ ap (λ c. c && is_within a b (key_of key)) ((unsigned_Decides t t).1 refl)));
-      }) sorted)
-
   -- the answer of a table: what lies between the ends
   pub answer-between : (state : State) (t : ℕ) (a b : Option Key) (es : List (Bor (code_key.Key Z) × Bor Row)) → IsInOrder es → ((k : Key) → get state (t, k) ≡ row_under (lent es) k) → answer (Span t a b) state ≡ Rows (rows_of (entries_within a b (lent es)))
-  answer-between state t a b es ordered is =
-      answer-is state t a b (entries_within a b (lent es)) (sorted-filtered (on key_of key_cmp) (λ key. is_within a b (key_of key)) (lent es) (sorted-lent es ordered)) (λ k.
-      lookup-filter-keys (λ x. key_same k (key_of x)) (λ x. is_within a b (key_of x)) (is_within a b k) (λ x e. ap (is_within a b) (sym (key_cmp-IsAntisymmetric k (key_of x) ((Equal-is (key_cmp k (key_of x))).0 e)))) (lent es)
-      ∙ ap (λ r. cond (is_within a b k) r None) (sym (is k)))
+  answer-between state t a b es ordered is = answer-within state t a b (lent es) (sorted-lent es ordered) is
 
   -- all of it where there are no ends
   pub answer-all : (state : State) (t : ℕ) (es : List (Bor (code_key.Key Z) × Bor Row)) → IsInOrder es → ((k : Key) → get state (t, k) ≡ row_under (lent es) k) → answer (Span t None None) state ≡ Rows (rows_of (lent es))
@@ -144,24 +60,14 @@ module _ {Z : Type 0} where
   none-decides [] n r e is = (λ _. refl, λ _. is ∙ (Decides-eqb n 0).1 e)
   none-decides (x ∷ xs) n r e is = (λ h. let z = (Decides-eqb n 0).0 (sym is ∙ h) in absurd (omega arith), λ h. cc)
 
--- the answer where no row is in the range
+-- a test decides the same of equal values
 
-pub answer-backward : (state : State) (t : ℕ) (a b : Option Key) → is_backward a b ≡ true → answer (Span t a b) state ≡ Rows []
-unfolding IsStrictlySortedBy
-answer-backward state t a b e =
-    answer-is {Z = ⊥} state t a b [] tt (λ k. sym (ap (λ c. cond c (get state (t, k)) None) (outside a b k e)))
-
-pub answer-nowhere : (state : State) (t : ℕ) (a b : Option Key) → ((k : Key) → get state (t, k) ≡ None) → answer (Span t a b) state ≡ Rows []
-unfolding IsStrictlySortedBy
-answer-nowhere state t a b none =
-    answer-is {Z = ⊥} state t a b [] tt (λ k. nothing (is_within a b k) ∙ ap (λ r. cond (is_within a b k) r None) (sym (none k)))
+decides-at : {s t : Answer} (x y : Answer) (r : Bool) → s ≡ x → t ≡ y → Decides r (x ≡ y) → Decides r (s ≡ t)
+decides-at x y r p q d = (λ h. p ∙ d.0 h ∙ sym q, λ h. d.1 (sym p ∙ h ∙ q))
 
 -- answers are the same where their rows are
 pub rows-decide : (s t : Answer) (xs ys : List (Key × Row)) (r : Bool) → s ≡ Rows xs → t ≡ Rows ys → Decides r (xs ≡ ys) → Decides r (s ≡ t)
-rows-decide s t xs ys r p q d = (
-  λ h. p ∙ ap Rows (d.0 h) ∙ sym q,
-  λ h. d.1 (let same : Rows xs ≡ Rows ys = sym p ∙ h ∙ q in cc),
-)
+rows-decide s t xs ys r p q d = decides-at (Rows xs) (Rows ys) r p q (λ h. ap Rows (d.0 h), λ h. d.1 (cc))
 
 -- the answer for one key
 
@@ -176,20 +82,17 @@ pub one-decides : (given : Answer) (question : Question) (object : Object) (row 
 unfolding answer
 one-decides given question object row old x y r q g found same is =
     let d = option-decides x y in
-    let said : answer question old ≡ Found (option_copied x) = ap (λ w. answer w old) q ∙ ap Found found in
-    let gave : given ≡ Found (option_copied y) = g ∙ ap Found (sym same) in (
-      λ e. gave ∙ ap Found (sym (d.0 (sym is ∙ e))) ∙ sym said,
-      λ e. let f : Found (option_copied y) ≡ Found (option_copied x) = sym gave ∙ e ∙ said in let h : option_copied y ≡ option_copied x = cc in is ∙ d.1 (sym h),
-    )
+    decides-at (Found (option_copied y)) (Found (option_copied x)) r (g ∙ ap Found (sym same)) (ap (λ w. answer w old) q ∙ ap Found found)
+    (λ e. ap Found (sym (d.0 (sym is ∙ e))), λ e. let h : option_copied y ≡ option_copied x = cc in is ∙ d.1 (sym h))
 
 -- rows are no answer for one key, and a row none to a range
 
-pub one-not-rows : (given : Answer) (question : Question) (table : ℕ) (key : Key) (rows : List (Key × Row)) (old : State) → question ≡ One table key → given ≡ Rows rows → given ≡ answer question old → ⊥
+pub one-not-rows : (given : Answer) (question : Question) (table : ℕ) (key : Key) (rows : List (Key × Row)) (old : State) → question ≡ One table key → given ≡ Rows rows → Decides false (given ≡ answer question old)
 unfolding answer
-one-not-rows given question table key rows old q g e =
-    let clash : Rows rows ≡ Found (get old (table, key)) = sym g ∙ e ∙ ap (λ w. answer w old) q in cc
+one-not-rows given question table key rows old q g =
+    decides-at (Rows rows) (Found (get old (table, key))) false g (ap (λ w. answer w old) q) (λ (e : false ≡ true). cc, λ e. cc)
 
-pub span-not-found : (given : Answer) (question : Question) (table : ℕ) (a b : Option Key) (row : Option Row) (old : State) → question ≡ Span table a b → given ≡ Found row → given ≡ answer question old → ⊥
-unfolding answer
-span-not-found given question table a b row old q g e =
-    let clash : Found row ≡ answer (Span table a b) old = sym g ∙ e ∙ ap (λ w. answer w old) q in cc
+pub span-not-found : (given : Answer) (question : Question) (table : ℕ) (a b : Option Key) (row : Option Row) (old : State) → question ≡ Span table a b → given ≡ Found row → Decides false (given ≡ answer question old)
+span-not-found given question table a b row old q g =
+    let range = answers_range old table a b in
+    decides-at (Found row) (Rows range.0) false g (ap (λ w. answer w old) q ∙ range.1.answered) (λ (e : false ≡ true). cc, λ e. cc)

@@ -1,80 +1,76 @@
--- Two states that have the same rows in each table.
-use Rattle.std.proofs.Common.{◌≡◌, ℕ, ◌<◌, ◌≤◌, nat_lt, Bool, true, false, ◌&&◌, cond, List, [], ◌∷◌, Option, None, Some, inl, inr, refl, sym, ap, subst, ◌∙◌, arith}
-use Rattle.std.proofs.Math.Nat.{eq-or-lt_of_le}
-use Rattle.std.proofs.lemmas.Bool.Decides.{nat_tests}
-use Rattle.std.proofs.lemmas.Map.Entries.{lookup-filter-keys}
-use Rattle.std.specs.Prelude.{Contains}
-use Rattle.std.specs.Map.{lookup}
-use Rattle.std.specs.FinMap.{get}
-use Rattle.std.specs.Ordering.{nat_cmp, is_eq, is_le}
-use Rattle.std.specs.Cmp.{nat_cmp_is, unsigned_tied, unsigned_Decides}
-use Rattle.std.specs.declared.cmp.Ordering.TheVariants.{Less, Equal}
-use Rattle.std.specs.declared.ops.Bound.TheVariants.{Included, Unbounded}
-use Rattle.std.specs.BTreeMap.Range.{entries_between, range_contains}
-use Rattle.occ_types.specs.Key.{Key}
-use Rattle.occ_types.specs.Question.{InRange}
-use Rattle.occ_types.specs.Row.{Row}
-use Rattle.occ_model.specs.State.{State, Rows}
-use Rattle.occ_model.proofs.RangeAnswers.{answers_range}
-use Rattle.occ_model.proofs.States.{same_state}
-use Rattle.occ_model.proofs.Tests.{decided}
-use Rattle.occ_audit.specs.Replica.{SameTable}
-
-pub one_of_two : (x y : Option Row) → ((row : Row) → x ≡ Some row → y ≡ Some row) → ((row : Row) → y ≡ Some row → x ≡ Some row) → x ≡ y
-one_of_two None None f g = refl
-one_of_two None (Some row) f g = g row refl
-one_of_two (Some row) y f g = sym (f row refl)
-
--- a row of a table that has the same rows in both is in both
-there : (s t : State) (u : ℕ) (k : Key) → SameTable u s t → (row : Row) → get s (u, k) ≡ Some row → get t (u, k) ≡ Some row
-there s t u k same row at =
-    let left = answers_range s u None None in
-    let right = answers_range t u None None in
-    let answers : Rows left.0 ≡ Rows right.0 = sym left.1.answered ∙ same ∙ right.1.answered in
-    let rows : left.0 ≡ right.0 = cc in
-    let every : InRange None None k = record { from = tt; below = tt } in
-    ((right.1.exactly k row).0 (subst (λ l. Contains l (k, row)) rows ((left.1.exactly k row).1 (every, at)))).1
+-- States table by table: two that have the same rows in each, and one that gets the tables of another one after another.
+use Rattle.std.proofs.Common.{◌≡◌, ℕ, ◌+◌, ◌<◌, ◌≤◌, nat_eq, nat_lt, Bool, true, false, cond, List, [], ◌∷◌, Option, None, Some, refl, sym, ap, subst, ◌∙◌, arith, nat_cmp, is_eq}
+use Rattle.occ_audit.proofs.Common.{nat_tests, lookup, unsigned_tied, unsigned_Decides, empty, get, get-empty, Object, object_cmp, Key, Row, rows_of, State, Rows, Span, answer, answers_range, same_state, decided, row-answered, row_at-plain, IsTaken, SameTable, lent, row_under, state_of}
+use Rattle.occ_types.specs.declared.keys.Key as code_key
+use Rattle.occ_audit.proofs.Lent.{Lent, Places, table_at, row_in, get-state_of, get-in, turned}
 
 same_tables : (s t : State) → ((u : ℕ) → SameTable u s t) → s ≡ t
 same_tables s t same = same_state s t (λ object.
-    one_of_two _ _ (there s t object.0 object.1 (same object.0)) (there t s object.0 object.1 (sym (same object.0))))
+    let range = answers_range s object.0 None None in
+    row-answered s object.0 range.0 (sym range.1.answered) object.1
+    ∙ sym (row-answered t object.0 range.0 (sym range.1.answered ∙ same object.0) object.1))
 
-reached : (first u : ℕ) → first ≤ u → is_le (nat_cmp first u) ≡ true
-reached first u h = elim (eq-or-lt_of_le h) [
-  | inl e ↦ ap is_le (sym (nat_cmp_is first u Equal e))
-  | inr l ↦ ap is_le (sym (nat_cmp_is first u Less l))
-]
-
-module _ (s t : State) {V : Type 0} where
-  -- the tables of some entries have the same rows in both
+module _ (s t : State) (first : ℕ) {V : Type 0} where
+  -- the tables of some entries, from a first one on, have the same rows in both
   abbrev pub AllSame : List (ℕ × V) → Type 0
   AllSame [] = Unit {0}
-  AllSame (e ∷ es) = SameTable e.0 s t × AllSame es
+  AllSame (e ∷ es) = (first ≤ e.0 → SameTable e.0 s t) × AllSame es
 
   -- so it is of a table that is found among them
-  same-found : (es : List (ℕ × V)) (u : ℕ) (m : V) → AllSame es → lookup (λ x. is_eq (nat_cmp u x)) es ≡ Some m → SameTable u s t
-  same-found [] u m all at = cc
-  same-found (e ∷ es) u m all at = by (is_eq (nat_cmp u e.0)) refl (same-found es u m all.1)
+  same-found : (es : List (ℕ × V)) (u : ℕ) (m : V) → AllSame es → first ≤ u → lookup (λ x. is_eq (nat_cmp u x)) es ≡ Some m → SameTable u s t
+  same-found [] u m all h at = cc
+  same-found (e ∷ es) u m all h at = by (is_eq (nat_cmp u e.0)) refl (same-found es u m all.1 h)
     where
       by : (b : Bool) → is_eq (nat_cmp u e.0) ≡ b → (lookup (λ x. is_eq (nat_cmp u x)) es ≡ Some m → SameTable u s t) → SameTable u s t
-      by true p later = subst (λ n. SameTable n s t) (sym ((unsigned_Decides u e.0).0 (sym (unsigned_tied u e.0) ∙ p))) all.0
+      by true p later =
+          let here : u ≡ e.0 = (unsigned_Decides u e.0).0 (sym (unsigned_tied u e.0) ∙ p) in
+          subst (λ n. SameTable n s t) (sym here) (all.0 (subst (λ n. first ≤ n) here h))
       by false p later = later (sym (ap (λ b. cond b (Some e.1) (lookup (λ x. is_eq (nat_cmp u x)) es)) p) ∙ at)
 
-  -- and of a table from a first one on that is found among all, where those from there on are the same
-  same-from : (first : ℕ) (es : List (ℕ × V)) (u : ℕ) (m : V) → AllSame (entries_between nat_cmp (Included first) Unbounded es) → first ≤ u → lookup (λ x. is_eq (nat_cmp u x)) es ≡ Some m → SameTable u s t
-  same-from first es u m all h at =
-      let within : ℕ → Bool = range_contains nat_cmp (Included first) Unbounded in
-      same-found (entries_between nat_cmp (Included first) Unbounded es) u m all
-      (lookup-filter-keys (λ x. is_eq (nat_cmp u x)) within (within u) (λ x e. ap within (sym ((unsigned_Decides u x).0 (sym (unsigned_tied u x) ∙ e)))) es
-      ∙ ap (λ b. cond (b && true) (lookup (λ x. is_eq (nat_cmp u x)) es) None) (reached first u h)
-      ∙ at)
-
-  -- the states are the same where all tables are, below the first one and from there on
-  pub same-all : (first : ℕ) (es : List (ℕ × V)) → ((u : ℕ) → u < first → SameTable u s t) → AllSame (entries_between nat_cmp (Included first) Unbounded es) → ((u : ℕ) → first ≤ u → lookup (λ x. is_eq (nat_cmp u x)) es ≡ None → SameTable u s t) → s ≡ t
-  same-all first es below all absent = same_tables s t (λ u. decided (nat_lt u first)
+  -- the states are the same where all tables are: those below the first one, those of the entries, and all others
+  pub same-all : (es : List (ℕ × V)) → ((u : ℕ) → u < first → SameTable u s t) → AllSame es → ((u : ℕ) → first ≤ u → lookup (λ x. is_eq (nat_cmp u x)) es ≡ None → SameTable u s t) → s ≡ t
+  same-all es below all absent = same_tables s t (λ u. decided (nat_lt u first)
       (λ yes. let h : u < first = grind (arith, nat_tests) in below u h)
       (λ no. let h : first ≤ u = grind (arith, nat_tests) in by u h (lookup (λ x. is_eq (nat_cmp u x)) es) refl))
     where
       by : (u : ℕ) → first ≤ u → (o : Option V) → lookup (λ x. is_eq (nat_cmp u x)) es ≡ o → SameTable u s t
       by u h None e = absent u h e
-      by u h (Some m) e = same-from first es u m all h e
+      by u h (Some m) e = same-found es u m all h e
+
+-- the tables before a first one have the rows of other tables, and those from there on have none
+abbrev pub IsFilledTo : ℕ → State → State → Type 0
+IsFilledTo first taken state = (object : Object) → get state object ≡ cond (nat_lt object.0 first) (get taken object) None
+
+pub filled-none : (taken state : State) → state ≡ empty → IsFilledTo 0 taken state
+filled-none taken state is object =
+    let never : nat_lt object.0 0 ≡ false = grind (arith, nat_tests) in
+    ap (λ s. get s object) is ∙ get-empty object_cmp object ∙ sym (ap (λ b. cond b (get taken object) None) never)
+
+pub filled-more : (table : ℕ) (taken old new : State) → IsFilledTo table taken old → IsTaken table taken old new → IsFilledTo (table + 1) taken new
+filled-more table taken old new filled is object =
+    is object ∙ ap (cond (nat_eq object.0 table) (get taken object)) (filled object) ∙ wider object.0 (get taken object)
+  where
+    wider : (u : ℕ) (row : Option Row) → cond (nat_eq u table) row (cond (nat_lt u table) row None) ≡ cond (nat_lt u (table + 1)) row None
+    wider u row = grind (arith, nat_tests)
+
+pub filled-all : (first count : ℕ) (taken state : State) → count ≤ first → ((object : Object) → count ≤ object.0 → get taken object ≡ None) → IsFilledTo first taken state → state ≡ taken
+filled-all first count taken state all no_more filled = same_state state taken (λ object. filled object ∙ decided (nat_lt object.0 first)
+    (λ e. ap (λ b. cond b (get taken object) None) e)
+    (λ e.
+    let past : count ≤ object.0 = grind (arith, nat_tests) in
+    ap (λ b. cond b (get taken object) None) e ∙ sym (no_more object past)))
+
+module _ {Z : Type 0} where
+  -- a map of lent rows in the place of a table's
+  pub table-taken : (tables next : List (ℕ × Lent Z)) (table : ℕ) (rows : Lent Z) (kept : List (code_key.Key Z × Row)) (taken old : State) → state_of tables ≡ old → Places tables next table rows → Rows (rows_of kept) ≡ answer (Span table None None) taken
+      → ((k : Key) → row_under (lent rows.entries) k ≡ row_under kept k) → IsTaken table taken old (state_of next)
+  table-taken tables next table rows kept taken old view placed answers are object =
+      get-state_of next object.0 object.1
+      ∙ ap (λ o. row_in o object.1) (placed object.0)
+      ∙ ap (λ b. row_in (cond b (Some rows) (table_at tables object.0)) object.1) (turned table object.0)
+      ∙ by object.0 object.1 (nat_eq object.0 table) refl
+    where
+      by : (u : ℕ) (k : Key) (b : Bool) → nat_eq u table ≡ b → row_in (cond b (Some rows) (table_at tables u)) k ≡ cond b (get taken (u, k)) (get old (u, k))
+      by u k true e =
+          are k ∙ sym (row-answered taken table (rows_of kept) answers k ∙ row_at-plain kept k) ∙ ap (λ t. get taken (t, k)) (sym ((unsigned_Decides u table).0 e))
+      by u k false e = sym (get-in tables u old (table_at tables u) view refl k)

@@ -1,5 +1,6 @@
--- What is left of a list, facts that stand or fall together, and what holds of a result.
-use Rattle.std.proofs.Common.{◌≡◌, ℕ, suc, ◌+◌, ◌<◌, List, ◌∷◌, length, get_or, drop, sym, ap, subst, ◌∙◌, add-one, drop-cons, Result, Ok, Err, OnOk}
+-- Facts that stand or fall together as a loop goes on, and what holds of a result.
+use Rattle.std.proofs.Common.{◌≡◌, ℕ, ◌+◌, ◌<◌, List, ◌∷◌, length, get_or, drop, sym, subst, Result, Ok, Err, OnOk}
+use Rattle.occ_book.proofs.Common.{drop_at}
 
 -- each of two facts gives the other
 abbrev pub Iff : Type 0 → Type 0 → Type 0
@@ -12,9 +13,9 @@ via a b = (λ p. b.0 (a.0 p), λ r. a.1 (b.1 r))
 pub along : {X : Type 0} (P : X → Type 0) (a b : X) → a ≡ b → Iff (P a) (P b)
 along P a b e = (λ p. subst P e p, λ p. subst P (sym e) p)
 
--- the element at a place, and what is left behind it
-pub left-cons : {X : Type 0} (xs : List X) (i : ℕ) (x : X) → i < length xs → x ≡ get_or xs i x → drop i xs ≡ x ∷ drop (i + 1) xs
-left-cons xs i x h at = rw add-one (drop-cons xs i x h ∙ ap (λ y. y ∷ drop (suc i) xs) (sym at))
+-- a fact that stands with one on what is left of a list, by the element that comes next
+pub at_next : {X : Type 0} {Q : Type 0} (P : List X → Type 0) (xs : List X) (i : ℕ) (x : X) → i < length xs → x ≡ get_or xs i x → Iff Q (P (drop i xs)) → Iff Q (P (x ∷ drop (i + 1) xs))
+at_next P xs i x h at so_far = via so_far (along P _ _ (drop_at xs i x x h at))
 
 -- what holds holds where a result is a success
 

@@ -11,7 +11,7 @@ use Rattle.occ_types.specs.Object.{Object}
 use Rattle.occ_types.specs.Question.{Span}
 use Rattle.occ_types.specs.Row.{Row}
 use Rattle.occ_types.specs.Same.{key_same}
-use Rattle.occ_types.specs.Seen.{key_of}
+use Rattle.occ_types.specs.PlainData.{key_of}
 use Rattle.occ_types.specs.declared.keys.Key as code_key
 use Rattle.occ_model.specs.State.{State, answer}
 
@@ -27,10 +27,6 @@ module _ {Z : Type 0} where
   -- the row under a key, among some rows of one table
   abbrev pub row_under : List (code_key.Key Z × Row) → Key → Option Row
   row_under rows key = lookup (λ x. key_same key (key_of x)) rows
-
-  -- some rows are those of a table of a state
-  abbrev pub AreRowsOf : ℕ → State → List (code_key.Key Z × Row) → Type 0
-  AreRowsOf table state rows = (key : Key) → get state (table, key) ≡ row_under rows key
 
   -- the keys and rows behind references
   abbrev pub lent : List (Bor (code_key.Key Z) × Bor Row) → List (code_key.Key Z × Row)

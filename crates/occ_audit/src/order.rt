@@ -1,8 +1,8 @@
 //! The order of a log from its base on: its places, the numbers of each session, and the closing marks.
-ghost use Rattle.std.specs.Prelude.{◌≡◌, ℕ, suc, ◌+◌, length, IfOk, MatchOption};
+ghost use Rattle.std.specs.Prelude.{◌≡◌, suc, ◌+◌, IfOk, MatchOption};
 ghost use Rattle.std.specs.Bool.{Decides};
-ghost use Rattle.occ_model.specs.Log.{numbers, last_folded};
-ghost use Rattle.occ_audit.specs.Order.{ArePlaced, AreNumbered, AreClosed, last_of};
+ghost use Rattle.occ_model.specs.Log.{last_folded};
+ghost use Rattle.occ_audit.specs.Order.{ArePlaced, AreNumbered, AreClosed, AreLast, last_of};
 ghost use Rattle.occ_audit.specs.Rows.{log_of};
 
 use occ_book::{Base, LogRow, Marks};
@@ -36,7 +36,7 @@ pub(crate) fn last_numbers<A: Allocator + Clone, O>(
 ) -> Result<Option<BTreeMap<usize, u64, A>>, AllocError>
     ensures { IfOk result (λ found. MatchOption found
         (AreNumbered base.now.base (log_of log.now) → ⊥)
-        (λ last. AreNumbered base.now.base (log_of log.now) × ((session : ℕ) → last_of base.now.base last session ≡ last_folded base.now.base session + length (numbers session (log_of log.now))))) }
+        (λ last. AreNumbered base.now.base (log_of log.now) × AreLast base.now.base last (log_of log.now))) }
 {
     let mut last = BTreeMap::new(alloc);
     for row in log {

@@ -1,17 +1,17 @@
 //! A state that is replayed. It has no row of its own: the log and the tables lend it theirs.
-ghost use Rattle.std.specs.Prelude.{◌≡◌, ◌<◌, ◌≤◌, ℕ, IfOk, OnOk};
+ghost use Rattle.std.specs.Prelude.{◌≡◌, ◌<◌, ◌≤◌, ◌+◌, ℕ, drop, IfOk, OnOk};
 ghost use Rattle.std.specs.Bool.{Decides};
 ghost use Rattle.std.specs.Option.{option_copied};
 ghost use Rattle.std.specs.FinMap as finite;
 ghost use Rattle.std.specs.Range.Bound.{bound_map};
+ghost use Rattle.occ_types.specs.Key as keys;
 ghost use Rattle.occ_types.specs.Object as objects;
 ghost use Rattle.occ_types.specs.Question.{Span};
-ghost use Rattle.occ_types.specs.Seen.{end_of, object_of, question_of};
-ghost use Rattle.occ_sets.specs.Seen.{answer_of, rows_of};
-ghost use Rattle.occ_book.specs.Kept.{is_backward, lower_bound, upper_bound};
-ghost use Rattle.occ_model.specs.State as states;
+ghost use Rattle.occ_types.specs.PlainData.{end_of, object_of, question_of};
+ghost use Rattle.occ_sets.specs.PlainSets.{answer_of, rows_of};
+ghost use Rattle.occ_book.specs.Content.{is_backward, lower_bound, upper_bound};
 ghost use Rattle.occ_model.specs.State.{put, apply, answer, Rows};
-ghost use Rattle.occ_audit.specs.Replica.{lent, IsInOrder, SameTable, IsTaken, AreRowsOf};
+ghost use Rattle.occ_audit.specs.Replica.{lent, IsInOrder, SameTable, IsTaken, row_under};
 
 use occ_book::Tables;
 use occ_sets::{Answer, WriteSet};
@@ -36,7 +36,7 @@ impl<'a, A: Allocator> Model for Replica<'a, A> {
 
     ghost Value = { State };
 
-    ghost use Rattle.occ_book.specs.Kept.{state_code};
+    ghost use Rattle.occ_book.specs.Content.{state_code};
 
     ghost coded = { state_code };
 
@@ -151,11 +151,19 @@ impl<'a, A: Allocator + Copy> Replica<'a, A> {
         ensures { OnOk result (self.new ≡ apply self.old writes.now) }
     {
         for place in 0..writes.len() {
-            if let Some((object, row)) = writes.write_at(place) {
-                self.put(object, row)?;
-            }
+            self.write_at(writes, place)?;
         }
         Ok(())
+    }
+
+    // Does the write at a place, where there is one.
+    fn write_at(&mut self, writes: &'a WriteSet<A>, place: usize) -> Result<(), AllocError>
+        ensures { OnOk result (apply self.new (drop (place + 1) writes.now) ≡ apply self.old (drop place writes.now)) }
+    {
+        let Some((object, row)) = writes.write_at(place) else {
+            return Ok(());
+        };
+        self.put(object, row)
     }
 
     // Whether the state answers a question so.
@@ -220,8 +228,8 @@ impl<'a, A: Allocator + Copy> Replica<'a, A> {
         requires no_more { (object : objects.Object) → first ≤ object.0 → finite.get tables.now.state object ≡ None }
         ensures { Decides result (tables.now.state ≡ self.now) }
     {
-        for (table, _) in self.tables.range(first..) {
-            if !self.has_table(tables, *table) {
+        for (table, _) in &self.tables {
+            if *table >= first && !self.has_table(tables, *table) {
                 return false;
             }
         }
@@ -248,9 +256,11 @@ fn lend<'a, A: Allocator + Copy>(
     alloc: A,
     kept: &'a BTreeMap<Key<A>, Row<A>, A>,
 ) -> Result<LentRows<'a, A>, AllocError>
-    ensures { IfOk result (λ rows. (table : ℕ) → (state : states.State) → Rows (rows_of kept.now.entries) ≡ answer (Span table None None) state → AreRowsOf table state (lent rows.entries)) }
+    ensures { IfOk result (λ rows. (key : keys.Key) → row_under (lent rows.entries) key ≡ row_under kept.now.entries key) }
 {
     let mut rows = BTreeMap::new(alloc);
+    // `len` tells that the keys are in order
+    let _rows = kept.len();
     for (key, row) in kept {
         rows.insert(key, row)?;
     }

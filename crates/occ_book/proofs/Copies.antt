@@ -1,13 +1,9 @@
 -- Copies of tables.
-use Rattle.std.proofs.Common.{◌≡◌, ℕ, suc, List, [], ◌∷◌, ◌++◌, refl, ap, ◌∙◌}
-use Rattle.std.proofs.lemmas.Map.Entries.{entries_from_clone}
+use Rattle.std.proofs.Common.{◌≡◌, ℕ, suc, List, [], ◌∷◌, ◌++◌, refl, ap, ◌∙◌, BTreeMap}
+use Rattle.occ_book.proofs.Common.{entries_from_clone, IsClone, AllZip, Row, placed, placed_from, state_of, content_of}
 use Rattle.std.proofs.lemmas.Slice.Zip.{AllZip-long}
-use Rattle.std.specs.BTreeMap.{BTreeMap, IsClone}
-use Rattle.std.specs.List.{AllZip}
-use Rattle.occ_types.specs.Row.{Row}
 use Rattle.occ_types.specs.declared.keys.Key as code_key
 use Rattle.std.specs.FinMap as finite
-use Rattle.occ_book.specs.Kept.{placed, placed_from, state_of, content_of}
 
 module _ {Z : Type 0} where
   -- a copy of a map has its entries

@@ -1,23 +1,11 @@
 -- Rows of a log, as they are folded into a base.
-use Rattle.std.proofs.Common.{◌≡◌, ℕ, suc, ◌+◌, ◌<◌, cond, List, [], ◌∷◌, length, get_or, drop, refl, sym, ap, ◌∙◌, add-one, drop-cons}
-use Rattle.std.proofs.lemmas.List.{length-map}
-use Rattle.std.specs.Ordering.{nat_cmp}
+use Rattle.std.proofs.Common.{◌≡◌, ℕ, ◌+◌, cond, List, [], ◌∷◌, length, refl, sym, ap, ◌∙◌, nat_cmp}
+use Rattle.occ_book.proofs.Common.{length-map, FinMap, State, apply, Case, is_committed, after, serial, BaseContent, base_content, commits, committed_writes, written, numbered, Content, Marked, standing_of, log_row_of, log_of}
 use Rattle.std.specs.FinMap as finite
-use Rattle.std.specs.FinMap.{FinMap}
-use Rattle.occ_model.specs.State.{State, apply}
-use Rattle.occ_model.specs.Log.{Case, is_committed, after, serial}
 use Rattle.occ_model.specs.Step.{folded, folded_numbers}
-use Rattle.occ_book.specs.Base.{BaseContent, base_content, commits, committed_writes, written, numbered}
-use Rattle.occ_book.specs.Kept.{Content}
-use Rattle.occ_book.specs.Marks.{Marked}
-use Rattle.occ_book.specs.Rows.{standing_of, log_row_of, log_of}
 use Rattle.occ_book.specs.declared.rows.Standing as code_standing
 use Rattle.occ_book.specs.declared.rows.Standing.TheVariants as standings
 use Rattle.occ_book.specs.declared.rows.LogRow as code_row
-
--- the element at a place, and what is left behind it
-pub left-cons : {X : Type 0} (xs : List X) (i : ℕ) (x : X) → i < length xs → x ≡ get_or xs i x → drop i xs ≡ x ∷ drop (i + 1) xs
-left-cons xs i x h at = rw add-one (drop-cons xs i x h ∙ ap (λ y. y ∷ drop (suc i) xs) (sym at))
 
 -- whatever is held of open rows
 module _ {Z O : Type 0} (opened : O → ℕ × Case) where
@@ -26,9 +14,7 @@ module _ {Z O : Type 0} (opened : O → ℕ × Case) where
     where
       by : (s : code_standing.Standing O) → apply state (cond (commits s) row.writes []) ≡ cond (is_committed (standing_of opened s)) (apply state row.writes) state
       by (standings.Open held) = refl
-      by (standings.Writing done) = refl
-      by (standings.Done number) = refl
-      by (standings.Back cause) = refl
+      by standing = refl
 
   -- what rows write is what serial replay of them makes
   pub written-serial : (state : State) (rows : List (code_row.LogRow Z O)) → written state rows ≡ serial state (log_of opened rows)

@@ -1,32 +1,9 @@
 -- The last write of each object, as they are noted one after another.
-use Rattle.std.proofs.Common.{◌≡◌, ◌<◌, ℕ, ◌+◌, length, Bool, true, false, cond, List, [], ◌∷◌, drop, Option, None, Some, refl, sym, ap, subst, ◌∙◌, arith}
-use Rattle.std.specs.Borrow.{Bor}
-use Rattle.std.specs.Prelude.{slice_get}
-use Rattle.std.specs.List.{AllByRecursion, IsDistinct}
-use Rattle.std.specs.List.Sorted.{IsStrictlySortedBy}
-use Rattle.std.specs.Map.{keys_of, lookup}
-use Rattle.std.specs.Option.{option_copied, option_map}
-use Rattle.std.specs.BTreeMap.{BTreeMap}
-use Rattle.std.specs.declared.cmp.Ordering.TheVariants.{Less}
-use Rattle.std.specs.Ordering.{is_eq}
-use Rattle.std.specs.Cmp.{eq_by_cmp_equiv, tied_itself}
-use Rattle.std.specs.FinMap.{get}
-use Rattle.occ_types.specs.Key.{Num, Text as KeyText, Pair}
-use Rattle.occ_types.specs.Object.{Object, object_cmp, object_cmp_total}
-use Rattle.occ_types.specs.Question.{One}
-use Rattle.occ_types.specs.Row.{Row}
-use Rattle.occ_types.specs.Seen.{object_of}
+use Rattle.std.proofs.Common.{◌≡◌, ◌<◌, ℕ, ◌+◌, length, Bool, true, false, cond, List, [], ◌∷◌, drop, Option, None, Some, refl, sym, ap, subst, ◌∙◌, arith, Bor, slice_get, option_copied, option_map, BTreeMap, Less, is_eq}
+use Rattle.occ_book.proofs.Common.{AllByRecursion, IsDistinct, IsStrictlySortedBy, keys_of, lookup, eq_by_cmp_equiv, tied_itself, get, Num, KeyText, Pair, Object, object_cmp, object_cmp_total, One, Row, object_of, WritesOnce, objects, State, Write, Answer, Found, answer, put, apply, own, IsDistinctWrites, same, same_object, get-put, same_state, decided, writes_in, ArePlaced}
 use Rattle.occ_types.specs.declared.objects.Object as code_object
 use Rattle.occ_types.specs.declared.keys.Key.TheVariants as keys
-use Rattle.occ_sets.specs.Sets.{WritesOnce, objects}
-use Rattle.occ_model.specs.State.{State, Write, Answer, Found, answer, put, apply}
-use Rattle.occ_model.specs.Overlay.{own}
-use Rattle.occ_model.specs.RangeLaws.{IsDistinctWrites}
 use Rattle.occ_model.proofs.OwnWrites.{overlays_answer}
-use Rattle.occ_model.proofs.States.{same, same_object, get-put, same_state}
-use Rattle.occ_model.proofs.Tests.{decided}
-use Rattle.occ_book.specs.LastWrites.{writes_in}
-use Rattle.occ_book.specs.Undo.{ArePlaced}
 use Rattle.occ_book.proofs.Parted.{drop-at, slice_get-none}
 
 -- an own write, and else what stands in the table

@@ -1,5 +1,6 @@
-pub mod Absent
+pub mod Common
 pub mod Copies
+pub mod TableEntries
 pub mod Folding
 pub mod LastNotes
 pub mod MarkViews

@@ -1,38 +1,19 @@
 -- Slots of sessions, seen as the marks by session.
-use Rattle.std.proofs.Common.{◌≡◌, ℕ, zero, suc, ◌+◌, ◌-◌, ◌<◌, ◌≤◌, Bool, true, false, cond, ◌&&◌, T, List, [], ◌∷◌, ◌++◌, Option, None, Some, is_some, length, nat_eq, count_by, refl, sym, ap, subst, ◌∙◌, arith}
-use Rattle.std.proofs.lemmas.Bool.Decides.{nat_tests}
-use Rattle.std.proofs.lemmas.List.{length-set}
+use Rattle.std.proofs.Common.{◌≡◌, ℕ, zero, suc, ◌+◌, ◌-◌, ◌<◌, ◌≤◌, true, false, cond, ◌&&◌, T, List, [], ◌∷◌, ◌++◌, Option, None, Some, is_some, length, nat_eq, count_by, refl, sym, ap, subst, ◌∙◌, arith, slice_get, slice_set, Less, nat_cmp, is_lt}
+use Rattle.occ_book.proofs.Views.{slice_get-slice_set, both_hold}
+use Rattle.occ_book.proofs.Common.{unsigned_tied, nat_tests, length-set, nat_cmp_is, nat_cmp_total, FinMap, find, get, insert, empty, entries, from_entries, from_sorted, is_sorted, get-from_entries, get-from_sorted, get-insert, entries-from_sorted, len-entries, same_map, nat_cmp-IsAntisymmetric, below_all, Marked, mark_at, marks_from, marks_of, marked_of, marks_listed}
 use Rattle.std.proofs.lemmas.List.Recursion.{is_count_by}
-use Rattle.std.specs.Prelude.{slice_get, slice_set}
-use Rattle.std.specs.declared.cmp.Ordering.TheVariants.{Less}
-use Rattle.std.specs.Ordering.{nat_cmp, eq_by_cmp, is_eq, is_lt}
-use Rattle.std.specs.Cmp.{Equal-is, unsigned_Decides, nat_cmp_is, nat_cmp_total, tied_itself}
 use Rattle.std.specs.FinMap as finite
-use Rattle.std.specs.FinMap.{FinMap, find, get, insert, empty, entries, from_entries, from_sorted, is_sorted, get-from_entries, get-from_sorted, get-insert, entries-from_sorted, len-entries, same_map, nat_cmp-IsAntisymmetric}
-use Rattle.std.specs.FinMap.Entries.{below_all}
-use Rattle.occ_book.specs.Marks.{Marked, mark_at, marks_from, marks_of, marked_of, marks_listed}
 
 -- what a slot that may be there has
 abbrev pub slot_of : Option (Option ℕ) → Option ℕ
 slot_of None = None
 slot_of (Some slot) = slot
 
--- sessions tie where they are equal
-tied : (q s : ℕ) (b : Bool) → nat_eq q s ≡ b → eq_by_cmp nat_cmp q s ≡ b
-tied q s true e =
-    ap (λ n. is_eq (nat_cmp q n)) (sym ((unsigned_Decides q s).0 e)) ∙ ap is_eq (tied_itself nat_cmp_total q)
-tied q s false e = by (is_eq (nat_cmp q s)) refl
-  where
-    by : (b : Bool) → is_eq (nat_cmp q s) ≡ b → is_eq (nat_cmp q s) ≡ false
-    by true f =
-        let same : nat_eq q s ≡ true = (unsigned_Decides q s).1 (nat_cmp-IsAntisymmetric q s ((Equal-is (nat_cmp q s)).0 f)) in
-        cc
-    by false f = f
-
 -- a mark of a session is found under that session alone
 find-mark : (q s : ℕ) (slot : Option ℕ) (rest : List (ℕ × ℕ)) → find nat_cmp q (mark_at s slot ++ rest) ≡ cond (is_some slot && nat_eq q s) slot (find nat_cmp q rest)
 find-mark q s None rest = refl
-find-mark q s (Some mark) rest = ap (λ b. cond b (Some mark) (find nat_cmp q rest)) (tied q s (nat_eq q s) refl)
+find-mark q s (Some mark) rest = ap (λ b. cond b (Some mark) (find nat_cmp q rest)) (unsigned_tied q s)
 
 -- no mark is found of a session before the first
 find-before : (q s : ℕ) (slots : List (Option ℕ)) → q < s → find nat_cmp q (marks_from s slots) ≡ None
@@ -86,17 +67,11 @@ marked-none slots n counted none = λ i. record { sessions = counted i; marks = 
 
 -- a slot that takes a mark
 slot-set : (slots : List (Option ℕ)) (n k mark : ℕ) → n < length slots → slot_of (slice_get (slice_set slots n (Some mark)) k) ≡ cond (nat_eq k n) (Some mark) (slot_of (slice_get slots k))
-slot-set [] n k mark less = absurd (omega arith)
-slot-set (slot ∷ slots) zero zero mark less = refl
-slot-set (slot ∷ slots) zero (suc k) mark less =
-    let apart : nat_eq (suc k) zero ≡ false = grind (arith, nat_tests) in
-    ap (λ b. cond b (Some mark) (slot_of (slice_get slots k))) (sym apart)
-slot-set (slot ∷ slots) (suc n) zero mark less =
-    let apart : nat_eq zero (suc n) ≡ false = grind (arith, nat_tests) in
-    ap (λ b. cond b (Some mark) slot) (sym apart)
-slot-set (slot ∷ slots) (suc n) (suc k) mark less =
-    let same_test : nat_eq (suc k) (suc n) ≡ nat_eq k n = grind (arith, nat_tests) in
-    slot-set slots n k mark (omega arith) ∙ ap (λ b. cond b (Some mark) (slot_of (slice_get slots k))) (sym same_test)
+slot-set slots n k mark less = ap slot_of (slice_get-slice_set slots n k (Some mark) less)
+    ∙ (elim (nat_eq k n) as (λ b. slot_of (cond b (Some (Some mark)) (slice_get slots k)) ≡ cond b (Some mark) (slot_of (slice_get slots k))) [
+      | true ↦ refl
+      | false ↦ refl
+    ])
 
 marks-set : (slots : List (Option ℕ)) (n mark : ℕ) → n < length slots → marks_of (slice_set slots n (Some mark)) ≡ insert (marks_of slots) (suc n) mark
 marks-set slots n mark less = same_map nat_cmp_total nat_cmp-IsAntisymmetric _ _ at
@@ -105,13 +80,13 @@ marks-set slots n mark less = same_map nat_cmp_total nat_cmp-IsAntisymmetric _ _
     at zero =
         let apart : nat_eq zero (suc n) ≡ false = grind (arith, nat_tests) in
         get-marks_of-zero (slice_set slots n (Some mark))
-        ∙ sym (get-insert nat_cmp_total (marks_of slots) (suc n) mark zero ∙ ap (λ b. cond b (Some mark) (get (marks_of slots) zero)) (tied zero (suc n) false apart) ∙ get-marks_of-zero slots)
+        ∙ sym (get-insert nat_cmp_total (marks_of slots) (suc n) mark zero ∙ ap (λ b. cond b (Some mark) (get (marks_of slots) zero)) (unsigned_tied zero (suc n) ∙ apart) ∙ get-marks_of-zero slots)
     at (suc k) =
         let same_test : nat_eq (suc k) (suc n) ≡ nat_eq k n = grind (arith, nat_tests) in
         get-marks_of (slice_set slots n (Some mark)) k
         ∙ slot-set slots n k mark less
         ∙ sym (get-insert nat_cmp_total (marks_of slots) (suc n) mark (suc k)
-        ∙ ap (λ b. cond b (Some mark) (get (marks_of slots) (suc k))) (tied (suc k) (suc n) (nat_eq (suc k) (suc n)) refl ∙ same_test)
+        ∙ ap (λ b. cond b (Some mark) (get (marks_of slots) (suc k))) (unsigned_tied (suc k) (suc n) ∙ same_test)
         ∙ ap (λ r. cond (nat_eq k n) (Some mark) r) (get-marks_of slots k))
 
 -- a session takes a mark
@@ -125,19 +100,15 @@ marked-set slots session mark old view above within =
     let first : marked_of (slice_set slots n (Some mark)) ≡ record (marked_of slots) { marks = insert (marks_of slots) session mark } = λ i. record { sessions = kept i; marks = marks i } in
     first ∙ ap (λ (m : Marked). record m { marks = insert m.marks session mark }) view
 
-both : (a b : Bool) → T a → T b → T (a && b)
-both true b p q = q
-both false b p q = p
-
 below : (q s : ℕ) (slots : List (Option ℕ)) → q < s → T (below_all nat_cmp q (marks_from s slots))
 below q s [] less = tt
 below q s (None ∷ slots) less = below q (suc s) slots (omega arith)
-below q s (Some mark ∷ slots) less = both _ _ (subst (λ o. T (is_lt o)) (nat_cmp_is q s Less less) tt) (below q (suc s) slots (omega arith))
+below q s (Some mark ∷ slots) less = both_hold _ _ (subst (λ o. T (is_lt o)) (nat_cmp_is q s Less less) tt) (below q (suc s) slots (omega arith))
 
 sorted : (s : ℕ) (slots : List (Option ℕ)) → T (is_sorted nat_cmp (marks_from s slots))
 sorted s [] = tt
 sorted s (None ∷ slots) = sorted (suc s) slots
-sorted s (Some mark ∷ slots) = both _ _ (below s (suc s) slots (omega arith)) (sorted (suc s) slots)
+sorted s (Some mark ∷ slots) = both_hold _ _ (below s (suc s) slots (omega arith)) (sorted (suc s) slots)
 
 -- the marks in their order
 pub entries-marks_of : (slots : List (Option ℕ)) → entries (marks_of slots) ≡ marks_from 1 slots

@@ -1,16 +1,6 @@
 -- Writes in two parts: the rows that are put, and then the deletions.
-use Rattle.std.proofs.Common.{◌≡◌, ◌<◌, ◌≤◌, ◌+◌, ℕ, zero, suc, add-one, Bool, true, false, ◌||◌, cond, List, [], ◌∷◌, length, drop, drop-cons, drop_of_length-le, Option, None, Some, refl, sym, ap, subst, ◌∙◌, arith}
-use Rattle.std.proofs.lemmas.Option.{slice_get_within, get_or_from_slice_get}
-use Rattle.std.specs.List.{AllByRecursion, IsDistinct}
-use Rattle.std.specs.Prelude.{slice_get}
-use Rattle.occ_types.specs.Object.{Object}
-use Rattle.occ_types.specs.Question.{asks}
-use Rattle.occ_types.specs.Row.{Row}
-use Rattle.occ_sets.specs.Sets.{WritesOnce, objects}
-use Rattle.occ_model.specs.State.{State, Write, put, apply, meets_question, target}
-use Rattle.occ_model.specs.Overlay.{set}
-use Rattle.occ_model.proofs.States.{same, apply-put}
-use Rattle.occ_book.specs.Undo.{ArePlaced, if_put, puts, if_deletion, deletions}
+use Rattle.std.proofs.Common.{◌≡◌, ◌<◌, ◌≤◌, ◌+◌, ℕ, zero, suc, add-one, Bool, true, false, ◌||◌, cond, List, [], ◌∷◌, length, drop, drop-cons, drop_of_length-le, Option, None, Some, refl, sym, ap, subst, ◌∙◌, arith, slice_get}
+use Rattle.occ_book.proofs.Common.{slice_get_within, get_or_from_slice_get, AllByRecursion, IsDistinct, Object, asks, Row, WritesOnce, objects, State, Write, put, apply, meets_question, target, set, same, apply-put, ArePlaced, if_put, puts, if_deletion, deletions}
 
 -- the element at a place, and what is left behind it
 pub drop-at : {X : Type 0} (xs : List X) (i : ℕ) (x : X) → slice_get xs i ≡ Some x → drop i xs ≡ x ∷ drop (i + 1) xs

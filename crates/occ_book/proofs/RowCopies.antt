@@ -1,18 +1,15 @@
 -- Copies of rows that are the rows.
 use Rattle.std.proofs.Common.{◌≡◌, List, ap, ◌∙◌}
+use Rattle.occ_book.proofs.Common.{AllZip, IsStandingCopy, IsRowCopy}
 use Rattle.std.proofs.lemmas.List.Elements.{same_from_all_zip}
-use Rattle.std.specs.List.{AllZip}
 use Rattle.occ_book.specs.declared.rows.Standing as code_standing
 use Rattle.occ_book.specs.declared.rows.Standing.TheVariants as standings
 use Rattle.occ_book.specs.declared.rows.LogRow as code_row
-use Rattle.occ_book.specs.Rows.{IsStandingCopy, IsRowCopy}
 
 module _ {O : Type 0} where
   same_standing : (standing copy : code_standing.Standing O) → IsStandingCopy (λ held another. another ≡ held) standing copy → copy ≡ standing
   same_standing (standings.Open held) copy is = is.1 ∙ ap standings.Open is.2
-  same_standing (standings.Writing done) copy is = is
-  same_standing (standings.Done number) copy is = is
-  same_standing (standings.Back cause) copy is = is
+  same_standing standing copy is = is
 
 module _ {Z O : Type 0} where
   -- where copies of what is held of open rows are the same, so are copies of rows

@@ -1,26 +1,10 @@
 -- How many rows stand in all tables.
-use Rattle.std.proofs.Common.{◌≡◌, ℕ, suc, ◌+◌, ◌<◌, min, Bool, true, false, ◌&&◌, T, List, [], ◌∷◌, ◌++◌, length, drop, get_or, None, ◌≤◌, refl, sym, ap, subst, ◌∙◌, arith, length-append}
-use Rattle.std.proofs.lemmas.List.{length-map, drop_more}
+use Rattle.std.proofs.Common.{◌≡◌, ℕ, suc, ◌+◌, ◌<◌, min, Bool, true, false, ◌&&◌, T, List, [], ◌∷◌, ◌++◌, length, drop, get_or, ◌≤◌, refl, sym, ap, subst, ◌∙◌, arith, length-append, BTreeMap, Less, is_lt}
+use Rattle.occ_book.proofs.Common.{length-map, drop_more, IsOrdered, on, ordering_then, nat_cmp_is, from_sorted, entries, is_sorted, get-from_entries, get-from_sorted, entries-from_sorted, len-entries, below_all, Key, key_cmp, Object, object_cmp, object_cmp_total, Row, key_of, same_state, Content, placed, placed_from, state_of, content_of}
 use Rattle.std.proofs.Math.ListN.{drop_of_length-le}
-use Rattle.std.specs.BTreeMap.{BTreeMap, IsOrdered}
-use Rattle.std.specs.declared.cmp.Ordering.TheVariants.{Less}
-use Rattle.std.specs.Ordering.{on, is_lt, ordering_then}
-use Rattle.std.specs.Cmp.{nat_cmp_is}
 use Rattle.std.specs.FinMap as finite
-use Rattle.std.specs.FinMap.{from_sorted, entries, is_sorted, get-from_entries, get-from_sorted, entries-from_sorted, len-entries}
-use Rattle.std.specs.FinMap.Entries.{below_all}
-use Rattle.occ_types.specs.Key.{Key, key_cmp}
-use Rattle.occ_types.specs.Object.{Object, object_cmp, object_cmp_total}
-use Rattle.occ_types.specs.Row.{Row}
-use Rattle.occ_types.specs.Seen.{key_of}
 use Rattle.occ_types.specs.declared.keys.Key as code_key
-use Rattle.occ_model.proofs.States.{same_state}
-use Rattle.occ_book.specs.Kept.{Content, placed, placed_from, state_of, content_of, entries_within}
-use Rattle.occ_book.proofs.Views.{sorted-placed}
-
-both : (a b : Bool) → T a → T b → T (a && b)
-both true b p q = q
-both false b p q = p
+use Rattle.occ_book.proofs.Views.{both_hold, sorted-placed}
 
 first : (a b : Bool) → T (a && b) → T a
 first true b p = tt
@@ -32,7 +16,7 @@ second false b p = absurd p
 
 below-append : (o : Object) (xs ys : List (Object × Row)) → T (below_all object_cmp o xs) → T (below_all object_cmp o ys) → T (below_all object_cmp o (xs ++ ys))
 below-append o [] ys p q = q
-below-append o (x ∷ xs) ys p q = both _ _ (first _ _ p) (below-append o xs ys (second _ _ p) q)
+below-append o (x ∷ xs) ys p q = both_hold _ _ (first _ _ p) (below-append o xs ys (second _ _ p) q)
 
 -- objects of an earlier table come before those of a later one
 earlier : (i j : ℕ) (k l : Key) → i < j → T (is_lt (object_cmp (i, k) (j, l)))
@@ -41,7 +25,7 @@ earlier i j k l less = subst (λ o. T (is_lt (ordering_then o (key_cmp k l)))) (
 module _ {Z : Type 0} where
   below-table : (i j : ℕ) (k : Key) (es : List (code_key.Key Z × Row)) → i < j → T (below_all object_cmp (i, k) (placed j es))
   below-table i j k [] less = tt
-  below-table i j k (e ∷ es) less = both _ _ (earlier i j k (key_of e.0) less) (below-table i j k es less)
+  below-table i j k (e ∷ es) less = both_hold _ _ (earlier i j k (key_of e.0) less) (below-table i j k es less)
 
   below-tables : (i j : ℕ) (k : Key) (ms : List (BTreeMap (code_key.Key Z) Row)) → i < j → T (below_all object_cmp (i, k) (placed_from j ms))
   below-tables i j k [] less = tt
@@ -50,7 +34,7 @@ module _ {Z : Type 0} where
   sorted-joined : (i : ℕ) (es : List (code_key.Key Z × Row)) (ys : List (Object × Row)) → T (is_sorted object_cmp (placed i es)) → T (is_sorted object_cmp ys) → ((k : Key) → T (below_all object_cmp (i, k) ys)) → T (is_sorted object_cmp (placed i es ++ ys))
   sorted-joined i [] ys p q below = q
   sorted-joined i (e ∷ es) ys p q below =
-      both _ _ (below-append (i, key_of e.0) (placed i es) ys (first _ _ p) (below (key_of e.0))) (sorted-joined i es ys (second _ _ p) q below)
+      both_hold _ _ (below-append (i, key_of e.0) (placed i es) ys (first _ _ p) (below (key_of e.0))) (sorted-joined i es ys (second _ _ p) q below)
 
   -- the keys of each table are in order
   abbrev pub AreOrdered : List (BTreeMap (code_key.Key Z) Row) → Type 0
@@ -116,8 +100,3 @@ module _ {Z : Type 0} where
     where
       last : (rows limit all : ℕ) → rows ≤ limit → min (rows + 0) limit ≡ min all limit → rows ≡ min all limit
       last rows limit all w e = omega arith
-
-  -- all entries lie within a range without ends
-  pub all_within : (es : List (code_key.Key Z × Row)) → entries_within None None es ≡ es
-  all_within [] = refl
-  all_within (e ∷ es) = ap (λ fs. e ∷ fs) (all_within es)

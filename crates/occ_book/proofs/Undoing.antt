@@ -1,24 +1,10 @@
 -- What is kept of the rows that are put, and how it brings them back.
-use Rattle.std.proofs.Common.{◌≡◌, ◌<◌, ℕ, cond, List, [], ◌∷◌, ◌++◌, length, Option, None, Some, IsSome, true≢false, refl, sym, ap, subst, ◌∙◌, arith}
-use Rattle.std.proofs.lemmas.List.{map-append}
-use Rattle.std.proofs.lemmas.Option.{slice_get_read}
-use Rattle.std.specs.Borrow.{Bor}
-use Rattle.std.specs.Prelude.{slice_index_or}
-use Rattle.std.specs.BTreeMap.{BTreeMap, get}
-use Rattle.std.specs.Cmp.{tied_itself}
+use Rattle.std.proofs.Common.{◌≡◌, ◌<◌, ℕ, cond, List, [], ◌∷◌, ◌++◌, length, Option, None, Some, IsSome, true≢false, refl, sym, ap, subst, ◌∙◌, arith, Bor, slice_index_or, BTreeMap, is_eq}
+use Rattle.occ_book.proofs.Common.{map-append, slice_get_read, tied_itself, on, key_cmp, Object, object_cmp_total, Row, key_of, object_of, State, Write, put, same, same_object, same_state, get-put, decided, Content, content_of, Replaced, kept_write, kept_writes}
+use Rattle.std.specs.BTreeMap.{get}
 use Rattle.std.specs.FinMap as finite
-use Rattle.std.specs.Ordering.{on, is_eq}
 use Rattle.occ_types.specs.declared.keys.Key as code_key
 use Rattle.occ_types.specs.declared.objects.Object as code_object
-use Rattle.occ_types.specs.Key.{key_cmp}
-use Rattle.occ_types.specs.Object.{Object, object_cmp_total}
-use Rattle.occ_types.specs.Row.{Row}
-use Rattle.occ_types.specs.Seen.{key_of, object_of}
-use Rattle.occ_model.specs.State.{State, Write, put}
-use Rattle.occ_model.proofs.States.{same, same_object, same_state, get-put}
-use Rattle.occ_model.proofs.Tests.{decided}
-use Rattle.occ_book.specs.Kept.{Content, content_of}
-use Rattle.occ_book.specs.Undo.{Replaced, kept_write, kept_writes}
 use Rattle.occ_book.proofs.Views.{row-found}
 
 module _ {Z : Type 0} where

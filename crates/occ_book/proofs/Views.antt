@@ -1,39 +1,10 @@
 -- One map for each table, seen as one state: what the state has at an object, what a change of one map does to it, and what it answers to a range.
-use Rattle.std.proofs.Common.{◌≡◌, ℕ, suc, zero, ◌+◌, ◌<◌, nat_eq, Bool, true, false, not, ◌&&◌, cond, T, List, [], ◌∷◌, ◌++◌, length, Option, None, Some, refl, sym, ap, subst, ◌∙◌, arith}
-use Rattle.std.proofs.lemmas.Bool.Decides.{nat_tests}
-use Rattle.std.proofs.lemmas.Map.Entries.{lookup-filter-keys}
-use Rattle.std.proofs.lemmas.Map.Keys.{sorted_head, sorted_tail}
-use Rattle.std.specs.Prelude.{map, slice_get, slice_set}
-use Rattle.std.specs.Option.{option_or, option_copied}
-use Rattle.std.specs.Prelude.{slice_index_or}
-use Rattle.std.specs.Borrow.{Bor}
+use Rattle.std.proofs.Common.{◌≡◌, ℕ, suc, zero, ◌+◌, ◌<◌, ◌≤◌, nat_eq, Bool, true, false, ◌&&◌, cond, T, List, [], ◌∷◌, ◌++◌, length, Option, None, Some, refl, sym, ap, subst, ◌∙◌, arith, map, slice_get, slice_set, option_copied, slice_index_or, Bor, BTreeMap, Less, is_eq, is_lt}
+use Rattle.occ_book.proofs.Common.{nat_tests, sorted_head, sorted_tail, option_or, slice_get_past, slice_get_read, length-set, length-map, Bound, entries_between, AllByRecursion, IsStrictlySortedBy, keys_of, IsOrdered, on, eq_by_cmp, ordering_then, eq_by_cmp_equiv, tied_itself, nat_cmp_total, unsigned_Decides, get, empty, find, is_sorted, get-from_entries, below_all, Key, key_cmp, key_cmp_total, Object, object_cmp, object_cmp_total, Span, asks, Row, key_of, end_of, asks-One, Rows, answer, answer_size, put, same, get-put, same_state, Content, is_backward, lower_bound, upper_bound, seen, entries_within, placed, placed_from, state_of, content_of, IsPut}
 use Rattle.std.specs.Slice.{IsItemAt}
-use Rattle.std.proofs.lemmas.Option.{slice_get_past, slice_get_read}
-use Rattle.std.proofs.lemmas.List.{length-set, length-map}
-use Rattle.std.specs.declared.ops.Bound.{Bound}
-use Rattle.std.specs.BTreeMap.Range.{entries_between}
-use Rattle.std.specs.List.{filter, AllByRecursion}
-use Rattle.std.specs.List.Sorted.{IsStrictlySortedBy}
-use Rattle.std.specs.Map.{lookup, keys_of}
-use Rattle.std.specs.BTreeMap.{BTreeMap, IsOrdered}
-use Rattle.std.specs.declared.cmp.Ordering.{Ordering}
-use Rattle.std.specs.declared.cmp.Ordering.TheVariants.{Less, Equal, Greater}
-use Rattle.std.specs.Ordering.{on, is_eq, is_lt, is_gt, is_le, eq_by_cmp, ordering_then, ordering_reverse}
-use Rattle.std.specs.Cmp.{eq_by_cmp_equiv, Equal-is, tied_itself, nat_cmp_total, unsigned_Decides}
 use Rattle.std.specs.FinMap as finite
-use Rattle.std.specs.FinMap.{get, empty, entries, retain_keys, from_sorted, find, is_sorted, get-from_entries, get-from_sorted, get-retain_keys, entries-from_sorted}
-use Rattle.std.specs.FinMap.Entries.{below_all, is_sorted-where_key}
-use Rattle.occ_types.specs.Key.{Key, Num, Text as KeyText, Pair, key_cmp, key_cmp_total, key_cmp-IsAntisymmetric}
-use Rattle.occ_types.specs.Object.{Object, object_cmp, object_cmp_total, object_cmp-IsAntisymmetric}
-use Rattle.occ_types.specs.Question.{Span, asks}
-use Rattle.occ_types.specs.Row.{Row}
-use Rattle.occ_types.specs.Seen.{key_of, end_of}
 use Rattle.occ_types.specs.declared.keys.Key as code_key
-use Rattle.occ_types.specs.declared.keys.Key.TheVariants as keys
-use Rattle.occ_types.proofs.Asked.{asks-One, asks-Span}
-use Rattle.occ_model.specs.State.{State, Rows, answer, answer_size, put}
-use Rattle.occ_model.proofs.States.{same, get-put, same_state}
-use Rattle.occ_book.specs.Kept.{Content, is_within, is_backward, lower_bound, upper_bound, seen, entries_within, placed, placed_from, state_of, content_of, IsPut}
+use Rattle.occ_book.proofs.TableEntries.{row_at, code_of, answer-within, answer-nowhere, backward-key}
 
 -- what a look-up by place answers is the element there
 item-at : {X : Type 0} (xs : List X) (i : ℕ) (r : Option (Bor X)) → IsItemAt xs i r → slice_get xs i ≡ option_copied r
@@ -44,32 +15,19 @@ item-at xs i (Some x) h = slice_get_read xs (length xs) i x.now refl h.3.0 h.1
 pub table-at : {X : Type 0} (maps xs : List X) (i : ℕ) (r o : Option (Bor X)) → xs ≡ maps → IsItemAt xs i r → r ≡ o → slice_get maps i ≡ option_copied o
 table-at maps xs i r o same is found = ap (λ l. slice_get l i) (sym same) ∙ item-at xs i r is ∙ ap option_copied found
 
--- no key lies in a range that runs backwards
-greater : (o : Ordering) → is_gt o ≡ true → o ≡ Greater
-greater Less e = cc
-greater Equal e = cc
-greater Greater e = refl
-
-not_both : (r s : Ordering) → (r ≡ Greater → s ≡ Greater) → (is_le s && not (is_le r)) ≡ false
-not_both Less Less h = refl
-not_both Less Equal h = refl
-not_both Less Greater h = refl
-not_both Equal Less h = refl
-not_both Equal Equal h = refl
-not_both Equal Greater h = refl
-not_both Greater Less h = let e = h refl in cc
-not_both Greater Equal h = let e = h refl in cc
-not_both Greater Greater h = refl
-
-turned : (a b : Key) → key_cmp a b ≡ Greater → key_cmp b a ≡ Less
-turned a b e = key_cmp_total.antisymm b a ∙ ap ordering_reverse e
-
-backward-key : (a b : Option Key) (k : Key) → is_backward a b ≡ true → is_within a b k ≡ false
-backward-key None b k e = cc
-backward-key (Some a) None k e = cc
-backward-key (Some a) (Some b) k e = not_both (key_cmp b k) (key_cmp a k) (λ g.
-    key_cmp_total.antisymm a k
-    ∙ ap ordering_reverse (key_cmp_total.trans k b a (turned b k g) (turned a b (greater (key_cmp a b) e))))
+-- what stands at a place after a write at another one or at its own
+pub slice_get-slice_set : {X : Type 0} (maps : List X) (t u : ℕ) (n : X) → t < length maps → slice_get (slice_set maps t n) u ≡ cond (nat_eq u t) (Some n) (slice_get maps u)
+slice_get-slice_set [] t u n h = absurd (omega arith)
+slice_get-slice_set (m ∷ ms) zero zero n h = refl
+slice_get-slice_set (m ∷ ms) zero (suc u) n h =
+    let apart : nat_eq (suc u) zero ≡ false = grind (arith, nat_tests) in
+    ap (λ b. cond b (Some n) (slice_get ms u)) (sym apart)
+slice_get-slice_set (m ∷ ms) (suc t) zero n h =
+    let apart : nat_eq zero (suc t) ≡ false = grind (arith, nat_tests) in
+    ap (λ b. cond b (Some n) (Some m)) (sym apart)
+slice_get-slice_set (m ∷ ms) (suc t) (suc u) n h =
+    let same_test : nat_eq (suc u) (suc t) ≡ nat_eq u t = grind (arith, nat_tests) in
+    slice_get-slice_set ms t u n (omega arith) ∙ ap (λ b. cond b (Some n) (slice_get ms u)) (sym same_test)
 
 -- an object ties with another by its table and its key
 tie : (t i : ℕ) (k l : Key) → eq_by_cmp object_cmp (t, k) (i, l) ≡ (nat_eq t i && is_eq (key_cmp k l))
@@ -85,7 +43,7 @@ nothing : {X : Type 0} (b : Bool) → ◌≡◌ {A = Option X} None (cond b None
 nothing true = refl
 nothing false = refl
 
-alone : (x : Option Row) → option_or x None ≡ x
+pub alone : (x : Option Row) → option_or x None ≡ x
 alone None = refl
 alone (Some x) = refl
 
@@ -93,7 +51,7 @@ both : (a b : Bool) → a ≡ true → T b → T (a && b)
 both true b e h = h
 both false b e h = cc
 
-both_hold : (a b : Bool) → T a → T b → T (a && b)
+pub both_hold : (a b : Bool) → T a → T b → T (a && b)
 both_hold true b g h = h
 both_hold false b g h = absurd g
 
@@ -107,10 +65,6 @@ find-both q (e ∷ xs) ys =
     ]
 
 module _ {Z : Type 0} where
-  -- the row under a key
-  abbrev row_at : List (code_key.Key Z × Row) → Key → Option Row
-  row_at es k = lookup (λ x. is_eq (key_cmp k (key_of x))) es
-
   -- the row under a key of a table that may be there
   abbrev pub row_in : Option (BTreeMap (code_key.Key Z) Row) → Key → Option Row
   row_in None k = None
@@ -156,28 +110,12 @@ module _ {Z : Type 0} where
   unfolding state_of
   state_of-empty maps e = ap (λ es. finite.from_entries es) e
 
-  -- a table after a write at another place or at its own
-  slice_get-slice_set : (maps : List (BTreeMap (code_key.Key Z) Row)) (t u : ℕ) (n : BTreeMap (code_key.Key Z) Row) → t < length maps → slice_get (slice_set maps t n) u ≡ cond (nat_eq u t) (Some n) (slice_get maps u)
-  slice_get-slice_set [] t u n h = absurd (omega arith)
-  slice_get-slice_set (m ∷ ms) zero zero n h = refl
-  slice_get-slice_set (m ∷ ms) zero (suc u) n h =
-      let apart : nat_eq (suc u) zero ≡ false = grind (arith, nat_tests) in
-      ap (λ b. cond b (Some n) (slice_get ms u)) (sym apart)
-  slice_get-slice_set (m ∷ ms) (suc t) zero n h =
-      let apart : nat_eq zero (suc t) ≡ false = grind (arith, nat_tests) in
-      ap (λ b. cond b (Some n) (Some m)) (sym apart)
-  slice_get-slice_set (m ∷ ms) (suc t) (suc u) n h =
-      let same_test : nat_eq (suc u) (suc t) ≡ nat_eq u t = grind (arith, nat_tests) in
-      slice_get-slice_set ms t u n (omega arith) ∙ ap (λ b. cond b (Some n) (slice_get ms u)) (sym same_test)
-
   -- a write at a key, seen at plain keys
   row_at-put : (m n : BTreeMap (code_key.Key Z) Row) (key : code_key.Key Z) (row : Option Row) → IsPut m key row n → (k : Key) → row_at n.entries k ≡ cond (is_eq (key_cmp k (key_of key))) row (row_at m.entries k)
-  row_at-put m n key row is (Num x) =
-      is (keys.Num x) ∙ ap (λ b. cond b row (row_at m.entries (Num x))) ((eq_by_cmp_equiv key_cmp_total).symm (key_of key) (Num x))
-  row_at-put m n key row is (KeyText x) =
-      is (keys.Text x) ∙ ap (λ b. cond b row (row_at m.entries (KeyText x))) ((eq_by_cmp_equiv key_cmp_total).symm (key_of key) (KeyText x))
-  row_at-put m n key row is (Pair x y) =
-      is (keys.Pair (x, y)) ∙ ap (λ b. cond b row (row_at m.entries (Pair x y))) ((eq_by_cmp_equiv key_cmp_total).symm (key_of key) (Pair x y))
+  row_at-put m n key row is k =
+      let x = code_of {Z = Z} k in
+      subst (λ l. row_at n.entries l ≡ cond (is_eq (key_cmp l (key_of key))) row (row_at m.entries l)) x.1
+      (is x.0 ∙ ap (λ b. cond b row (row_at m.entries (key_of x.0))) ((eq_by_cmp_equiv key_cmp_total).symm (key_of key) (key_of x.0)))
 
   -- a change of one map at one key is a write
   pub state_of-put : (maps : List (BTreeMap (code_key.Key Z) Row)) (t : ℕ) (m n : BTreeMap (code_key.Key Z) Row) (key : code_key.Key Z) (row : Option Row) → t < length maps → slice_get maps t ≡ Some m → IsPut m key row n → state_of (slice_set maps t n) ≡ put (state_of maps) ((t, key_of key), row)
@@ -208,15 +146,6 @@ module _ {Z : Type 0} where
       at_object u k false e = refl
 
 module _ {Z : Type 0} where
-  -- the filter of the keys stands before the table or after it
-  filter-placed : (t : ℕ) (p : Key → Bool) (es : List (code_key.Key Z × Row)) → filter (λ e. p e.0.1) (placed t es) ≡ placed t (filter (λ e. p (key_of e.0)) es)
-  filter-placed t p [] = refl
-  filter-placed t p (e ∷ es) =
-      elim (p (key_of e.0)) as (λ b. cond b (((t, key_of e.0), e.1) ∷ filter (λ e. p e.0.1) (placed t es)) (filter (λ e. p e.0.1) (placed t es)) ≡ placed t (cond b (e ∷ filter (λ e. p (key_of e.0)) es) (filter (λ e. p (key_of e.0)) es))) [
-        | true ↦ ap (λ fs. ((t, key_of e.0), e.1) ∷ fs) (filter-placed t p es)
-        | false ↦ filter-placed t p es
-      ]
-
   below-placed : (t : ℕ) (k : Key) (es : List (code_key.Key Z × Row)) → AllByRecursion (λ y. key_cmp k (key_of y) ≡ Less) (keys_of es) → T (below_all object_cmp (t, k) (placed t es))
   below-placed t k [] h = tt
   below-placed t k (e ∷ es) h =
@@ -227,51 +156,6 @@ module _ {Z : Type 0} where
   sorted-placed t [] h = tt
   sorted-placed t (e ∷ es) h =
       both_hold _ _ (below-placed t (key_of e.0) es (sorted_head (on key_of key_cmp) e.0 (keys_of es) h)) (sorted-placed t es (sorted_tail (on key_of key_cmp) e.0 (keys_of es) h))
-
-  pairs_of-placed : (t : ℕ) (es : List (code_key.Key Z × Row)) → map (λ e. (e.0.1, e.1)) (placed t es) ≡ map seen es
-  pairs_of-placed t [] = refl
-  pairs_of-placed t (e ∷ es) = ap (λ fs. seen e ∷ fs) (pairs_of-placed t es)
-
-  -- some rows of a table, in order, are the answer to a range where they are what is found within it
-  answer-is : (maps : List (BTreeMap (code_key.Key Z) Row)) (t : ℕ) (a b : Option Key) (fs : List (code_key.Key Z × Row))
-      → T (is_sorted object_cmp (placed t fs))
-      → ((k : Key) → row_at fs k ≡ cond (is_within a b k) (row_in (slice_get maps t) k) None)
-      → answer (Span t a b) (state_of maps) ≡ Rows (map seen fs)
-  unfolding answer
-  answer-is maps t a b fs sorted is =
-      let test : Object → Bool = asks (Span t a b) in
-      let made : State = from_sorted (placed t fs) in
-      let same_rows : retain_keys (state_of maps) test ≡ made = same_state _ _ (λ object.
-      get-retain_keys (state_of maps) test object (λ x e. sym (ap test (object_cmp-IsAntisymmetric object x e)))
-      ∙ at_object object.0 object.1 (nat_eq object.0 t) refl
-      ∙ sym (find-placed object.0 t object.1 fs)
-      ∙ sym (get-from_sorted object_cmp (placed t fs) object sorted)) in
-      ap (λ m. Rows (map (λ e. (e.0.1, e.1)) (entries m))) same_rows
-      ∙ ap (λ es. Rows (map (λ e. (e.0.1, e.1)) es)) (entries-from_sorted object_cmp (placed t fs) sorted)
-      ∙ ap Rows (pairs_of-placed t fs)
-    where
-      at_object : (u : ℕ) (k : Key) (c : Bool) → nat_eq u t ≡ c → cond (asks (Span t a b) (u, k)) (get (state_of maps) (u, k)) None ≡ cond (nat_eq u t) (row_at fs k) None
-      at_object u k true e =
-          ap (λ c. cond c (get (state_of maps) (u, k)) None) (asks-Span t u a b k ∙ ap (λ c. c && is_within a b k) e)
-          ∙ ap (λ r. cond (is_within a b k) r None) (get-state_of maps u k ∙ ap (λ i. row_in (slice_get maps i) k) ((unsigned_Decides u t).0 e))
-          ∙ sym (is k)
-          ∙ sym (ap (λ c. cond c (row_at fs k) None) e)
-      at_object u k false e =
-          ap (λ c. cond c (get (state_of maps) (u, k)) None) (asks-Span t u a b k ∙ ap (λ c. c && is_within a b k) e)
-          ∙ sym (ap (λ c. cond c (row_at fs k) None) e)
-
-  -- the answer of a table that is not there
-  pub answer-absent : (maps : List (BTreeMap (code_key.Key Z) Row)) (t : ℕ) (a b : Option Key) → slice_get maps t ≡ None → answer (Span t a b) (state_of maps) ≡ Rows []
-  answer-absent maps t a b at =
-      answer-is maps t a b [] tt (λ k. nothing (is_within a b k) ∙ ap (λ o. cond (is_within a b k) (row_in o k) None) (sym at))
-
-  -- the answer of a table: its entries between the ends, in their order
-  pub answer-within : (maps : List (BTreeMap (code_key.Key Z) Row)) (t : ℕ) (m : BTreeMap (code_key.Key Z) Row) (a b : Option Key) → slice_get maps t ≡ Some m → IsOrdered (on key_of key_cmp) m → answer (Span t a b) (state_of maps) ≡ Rows (map seen (entries_within a b m.entries))
-  answer-within maps t m a b at ordered =
-      answer-is maps t a b (entries_within a b m.entries)
-      (subst (λ es. T (is_sorted object_cmp es)) (filter-placed t (is_within a b) m.entries) (is_sorted-where_key object_cmp (λ o. is_within a b o.1) (placed t m.entries) (sorted-placed t m.entries ordered)))
-      (λ k. lookup-filter-keys (λ x. is_eq (key_cmp k (key_of x))) (λ x. is_within a b (key_of x)) (is_within a b k) (λ x e. ap (is_within a b) (sym (key_cmp-IsAntisymmetric k (key_of x) ((Equal-is (key_cmp k (key_of x))).0 e)))) m.entries
-      ∙ ap (λ o. cond (is_within a b k) (row_in o k) None) (sym at))
 
 module _ {Z : Type 0} where
   -- maps without rows are the empty state
@@ -287,6 +171,12 @@ module _ {Z : Type 0} where
   pub row-found : (maps : List (BTreeMap (code_key.Key Z) Row)) (t : ℕ) (k : Key) (old : Content) (o : Option (BTreeMap (code_key.Key Z) Row)) → content_of maps ≡ old → slice_get maps t ≡ o → row_in o k ≡ get old.state (t, k)
   row-found maps t k old o view at =
       ap (λ x. row_in x k) (sym at) ∙ sym (get-state_of maps t k) ∙ ap (λ (c : Content). get c.state (t, k)) view
+
+  -- no row stands in a table that is not there
+  pub absent : (maps : List (BTreeMap (code_key.Key Z) Row)) (old : Content) → content_of maps ≡ old → (object : Object) → old.tables ≤ object.0 → get old.state object ≡ None
+  absent maps old view object past =
+      let beyond : length maps ≤ object.0 = subst (λ (c : Content). c.tables ≤ object.0) (sym view) past in
+      sym (row-found maps object.0 object.1 old None view (slice_get_past maps object.0 beyond))
 
   -- the tables after a write in the map of one
   pub content-put : (maps : List (BTreeMap (code_key.Key Z) Row)) (t : ℕ) (m n : BTreeMap (code_key.Key Z) Row) (key : code_key.Key Z) (row : Option Row) (old : Content) → content_of maps ≡ old → t < old.tables → m ≡ slice_index_or maps t m → IsPut m key row n → content_of (slice_set maps t n) ≡ record { tables = old.tables; state = put old.state ((t, key_of key), row) }
@@ -308,12 +198,11 @@ module _ {Z : Type 0} where
   -- the answer that the map of a table holds
   pub answer-found : (maps : List (BTreeMap (code_key.Key Z) Row)) (t : ℕ) (m : BTreeMap (code_key.Key Z) Row) (a b : Option Key) (old : Content) → content_of maps ≡ old → slice_get maps t ≡ Some m → IsOrdered (on key_of key_cmp) m → answer (Span t a b) old.state ≡ Rows (map seen (entries_within a b m.entries))
   answer-found maps t m a b old view at ordered =
-      ap (λ (c : Content). answer (Span t a b) c.state) (sym view) ∙ answer-within maps t m a b at ordered
+      answer-within old.state t a b m.entries ordered (λ k. sym (row-found maps t k old (Some m) view at))
 
   -- the answer where there is no such table
   pub answer-missing : (maps : List (BTreeMap (code_key.Key Z) Row)) (t : ℕ) (a b : Option Key) (old : Content) → content_of maps ≡ old → slice_get maps t ≡ None → answer (Span t a b) old.state ≡ Rows []
-  answer-missing maps t a b old view at =
-      ap (λ (c : Content). answer (Span t a b) c.state) (sym view) ∙ answer-absent maps t a b at
+  answer-missing maps t a b old view at = answer-nowhere old.state t a b (λ k. sym (row-found maps t k old None view at))
 
   -- the size of the answer that the map of a table holds
   pub size-found : (maps : List (BTreeMap (code_key.Key Z) Row)) (t : ℕ) (m : BTreeMap (code_key.Key Z) Row) (a b : Option Key) (old : Content) → content_of maps ≡ old → slice_get maps t ≡ Some m → IsOrdered (on key_of key_cmp) m → length (entries_within a b m.entries) ≡ answer_size (answer (Span t a b) old.state)

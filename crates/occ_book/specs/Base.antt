@@ -8,7 +8,7 @@ use Rattle.std.specs.FinMap.{FinMap}
 use Rattle.occ_model.specs.State.{State, Write, apply}
 use Rattle.occ_model.specs.Content.{IsSession}
 use Rattle.occ_model.specs.Log.{Base}
-use Rattle.occ_book.specs.Kept.{Content, state_code}
+use Rattle.occ_book.specs.Content.{Content, state_code}
 use Rattle.occ_book.specs.Marks.{Marked}
 use Rattle.occ_book.specs.Undo.{ArePlaced}
 use Rattle.occ_book.specs.declared.rows.Standing as code_standing

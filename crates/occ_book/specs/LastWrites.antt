@@ -3,7 +3,7 @@ use Rattle.std.specs.Prelude.{List, map, Option}
 use Rattle.std.specs.Borrow.{Bor}
 use Rattle.std.specs.Option.{option_copied}
 use Rattle.occ_types.specs.Row.{Row}
-use Rattle.occ_types.specs.Seen.{object_of}
+use Rattle.occ_types.specs.PlainData.{object_of}
 use Rattle.occ_types.specs.declared.objects.Object as code_object
 use Rattle.occ_model.specs.State.{Write}
 

@@ -1,5 +1,5 @@
 pub mod Base
-pub mod Kept
+pub mod Content
 pub mod LastWrites
 pub mod Marks
 pub mod Rows

@@ -5,7 +5,7 @@ use Rattle.std.specs.FinMap.{get}
 use Rattle.occ_types.specs.declared.objects.Object as code_object
 use Rattle.occ_types.specs.Object.{Object}
 use Rattle.occ_types.specs.Row.{Row}
-use Rattle.occ_types.specs.Seen.{object_of}
+use Rattle.occ_types.specs.PlainData.{object_of}
 use Rattle.occ_model.specs.State.{State, Write, put}
 
 -- each write is of one of so many tables

@@ -4,8 +4,8 @@ ghost use Rattle.std.specs.Ordering.{on};
 ghost use Rattle.std.specs.BTreeMap.{IsUnchanged, get};
 ghost use Rattle.occ_types.specs.declared.fault.Fault.TheVariants.{Memory};
 ghost use Rattle.occ_types.specs.Key.{key_cmp};
-ghost use Rattle.occ_types.specs.Seen.{key_of};
-ghost use Rattle.occ_book.specs.Kept.{IsPut};
+ghost use Rattle.occ_types.specs.PlainData.{key_of};
+ghost use Rattle.occ_book.specs.Content.{IsPut};
 
 use occ_types::{Fault, Key, Row};
 use std::alloc::Allocator;

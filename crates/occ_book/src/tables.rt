@@ -1,5 +1,5 @@
 //! The tables of a store, with one map for each.
-ghost use Rattle.std.specs.Prelude.{◌≡◌, ◌<◌, ◌≤◌, ◌-◌, ◌^◌, min, map, length, IfOk, OnOk, OnErr, IsOk, IsSome, MatchOption, IsOkUnless, Some, None};
+ghost use Rattle.std.specs.Prelude.{◌≡◌, ◌<◌, ◌≤◌, ◌-◌, ◌^◌, min, map, length, true, false, [], IfOk, OnOk, OnErr, IsOk, IsSome, MatchOption, IsOkUnless, Some, None};
 ghost use Rattle.std.specs.Option.{option_copied};
 ghost use Rattle.std.specs.Ordering.{on};
 ghost use Rattle.std.specs.Range.Bound.{bound_map};
@@ -9,9 +9,9 @@ ghost use Rattle.occ_types.specs.declared.fault.Fault.TheVariants.{Memory};
 ghost use Rattle.occ_types.specs.Key.{key_cmp};
 ghost use Rattle.occ_types.specs.Object as objects;
 ghost use Rattle.occ_types.specs.Question.{Span};
-ghost use Rattle.occ_types.specs.Seen.{key_of, end_of};
+ghost use Rattle.occ_types.specs.PlainData.{key_of, end_of};
 ghost use Rattle.occ_model.specs.State.{put, answer, Rows, answer_size};
-ghost use Rattle.occ_book.specs.Kept.{seen, entries_within, is_backward, lower_bound, upper_bound};
+ghost use Rattle.occ_book.specs.Content.{seen, entries_within, is_backward, lower_bound, upper_bound};
 
 use crate::maps::{delete_row, exchange_row, put_row, set_back_row};
 use occ_types::{Fault, Key, Row};
@@ -27,7 +27,7 @@ pub struct Tables<A: Allocator> {
 }
 
 impl<A: Allocator> Model for Tables<A> {
-    ghost use Rattle.occ_book.specs.Kept.{Content, content_code, content_of};
+    ghost use Rattle.occ_book.specs.Content.{Content, content_code, content_of};
 
     ghost Value = { Content };
 
@@ -77,14 +77,11 @@ impl<A: Allocator + Clone> Tables<A> {
         ensures memory { IsOkUnless result Memory }
         ensures deletes { option_copied row.entry ≡ None → IsOk result }
     {
-        let map = &mut self.maps[table];
-        match row {
-            Some(row) => put_row(map, key, row),
-            None => {
-                delete_row(map, key);
-                Ok(())
-            }
-        }
+        let Some(row) = row else {
+            self.delete(table, key);
+            return Ok(());
+        };
+        put_row(&mut self.maps[table], key, row)
     }
 
     // Puts a row under a key of a table, and hands out the one that stood there. Refused with `Memory` at a new key alone, which leaves the tables as they were.
@@ -186,7 +183,7 @@ impl<A: Allocator> Tables<A> {
     {
         match self.maps.get(table) {
             Some(map) => {
-                // as in `copy_between`
+                // as in `has_none_between`
                 let _rows = map.len();
                 Some(map)
             }
@@ -207,8 +204,7 @@ fn copy_between<A: Allocator + Clone>(
     ensures ordered { IsOrdered (on key_of key_cmp) map.now }
 {
     let mut rows = Vec::new(alloc);
-    // a map may not be asked for a range that runs backwards; `len`, unlike `is_empty`, tells that the keys are in order
-    if map.len() == 0 || is_backward(lower, upper) {
+    if has_none_between(map, lower, upper) {
         return Ok(rows);
     }
     for (key, row) in map.range((lower_bound(lower), upper_bound(upper))) {
@@ -226,11 +222,26 @@ fn count_between<A: Allocator>(
     ensures count { result ≡ length (entries_within (end_of lower.now) (end_of upper.now) map.now.entries) }
     ensures ordered { IsOrdered (on key_of key_cmp) map.now }
 {
-    // as in `copy_between`
-    if map.len() == 0 || is_backward(lower, upper) {
+    if has_none_between(map, lower, upper) {
         return 0;
     }
     map.range((lower_bound(lower), upper_bound(upper))).count()
+}
+
+// Whether no entry lies between two ends since the map is empty or the range runs backwards. A map may not be asked for a range that does. `len`, unlike `is_empty`, tells that the keys are in order.
+fn has_none_between<A: Allocator>(
+    map: &BTreeMap<Key<A>, Row<A>, A>,
+    lower: &Option<Key<A>>,
+    upper: &Option<Key<A>>,
+) -> bool
+    ensures none { result ≡ true → entries_within (end_of lower.now) (end_of upper.now) map.now.entries ≡ [] }
+    ensures forward { result ≡ false → is_backward (end_of lower.now) (end_of upper.now) ≡ false }
+    ensures ordered { IsOrdered (on key_of key_cmp) map.now }
+{
+    if map.len() == 0 {
+        return true;
+    }
+    is_backward(lower, upper)
 }
 
 // Whether both ends are there, and the lower one is above the upper one.

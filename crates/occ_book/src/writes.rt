@@ -2,7 +2,7 @@
 ghost use Rattle.std.specs.Prelude.{◌≡◌, ◌<◌, ◌+◌, List, [], drop, Some, None, OnOk, OnErr, IsOk, IsOkUnless};
 ghost use Rattle.std.specs.Option.{option_copied};
 ghost use Rattle.occ_types.specs.declared.fault.Fault.TheVariants.{Memory};
-ghost use Rattle.occ_types.specs.Seen.{object_of};
+ghost use Rattle.occ_types.specs.PlainData.{object_of};
 ghost use Rattle.occ_model.specs.State.{State, Write, put, apply};
 ghost use Rattle.occ_book.specs.LastWrites.{writes_in};
 ghost use Rattle.occ_book.specs.Undo.{ArePlaced, if_put, puts, if_deletion, deletions, Replaced, KeepsReplaced, kept_writes};

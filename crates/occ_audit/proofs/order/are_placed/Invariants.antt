@@ -1,8 +1,5 @@
 use Rattle.std.proofs.Common.{◌+◌, drop}
-use Rattle.occ_audit.specs.Rows.{log_of}
-use Rattle.occ_model.specs.Log.{Counts}
-use Rattle.occ_audit.specs.Order.{ArePlaced}
-use Rattle.occ_audit.proofs.Walks.{Iff}
+use Rattle.occ_audit.proofs.Common.{Counts, log_of, ArePlaced, Iff}
 use Rattle.occ_audit.proofs.Orders.{places}
 use Rattle.occ_audit.proofs.order.are_placed.Given as goal
 

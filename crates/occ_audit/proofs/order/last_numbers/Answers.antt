@@ -1,7 +1,5 @@
 use Rattle.std.proofs.Common.{drop}
-use Rattle.std.proofs.lemmas.List.{at_drop_all}
-use Rattle.occ_audit.specs.Rows.{log_of}
-use Rattle.occ_model.proofs.Tests.{clash}
+use Rattle.occ_audit.proofs.Common.{at_drop_all, clash, log_of}
 use Rattle.occ_audit.proofs.Orders.{counted-none, counted-all, rows-counted, rows-uncounted}
 use Rattle.occ_audit.proofs.order.last_numbers.Goals as goal
 
@@ -14,7 +12,7 @@ returns-then-not-is_due g c =
 
 pub loop-row-preserved : goal.loop-row-preserved
 loop-row-preserved g c =
-    rows-counted c.args.base.now.base (log_of c.args.log.now) c.args.log.now c.loop-row.row-index c.row-item.result c.loop-row.last c.insert.new.self c.loop-row-test.true c.row-item.is c.loop-row.invariant (c.is_due.ensures.0 c.if-not-is_due.false) c.in_ok-insert.ensures.updates.0
+    rows-counted c.args.base.now.base (log_of c.args.log.now) c.args.log.now c.loop-row.row-index c.row-item.result c.loop-row.last c.loop-row-test.true c.row-item.is c.loop-row.invariant c.insert.new.self (c.is_due.ensures.0 c.if-not-is_due.false) c.in_ok-insert.ensures.updates.0
 
 pub returns : goal.returns
 returns g c =

@@ -1,5 +1,5 @@
 use Rattle.std.proofs.Common.{drop}
-use Rattle.occ_audit.specs.Rows.{log_of}
+use Rattle.occ_audit.proofs.Common.{log_of}
 use Rattle.occ_audit.proofs.Orders.{AreCounted}
 use Rattle.occ_audit.proofs.order.last_numbers.Given as goal
 

@@ -1,12 +1,5 @@
-use Rattle.std.proofs.Common.{rules, tests, ◌≡◌, map, refl, sym, ap, ◌∙◌}
-use Rattle.std.specs.Bool.{Decides}
-use Rattle.std.specs.Map.Iter.{deref_pair}
-use Rattle.std.proofs.lemmas.List.{map-id}
-use Rattle.std.proofs.lemmas.Iterator.{YieldsList-from_map_by, YieldsList-from_slice}
-use Rattle.std.proofs.lemmas.Iterator.Consumers.{YieldsList-at, YieldsList-from_rest}
-use Rattle.occ_book.specs.Kept.{seen}
-use Rattle.occ_sets.specs.Seen.{rows_of}
-use Rattle.occ_audit.specs.Replica.{lent}
+use Rattle.std.proofs.Common.{rules, tests, ◌≡◌, map, refl, sym, ap, ◌∙◌, Decides}
+use Rattle.occ_audit.proofs.Common.{deref_pair, map-id, YieldsList-from_map_by, YieldsList-from_slice, YieldsList-at, YieldsList-from_rest, rows_of, seen, lent}
 use Rattle.occ_audit.proofs.Equal.{eq-decides, entries-decide}
 use Rattle.occ_audit.proofs.replica.are_given.Goals as goal
 

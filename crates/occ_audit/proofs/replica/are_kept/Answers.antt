@@ -1,8 +1,5 @@
 use Rattle.std.proofs.Common.{rules, tests}
-use Rattle.std.specs.Map.Iter.{deref_pair}
-use Rattle.std.proofs.lemmas.Iterator.{YieldsList-from_map_by}
-use Rattle.std.proofs.lemmas.Iterator.Consumers.{YieldsList-at, YieldsList-from_rest}
-use Rattle.occ_book.specs.Kept.{seen}
+use Rattle.occ_audit.proofs.Common.{deref_pair, YieldsList-from_map_by, YieldsList-at, YieldsList-from_rest, seen}
 use Rattle.occ_audit.proofs.Equal.{eq-decides, entries-decide}
 use Rattle.occ_audit.proofs.replica.are_kept.Goals as goal
 

@@ -1,18 +1,7 @@
-use Rattle.std.proofs.Common.{◌≡◌, true, false, not, ◌∷◌, Option, sym, ap, subst, ◌∙◌}
-use Rattle.std.specs.Borrow.{Bor}
-use Rattle.std.specs.Map.{keys_of}
-use Rattle.std.specs.Option.{option_copied}
-use Rattle.std.specs.FinMap.{get}
-use Rattle.std.proofs.lemmas.Map.Keys.{sorted_tail}
-use Rattle.occ_types.specs.Row.{Row}
-use Rattle.occ_types.specs.Seen.{object_of}
+use Rattle.std.proofs.Common.{◌≡◌, true, false, not, ◌∷◌, Option, sym, ap, subst, ◌∙◌, Bor, option_copied}
+use Rattle.occ_audit.proofs.Common.{keys_of, get, sorted_tail, Row, object_of, put, apply, clash, not_false, writes_in, via, along, AreInOrder, distinct-writes_in}
 use Rattle.occ_types.specs.declared.objects.Object.{Object}
-use Rattle.occ_model.specs.State.{put, apply}
-use Rattle.occ_model.proofs.Tests.{clash, not_false}
-use Rattle.occ_book.specs.LastWrites.{writes_in}
-use Rattle.occ_audit.proofs.Walks.{via, along}
 use Rattle.occ_audit.proofs.Ranges.{option-decides}
-use Rattle.occ_book.proofs.LastNotes.{AreInOrder, distinct-writes_in}
 use Rattle.occ_audit.proofs.Overlaid.{taken_back, not_back}
 use Rattle.occ_audit.proofs.rests.are_settled.Goals as goal
 

@@ -1,8 +1,5 @@
 use Rattle.std.proofs.Common.{◌≡◌}
-use Rattle.occ_model.specs.State.{apply}
-use Rattle.occ_book.specs.LastWrites.{writes_in}
-use Rattle.occ_audit.proofs.Walks.{Iff}
-use Rattle.occ_book.proofs.LastNotes.{AreInOrder}
+use Rattle.occ_audit.proofs.Common.{apply, writes_in, Iff, AreInOrder}
 use Rattle.occ_audit.proofs.rests.are_settled.Given as goal
 
 -- the tables with all rests are the state as it was where the tables with those that are left are the state as it is now

@@ -1,8 +1,5 @@
 use Rattle.std.proofs.Common.{◌≡◌, drop}
-use Rattle.occ_audit.specs.Rows.{log_of}
-use Rattle.occ_model.specs.State.{State, apply}
-use Rattle.occ_model.specs.Log.{settled}
-use Rattle.occ_book.specs.LastWrites.{writes_in}
+use Rattle.occ_audit.proofs.Common.{State, apply, settled, log_of, writes_in}
 use Rattle.occ_audit.proofs.rests.rests_of.Given as goal
 
 -- the rows that are left lead to the same end

@@ -1,7 +1,5 @@
 use Rattle.std.proofs.Common.{drop}
-use Rattle.occ_sets.specs.Seen.{observations_of}
-use Rattle.occ_model.specs.Log.{AreAnswers}
-use Rattle.occ_audit.proofs.Walks.{Iff}
+use Rattle.occ_audit.proofs.Common.{observations_of, AreAnswers, Iff}
 use Rattle.occ_audit.proofs.serial_replay.are_answers.Given as goal
 
 -- all are answers where those that are left are

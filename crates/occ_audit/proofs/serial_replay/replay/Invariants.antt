@@ -1,7 +1,5 @@
 use Rattle.std.proofs.Common.{◌≡◌, drop}
-use Rattle.occ_audit.specs.Rows.{log_of}
-use Rattle.occ_model.specs.Log.{Explained, serial}
-use Rattle.occ_audit.proofs.Walks.{Iff}
+use Rattle.occ_audit.proofs.Common.{Explained, serial, log_of, Iff}
 use Rattle.occ_audit.proofs.serial_replay.replay.Given as goal
 
 -- the whole log is explained where what is left is explained from the state so far, and both lead to the same state

@@ -1,5 +1,5 @@
 use Rattle.std.proofs.Common.{◌∙◌}
-use Rattle.std.proofs.lemmas.Result.{on_ok_weaker}
+use Rattle.occ_book.proofs.Common.{on_ok_weaker}
 use Rattle.occ_book.proofs.base.fold_state.Goals as goal
 
 pub put_last-requires : goal.put_last-requires

@@ -1,20 +1,17 @@
 use Rattle.std.proofs.Common.{◌+◌, drop, sym, ap, subst, ◌∙◌}
-use Rattle.std.proofs.lemmas.List.{at_drop_all}
-use Rattle.occ_book.specs.Base.{AllFitIn, numbered}
-use Rattle.occ_book.specs.Marks.{Marked}
-use Rattle.occ_book.proofs.Folding.{left-cons}
+use Rattle.occ_book.proofs.Common.{drop_at, at_drop_all, AllFitIn, numbered, Marked}
 use Rattle.occ_book.proofs.base.note_numbers.Goals as goal
 
 pub note_number-requires : goal.note_number-requires
 note_number-requires g c =
-    let here = left-cons c.args.rows.now c.loop-row.row-index c.row-item.result c.loop-row-test.true c.row-item.is in
+    let here = drop_at c.args.rows.now c.loop-row.row-index c.row-item.result c.row-item.result c.loop-row-test.true c.row-item.is in
     (subst (AllFitIn c.loop-row.invariant.fits.0 c.loop-row.numbers.sessions) here c.loop-row.invariant.fits.1).0.session
 
 pub loop-row-preserved : goal.loop-row-preserved
 loop-row-preserved g c =
     let rows = c.args.rows.now in
     let i = c.loop-row.row-index in
-    let here = left-cons rows i c.row-item.result c.loop-row-test.true c.row-item.is in
+    let here = drop_at rows i c.row-item.result c.row-item.result c.loop-row-test.true c.row-item.is in
     let tables = c.loop-row.invariant.fits.0 in
     let fit = subst (AllFitIn tables c.loop-row.numbers.sessions) here c.loop-row.invariant.fits.1 in
     record {

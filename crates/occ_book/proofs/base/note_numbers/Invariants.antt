@@ -1,5 +1,5 @@
 use Rattle.std.proofs.Common.{◌≡◌, ℕ, drop}
-use Rattle.occ_book.specs.Base.{AllFitIn, numbered}
+use Rattle.occ_book.proofs.Common.{AllFitIn, numbered}
 use Rattle.occ_book.proofs.base.note_numbers.Given as goal
 
 -- the rows that are left lead to the same numbers

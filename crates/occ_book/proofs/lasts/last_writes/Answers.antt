@@ -1,16 +1,12 @@
 use Rattle.std.proofs.Common.{◌+◌, drop, sym, ap, subst, ◌∙◌}
-use Rattle.std.proofs.lemmas.List.{at_drop_all}
-use Rattle.occ_model.specs.State.{apply}
-use Rattle.occ_book.specs.Base.{AllFitIn, written}
-use Rattle.occ_book.specs.LastWrites.{writes_in}
-use Rattle.occ_book.proofs.Folding.{left-cons}
+use Rattle.occ_book.proofs.Common.{drop_at, at_drop_all, apply, AllFitIn, written, writes_in}
 use Rattle.occ_book.proofs.lasts.last_writes.Goals as goal
 
 pub loop-row-preserved : goal.loop-row-preserved
 loop-row-preserved g c =
     let rows = c.args.rows.now in
     let i = c.loop-row.row-index in
-    let here = left-cons rows i c.row-item.result c.loop-row-test.true c.row-item.is in
+    let here = drop_at rows i c.row-item.result c.row-item.result c.loop-row-test.true c.row-item.is in
     record {
       left = λ state.
           ap (λ s. written s (drop (i + 1) rows)) (c.in_ok-note_row.ensures.noted state)

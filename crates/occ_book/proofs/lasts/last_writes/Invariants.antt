@@ -1,8 +1,5 @@
 use Rattle.std.proofs.Common.{◌≡◌, ℕ, drop}
-use Rattle.occ_model.specs.State.{State, apply}
-use Rattle.occ_book.specs.Base.{AllFitIn, written}
-use Rattle.occ_book.specs.LastWrites.{writes_in}
-use Rattle.occ_book.specs.Undo.{ArePlaced}
+use Rattle.occ_book.proofs.Common.{State, apply, AllFitIn, written, writes_in, ArePlaced}
 use Rattle.occ_book.proofs.lasts.last_writes.Given as goal
 
 -- the rows that are left lead to the same end, and the last writes are of tables that are there

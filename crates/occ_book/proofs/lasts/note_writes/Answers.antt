@@ -1,10 +1,5 @@
-use Rattle.std.proofs.Common.{sym, ap, subst, ◌∙◌, arith}
-use Rattle.std.specs.Option.{option_copied}
-use Rattle.occ_types.specs.Row.{Row}
-use Rattle.occ_types.specs.Seen.{object_of}
-use Rattle.occ_model.specs.State.{apply}
-use Rattle.occ_book.specs.LastWrites.{writes_in}
-use Rattle.occ_book.specs.Undo.{ArePlaced}
+use Rattle.std.proofs.Common.{sym, ap, subst, ◌∙◌, arith, option_copied}
+use Rattle.occ_book.proofs.Common.{Row, object_of, apply, writes_in, ArePlaced}
 use Rattle.occ_book.proofs.Parted.{placed-at}
 use Rattle.occ_book.proofs.LastNotes.{write-more, no_write, noted, noted-placed}
 use Rattle.occ_book.proofs.lasts.note_writes.Goals as goal

@@ -1,7 +1,5 @@
 use Rattle.std.proofs.Common.{◌≡◌, ℕ, drop}
-use Rattle.occ_model.specs.State.{State, apply}
-use Rattle.occ_book.specs.LastWrites.{writes_in}
-use Rattle.occ_book.specs.Undo.{ArePlaced}
+use Rattle.occ_book.proofs.Common.{State, apply, writes_in, ArePlaced}
 use Rattle.occ_book.proofs.lasts.note_writes.Given as goal
 
 -- the writes that are left lead to the same end, and the last ones are of tables that are there

@@ -1,20 +1,8 @@
-use Rattle.std.proofs.Common.{sym, ◌∙◌, arith}
-use Rattle.occ_types.specs.Seen.{end_of}
+use Rattle.std.proofs.Common.{◌∙◌}
+use Rattle.occ_book.proofs.Common.{end_of, deref_pair, entries_within}
 use Rattle.std.proofs.lemmas.Map.Iter.{iter_end}
-use Rattle.std.specs.Map.Iter.{deref_pair}
-use Rattle.occ_book.specs.Kept.{entries_within}
-use Rattle.occ_book.proofs.Views.{entries_within-empty, entries_within-backward, between-is}
+use Rattle.occ_book.proofs.Views.{between-is}
 use Rattle.occ_book.proofs.tables.copy_between.Goals as goal
-use Rattle.occ_book.proofs.tables.copy_between.Goals.{then-len-eq0-via-then-len-eq0, then-len-eq0-via-else-len-eq0+then-is_backward}
-
-pub returns-then-len-eq0-clause-rows : goal.returns-then-len-eq0-clause-rows
-returns-then-len-eq0-clause-rows g c =
-    let lower = end_of c.args.lower.now in
-    let upper = end_of c.args.upper.now in
-    elim c.then-len-eq0.branch [
-      | then-len-eq0-via-then-len-eq0 w ↦ c.new-rows.ensures.items ∙ sym (entries_within-empty lower upper c.args.map.now.entries (omega arith))
-      | then-len-eq0-via-else-len-eq0+then-is_backward w ↦ c.new-rows.ensures.items ∙ sym (entries_within-backward lower upper c.args.map.now.entries (sym w.is_backward.ensures ∙ w.if-is_backward.true))
-    ]
 
 pub returns-clause-rows : goal.returns-clause-rows
 returns-clause-rows g c =

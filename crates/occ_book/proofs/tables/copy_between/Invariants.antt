@@ -1,6 +1,5 @@
-use Rattle.std.proofs.Common.{◌≡◌}
-use Rattle.std.specs.Prelude.{map}
-use Rattle.std.specs.Map.Iter.{deref_pair}
+use Rattle.std.proofs.Common.{◌≡◌, map}
+use Rattle.occ_book.proofs.Common.{deref_pair}
 use Rattle.occ_book.proofs.tables.copy_between.Given as goal
 
 -- the copies so far are those of the entries that were yielded

@@ -1,6 +1,5 @@
-use Rattle.std.proofs.Common.{◌≡◌, true, false, sym, ap}
-use Rattle.occ_types.specs.Seen.{object_of, question_of}
-use Rattle.occ_sets.specs.Seen.{answer_of}
+use Rattle.std.proofs.Common.{sym, ap}
+use Rattle.occ_audit.proofs.Common.{object_of, question_of, answer_of}
 use Rattle.occ_audit.proofs.Ranges.{one-decides, one-not-rows, span-not-found}
 use Rattle.occ_audit.proofs.replica.Replica.answers.Goals as goal
 
@@ -15,13 +14,9 @@ returns-in-One-Found g c =
     c.eq.ensures
 
 pub returns-in-One-Rows : goal.returns-in-One-Rows
-returns-in-One-Rows g c = (
-  λ (e : false ≡ true). cc,
-  λ e. absurd (one-not-rows (answer_of c.args.given.now) (question_of c.args.question.now) _ _ _ c.args.self.now (ap question_of c.in-One-Rows.is-0) (ap answer_of c.in-One-Rows.is-1) e),
-)
+returns-in-One-Rows g c =
+    one-not-rows (answer_of c.args.given.now) (question_of c.args.question.now) _ _ _ c.args.self.now (ap question_of c.in-One-Rows.is-0) (ap answer_of c.in-One-Rows.is-1)
 
 pub returns-in-Span-Found : goal.returns-in-Span-Found
-returns-in-Span-Found g c = (
-  λ (e : false ≡ true). cc,
-  λ e. absurd (span-not-found (answer_of c.args.given.now) (question_of c.args.question.now) _ _ _ _ c.args.self.now (ap question_of c.in-Span-Found.is-0) (ap answer_of c.in-Span-Found.is-1) e),
-)
+returns-in-Span-Found g c =
+    span-not-found (answer_of c.args.given.now) (question_of c.args.question.now) _ _ _ _ c.args.self.now (ap question_of c.in-Span-Found.is-0) (ap answer_of c.in-Span-Found.is-1)

@@ -1,12 +1,7 @@
-use Rattle.std.proofs.Common.{◌≡◌, [], None, Some, refl, sym, ap, ◌∙◌}
-use Rattle.std.specs.Option.{option_copied}
-use Rattle.occ_types.specs.Seen.{end_of}
-use Rattle.occ_sets.specs.Seen.{rows_of}
-use Rattle.occ_model.specs.State.{Rows}
-use Rattle.occ_book.specs.Kept.{is_backward, entries_within}
-use Rattle.occ_audit.specs.Replica.{lent}
+use Rattle.std.proofs.Common.{◌≡◌, [], None, Some, refl, sym, ap, ◌∙◌, option_copied}
+use Rattle.occ_audit.proofs.Common.{end_of, rows_of, Rows, is_backward, entries_within, lent, answer-backward, answer-nowhere}
 use Rattle.occ_audit.proofs.Lent.{table_at, get-in}
-use Rattle.occ_audit.proofs.Ranges.{answer-between, answer-backward, answer-nowhere, lent-between, forward, none-decides, rows-decide}
+use Rattle.occ_audit.proofs.Ranges.{answer-between, lent-between, forward, none-decides, rows-decide}
 use Rattle.occ_audit.proofs.replica.Replica.answers_range.Goals as goal
 use Rattle.occ_audit.proofs.replica.Replica.answers_range.Goals.{in_default-via-in-Some+else-not-is_backward, in_default-via-in_default}
 

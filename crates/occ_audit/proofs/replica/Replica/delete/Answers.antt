@@ -1,9 +1,7 @@
-use Rattle.std.proofs.Common.{◌≡◌, Some, None, refl, sym, ap, subst, ◌∙◌}
-use Rattle.std.specs.Option.{IsSome, option_copied_mut}
-use Rattle.occ_types.specs.Seen.{key_of, object_of}
-use Rattle.occ_audit.specs.Replica.{state_of}
-use Rattle.occ_audit.proofs.Lent.{table_at, put-kept, get-in}
-use Rattle.occ_audit.proofs.Writes.{put-nothing}
+use Rattle.std.proofs.Common.{◌≡◌, Some, None, refl, sym, ap, subst, ◌∙◌, IsSome}
+use Rattle.occ_audit.proofs.Common.{option_copied_mut, key_of, object_of, state_of}
+use Rattle.occ_audit.proofs.Lent.{table_at, state_of-put, row_under-changed, get-in}
+use Rattle.occ_audit.proofs.Overlaid.{put-nothing}
 use Rattle.occ_audit.proofs.replica.Replica.delete.Goals as goal
 use Rattle.occ_audit.proofs.replica.Replica.delete.Goals.{in-Some, in_default}
 
@@ -17,7 +15,7 @@ returns g c =
           let n = w.remove-deleted.new.self in
           let at : table_at tables object.table ≡ Some m = sym c.get_mut.ensures.value ∙ ap option_copied_mut w.in-Some.is in
           ap (λ t. state_of t.tables.entries) w.self-inside-is
-          ∙ put-kept tables _ object.table object.key None m n c.args.self.now c.self.view_is at ((c.get_mut.follows.holds n).3 (subst IsSome (sym at) refl)).0 w.remove-deleted.ensures.updates.0
+          ∙ state_of-put tables _ object.table (key_of object.key) None (Some m) n c.args.self.now c.self.view_is at ((c.get_mut.follows.holds n).3 (subst IsSome (sym at) refl)).0 (row_under-changed m n object.key None w.remove-deleted.ensures.updates.0)
       | in_default w ↦
           let at : table_at tables object.table ≡ None = sym c.get_mut.ensures.value ∙ ap option_copied_mut w.in_default.is in
           ap (λ t. state_of t.tables.entries) w.self-inside-is

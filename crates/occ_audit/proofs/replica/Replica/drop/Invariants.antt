@@ -1,4 +1,4 @@
-use Rattle.std.specs.BTreeMap.{btree_map_len}
+use Rattle.std.proofs.Common.{btree_map_len}
 use Rattle.occ_audit.proofs.replica.Replica.drop.Given as goal
 
 -- the maps that are left

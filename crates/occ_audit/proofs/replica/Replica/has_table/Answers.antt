@@ -1,11 +1,7 @@
-use Rattle.std.proofs.Common.{◌≡◌, [], None, Some, refl, sym, ap, ◌∙◌}
-use Rattle.std.specs.Option.{option_copied}
-use Rattle.std.specs.Map.Iter.{deref_pair}
-use Rattle.std.proofs.lemmas.List.{length-map}
-use Rattle.occ_sets.specs.Seen.{rows_of}
-use Rattle.occ_audit.specs.Replica.{lent}
+use Rattle.std.proofs.Common.{◌≡◌, [], None, Some, refl, sym, ap, ◌∙◌, option_copied}
+use Rattle.occ_audit.proofs.Common.{deref_pair, length-map, rows_of, lent, answer-nowhere}
 use Rattle.occ_audit.proofs.Lent.{table_at, get-in}
-use Rattle.occ_audit.proofs.Ranges.{answer-all, answer-nowhere, none-decides, rows-decide}
+use Rattle.occ_audit.proofs.Ranges.{answer-all, none-decides, rows-decide}
 use Rattle.occ_audit.proofs.replica.Replica.has_table.Goals as goal
 
 pub returns-in-Some-Some : goal.returns-in-Some-Some

@@ -1,5 +1,5 @@
 use Rattle.std.proofs.Common.{ℕ, ◌<◌}
-use Rattle.occ_audit.specs.Replica.{SameTable}
+use Rattle.occ_audit.proofs.Common.{SameTable}
 use Rattle.occ_audit.proofs.replica.Replica.is_of.Given as goal
 
 -- the tables so far have the same rows

@@ -1,5 +1,5 @@
-use Rattle.occ_audit.specs.Replica.{state_of}
 use Rattle.std.proofs.Common.{ap}
+use Rattle.occ_audit.proofs.Common.{state_of}
 use Rattle.occ_audit.proofs.replica.Replica.new.Goals as goal
 
 pub returns : goal.returns

@@ -1,5 +1,5 @@
 use Rattle.std.proofs.Common.{arith}
-use Rattle.occ_audit.proofs.Filled.{filled-none, filled-more, filled-all}
+use Rattle.occ_audit.proofs.Tables.{filled-none, filled-more, filled-all}
 use Rattle.occ_audit.proofs.replica.Replica.of.Goals as goal
 
 pub loop-table-init : goal.loop-table-init

@@ -1,4 +1,4 @@
-use Rattle.occ_audit.proofs.Filled.{IsFilledTo}
+use Rattle.occ_audit.proofs.Tables.{IsFilledTo}
 use Rattle.occ_audit.proofs.replica.Replica.of.Given as goal
 
 -- the tables so far have their rows, and the others none

@@ -1,6 +1,5 @@
-use Rattle.std.proofs.Common.{None, sym, ap, ◌∙◌}
-use Rattle.std.specs.Option.{option_copied}
-use Rattle.occ_types.specs.Seen.{key_of}
+use Rattle.std.proofs.Common.{None, sym, ap, ◌∙◌, option_copied}
+use Rattle.occ_audit.proofs.Common.{key_of}
 use Rattle.occ_audit.proofs.Lent.{row-found, get-in}
 use Rattle.occ_audit.proofs.replica.Replica.row.Goals as goal
 

@@ -1,7 +1,7 @@
 use Rattle.std.proofs.Common.{arith}
-use Rattle.occ_audit.proofs.Walks.{at_ok, at_err}
+use Rattle.occ_audit.proofs.Common.{at_ok, at_err}
 use Rattle.occ_audit.proofs.Lent.{Places}
-use Rattle.occ_audit.proofs.Filled.{table-taken}
+use Rattle.occ_audit.proofs.Tables.{table-taken}
 use Rattle.occ_audit.proofs.replica.Replica.take_table.Goals as goal
 use Rattle.occ_audit.proofs.replica.Replica.take_table.Goals.{in-Ok+in-Some-1, in-Ok+in-None-1, in-Err}
 
@@ -15,7 +15,7 @@ returns g c =
     let taken = c.args.tables.now.state in
     let rows = c.in_ok-rows.rows in
     let after = λ (placed : Places tables c.insert.new.self.entries table rows).
-    table-taken tables c.insert.new.self.entries table rows taken c.args.self.now c.self.view_is placed (c.in_ok-rows.ensures table taken c.in-Some.ensures) in
+    table-taken tables c.insert.new.self.entries table rows c.in-Some.kept.now.entries taken c.args.self.now c.self.view_is placed c.in-Some.ensures c.in_ok-rows.ensures in
     elim c.match-insert.branch [
       | in-Ok+in-Some-1 w ↦ at_ok _ _ _ w.result-is (after w.in-Ok.ensures.updates.0)
       | in-Ok+in-None-1 w ↦ at_ok _ _ _ w.result-is (after w.in-Ok.ensures.updates.0)

@@ -1,5 +1,5 @@
 use Rattle.std.proofs.Common.{◌≡◌, drop}
-use Rattle.occ_model.specs.State.{apply}
+use Rattle.occ_audit.proofs.Common.{apply}
 use Rattle.occ_audit.proofs.replica.Replica.write.Given as goal
 
 -- the writes that are left lead to the same end

@@ -1,5 +1,5 @@
 use Rattle.std.proofs.Common.{◌+◌, ◌<◌, ◌^◌, length, sym, subst}
-use Rattle.occ_book.specs.Base.{BaseContent, AllFitIn}
+use Rattle.occ_book.proofs.Common.{BaseContent, AllFitIn}
 use Rattle.occ_book.proofs.Folding.{base-folded}
 use Rattle.occ_book.proofs.base.Base.fold.Goals as goal
 

@@ -1,5 +1,5 @@
 use Rattle.std.proofs.Common.{length, ap, ◌∙◌, arith, length-append}
-use Rattle.occ_book.specs.Marks.{marks_from}
+use Rattle.occ_book.proofs.Common.{marks_from}
 use Rattle.occ_book.proofs.MarkViews.{marks_from-push, marked-none}
 use Rattle.occ_book.proofs.marks.Marks.new.Goals as goal
 

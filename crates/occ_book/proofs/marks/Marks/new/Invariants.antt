@@ -1,5 +1,5 @@
 use Rattle.std.proofs.Common.{◌≡◌, [], length}
-use Rattle.occ_book.specs.Marks.{marks_from}
+use Rattle.occ_book.proofs.Common.{marks_from}
 use Rattle.occ_book.proofs.marks.Marks.new.Given as goal
 
 -- the slots so far have no mark

@@ -1,6 +1,6 @@
 use Rattle.std.proofs.Common.{ap, ◌∙◌, rules}
+use Rattle.occ_book.proofs.Common.{marked_of}
 use Rattle.std.proofs.lemmas.List.Elements.{same_from_all_zip}
-use Rattle.occ_book.specs.Marks.{marked_of}
 use Rattle.occ_book.proofs.marks.MarksClone.clone.Goals as goal
 
 pub returns : goal.returns

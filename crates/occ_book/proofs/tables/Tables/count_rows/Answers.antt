@@ -1,6 +1,5 @@
 use Rattle.std.proofs.Common.{sym, ap, ◌∙◌}
-use Rattle.occ_types.specs.Seen.{end_of}
-use Rattle.occ_model.specs.State.{answer_size}
+use Rattle.occ_book.proofs.Common.{end_of, answer_size}
 use Rattle.occ_book.proofs.Views.{table-at, size-found, answer-missing}
 use Rattle.occ_book.proofs.tables.Tables.count_rows.Goals as goal
 

@@ -1,9 +1,5 @@
-use Rattle.std.proofs.Common.{◌+◌, drop, sym, ap, ◌∙◌}
-use Rattle.std.specs.Option.{option_copied}
-use Rattle.occ_types.specs.Row.{Row}
-use Rattle.occ_types.specs.Seen.{object_of}
-use Rattle.occ_model.specs.State.{apply}
-use Rattle.occ_book.specs.Undo.{deletions}
+use Rattle.std.proofs.Common.{◌+◌, drop, sym, ap, ◌∙◌, option_copied}
+use Rattle.occ_book.proofs.Common.{Row, object_of, apply, deletions}
 use Rattle.occ_book.proofs.Parted.{left-none, placed-at, deletions-at}
 use Rattle.occ_book.proofs.tables.Tables.delete_at.Goals as goal
 

@@ -1,7 +1,5 @@
 use Rattle.std.proofs.Common.{◌≡◌}
-use Rattle.occ_model.specs.State.{apply}
-use Rattle.occ_book.specs.LastWrites.{writes_in}
-use Rattle.occ_book.specs.Undo.{ArePlaced, deletions}
+use Rattle.occ_book.proofs.Common.{apply, writes_in, ArePlaced, deletions}
 use Rattle.occ_book.proofs.tables.Tables.delete_last_rows.Given as goal
 
 -- the deletions that are left lead to the same state

@@ -1,6 +1,5 @@
 use Rattle.std.proofs.Common.{◌≡◌, drop}
-use Rattle.occ_model.specs.State.{apply}
-use Rattle.occ_book.specs.Undo.{deletions}
+use Rattle.occ_book.proofs.Common.{apply, deletions}
 use Rattle.occ_book.proofs.tables.Tables.delete_rows.Given as goal
 
 -- the deletions that are left lead to the same state

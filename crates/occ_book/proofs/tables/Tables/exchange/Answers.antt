@@ -1,10 +1,7 @@
 use Rattle.std.proofs.Common.{◌≡◌, ◌∙◌, Some}
-use Rattle.std.proofs.lemmas.Result.{IfOk-weaker, on_ok_weaker, on_err_weaker}
+use Rattle.occ_book.proofs.Common.{IfOk-weaker, on_ok_weaker, on_err_weaker, on, key_cmp, key_of}
 use Rattle.std.specs.BTreeMap.{get}
 use Rattle.std.specs.FinMap as finite
-use Rattle.std.specs.Ordering.{on}
-use Rattle.occ_types.specs.Key.{key_cmp}
-use Rattle.occ_types.specs.Seen.{key_of}
 use Rattle.occ_book.proofs.Views.{content-put, content-unchanged}
 use Rattle.occ_book.proofs.Undoing.{map-has}
 use Rattle.occ_book.proofs.tables.Tables.exchange.Goals as goal

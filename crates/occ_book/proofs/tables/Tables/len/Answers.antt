@@ -1,5 +1,5 @@
 use Rattle.std.proofs.Common.{◌+◌, ◌-◌, ◌^◌, min, ap, ◌∙◌}
-use Rattle.occ_book.specs.Kept.{content_of}
+use Rattle.occ_book.proofs.Common.{content_of}
 use Rattle.occ_book.proofs.Sizes.{summed-none, summed-more, summed-all}
 use Rattle.occ_book.proofs.tables.Tables.len.Goals as goal
 

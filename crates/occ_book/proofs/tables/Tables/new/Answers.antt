@@ -1,5 +1,5 @@
 use Rattle.std.proofs.Common.{length, ap, ◌∙◌, arith, length-append}
-use Rattle.occ_book.specs.Kept.{placed_from}
+use Rattle.occ_book.proofs.Common.{placed_from}
 use Rattle.occ_book.proofs.Views.{placed_from-push, content-empty}
 use Rattle.occ_book.proofs.tables.Tables.new.Goals as goal
 

@@ -1,5 +1,5 @@
 use Rattle.std.proofs.Common.{◌≡◌, [], length}
-use Rattle.occ_book.specs.Kept.{placed_from}
+use Rattle.occ_book.proofs.Common.{placed_from}
 use Rattle.occ_book.proofs.tables.Tables.new.Given as goal
 
 -- the maps so far have no rows

@@ -1,5 +1,5 @@
 use Rattle.std.proofs.Common.{ap}
-use Rattle.occ_book.specs.Kept.{Content}
+use Rattle.occ_book.proofs.Common.{Content}
 use Rattle.occ_book.proofs.Undoing.{kept-more}
 use Rattle.occ_book.proofs.tables.Tables.put_and_keep.Goals as goal
 

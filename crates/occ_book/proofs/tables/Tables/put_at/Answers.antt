@@ -1,10 +1,5 @@
-use Rattle.std.proofs.Common.{◌+◌, drop, sym, ap, ◌∙◌}
-use Rattle.std.proofs.lemmas.Result.{on_ok_weaker}
-use Rattle.std.specs.Option.{option_copied}
-use Rattle.occ_types.specs.Row.{Row}
-use Rattle.occ_types.specs.Seen.{object_of}
-use Rattle.occ_model.specs.State.{apply}
-use Rattle.occ_book.specs.Undo.{puts}
+use Rattle.std.proofs.Common.{◌+◌, drop, sym, ap, ◌∙◌, option_copied}
+use Rattle.occ_book.proofs.Common.{on_ok_weaker, Row, object_of, apply, puts}
 use Rattle.occ_book.proofs.Parted.{left-none, placed-at, puts-at, none-put}
 use Rattle.occ_book.proofs.tables.Tables.put_at.Goals as goal
 

@@ -1,7 +1,5 @@
 use Rattle.std.proofs.Common.{refl, sym, ap, subst, ◌∙◌}
-use Rattle.occ_model.specs.State.{apply}
-use Rattle.occ_book.specs.LastWrites.{writes_in}
-use Rattle.occ_book.specs.Undo.{deletions, Replaced, kept_writes}
+use Rattle.occ_book.proofs.Common.{apply, writes_in, deletions, Replaced, kept_writes}
 use Rattle.occ_book.proofs.Parted.{apply-parts}
 use Rattle.occ_book.proofs.LastNotes.{once-writes_in}
 use Rattle.occ_book.proofs.tables.Tables.put_last.Goals as goal

@@ -1,7 +1,5 @@
 use Rattle.std.proofs.Common.{◌≡◌}
-use Rattle.occ_model.specs.State.{apply}
-use Rattle.occ_book.specs.LastWrites.{writes_in}
-use Rattle.occ_book.specs.Undo.{ArePlaced, puts, KeepsReplaced, kept_writes}
+use Rattle.occ_book.proofs.Common.{apply, writes_in, ArePlaced, puts, KeepsReplaced, kept_writes}
 use Rattle.occ_book.proofs.tables.Tables.put_last_rows.Given as goal
 
 -- the rows that are left lead to the same state

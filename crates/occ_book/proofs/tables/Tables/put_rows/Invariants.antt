@@ -1,6 +1,5 @@
 use Rattle.std.proofs.Common.{◌≡◌, drop}
-use Rattle.occ_model.specs.State.{apply}
-use Rattle.occ_book.specs.Undo.{puts, KeepsReplaced, kept_writes}
+use Rattle.occ_book.proofs.Common.{apply, puts, KeepsReplaced, kept_writes}
 use Rattle.occ_book.proofs.tables.Tables.put_rows.Given as goal
 
 -- the rows that are left lead to the same state

@@ -1,5 +1,5 @@
 use Rattle.std.proofs.Common.{◌∙◌, Some, None}
-use Rattle.occ_types.specs.Seen.{key_of}
+use Rattle.occ_book.proofs.Common.{key_of}
 use Rattle.occ_book.proofs.Views.{table-at, row-found}
 use Rattle.occ_book.proofs.tables.Tables.row.Goals as goal
 

@@ -1,9 +1,5 @@
-use Rattle.std.proofs.Common.{sym, ap, ◌∙◌}
-use Rattle.std.proofs.lemmas.Result.{IfOk-weaker}
-use Rattle.std.specs.Prelude.{map}
-use Rattle.occ_types.specs.Seen.{end_of}
-use Rattle.occ_model.specs.State.{Rows}
-use Rattle.occ_book.specs.Kept.{seen}
+use Rattle.std.proofs.Common.{sym, ap, ◌∙◌, map}
+use Rattle.occ_book.proofs.Common.{IfOk-weaker, end_of, Rows, seen}
 use Rattle.occ_book.proofs.Views.{table-at, answer-found, answer-missing}
 use Rattle.occ_book.proofs.tables.Tables.rows.Goals as goal
 

@@ -1,9 +1,6 @@
-use Rattle.std.proofs.Common.{◌<◌, ◌≤◌, length, sym, ap, subst, arith}
-use Rattle.std.specs.Prelude.{IsSome}
-use Rattle.occ_types.specs.Seen.{key_of}
-use Rattle.occ_book.specs.Kept.{Content}
-use Rattle.occ_book.proofs.Absent.{absent}
-use Rattle.occ_book.proofs.Views.{content-put}
+use Rattle.std.proofs.Common.{◌<◌, ◌≤◌, length, sym, ap, subst, arith, IsSome}
+use Rattle.occ_book.proofs.Common.{key_of, Content}
+use Rattle.occ_book.proofs.Views.{content-put, absent}
 use Rattle.occ_book.proofs.Undoing.{map-has, none_there}
 use Rattle.occ_book.proofs.tables.Tables.set_back.Goals as goal
 

@@ -1,10 +1,8 @@
-use Rattle.std.proofs.Common.{sym, ap, ◌∙◌, None}
-use Rattle.std.specs.Prelude.{map}
-use Rattle.occ_model.specs.State.{Rows}
-use Rattle.occ_book.specs.Kept.{seen}
+use Rattle.std.proofs.Common.{sym, ap, ◌∙◌, None, map}
+use Rattle.occ_book.proofs.Common.{Rows, seen}
 use Rattle.occ_book.proofs.Views.{table-at, answer-found}
-use Rattle.occ_book.proofs.Sizes.{all_within}
 use Rattle.occ_book.proofs.tables.Tables.table.Goals as goal
+use Rattle.occ_book.proofs.TableEntries.{all_within}
 
 pub returns-in-Some : goal.returns-in-Some
 returns-in-Some g c =

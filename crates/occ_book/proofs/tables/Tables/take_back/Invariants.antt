@@ -1,5 +1,5 @@
 use Rattle.std.proofs.Common.{◌≡◌, vec_len}
-use Rattle.occ_book.specs.Undo.{KeepsReplaced, kept_writes}
+use Rattle.occ_book.proofs.Common.{KeepsReplaced, kept_writes}
 use Rattle.occ_book.proofs.tables.Tables.take_back.Given as goal
 
 -- what is still kept brings back the same state

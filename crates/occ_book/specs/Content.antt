@@ -14,7 +14,7 @@ use Rattle.occ_types.specs.KeyPart.{KeyPart}
 use Rattle.occ_types.specs.Object.{Object}
 use Rattle.occ_types.specs.Row.{Cell, Int, Text as CellText, Row}
 use Rattle.occ_types.specs.Question.{is_from, is_below}
-use Rattle.occ_types.specs.Seen.{key_of}
+use Rattle.occ_types.specs.PlainData.{key_of}
 use Rattle.occ_types.specs.declared.keys.Key as code_key
 use Rattle.occ_model.specs.State.{State}
 
