@@ -1,11 +1,11 @@
 -- What a transaction that ends in one step has to show, over plain parts.
-use Rattle.std.proofs.Common.{◌≡◌, ℕ, zero, suc, ◌+◌, ◌-◌, ◌<◌, ◌≤◌, false, cond, List, [], ◌∷◌, ◌++◌, drop, length, Option, None, Some, refl, sym, ap, subst, ◌∙◌, arith, length-append, eqb-true, eq-eqb}
-use Rattle.std.specs.Prelude.{◌==◌, is_some, nat_le, slice_get, slice_set, if◌then◌else◌}
+use Rattle.std.proofs.Common.{◌≡◌, ℕ, zero, suc, ◌+◌, ◌-◌, ◌<◌, ◌≤◌, false, cond, List, [], ◌∷◌, ◌++◌, drop, length, Option, None, Some, refl, sym, ap, subst, ◌∙◌, arith, length-append, eqb-true, eq-eqb, ◌==◌, is_some, nat_le, slice_get, slice_set, if◌then◌else◌}
 use Rattle.std.proofs.lemmas.Bool.{leb-true}
 use Rattle.std.specs.FinMap as finite
 use Rattle.std.specs.FinMap.{FinMap}
 use Rattle.std.specs.FinSet as sets
 use Rattle.occ_types.specs.declared.limits.TheConstants.{MAX_LOG_ROWS, MAX_COUNTER, MAX_NUMBER}
+use Rattle.std.proofs.lemmas.Bool.{ne_eqb}
 use Rattle.occ_model.specs.State.{State, Write, Observation, apply}
 use Rattle.occ_model.specs.Log.{LogRow, Writing, Done, Back, is_active, last_folded}
 use Rattle.occ_model.specs.Validity.{finished_opponents, AreSame, window_low}
@@ -18,9 +18,9 @@ use Rattle.occ_model.proofs.Logs.{standing_at}
 use Rattle.occ_model.proofs.Tests as tests
 use Rattle.occ_model.proofs.Turns.{latest-push}
 use Rattle.occ_core.specs.AtOnce.{committed, backed, MayEnd}
-use Rattle.occ_log.specs.Slots.{Slot, Hold, held_from}
+use Rattle.occ_log.specs.SessionStates.{Slot, Hold, held_from}
 use Rattle.occ_log.specs.Window.{Window, advanced}
-use Rattle.occ_core.specs.Parts.{Parts, world_of, low_of, AreSound}
+use Rattle.occ_core.specs.CoreParts.{Parts, world_of, low_of, AreSound}
 use Rattle.occ_core.proofs.Calls.{held_world}
 use Rattle.occ_core.proofs.Moves.{each_slot}
 use Rattle.occ_core.proofs.Placed.{has_push}
@@ -63,9 +63,6 @@ module _ (old : Parts) (place : ℕ) (slot : Slot) (row : LogRow) (sound : AreSo
   pub passed_held : held_from 1 passed_slots ≡ held_from 1 old.slots
   passed_held = held-keep 1 old.slots place slot (record { last = row.number; hold = None }) at (sym (ap is_some free))
 
-  unlike : (a b : ℕ) → (a ≡ b → ⊥) → (a == b) ≡ false
-  unlike a b ne = tests.decided (a == b) (λ e. absurd (ne (eqb-true a b e))) (λ e. e)
-
   pub passed_sound : (table : State) (counter : ℕ) (phases : FinMap phase_cmp ReadPhase) (window : List (List Write))
       → IsLawful (world_of (passed_parts table counter phases window))
       → length window ≡ counter - window_low counter old.settings.keep
@@ -86,7 +83,7 @@ module _ (old : Parts) (place : ℕ) (slot : Slot) (row : LogRow) (sound : AreSo
         let apart : row.session ≡ suc q → ⊥ = λ e. ne (let f : suc q ≡ suc place = sym e ∙ own in omega arith) in
         record {
           last_is = s.last_is ∙ sym (ap (λ l. elim l as (λ _. ℕ) [ None ↦ last_folded old.base (suc q) | Some r ↦ r.number ])
-              (latest-push (suc q) row old.log ∙ ap (λ b. if b then Some row else latest (suc q) old.log) (unlike row.session (suc q) apart)));
+              (latest-push (suc q) row old.log ∙ ap (λ b. if b then Some row else latest (suc q) old.log) (ne_eqb row.session (suc q) apart)));
           last_fits = s.last_fits;
           row_is = λ hold h. has_push old.base.place (suc q) hold old.log row apart (s.row_is hold h);
         });

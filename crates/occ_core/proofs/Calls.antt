@@ -1,6 +1,5 @@
 -- What each call of the core has to show, over plain parts.
-use Rattle.std.proofs.Common.{◌≡◌, ℕ, zero, suc, ◌+◌, ◌-◌, ◌<◌, ◌≤◌, Bool, true, false, not, ◌&&◌, List, [], ◌∷◌, length, Option, None, Some, Result, Ok, Err, refl, sym, ap, subst, ◌∙◌, arith, inl, inr}
-use Rattle.std.specs.Prelude.{is_some, slice_get, slice_set, nat_le}
+use Rattle.std.proofs.Common.{◌≡◌, ℕ, zero, suc, ◌+◌, ◌-◌, ◌<◌, ◌≤◌, Bool, true, false, not, ◌&&◌, List, [], ◌∷◌, length, Option, None, Some, Result, Ok, Err, refl, sym, ap, subst, ◌∙◌, arith, inl, inr, is_some, slice_get, slice_set, nat_le}
 use Rattle.std.proofs.lemmas.Bool.{le-leb, leb-true}
 use Rattle.occ_types.specs.Schema.{fault_if, first_fault}
 use Rattle.occ_types.specs.declared.fault.Fault.{Fault}
@@ -15,13 +14,12 @@ use Rattle.occ_model.specs.Step.{Step, refused, decided}
 use Rattle.occ_model.specs.declared.verdict.Verdict.{Verdict}
 use Rattle.occ_model.proofs.Tests as tests
 use Rattle.occ_core.specs.Replies.{decision, backing}
-use Rattle.occ_log.specs.Slots.{Slot, Hold, IsHeldAt, row_under_way, last_of, back_fault}
-use Rattle.occ_core.specs.Parts.{Parts, world_of, found_at, HasRow, AreSound}
+use Rattle.occ_log.specs.SessionStates.{Slot, Hold, IsHeldAt, row_under_way, last_of, back_fault}
+use Rattle.occ_core.specs.CoreParts.{Parts, world_of, found_at, HasRow, AreSound}
 use Rattle.occ_core.specs.Folding.{under_way_fault, back_fault_of}
 use Rattle.occ_core.proofs.Placed.{from_index, before_first}
-use Rattle.occ_log.proofs.Holding.{is_held_at, contains-held}
-use Rattle.occ_log.proofs.Opponents.{held-get}
-use Rattle.occ_log.proofs.Places.{held_latest, slice_get-below, length-set}
+use Rattle.occ_log.proofs.Holding.{contains-held, held-is}
+use Rattle.occ_log.proofs.Places.{held-get, held_latest, slice_get-below, length-set}
 use Rattle.occ_core.proofs.Moves as moves
 
 -- the slot of a session that has a row under way
@@ -109,15 +107,10 @@ past_end [] k e = omega arith
 past_end (x ∷ xs) zero e = cc
 past_end (x ∷ xs) (suc k) e = let h = past_end xs k e in omega arith
 
-held_is : (slots : List Slot) (k : ℕ) (slot : Slot) → slice_get slots k ≡ Some slot → is_held_at slots k ≡ is_some slot.hold
-held_is [] k slot at = cc
-held_is (x ∷ xs) zero slot at = let e : x ≡ slot = cc in ap (λ s. is_some s.hold) e
-held_is (x ∷ xs) (suc k) slot at = held_is xs k slot at
-
 pub held_world : (parts : Parts) (k : ℕ) (slot : Slot) → slice_get parts.slots k ≡ Some slot → is_held (world_of parts) (suc k) ≡ is_some slot.hold
 held_world parts k slot at =
     let e : suc k ≡ 1 + k = omega arith in
-    ap (is_held (world_of parts)) e ∙ contains-held 1 parts.slots k ∙ held_is parts.slots k slot at
+    ap (is_held (world_of parts)) e ∙ contains-held 1 parts.slots k ∙ held-is parts.slots k slot at
 
 pub exists : (parts : Parts) (k : ℕ) (slot : Slot) → AreSound parts → slice_get parts.slots k ≡ Some slot → has_session (world_of parts) (suc k) ≡ true
 exists parts k slot sound at =

@@ -1,8 +1,10 @@
 -- What a checkpoint has to show, over plain parts.
-use Rattle.std.proofs.Common.{◌≡◌, ℕ, zero, suc, ◌+◌, ◌-◌, ◌<◌, ◌≤◌, Bool, true, false, cond, ◌&&◌, ◌||◌, List, [], ◌∷◌, ◌++◌, take, drop, length, Option, None, Some, Result, Err, refl, sym, ap, subst, ◌∙◌, arith, length-append, inl, inr}
-use Rattle.std.specs.Prelude.{◌==◌, nat_lt, nat_le, filter, if◌then◌else◌}
+use Rattle.std.proofs.Common.{◌≡◌, ℕ, zero, suc, ◌+◌, ◌-◌, ◌<◌, ◌≤◌, Bool, true, false, cond, ◌&&◌, ◌||◌, List, [], ◌∷◌, ◌++◌, take, drop, length, Option, None, Some, Result, Err, refl, sym, ap, subst, ◌∙◌, arith, length-append, inl, inr, ◌==◌, nat_lt, nat_le, filter, if◌then◌else◌}
 use Rattle.std.specs.List.{list_any, AllByRecursion}
-use Rattle.std.proofs.lemmas.Bool.{leb-true, ltb-true, ltb-false}
+use Rattle.std.proofs.lemmas.Bool.{ltb-true, ltb-false}
+use Rattle.std.proofs.lemmas.Bool.Decides.{nat_tests}
+use Rattle.std.proofs.lemmas.List.{length-take-le}
+use Rattle.std.proofs.lemmas.List.Elements.{filter-append}
 use Rattle.occ_types.specs.declared.fault.Fault.{Fault}
 use Rattle.occ_types.specs.declared.fault.Fault.TheVariants as faults
 use Rattle.occ_types.specs.Schema.{Schema, fault_if}
@@ -22,27 +24,21 @@ use Rattle.occ_book.specs.Base.{AllFitIn}
 use Rattle.occ_book.specs.Undo.{ArePlaced}
 use Rattle.occ_book.specs.declared.rows.LogRow as code_row
 use Rattle.occ_log.specs.Rows.{log_of, log_row_of}
-use Rattle.occ_log.specs.Slots.{Hold, IsHeldAt}
+use Rattle.occ_log.specs.SessionStates.{Hold, IsHeldAt}
 use Rattle.occ_log.proofs.Opponents.{some_finished, any-finished}
+use Rattle.occ_log.proofs.Places.{none-later}
 use Rattle.occ_core.specs.declared.core_checkpoint.TheConstants.{MAX_PLACE}
 use Rattle.occ_core.specs.Folding.{AllFit}
-use Rattle.occ_core.specs.Parts.{Parts, world_of, low_of, HasRow, AreSound}
+use Rattle.occ_core.specs.CoreParts.{Parts, world_of, low_of, HasRow, AreSound}
 use Rattle.occ_core.specs.Replies.{folding}
 use Rattle.occ_core.proofs.RunsAlone.{key_placed}
 
 -- The rows of a session, after a beginning of the log went.
 
-tail_none : (session : ℕ) (x : LogRow) (xs : List LogRow) → latest session (x ∷ xs) ≡ None → latest session xs ≡ None
-tail_none session x xs none = go (latest session xs) (x.session == session) none
-  where
-    go : (o : Option LogRow) (b : Bool) → (elim o as (λ _. Option LogRow) [ None ↦ if b then Some x else None | Some l ↦ Some l ]) ≡ None → o ≡ None
-    go None b e = refl
-    go (Some l) b e = cc
-
 none-drop : (session n : ℕ) (log : List LogRow) → latest session log ≡ None → latest session (drop n log) ≡ None
 none-drop session zero log none = none
 none-drop session (suc n) [] none = none
-none-drop session (suc n) (x ∷ xs) none = none-drop session n xs (tail_none session x xs none)
+none-drop session (suc n) (x ∷ xs) none = none-drop session n xs (none-later session x xs none).0
 
 -- the row that is held goes, and none of its session stays
 held-gone : (session index n : ℕ) (log : List LogRow) (row : LogRow) → IsHeldAt session index log row → index < n → latest session (drop n log) ≡ None
@@ -94,29 +90,16 @@ latest-append session (x ∷ xs) ys =
 outside : (low counter : ℕ) (s : Standing) → foldable low s ≡ true → finished_within low counter s ≡ false
 outside low counter (Open index case) can = cc
 outside low counter (Writing done) can = cc
-outside low counter (Done number) can = tests.decided (nat_lt low number)
-    (λ above. let a = ltb-true low number above in let b = leb-true number low can in absurd (omega arith))
-    (λ within. ap (λ b. b && nat_le number counter) within)
+outside low counter (Done number) can = grind (arith, nat_tests)
 outside low counter (Back cause) can = refl
 
 finished-later : (test : List Write → Bool) (xs ys : List LogRow) (counter low start : ℕ) → AreFoldable low xs → some_finished test (xs ++ ys) counter low start ≡ some_finished test ys counter low start
 finished-later test [] ys counter low start are = refl
 finished-later test (x ∷ xs) ys counter low start are =
-    any-finished test x (xs ++ ys) counter low start
-    ∙ ap (λ b. ((b && finished_within start counter x.standing) && test x.writes) || some_finished test (xs ++ ys) counter low start) (outside low counter x.standing are.0)
-    ∙ finished-later test xs ys counter low start are.1
+    grind (arith, any-finished test x (xs ++ ys) counter low start, outside low counter x.standing are.0, finished-later test xs ys counter low start are.1)
 
 count-later : (xs ys : List LogRow) → length (filter (λ row. is_active row.standing) ys) ≤ length (filter (λ row. is_active row.standing) (xs ++ ys))
-count-later [] ys = at_most (length (filter (λ row. is_active row.standing) ys))
-  where
-    at_most : (n : ℕ) → n ≤ n
-    at_most n = omega arith
-count-later (x ∷ xs) ys = go (is_active x.standing) (count-later xs ys)
-  where
-    go : (b : Bool) → length (filter (λ row. is_active row.standing) ys) ≤ length (filter (λ row. is_active row.standing) (xs ++ ys))
-        → length (filter (λ row. is_active row.standing) ys) ≤ length (cond b (x ∷ filter (λ row. is_active row.standing) (xs ++ ys)) (filter (λ row. is_active row.standing) (xs ++ ys)))
-    go true less = omega arith
-    go false less = less
+count-later xs ys = simp (filter-append, length-append) (omega arith)
 
 -- What a checkpoint does.
 module _ (old : Parts) (sound : AreSound old) (none : refusal (world_of old) Checkpoint ≡ None) where
@@ -267,27 +250,12 @@ rows_fit parts sound tables sessions same known =
     (content_fits parts.settings.schema parts.settings.sessions parts.counter parts.log sound.law.content.log))
 
 -- so many rows from the beginning
-pub first_count : {X : Type 0} (n : ℕ) (xs : List X) → n ≤ length xs → length (take n xs) ≡ n
-first_count zero xs less = refl
-first_count (suc n) [] less = absurd (omega arith)
-first_count (suc n) (x ∷ xs) less = ap suc (first_count n xs (omega arith))
-
-pub first_within : {X : Type 0} (n : ℕ) (xs : List X) → length (take n xs) ≤ n
-first_within zero xs = omega arith
-first_within (suc n) [] = omega arith
-first_within (suc n) (x ∷ xs) = let h = first_within n xs in omega arith
-
 -- the log begins where the base ends
 pub begins_later : (first place count new : ℕ) (rows : List LogRow) → count ≤ length rows → first ≡ place → new ≡ first + count → new ≡ place + length (take count rows)
-begins_later first place count new rows less same is = let n = first_count count rows less in omega arith
+begins_later first place count new rows less same is = let n = length-take-le count rows less in omega arith
 
 module _ {Z : Type 0} where
   pub first_fit : (tables sessions n : ℕ) (rows : List (code_row.LogRow Z (ℕ × Case))) → AllFit tables sessions (log_of rows) → AllFitIn tables sessions (take n rows)
   first_fit tables sessions zero rows all = tt
   first_fit tables sessions (suc n) [] all = tt
   first_fit tables sessions (suc n) (row ∷ rows) all = (record { session = all.0.session; placed = all.0.placed }, first_fit tables sessions n rows all.1)
-
-  pub first_rows : (n : ℕ) (rows : List (code_row.LogRow Z (ℕ × Case))) → log_of (take n rows) ≡ take n (log_of rows)
-  first_rows zero rows = refl
-  first_rows (suc n) [] = refl
-  first_rows (suc n) (row ∷ rows) = ap (λ l. log_row_of row ∷ l) (first_rows n rows)

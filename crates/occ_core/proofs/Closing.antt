@@ -1,6 +1,5 @@
 -- What the entry of a closing mark has to show, over plain parts.
-use Rattle.std.proofs.Common.{◌≡◌, ℕ, ◌-◌, ◌≤◌, not, [], ◌∷◌, length, Option, None, Some, refl, sym, ap, subst, ◌∙◌}
-use Rattle.std.specs.Prelude.{◌==◌, slice_get, nat_le}
+use Rattle.std.proofs.Common.{◌≡◌, ℕ, ◌-◌, ◌≤◌, not, [], ◌∷◌, length, Option, None, Some, refl, sym, ap, subst, ◌∙◌, ◌==◌, slice_get, nat_le}
 use Rattle.std.specs.Ordering.{nat_cmp}
 use Rattle.std.specs.FinMap as finite
 use Rattle.std.specs.FinMap.{FinMap}
@@ -18,9 +17,9 @@ use Rattle.occ_model.proofs.Phases.{not_refused}
 use Rattle.occ_model.proofs.Admitted.{passed}
 use Rattle.occ_model.proofs.InSchema.{keeps_lawful}
 use Rattle.occ_core.specs.Reads.{session_fault, closed_fault}
-use Rattle.occ_core.specs.Entries.{due_fault, busy_fault, turn_to_close}
-use Rattle.occ_log.specs.Slots.{last_of}
-use Rattle.occ_core.specs.Parts.{Parts, world_of, AreSound}
+use Rattle.occ_core.specs.EntryFaults.{due_fault, busy_fault, turn_to_close}
+use Rattle.occ_log.specs.SessionStates.{last_of}
+use Rattle.occ_core.specs.CoreParts.{Parts, world_of, AreSound}
 use Rattle.occ_core.proofs.Entering.{busy_is}
 use Rattle.occ_core.proofs.Moves.{slot_same}
 use Rattle.occ_core.proofs.Reading.{session_is, last_is}

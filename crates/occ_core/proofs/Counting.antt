@@ -1,6 +1,5 @@
 -- How many transactions are active: counted through the sessions, and in the log.
-use Rattle.std.proofs.Common.{◌≡◌, ℕ, zero, suc, ◌+◌, ◌-◌, ◌<◌, ◌≤◌, Bool, true, false, cond, List, [], ◌∷◌, ◌++◌, drop, length, Option, None, Some, refl, sym, ap, subst, ◌∙◌, arith, length-append, append_assoc, eqb-true, eq-eqb, inl, inr}
-use Rattle.std.specs.Prelude.{◌==◌, is_some, slice_get, if◌then◌else◌, filter, option_map}
+use Rattle.std.proofs.Common.{◌≡◌, ℕ, zero, suc, ◌+◌, ◌-◌, ◌<◌, ◌≤◌, Bool, true, false, cond, List, [], ◌∷◌, ◌++◌, drop, length, Option, None, Some, refl, sym, ap, subst, ◌∙◌, arith, length-append, append_assoc, eqb-true, eq-eqb, inl, inr, ◌==◌, ◌&&◌, nat_lt, nat_le, is_some, slice_get, if◌then◌else◌, filter, option_map}
 use Rattle.std.specs.Ordering.{nat_cmp}
 use Rattle.std.specs.FinSet as sets
 use Rattle.std.specs.FinSet.{FinSet}
@@ -9,17 +8,17 @@ use Rattle.occ_model.specs.Log.{LogRow, is_active}
 use Rattle.occ_model.specs.World.{latest, active_count}
 use Rattle.occ_model.specs.Invariant.{OneUnderWay, ActiveAreHeld}
 use Rattle.occ_model.proofs.Tests as tests
-use Rattle.occ_log.specs.Slots.{Slot, Hold, held_from, active_of, active_from}
+use Rattle.occ_log.specs.SessionStates.{Slot, Hold, held_from, active_of, active_from}
 use Rattle.std.proofs.lemmas.Bool.{lt-leb}
+use Rattle.std.proofs.lemmas.Bool.Decides.{nat_tests}
 use Rattle.occ_types.specs.declared.fault.Fault.TheVariants.{CounterExhausted}
 use Rattle.occ_types.specs.declared.limits.TheConstants.{MAX_COUNTER}
 use Rattle.occ_types.specs.Schema.{fault_if}
-use Rattle.occ_core.specs.Entries.{active_at, counter_fault}
-use Rattle.occ_core.specs.Parts.{Parts, world_of, found_at, HasRow, AreSound}
+use Rattle.occ_core.specs.EntryFaults.{active_at, counter_fault}
+use Rattle.occ_core.specs.CoreParts.{Parts, world_of, found_at, HasRow, AreSound}
 use Rattle.occ_core.proofs.Placed.{from_index, before_first}
-use Rattle.occ_log.proofs.Holding.{is_held_at, contains-held, held_place}
-use Rattle.occ_log.proofs.Opponents.{held-get, held-latest}
-use Rattle.occ_log.proofs.Places.{slice_get-below}
+use Rattle.occ_log.proofs.Holding.{contains-held, held-is, held_place}
+use Rattle.occ_log.proofs.Places.{held-get, held_latest, slice_get-below}
 
 -- Through the sessions, one by one.
 
@@ -128,47 +127,9 @@ tally_next row rows one from (suc n) =
     sums : (a b c d e f : ℕ) → a ≡ b + c → d ≡ e + f → a + d ≡ (b + e) + (c + f)
     sums a b c d e f x y = omega arith
 
-hit_past : (session from n a : ℕ) → session < from → hit session from n a ≡ 0
-hit_past session from zero a less = refl
-hit_past session from (suc n) a less =
-    let h = hit_past session (suc from) n a (omega arith) in
-    let e : (session == from) ≡ false = tests.decided (session == from) (λ e. let same = eqb-true session from e in absurd (omega arith)) (λ e. e) in
-    let z : cond (session == from) a 0 ≡ 0 = ap (λ b. cond b a 0) e in
-    omega arith
-
-hit_in : (session from n a : ℕ) → from ≤ session → session < from + n → hit session from n a ≡ a
-hit_in session from zero a low high = absurd (omega arith)
-hit_in session from (suc n) a low high = tests.decided (session == from)
-    (λ e. let same = eqb-true session from e in
-    let h = hit_past session (suc from) n a (omega arith) in
-    let z : cond (session == from) a 0 ≡ a = ap (λ b. cond b a 0) e in
-    omega arith)
-    (λ e. let ne : session ≡ from → ⊥ = λ same. tests.clash (session == from) (eq-eqb session from same) e in
-    let up = above session from low ne in
-    let h = hit_in session (suc from) n a up (omega arith) in
-    let z : cond (session == from) a 0 ≡ 0 = ap (λ b. cond b a 0) e in
-    omega arith)
-  where
-    above : (x y : ℕ) → y ≤ x → (x ≡ y → ⊥) → suc y ≤ x
-    above x y le ne = tests.decided (Rattle.std.specs.Prelude.nat_lt y x)
-        (λ e. let h = Rattle.std.proofs.Common.ltb-true y x e in omega arith)
-        (λ e. let h = Rattle.std.proofs.Common.ltb-false y x e in absurd (ne (omega arith)))
-
-hit_none : (session from n : ℕ) → hit session from n 0 ≡ 0
-hit_none session from zero = refl
-hit_none session from (suc n) =
-    let h = hit_none session (suc from) n in
-    both (cond (session == from) nothing 0) (hit session (suc from) n 0) (flat (session == from)) h
-  where
-    nothing : ℕ
-    nothing = 0
-
-    both : (a b : ℕ) → a ≡ 0 → b ≡ 0 → a + b ≡ 0
-    both a b x y = omega arith
-
-    flat : (b : Bool) → cond b nothing 0 ≡ nothing
-    flat true = refl
-    flat false = refl
+hit_is : (session from n a : ℕ) → hit session from n a ≡ cond (nat_le from session && nat_lt session (from + n)) a 0
+hit_is session from zero a = grind (arith, nat_tests)
+hit_is session from (suc n) a = let again = hit_is session (suc from) n a in grind (arith, nat_tests)
 
 -- each active row is of one of so many sessions
 abbrev InRange : ℕ → List LogRow → Type 0
@@ -204,9 +165,10 @@ counted n (row ∷ rows) one range =
     let t = tally_next row rows one.0 1 n in
     let r = counted n rows one.1 range.1 in
     let c = count-cons row rows in
-    let h = tests.decided (is_active row.standing)
-    (λ yes. let bounds = range.0 yes in hit_in row.session 1 n (cond (is_active row.standing) 1 0) bounds.0 (let u = bounds.1 in omega arith))
-    (λ no. let z : cond (is_active row.standing) 1 0 ≡ 0 = ap (λ b. cond b 1 0) no in ap (hit row.session 1 n) z ∙ hit_none row.session 1 n ∙ sym z) in
+    let h = hit_is row.session 1 n (cond (is_active row.standing) 1 0) in
+    let within : hit row.session 1 n (cond (is_active row.standing) 1 0) ≡ cond (is_active row.standing) 1 0 = tests.decided (is_active row.standing)
+    (λ yes. let bounds = range.0 yes in let low = bounds.0 in let high = bounds.1 in grind (arith, nat_tests))
+    (λ no. grind (arith, nat_tests)) in
     omega arith
 
 slots_tally : (log : List LogRow) (find : ℕ → Option LogRow) (slots : List Slot) (from : ℕ) → ((k : ℕ) (slot : Slot) → slice_get slots k ≡ Some slot → length (active_of find slot) ≡ act (latest (from + k) log)) → length (active_from find slots) ≡ tally log from (length slots)
@@ -247,13 +209,8 @@ active_counted parts sound =
       where
         of_hold' : (h : Option Hold) → slot.hold ≡ h → length (elim h as (λ _. List (List Write)) [ None ↦ [] | Some hold ↦ elim (found_at parts hold.place) [ None ↦ [] | Some row ↦ cond (is_active row.standing) (row.writes ∷ []) [] ] ]) ≡ act (latest (1 + k) parts.log)
         of_hold' None e =
-            let out : sets.contains (held_from 1 parts.slots) (1 + k) ≡ false = contains-held 1 parts.slots k ∙ not_held parts.slots k slot at e in
+            let out : sets.contains (held_from 1 parts.slots) (1 + k) ≡ false = contains-held 1 parts.slots k ∙ held-is parts.slots k slot at ∙ ap is_some e in
             sym (idle parts.slots parts.log sound.law.invariant.active_held (1 + k) out)
-          where
-            not_held : (slots : List Slot) (k : ℕ) (slot : Slot) → slice_get slots k ≡ Some slot → slot.hold ≡ None → is_held_at slots k ≡ false
-            not_held [] k slot at e = cc
-            not_held (x ∷ xs) zero slot at e = let same : x ≡ slot = cc in ap (λ (s : Slot). is_some s.hold) same ∙ ap is_some e
-            not_held (x ∷ xs) (suc k) slot at e = not_held xs k slot at e
         of_hold' (Some hold) e = of_row' hold ((sound.slots_true k slot at).row_is hold e)
           where
             here : (1 + k) ≡ suc k
@@ -263,7 +220,7 @@ active_counted parts sound =
             of_row' hold (inl s) =
                 ap (λ o. length (elim o as (λ _. List (List Write)) [ None ↦ [] | Some row ↦ cond (is_active row.standing) (row.writes ∷ []) [] ]))
                 (ap (found_at parts) s.place_is ∙ from_index parts.base.place s.index parts.log ∙ held-get (suc k) s.index parts.log s.row s.there)
-                ∙ row_counts s.row ∙ sym (ap act (ap (λ s. latest s parts.log) here ∙ held-latest (suc k) s.index parts.log s.row s.there))
+                ∙ row_counts s.row ∙ sym (ap act (ap (λ s. latest s parts.log) here ∙ held_latest (suc k) s.index parts.log s.row s.there))
             of_row' hold (inr g) =
                 ap (λ o. length (elim o as (λ _. List (List Write)) [ None ↦ [] | Some row ↦ cond (is_active row.standing) (row.writes ∷ []) [] ])) (before_first parts.base.place hold.place parts.log g.before)
                 ∙ sym (ap act (ap (λ s. latest s parts.log) here ∙ g.none))

@@ -1,6 +1,5 @@
 -- What the entry of a transaction has to show, over plain parts.
-use Rattle.std.proofs.Common.{◌≡◌, ℕ, zero, suc, ◌+◌, ◌-◌, ◌<◌, ◌≤◌, Bool, true, false, cond, List, [], ◌∷◌, ◌++◌, drop, length, map, Option, None, Some, refl, sym, ap, subst, ◌∙◌, arith}
-use Rattle.std.specs.Prelude.{◌&&◌, slice_get, slice_set, nat_le, nat_lt, filter}
+use Rattle.std.proofs.Common.{◌≡◌, ℕ, zero, suc, ◌+◌, ◌-◌, ◌<◌, ◌≤◌, Bool, true, false, cond, List, [], ◌∷◌, ◌++◌, drop, length, map, Option, None, Some, refl, sym, ap, subst, ◌∙◌, arith, ◌&&◌, slice_get, slice_set, nat_le, nat_lt, filter}
 use Rattle.std.specs.FinMap as finite
 use Rattle.std.specs.FinMap.{FinMap}
 use Rattle.std.proofs.lemmas.Bool.{leb-true, leb-false, le-leb, ltb-true, lt-ltb}
@@ -23,14 +22,14 @@ use Rattle.occ_model.proofs.Admitted.{passed}
 use Rattle.std.specs.List.{list_any}
 use Rattle.occ_log.specs.Phases.{reads_of}
 use Rattle.occ_core.specs.Reads.{session_fault, closed_fault, start_fault}
-use Rattle.occ_core.specs.Entries.{due_fault, busy_fault, spare_fault, turn_to_enter, write_fault, log_fault, counter_fault, room_to_enter}
-use Rattle.occ_log.specs.Slots.{Slot, Hold, last_of, active_from, HoldsArePlaced}
+use Rattle.occ_core.specs.EntryFaults.{due_fault, busy_fault, spare_fault, turn_to_enter, write_fault, log_fault, counter_fault, room_to_enter}
+use Rattle.occ_log.specs.SessionStates.{Slot, Hold, last_of, active_from, HoldsArePlaced}
 use Rattle.occ_book.specs.Undo.{ArePlaced}
 use Rattle.occ_core.specs.declared.core_entries.Entry as code_entry
 use Rattle.occ_core.specs.declared.core_entries.Entry.TheVariants as entries
 use Rattle.occ_core.specs.Replies as replies
 use Rattle.occ_core.specs.Replies.{entry}
-use Rattle.occ_core.specs.Parts.{Parts, world_of, low_of, found_at, AreSound}
+use Rattle.occ_core.specs.CoreParts.{Parts, world_of, low_of, found_at, AreSound}
 use Rattle.occ_core.proofs.Placed.{finds_standing, row_found}
 use Rattle.occ_core.proofs.Calls.{held_world}
 use Rattle.occ_log.proofs.Changes.{placed-set}

@@ -1,7 +1,8 @@
 -- What the single writes and the end of a write phase have to show, over plain parts.
-use Rattle.std.proofs.Common.{◌≡◌, ℕ, zero, suc, ◌+◌, ◌-◌, ◌<◌, Bool, true, false, List, [], ◌∷◌, length, drop, Option, None, Some, Result, Ok, Err, refl, sym, ap, subst, ◌∙◌, arith}
-use Rattle.std.specs.Prelude.{is_some, slice_get, slice_set, nat_lt, option_map, option_and_then}
+use Rattle.std.proofs.Common.{◌≡◌, ℕ, zero, suc, ◌+◌, ◌-◌, ◌<◌, Bool, true, false, List, [], ◌∷◌, length, drop, Option, None, Some, Result, Ok, Err, refl, sym, ap, subst, ◌∙◌, arith, is_some, slice_get, slice_set, nat_lt, option_map, option_and_then}
 use Rattle.std.proofs.lemmas.Bool.{ltb-true, lt-ltb}
+use Rattle.std.proofs.lemmas.Bool.Decides.{nat_tests}
+use Rattle.std.proofs.lemmas.List.{length-drop}
 use Rattle.occ_model.proofs.Tests as tests
 use Rattle.occ_types.specs.Schema.{fault_if, first_fault}
 use Rattle.occ_types.specs.declared.fault.Fault.{Fault}
@@ -15,10 +16,10 @@ use Rattle.occ_model.specs.Refusal.{refusal, takes_memory, puts_next}
 use Rattle.occ_model.specs.Step.{Step, refused, starved}
 use Rattle.occ_model.proofs.Logs.{standing_at}
 use Rattle.occ_core.specs.Replies.{single, written_in, finishing}
-use Rattle.occ_log.specs.Slots.{Slot, Hold, row_under_way, last_of, written_at, writes_done, finish_fault, HoldsArePlaced}
+use Rattle.occ_log.specs.SessionStates.{Slot, Hold, row_under_way, last_of, written_at, writes_done, finish_fault, HoldsArePlaced}
 use Rattle.occ_book.specs.Undo.{ArePlaced}
 use Rattle.occ_log.specs.Window.{Window, advanced}
-use Rattle.occ_core.specs.Parts.{Parts, world_of, row_placed, found_at, AreSound}
+use Rattle.occ_core.specs.CoreParts.{Parts, world_of, row_placed, found_at, AreSound}
 use Rattle.occ_core.specs.Folding.{under_way_fault}
 use Rattle.occ_core.proofs.Placed.{at_index, from_index}
 use Rattle.occ_core.specs.declared.core_turns.SingleWrite.{SingleWrite}
@@ -39,22 +40,8 @@ one_left : (b : Bool) (fault : Fault) → first_fault (fault_if b fault ∷ []) 
 one_left true fault = refl
 one_left false fault = refl
 
-length-drop : {X : Type 0} (n : ℕ) (xs : List X) → length (drop n xs) ≡ length xs - n
-length-drop zero xs = omega arith
-length-drop (suc n) [] = omega arith
-length-drop (suc n) (x ∷ xs) = length-drop n xs ∙ omega arith
-
-pub alike : (a b c d : ℕ) → (a < b → c < d) → (c < d → a < b) → nat_lt a b ≡ nat_lt c d
-alike a b c d to from = tests.decided (nat_lt a b)
-    (λ e. e ∙ sym (lt-ltb c d (to (ltb-true a b e))))
-    (λ e. tests.decided (nat_lt c d)
-    (λ f. absurd (tests.clash (nat_lt a b) (lt-ltb a b (from (ltb-true c d f))) e))
-    (λ f. e ∙ sym f))
-
 left_over : (done : ℕ) (writes : List Write) → nat_lt 0 (length (drop done writes)) ≡ nat_lt done (length writes)
-left_over done writes =
-    let l = length-drop done writes in
-    alike 0 (length (drop done writes)) done (length writes) (λ h. omega arith) (λ h. omega arith)
+left_over done writes = let l = length-drop done writes in grind (arith, nat_tests)
 
 write_guards : (standing : Standing) (fault : Fault) → is_done standing ≡ false → writes_done standing ≡ Err fault
     → first_fault (fault_if (is_open standing) faults.NotDecided ∷ fault_if (is_back standing) faults.AlreadyDecided ∷ []) ≡ Some fault

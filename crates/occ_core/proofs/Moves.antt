@@ -1,12 +1,12 @@
 -- Each call of the core moves the parts as a step moves the world.
-use Rattle.std.proofs.Common.{◌≡◌, ℕ, zero, suc, ◌+◌, ◌<◌, ◌≤◌, Bool, false, cond, List, [], ◌∷◌, ◌++◌, length, None, Some, refl, sym, ap, subst, ◌∙◌, arith, length-append, eqb-true, eq-eqb, inl, inr}
-use Rattle.std.specs.Prelude.{MatchOption, slice_get, slice_set, ◌==◌, if◌then◌else◌}
+use Rattle.std.proofs.Common.{◌≡◌, ℕ, zero, suc, ◌+◌, ◌<◌, ◌≤◌, Bool, false, cond, List, [], ◌∷◌, ◌++◌, length, None, Some, refl, sym, ap, subst, ◌∙◌, arith, length-append, eqb-true, eq-eqb, inl, inr, MatchOption, slice_get, slice_set, ◌==◌, if◌then◌else◌}
 use Rattle.std.proofs.lemmas.Bool.{leb-false}
 use Rattle.std.specs.FinMap as finite
 use Rattle.std.specs.FinSet as sets
 use Rattle.occ_types.specs.declared.fault.Fault.TheVariants as faults
 use Rattle.occ_types.specs.declared.limits.TheConstants.{MAX_LOG_ROWS, MAX_COUNTER, MAX_NUMBER}
 use Rattle.occ_types.specs.Question.{Question}
+use Rattle.std.proofs.lemmas.Bool.{ne_eqb}
 use Rattle.occ_model.specs.State.{Write, answer, put}
 use Rattle.occ_model.specs.Log.{Base, LogRow, Standing, Open, Writing, Done, Case, last_folded, is_active}
 use Rattle.occ_model.specs.Validity.{finished_within, verdict, window_low}
@@ -24,13 +24,13 @@ use Rattle.occ_model.proofs.Turns.{latest-push}
 use Rattle.occ_model.proofs.Phases.{not_refused}
 use Rattle.occ_model.proofs.Admitted.{passed}
 use Rattle.occ_model.proofs.InSchema.{keeps_lawful}
-use Rattle.occ_log.specs.Slots.{Slot, Hold, held_from, IsHeldAt}
-use Rattle.occ_core.specs.Parts.{Parts, world_of, low_of, Stands, HasRow, AreSound, SlotIsTrue}
-use Rattle.occ_core.proofs.Placed.{has_push, none-set}
+use Rattle.occ_log.specs.SessionStates.{Slot, Hold, held_from, IsHeldAt}
+use Rattle.occ_core.specs.CoreParts.{Parts, world_of, low_of, Stands, HasRow, AreSound, SlotIsTrue}
+use Rattle.occ_core.proofs.Placed.{has_push}
 use Rattle.occ_log.proofs.Holding.{held-hold, held-free}
-use Rattle.occ_log.proofs.Opponents.{some_finished, finished-push, finished-turn, held-get}
+use Rattle.occ_log.proofs.Opponents.{some_finished, finished-push, finished-turn}
 use Rattle.occ_log.proofs.Windows.{moved_window, window_moved, moved_size}
-use Rattle.occ_log.proofs.Places.{slice_get-other, slice_get-below, held_latest, turn-at, held-set-own, held-set-other, held-push-own, held-session, split-at, latest_number_or, number-set, count-push, count-set, length-set}
+use Rattle.occ_log.proofs.Places.{held-get, latest-none-set, slice_get-other, slice_get-below, held_latest, turn-at, held-set-own, held-set-other, held-push-own, held-session, split-at, latest_number_or, number-set, count-push, count-set, length-set}
 
 -- what a slot says stands where the log and the base stand
 pub slot_same : (old new : Parts) → new.base ≡ old.base → new.log ≡ old.log → (place : ℕ) (slot : Slot) → SlotIsTrue old place slot → SlotIsTrue new place slot
@@ -141,7 +141,7 @@ module _ (old : Parts) (place number start : ℕ) (writes : List Write) (index :
         let apart : suc place ≡ suc q → ⊥ = λ e. ne (let f : q ≡ place = omega arith in f) in
         record {
           last_is = s.last_is ∙ sym (ap (λ l. elim l as (λ _. ℕ) [ None ↦ last_folded old.base (suc q) | Some row ↦ row.number ])
-              (latest-push (suc q) entered_row old.log ∙ ap (λ b. if b then Some entered_row else latest (suc q) old.log) (unlike (suc place) (suc q) apart)));
+              (latest-push (suc q) entered_row old.log ∙ ap (λ b. if b then Some entered_row else latest (suc q) old.log) (ne_eqb (suc place) (suc q) apart)));
           last_fits = s.last_fits;
           row_is = λ hold is. has_push old.base.place (suc q) hold old.log entered_row apart (s.row_is hold is);
         });
@@ -155,9 +155,6 @@ module _ (old : Parts) (place number start : ℕ) (writes : List Write) (index :
     where
       inside : (hold : Hold) → Some (record { place = next_place (world_of old); writes = writes }) ≡ Some hold → record { place = next_place (world_of old); writes = writes } ≡ hold
       inside hold e = cc
-
-      unlike : (a b : ℕ) → (a ≡ b → ⊥) → (a == b) ≡ false
-      unlike a b ne = tests.decided (a == b) (λ e. absurd (ne (eqb-true a b e))) (λ e. e)
 
 -- the room under the greatest counter stays where a row turns, and where one finishes
 room_kept : (counter new old was now : ℕ) → new + was ≡ old + now → was ≡ 1 → now ≤ 1 → counter + old ≤ MAX_COUNTER → counter + new ≤ MAX_COUNTER
@@ -234,7 +231,7 @@ module _ (old : Parts) (place : ℕ) (slot : Slot) (index : ℕ) (row : LogRow) 
 
       has_turned : (h : Hold) → HasRow old.base.place old.log (suc q) h → HasRow old.base.place (turned_log standing) (suc q) h
       has_turned h (inl r) = inl (stands_turned h r)
-      has_turned h (inr g) = inr (record { before = g.before; none = none-set (suc q) index old.log row (standing_at row standing) is_there refl g.none })
+      has_turned h (inr g) = inr (record { before = g.before; none = latest-none-set (suc q) index old.log row (standing_at row standing) is_there refl g.none })
 
   -- a row that is not finished, before and after, leaves what has finished
   finished_same : (test : List Write → Bool) (standing : Standing) (low start : ℕ) → finished_within low old.counter row.standing ≡ false → finished_within low old.counter standing ≡ false

@@ -1,6 +1,5 @@
 -- The next single write of a session, over plain parts.
-use Rattle.std.proofs.Common.{◌≡◌, ℕ, zero, suc, ◌+◌, Bool, true, false, cond, List, [], ◌∷◌, drop, Option, None, Some, Result, Ok, Err, refl, sym, ap, subst, ◌∙◌, arith}
-use Rattle.std.specs.Prelude.{is_some, slice_get, option_map}
+use Rattle.std.proofs.Common.{◌≡◌, ℕ, zero, suc, ◌+◌, Bool, true, false, cond, List, [], ◌∷◌, drop, Option, None, Some, Result, Ok, Err, refl, sym, ap, subst, ◌∙◌, arith, is_some, slice_get, option_map}
 use Rattle.std.specs.FinSet as sets
 use Rattle.occ_types.specs.declared.fault.Fault.{Fault}
 use Rattle.occ_types.specs.declared.fault.Fault.TheVariants as faults
@@ -10,8 +9,8 @@ use Rattle.occ_model.specs.Log.{LogRow, Standing, Open, Writing, Done, Back, is_
 use Rattle.occ_model.specs.World.{World, latest}
 use Rattle.occ_model.specs.Event.{WriteOne}
 use Rattle.occ_model.specs.Refusal.{refusal}
-use Rattle.occ_log.specs.Slots.{Slot, Hold, held_from, row_under_way, writes_done}
-use Rattle.occ_core.specs.Parts.{Parts, world_of, found_at, AreSound}
+use Rattle.occ_log.specs.SessionStates.{Slot, Hold, held_from, row_under_way, writes_done}
+use Rattle.occ_core.specs.CoreParts.{Parts, world_of, found_at, AreSound}
 use Rattle.occ_core.specs.Folding.{under_way_fault}
 use Rattle.occ_core.specs.Replies.{first_object, next_object, IsNextWrite}
 use Rattle.occ_log.proofs.Holding.{is_held_at, contains-held, below_first}

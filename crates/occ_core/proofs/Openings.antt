@@ -1,20 +1,20 @@
 -- A core that was just opened.
-use Rattle.std.proofs.Common.{◌≡◌, ℕ, zero, suc, ◌-◌, List, [], drop, length, None, Some, refl, sym, ap, subst, arith}
-use Rattle.std.specs.Prelude.{slice_get}
+use Rattle.std.proofs.Common.{◌≡◌, ℕ, zero, suc, ◌-◌, List, [], drop, length, None, Some, refl, sym, ap, subst, arith, slice_get}
 use Rattle.std.specs.FinMap as finite
 use Rattle.std.specs.FinSet as sets
 use Rattle.std.specs.Ordering.{nat_cmp}
 use Rattle.occ_types.specs.Schema.{Schema}
 use Rattle.std.specs.FinMap.{FinMap}
+use Rattle.std.proofs.Math.Seq.{drop-nil}
 use Rattle.occ_model.specs.Log.{LogRow}
 use Rattle.occ_model.specs.World.{ReadPhase, phase_cmp, empty_base, opened}
 use Rattle.occ_book.specs.Base.{BaseContent}
-use Rattle.occ_book.specs.Kept.{Content}
+use Rattle.occ_book.specs.Content.{Content}
 use Rattle.occ_log.specs.Window.{Window}
 use Rattle.occ_model.specs.Content.{IsLawful}
 use Rattle.occ_model.proofs.InSchema.{opened_lawful}
-use Rattle.occ_log.specs.Slots.{Slot, held_from, idle_slots}
-use Rattle.occ_core.specs.Parts.{Parts, world_of, AreSound, SlotIsTrue}
+use Rattle.occ_log.specs.SessionStates.{Slot, held_from, idle_slots}
+use Rattle.occ_core.specs.CoreParts.{Parts, world_of, AreSound, SlotIsTrue}
 
 none_held : (n count : ℕ) → held_from n (idle_slots count) ≡ sets.empty
 none_held n zero = refl
@@ -28,10 +28,6 @@ idle_at : (count place : ℕ) (slot : Slot) → slice_get (idle_slots count) pla
 idle_at zero place slot at = cc
 idle_at (suc count) zero slot at = cc
 idle_at (suc count) (suc place) slot at = idle_at count place slot at
-
-drop-nothing : {X : Type 0} (n : ℕ) → drop {A = X} n [] ≡ []
-drop-nothing zero = refl
-drop-nothing (suc n) = refl
 
 -- the parts of a core that was just opened
 abbrev pub opened_parts : Schema → ℕ → ℕ → Parts
@@ -62,7 +58,7 @@ opened_sound schema sessions keep = record {
         row_is = λ hold (e : None ≡ Some hold). cc e;
       });
   window_size = omega arith;
-  window_is = λ start above test. ap (Rattle.std.specs.List.list_any test) (drop-nothing (start - Rattle.occ_core.specs.Parts.low_of (opened_parts schema sessions keep)));
+  window_is = λ start above test. ap (Rattle.std.specs.List.list_any test) (drop-nil (start - Rattle.occ_core.specs.CoreParts.low_of (opened_parts schema sessions keep)));
   log_room = omega arith;
   place_room = omega arith;
   base_begins = λ _. refl;

@@ -1,18 +1,17 @@
 -- Rows by their places in the order of entry, in a log that begins at any place.
-use Rattle.std.proofs.Common.{◌≡◌, ℕ, zero, suc, ◌+◌, ◌-◌, ◌<◌, Bool, true, false, List, [], ◌∷◌, ◌++◌, length, Option, None, Some, refl, sym, ap, ◌∙◌, arith, inl, inr, eqb-true}
-use Rattle.std.specs.Prelude.{◌==◌, nat_lt, if◌then◌else◌, slice_get, slice_set}
-use Rattle.std.proofs.lemmas.Bool.{ltb-true, ltb-false, lt-ltb}
+use Rattle.std.proofs.Common.{◌≡◌, ℕ, zero, suc, ◌+◌, ◌-◌, ◌<◌, Bool, true, false, List, [], ◌∷◌, ◌++◌, length, Option, None, Some, refl, sym, ap, ◌∙◌, arith, inl, inr, eqb-true, ◌==◌, nat_lt, if◌then◌else◌, slice_get, slice_set}
+use Rattle.std.proofs.lemmas.Bool.{ltb-true, ltb-false, lt-ltb, ne_eqb}
 use Rattle.occ_model.specs.Log.{LogRow}
 use Rattle.occ_model.specs.World.{latest}
 use Rattle.occ_model.proofs.Tests as tests
 use Rattle.occ_model.proofs.Turns.{latest-push}
 use Rattle.occ_log.specs.Logs.{Kept, row_at}
-use Rattle.occ_log.specs.Slots.{Slot, Hold}
+use Rattle.occ_log.specs.SessionStates.{Slot, Hold}
 use Rattle.occ_types.specs.declared.fault.Fault.{Fault}
-use Rattle.occ_log.proofs.Opponents.{held-get, FindsStanding, IsFoundOrNone}
-use Rattle.occ_log.proofs.Places.{held_latest, held-push-other}
+use Rattle.occ_log.proofs.Opponents.{FindsStanding, IsFoundOrNone}
+use Rattle.occ_log.proofs.Places.{held-get, held_latest, held-push-other}
 use Rattle.occ_core.specs.Folding.{under_way_fault}
-use Rattle.occ_core.specs.Parts.{row_placed, HasRow}
+use Rattle.occ_core.specs.CoreParts.{row_placed, HasRow}
 
 -- a row that is found has an index, by which its place lies behind the first
 pub at_index : (first : ℕ) (log : List LogRow) (place : ℕ) (row : LogRow) → row_placed first log place ≡ Some row → (index : ℕ) × (place ≡ first + index) × (slice_get log index ≡ Some row)
@@ -74,9 +73,6 @@ row_found first log session hold (inl s) = inl (
 )
 row_found first log session hold (inr g) = inr g.none
 
-unlike : (a b : ℕ) → (a ≡ b → ⊥) → (a == b) ≡ false
-unlike a b ne = tests.decided (a == b) (λ e. absurd (ne (eqb-true a b e))) (λ e. e)
-
 -- a row of another session comes in
 pub has_push : (first session : ℕ) (hold : Hold) (log : List LogRow) (next : LogRow) → (next.session ≡ session → ⊥) → HasRow first log session hold → HasRow first (log ++ next ∷ []) session hold
 has_push first session hold log next apart (inl s) = inl (record {
@@ -88,25 +84,5 @@ has_push first session hold log next apart (inl s) = inl (record {
 })
 has_push first session hold log next apart (inr g) = inr (record {
   before = g.before;
-  none = latest-push session next log ∙ ap (λ b. if b then Some next else latest session log) (unlike next.session session apart) ∙ g.none;
+  none = latest-push session next log ∙ ap (λ b. if b then Some next else latest session log) (ne_eqb next.session session apart) ∙ g.none;
 })
-
--- a session that has no row has none after another row was replaced
-pub none-set : (session k : ℕ) (log : List LogRow) (old next : LogRow) → slice_get log k ≡ Some old → next.session ≡ old.session → latest session log ≡ None → latest session (slice_set log k next) ≡ None
-none-set session k [] old next there same none = cc
-none-set session zero (x ∷ xs) old next there same none =
-    let is : x ≡ old = cc in
-    let sessions : next.session ≡ x.session = same ∙ ap (λ r. r.session) (sym is) in
-    ap (λ s. elim (latest session xs) as (λ _. Option LogRow) [ None ↦ if s == session then Some next else None | Some l ↦ Some l ]) sessions
-    ∙ go (latest session xs) (x.session == session) none
-  where
-    go : (o : Option LogRow) (b : Bool) → (elim o as (λ _. Option LogRow) [ None ↦ if b then Some x else None | Some l ↦ Some l ]) ≡ None → (elim o as (λ _. Option LogRow) [ None ↦ if b then Some next else None | Some l ↦ Some l ]) ≡ None
-    go None true e = cc
-    go None false e = refl
-    go (Some l) b e = cc
-none-set session (suc k) (x ∷ xs) old next there same none = go (latest session xs) (λ e. none-set session k xs old next there same e) none
-  where
-    go : (o : Option LogRow) → (o ≡ None → latest session (slice_set xs k next) ≡ None) → (elim o as (λ _. Option LogRow) [ None ↦ if x.session == session then Some x else None | Some l ↦ Some l ]) ≡ None
-        → latest session (x ∷ slice_set xs k next) ≡ None
-    go None rest e = ap (λ l. elim l as (λ _. Option LogRow) [ None ↦ if x.session == session then Some x else None | Some l ↦ Some l ]) (rest refl) ∙ e
-    go (Some l) rest e = cc

@@ -1,6 +1,5 @@
 -- What the reads of the core have to show, over plain parts.
-use Rattle.std.proofs.Common.{◌≡◌, ℕ, zero, suc, ◌-◌, ◌<◌, Bool, not, ◌&&◌, List, [], ◌∷◌, length, Option, None, Some, Result, Err, refl, sym, ap, subst, ◌∙◌, arith}
-use Rattle.std.specs.Prelude.{Vec, slice_get, nat_le, nat_lt, ◌++◌}
+use Rattle.std.proofs.Common.{◌≡◌, ℕ, zero, suc, ◌-◌, ◌<◌, Bool, not, ◌&&◌, List, [], ◌∷◌, length, Option, None, Some, Result, Err, refl, sym, ap, subst, ◌∙◌, arith, Vec, slice_get, nat_le, nat_lt, ◌++◌}
 use Rattle.std.proofs.lemmas.Bool.{leb-true, ltb-true}
 use Rattle.std.specs.FinMap as finite
 use Rattle.std.specs.FinMap.{FinMap}
@@ -10,7 +9,7 @@ use Rattle.occ_types.specs.declared.limits.TheConstants.{MAX_QUESTIONS, MAX_ANSW
 use Rattle.occ_types.specs.Schema.{fault_if, first_fault, check_question}
 use Rattle.occ_types.specs.Key.{Key}
 use Rattle.occ_types.specs.Row.{Row}
-use Rattle.occ_types.specs.Seen.{key_of}
+use Rattle.occ_types.specs.PlainData.{key_of}
 use Rattle.occ_types.specs.declared.keys.Key as code_key
 use Rattle.occ_types.specs.Question.{Question, One}
 use Rattle.occ_model.specs.State.{State, Answer, Found, Observation, answer}
@@ -23,10 +22,10 @@ use Rattle.occ_model.proofs.Tests as tests
 use Rattle.occ_model.proofs.Phases.{not_refused}
 use Rattle.occ_model.proofs.InSchema.{keeps_lawful}
 use Rattle.occ_log.specs.Phases.{reads_of}
-use Rattle.occ_core.specs.Reads.{session_fault, closed_fault, number_fault, start_fault, turn_fault, size_fault, room_fault, noted}
+use Rattle.occ_core.specs.Reads.{session_fault, closed_fault, number_fault, start_fault, turn_to_read, size_fault, room_to_read, noted}
 use Rattle.occ_core.specs.Replies.{reading, scanning, forgetting}
-use Rattle.occ_log.specs.Slots.{last_of}
-use Rattle.occ_core.specs.Parts.{Parts, world_of, AreSound}
+use Rattle.occ_log.specs.SessionStates.{last_of}
+use Rattle.occ_core.specs.CoreParts.{Parts, world_of, AreSound}
 use Rattle.occ_core.proofs.Moves.{slot_same, read_moves}
 
 pub session_is : (parts : Parts) (session : ℕ) → AreSound parts → refusals.no_session (world_of parts) session ≡ session_fault parts.slots session
@@ -85,7 +84,7 @@ nested None None None None others = refl
 
 turn_is : (parts : Parts) (session number start : ℕ) (others : List (Option Fault)) → AreSound parts
     → first_fault (refusals.no_session (world_of parts) session ∷ refusals.session_closed (world_of parts) session ∷ refusals.not_readable (world_of parts) session number ∷ refusals.wrong_start (world_of parts) session number start ∷ others)
-    ≡ first_fault (turn_fault parts.slots parts.marks parts.phases parts.counter session number start ∷ others)
+    ≡ first_fault (turn_to_read parts.slots parts.marks parts.phases parts.counter session number start ∷ others)
 turn_is parts session number start others sound =
     ap (λ o. first_fault (o ∷ refusals.session_closed w session ∷ refusals.not_readable w session number ∷ refusals.wrong_start w session number start ∷ others)) (session_is parts session sound)
     ∙ at (session_fault parts.slots session) refl
@@ -108,10 +107,10 @@ reads_are (Some phase) = refl
 
 read_refusal : (parts : Parts) (session number start : ℕ) (question : Question) → AreSound parts
     → refusal (world_of parts) (Read session number start question)
-    ≡ first_fault (turn_fault parts.slots parts.marks parts.phases parts.counter session number start ∷ check_question parts.settings.schema question ∷ size_fault parts.table question ∷ room_fault parts.phases session number ∷ [])
+    ≡ first_fault (turn_to_read parts.slots parts.marks parts.phases parts.counter session number start ∷ check_question parts.settings.schema question ∷ size_fault parts.table question ∷ room_to_read parts.phases session number ∷ [])
 read_refusal parts session number start question sound =
     turn_is parts session number start (check_question parts.settings.schema question ∷ refusals.range_too_large (world_of parts) question ∷ refusals.questions_full (world_of parts) session number ∷ []) sound
-    ∙ ap (λ reads. first_fault (turn_fault parts.slots parts.marks parts.phases parts.counter session number start ∷ check_question parts.settings.schema question ∷ size_fault parts.table question ∷ fault_if (nat_le MAX_QUESTIONS (length reads)) faults.SetFull ∷ []))
+    ∙ ap (λ reads. first_fault (turn_to_read parts.slots parts.marks parts.phases parts.counter session number start ∷ check_question parts.settings.schema question ∷ size_fault parts.table question ∷ fault_if (nat_le MAX_QUESTIONS (length reads)) faults.SetFull ∷ []))
     (reads_are (finite.get parts.phases (session, number)))
 
 -- what a refused read says, by the test that refuses it
@@ -143,10 +142,10 @@ one_fits table place key = tests.decided (nat_lt MAX_ANSWER_ROWS 1)
 -- the tests of a read, in their order
 abbrev pub read_fault : Parts → ℕ → ℕ → ℕ → Question → Option Fault
 read_fault parts session number start question = first_fault (
-    turn_fault parts.slots parts.marks parts.phases parts.counter session number start
+    turn_to_read parts.slots parts.marks parts.phases parts.counter session number start
     ∷ check_question parts.settings.schema question
     ∷ size_fault parts.table question
-    ∷ room_fault parts.phases session number
+    ∷ room_to_read parts.phases session number
     ∷ [])
 
 -- The exits of a read, seen from outside.

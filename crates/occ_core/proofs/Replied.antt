@@ -1,6 +1,5 @@
 -- What each step is replied, and a list of them.
-use Rattle.std.proofs.Common.{◌≡◌, List, [], ◌∷◌, ◌++◌, Some, Result, Ok, Err, ℕ, refl, sym, ap, subst, inl, inr}
-use Rattle.std.specs.Prelude.{◌⊎◌, IfErr, Vec, option_map}
+use Rattle.std.proofs.Common.{◌≡◌, List, [], ◌∷◌, ◌++◌, Some, Result, Ok, Err, ℕ, refl, sym, ap, subst, inl, inr, ◌⊎◌, IfErr, Vec, option_map}
 use Rattle.std.specs.Result.{result_err}
 use Rattle.occ_model.specs.Event.{Event, Reply, Alone}
 use Rattle.occ_model.specs.Step.{Run}

@@ -1,6 +1,5 @@
 -- What a run alone has to show, over plain parts.
-use Rattle.std.proofs.Common.{◌≡◌, ℕ, ◌+◌, ◌<◌, Bool, true, false, cond, List, [], ◌∷◌, length, Option, None, Some, Result, Err, refl, sym, ap, subst, ◌∙◌}
-use Rattle.std.specs.Prelude.{is_some, slice_get}
+use Rattle.std.proofs.Common.{◌≡◌, ℕ, ◌+◌, ◌<◌, Bool, true, false, cond, List, [], ◌∷◌, length, Option, None, Some, Result, Err, refl, sym, ap, subst, ◌∙◌, is_some, slice_get}
 use Rattle.std.specs.Ordering.{eq_by_cmp}
 use Rattle.std.proofs.lemmas.Bool.{leb-false}
 use Rattle.std.specs.Cmp.{Equal-is}
@@ -27,10 +26,10 @@ use Rattle.occ_model.proofs.Admitted.{passed}
 use Rattle.occ_model.proofs.InSchema.{keeps_lawful}
 use Rattle.occ_model.proofs.Tests as tests
 use Rattle.occ_core.specs.AtOnce.{committed, MayEnd, quiet_fault}
-use Rattle.occ_core.specs.Entries.{spare_fault, turn_to_close, log_fault, counter_fault}
-use Rattle.occ_core.specs.Parts.{Parts, world_of, found_at, AreSound}
+use Rattle.occ_core.specs.EntryFaults.{spare_fault, turn_to_close, log_fault, counter_fault}
+use Rattle.occ_core.specs.CoreParts.{Parts, world_of, found_at, AreSound}
 use Rattle.occ_core.specs.RunningAlone.{read_open_fault, count_fault, turn_to_run, room_to_run}
-use Rattle.occ_log.specs.Slots.{active_from}
+use Rattle.occ_log.specs.SessionStates.{active_from}
 use Rattle.occ_book.specs.Undo.{ArePlaced}
 use Rattle.occ_core.proofs.Closing.{close_refusal}
 use Rattle.occ_core.proofs.Entering.{nest, nest_last, counter_is}

@@ -1,6 +1,5 @@
 -- What a serial end has to show, over plain parts.
-use Rattle.std.proofs.Common.{◌≡◌, ℕ, suc, ◌+◌, ◌-◌, ◌≤◌, Bool, true, false, List, [], ◌∷◌, drop, length, map, Option, None, Some, Result, Ok, Err, refl, sym, ap, subst, ◌∙◌, arith}
-use Rattle.std.specs.Prelude.{◌||◌, nat_lt, slice_get, filter}
+use Rattle.std.proofs.Common.{◌≡◌, ℕ, suc, ◌+◌, ◌-◌, ◌≤◌, Bool, true, false, List, [], ◌∷◌, drop, length, map, Option, None, Some, Result, Ok, Err, refl, sym, ap, subst, ◌∙◌, arith, ◌||◌, nat_lt, slice_get, filter}
 use Rattle.std.proofs.lemmas.Bool.{lt-ltb, ltb-false, leb-false}
 use Rattle.std.specs.FinMap as finite
 use Rattle.std.specs.List.{list_any}
@@ -20,15 +19,15 @@ use Rattle.occ_model.specs.Step.{Step, refused, starved, taken, validity_of, End
 use Rattle.occ_model.specs.declared.verdict.Verdict.{Verdict}
 use Rattle.occ_model.specs.declared.verdict.Verdict.TheVariants as verdicts
 use Rattle.occ_model.specs.declared.verdict.Cause.{Cause}
-use Rattle.occ_model.proofs.Entries.{verdict-validity}
+use Rattle.occ_model.proofs.AtEntry.{verdict-validity}
 use Rattle.occ_model.proofs.Phases.{not_refused}
 use Rattle.occ_model.proofs.Admitted.{passed, admitted}
 use Rattle.occ_model.proofs.InSchema.{keeps_lawful}
 use Rattle.occ_core.specs.AtOnce.{committed, backed, MayEnd, quiet_fault, turn_to_end, ending, ending_item}
-use Rattle.occ_core.specs.Entries.{spare_fault, turn_to_close, log_fault, counter_fault, room_to_enter}
-use Rattle.occ_core.specs.Parts.{Parts, world_of, found_at, AreSound}
+use Rattle.occ_core.specs.EntryFaults.{spare_fault, turn_to_close, log_fault, counter_fault, room_to_enter}
+use Rattle.occ_core.specs.CoreParts.{Parts, world_of, found_at, AreSound}
 use Rattle.occ_core.specs.Reads.{start_fault}
-use Rattle.occ_log.specs.Slots.{active_from}
+use Rattle.occ_log.specs.SessionStates.{active_from}
 use Rattle.occ_book.specs.Undo.{ArePlaced}
 use Rattle.occ_core.specs.declared.core_serial.Ended as code_ended
 use Rattle.occ_core.specs.declared.core_serial.Ended.TheVariants as ends

@@ -1,6 +1,5 @@
 -- A single write is of the object that was known beforehand.
-use Rattle.std.proofs.Common.{◌≡◌, ℕ, Option, None, Some, Result, Ok, Err, refl, sym, ap, ◌∙◌}
-use Rattle.std.specs.Prelude.{MatchOption, slice_get, option_map}
+use Rattle.std.proofs.Common.{◌≡◌, ℕ, Option, None, Some, Result, Ok, Err, refl, sym, ap, ◌∙◌, MatchOption, slice_get, option_map}
 use Rattle.occ_types.specs.declared.fault.Fault.{Fault}
 use Rattle.occ_types.specs.Object.{Object}
 use Rattle.occ_model.specs.State.{Write}

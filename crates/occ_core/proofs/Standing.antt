@@ -1,6 +1,5 @@
 -- What holds of every core, seen from outside.
-use Rattle.std.proofs.Common.{◌≡◌, ℕ, suc, ◌+◌, ◌-◌, ◌<◌, ◌≤◌, ◌^◌, true, length, Some, ap, subst, ◌∙◌, arith}
-use Rattle.std.specs.Prelude.{nat_le, unwrap_or}
+use Rattle.std.proofs.Common.{◌≡◌, ℕ, suc, ◌+◌, ◌-◌, ◌<◌, ◌≤◌, ◌^◌, true, length, Some, ap, subst, ◌∙◌, arith, nat_le, unwrap_or}
 use Rattle.std.specs.FinMap as finite
 use Rattle.std.proofs.lemmas.Bool.{leb-true, le-leb}
 use Rattle.occ_model.proofs.Orders.{latest_number}
@@ -11,7 +10,7 @@ use Rattle.occ_model.specs.Invariant.{Invariant}
 use Rattle.occ_model.specs.Content.{IsInSchema}
 use Rattle.occ_model.specs.Log.{Audited, last_folded, numbers}
 use Rattle.occ_model.specs.World.{World, next_place, empty_base, active_count, has_session, last_entered}
-use Rattle.occ_core.specs.Parts.{Parts, world_of, AreSound}
+use Rattle.occ_core.specs.CoreParts.{Parts, world_of, AreSound}
 use Rattle.occ_core.proofs.Reading.{there}
 
 pub record Lawful (world : World) : Type 0 where

@@ -1,14 +1,13 @@
 -- What a transaction that ends in one step leaves of the other parts of a core, and what its refusal leaves.
-use Rattle.std.proofs.Common.{◌≡◌, ℕ, ◌-◌, List, length, None, Result, Ok, Err, sym, ap, subst, ◌∙◌}
-use Rattle.std.specs.Prelude.{slice_set}
+use Rattle.std.proofs.Common.{◌≡◌, ℕ, ◌-◌, List, length, None, Result, Ok, Err, sym, ap, subst, ◌∙◌, slice_set}
 use Rattle.std.specs.Result.{OnErr}
 use Rattle.occ_model.specs.State.{State, Write}
 use Rattle.occ_model.specs.Log.{LogRow}
 use Rattle.occ_log.specs.Logs.{Kept, IsLogOf}
 use Rattle.occ_book.specs.Base.{BaseContent}
 use Rattle.occ_core.specs.Core.{IsBaseOf}
-use Rattle.occ_core.specs.Parts.{Parts}
-use Rattle.occ_log.specs.Slots.{Slot, HoldsArePlaced}
+use Rattle.occ_core.specs.CoreParts.{Parts}
+use Rattle.occ_log.specs.SessionStates.{Slot, HoldsArePlaced}
 use Rattle.occ_book.specs.Undo.{ArePlaced}
 use Rattle.occ_log.proofs.Changes.{placed-free}
 use Rattle.occ_log.proofs.Places.{length-set}

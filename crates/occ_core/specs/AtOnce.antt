@@ -15,10 +15,10 @@ use Rattle.occ_model.specs.Step.{entering}
 use Rattle.occ_model.specs.Event.{Reply, Refused, Closed, Finished, EndedBack, RanAlone}
 use Rattle.occ_model.specs.declared.verdict.Cause.{Cause}
 use Rattle.occ_queue.specs.declared.items.Item as items
-use Rattle.occ_sets.specs.Seen.{answer_of}
+use Rattle.occ_sets.specs.PlainSets.{answer_of}
 use Rattle.occ_core.specs.Reads.{start_fault}
-use Rattle.occ_core.specs.Entries.{spare_fault, turn_to_close}
-use Rattle.occ_log.specs.Slots.{Slot, active_from}
+use Rattle.occ_core.specs.EntryFaults.{spare_fault, turn_to_close}
+use Rattle.occ_log.specs.SessionStates.{Slot, active_from}
 use Rattle.occ_core.specs.declared.core_serial.Ended as code_ended
 use Rattle.occ_core.specs.declared.core_serial.Ended.TheVariants as ends
 

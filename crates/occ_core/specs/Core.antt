@@ -4,9 +4,9 @@ use Rattle.occ_model.specs.World.{World}
 use Rattle.occ_model.specs.Event.{Event, Reply}
 use Rattle.occ_model.specs.Step.{Step}
 use Rattle.occ_book.specs.Base.{BaseContent}
-use Rattle.occ_log.specs.Slots.{HoldsArePlaced}
+use Rattle.occ_log.specs.SessionStates.{HoldsArePlaced}
 use Rattle.occ_log.specs.Logs.{IsLogOf}
-use Rattle.occ_core.specs.Parts.{Parts, world_of, AreSound}
+use Rattle.occ_core.specs.CoreParts.{Parts, world_of, AreSound}
 use Rattle.occ_core.specs.declared.core_state.Core.TheInside.{Inside}
 
 -- what clauses see of a core: its world

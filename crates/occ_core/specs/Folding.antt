@@ -4,7 +4,7 @@ use Rattle.std.specs.List.{AllByRecursion}
 use Rattle.occ_model.specs.Content.{IsSession}
 use Rattle.occ_model.specs.Log.{LogRow}
 use Rattle.occ_book.specs.Undo.{ArePlaced}
-use Rattle.occ_log.specs.Slots.{Slot, row_under_way, back_fault}
+use Rattle.occ_log.specs.SessionStates.{Slot, row_under_way, back_fault}
 use Rattle.occ_types.specs.declared.fault.Fault.{Fault}
 use Rattle.occ_types.specs.declared.fault.Fault.TheVariants.{AlreadyDecided}
 

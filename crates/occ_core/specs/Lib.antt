@@ -1,8 +1,8 @@
-pub mod Parts
+pub mod CoreParts
 pub mod Core
 pub mod Replies
 pub mod Reads
-pub mod Entries
+pub mod EntryFaults
 pub mod AtOnce
 pub mod RunningAlone
 pub mod Runs

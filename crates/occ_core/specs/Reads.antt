@@ -11,7 +11,7 @@ use Rattle.occ_types.specs.Question.{Question}
 use Rattle.occ_model.specs.State.{State, Observation, answer, answer_size}
 use Rattle.occ_model.specs.World.{ReadPhase, phase_cmp}
 use Rattle.occ_log.specs.Phases.{reads_of}
-use Rattle.occ_log.specs.Slots.{Slot, last_of}
+use Rattle.occ_log.specs.SessionStates.{Slot, last_of}
 
 -- there is no such session
 abbrev pub session_fault : List Slot → ℕ → Option Fault
@@ -33,8 +33,8 @@ start_fault phases counter session number start = elim (finite.get phases (sessi
 ]
 
 -- the session can't read under the number from this start
-abbrev pub turn_fault : List Slot → FinMap nat_cmp ℕ → FinMap phase_cmp ReadPhase → ℕ → ℕ → ℕ → ℕ → Option Fault
-turn_fault slots marks phases counter session number start = first_fault (
+abbrev pub turn_to_read : List Slot → FinMap nat_cmp ℕ → FinMap phase_cmp ReadPhase → ℕ → ℕ → ℕ → ℕ → Option Fault
+turn_to_read slots marks phases counter session number start = first_fault (
     session_fault slots session
     ∷ closed_fault marks session
     ∷ number_fault (last_of slots (session - 1)) number
@@ -46,8 +46,8 @@ abbrev pub size_fault : State → Question → Option Fault
 size_fault table question = fault_if (nat_lt MAX_ANSWER_ROWS (answer_size (answer question table))) RangeTooLarge
 
 -- the read phase has no room for another question
-abbrev pub room_fault : FinMap phase_cmp ReadPhase → ℕ → ℕ → Option Fault
-room_fault phases session number =
+abbrev pub room_to_read : FinMap phase_cmp ReadPhase → ℕ → ℕ → Option Fault
+room_to_read phases session number =
     fault_if (nat_le MAX_QUESTIONS (length (reads_of (finite.get phases (session, number))))) SetFull
 
 -- the read phases with one more observation, in the phase of a number that has this start

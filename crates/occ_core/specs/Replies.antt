@@ -9,9 +9,9 @@ use Rattle.occ_model.specs.Log.{LogRow, Writing, rest}
 use Rattle.occ_model.specs.World.{World, latest}
 use Rattle.occ_model.specs.Event.{Reply, Refused, Answered, Forgotten, Entered, Closed, Decided, Wrote, NoMore, Finished, BackedUp, RanAlone, Folded}
 use Rattle.occ_model.specs.declared.verdict.Verdict.{Verdict}
-use Rattle.occ_sets.specs.Seen.{rows_of, answer_of}
-use Rattle.occ_log.specs.Slots.{written_at}
-use Rattle.occ_core.specs.Parts.{row_placed}
+use Rattle.occ_sets.specs.PlainSets.{rows_of, answer_of}
+use Rattle.occ_log.specs.SessionStates.{written_at}
+use Rattle.occ_core.specs.CoreParts.{row_placed}
 use Rattle.occ_core.specs.declared.core_entries.Entry as code_entry
 use Rattle.occ_core.specs.declared.core_entries.Entry.TheVariants as entries
 use Rattle.occ_queue.specs.declared.items.Item as items

@@ -13,12 +13,12 @@ use Rattle.occ_model.specs.Log.{LogRow}
 use Rattle.occ_model.specs.Operations.{Operation}
 use Rattle.occ_model.specs.Refusal.{check_operations}
 use Rattle.occ_model.specs.World.{ReadPhase, phase_cmp}
-use Rattle.occ_sets.specs.Seen.{answer_of}
+use Rattle.occ_sets.specs.PlainSets.{answer_of}
 use Rattle.occ_sets.specs.declared.reads.Answer as code_answer
 use Rattle.occ_queue.specs.declared.items.Item as items
 use Rattle.occ_core.specs.AtOnce.{quiet_fault}
-use Rattle.occ_core.specs.Entries.{spare_fault, turn_to_close, log_fault, counter_fault}
-use Rattle.occ_log.specs.Slots.{Slot, active_from}
+use Rattle.occ_core.specs.EntryFaults.{spare_fault, turn_to_close, log_fault, counter_fault}
+use Rattle.occ_log.specs.SessionStates.{Slot, active_from}
 
 -- something was read under the number
 abbrev pub read_open_fault : FinMap phase_cmp ReadPhase → ℕ → ℕ → Option Fault

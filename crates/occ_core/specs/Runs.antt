@@ -2,12 +2,12 @@
 use Rattle.std.specs.Prelude.{◌≡◌, ◌⊎◌, true, List, [], ◌∷◌, map, Option, None, Some}
 use Rattle.occ_types.specs.declared.fault.Fault.TheVariants.{Memory}
 use Rattle.occ_types.specs.Question.{One, Span}
-use Rattle.occ_types.specs.Seen.{key_of, end_of, object_of}
+use Rattle.occ_types.specs.PlainData.{key_of, end_of, object_of}
 use Rattle.occ_model.specs.State.{Found, Rows}
 use Rattle.occ_model.specs.Event.{Event, Item, Alone, Read, Forget, Enter, Decide, WriteOne, Finish, BackUp, SerialEnd, RunAlone, Checkpoint, Reply, Refused, Answered, Forgotten, Entered, Closed, Decided, Wrote, NoMore, Finished, BackedUp, EndedBack, RanAlone, Folded}
 use Rattle.occ_model.specs.Refusal.{refusal, has_writes_left}
 use Rattle.occ_core.specs.Core.{Seen, Transition}
-use Rattle.occ_sets.specs.Seen.{rows_of, answer_of}
+use Rattle.occ_sets.specs.PlainSets.{rows_of, answer_of}
 use Rattle.occ_sets.specs.Operations.{ops_of}
 use Rattle.occ_queue.specs.Items.{item_of}
 use Rattle.occ_core.specs.declared.steps.Step as code_step

@@ -4,8 +4,8 @@ ghost use Rattle.occ_model.specs.Log.{is_active};
 ghost use Rattle.occ_model.specs.World.{active_count};
 ghost use Rattle.occ_log.specs.Logs.{row_at};
 ghost use Rattle.occ_log.specs.Rows.{standing_of};
-ghost use Rattle.occ_log.specs.Slots.{active_from};
-ghost use Rattle.occ_core.specs.Entries.{active_at};
+ghost use Rattle.occ_log.specs.SessionStates.{active_from};
+ghost use Rattle.occ_core.specs.EntryFaults.{active_at};
 
 use crate::core_state::Core;
 use occ_book::Standing;

@@ -4,7 +4,7 @@ ghost use Rattle.std.specs.Result.{result_err};
 ghost use Rattle.occ_model.specs.Event.{Enter, Close};
 ghost use Rattle.occ_model.specs.Refusal.{refusal};
 ghost use Rattle.occ_core.specs.Core.{Transition};
-ghost use Rattle.occ_core.specs.Entries.{turn_to_close};
+ghost use Rattle.occ_core.specs.EntryFaults.{turn_to_close};
 ghost use Rattle.occ_core.specs.Replies.{entry};
 
 use crate::core_entries::Entry;

@@ -14,7 +14,7 @@ ghost use Rattle.occ_queue.specs.Items.{item_of};
 
 use crate::actives::active_writes;
 use crate::core_state::Core;
-use crate::entry_checks::{check_room, check_turn};
+use crate::entry_checks::{check_room_to_enter, check_turn_to_enter};
 use occ_book::{LogRow, Standing};
 use occ_case::{Case, OpenCase};
 use occ_log::{Held, Transaction};
@@ -146,14 +146,14 @@ impl<A: Allocator + Copy> Core<A> {
     fn check_entry(&self, transaction: Transaction, writes: &WriteSet<A>) -> Result<(), Fault>
         ensures { result_err result ≡ refusal self.now.world (Enter transaction.session (Request transaction.number transaction.start writes.now)) }
     {
-        check_turn(
+        check_turn_to_enter(
             &self.sessions,
             &self.marks,
             &self.phases,
             self.counter,
             transaction,
         )?;
-        check_room(
+        check_room_to_enter(
             &self.schema,
             &self.sessions,
             &self.log,

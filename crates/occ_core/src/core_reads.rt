@@ -3,11 +3,11 @@ ghost use Rattle.std.specs.Prelude.{◌≡◌, IfOk, OnOk, OnErr, IsOkUnless, No
 ghost use Rattle.std.specs.Option.{option_copied};
 ghost use Rattle.std.specs.Result.{result_err};
 ghost use Rattle.occ_types.specs.Question.{One, Span};
-ghost use Rattle.occ_types.specs.Seen.{key_of, end_of, question_of};
+ghost use Rattle.occ_types.specs.PlainData.{key_of, end_of, question_of};
 ghost use Rattle.occ_model.specs.Event.{Read, Forget};
 ghost use Rattle.occ_model.specs.State.{answer, Found, Rows};
-ghost use Rattle.occ_sets.specs.Seen.{observation_of, rows_of};
-ghost use Rattle.occ_core.specs.Reads.{session_fault, closed_fault, number_fault, start_fault, turn_fault, size_fault, room_fault, noted};
+ghost use Rattle.occ_sets.specs.PlainSets.{observation_of, rows_of};
+ghost use Rattle.occ_core.specs.Reads.{session_fault, closed_fault, number_fault, start_fault, turn_to_read, size_fault, room_to_read, noted};
 ghost use Rattle.occ_types.specs.declared.fault.Fault.TheVariants.{Memory};
 ghost use Rattle.occ_core.specs.Core.{Transition};
 ghost use Rattle.occ_core.specs.Replies.{reading, scanning, forgetting};
@@ -76,7 +76,7 @@ impl<A: Allocator + Copy> Core<A> {
             number,
             start,
         };
-        check_turn(
+        check_turn_to_read(
             &self.sessions,
             &self.marks,
             &self.phases,
@@ -84,7 +84,7 @@ impl<A: Allocator + Copy> Core<A> {
             transaction,
         )?;
         self.schema.check_key(table, key)?;
-        check_room(&self.phases, session, number)?;
+        check_room_to_read(&self.phases, session, number)?;
         let (seen, row) = observe_row(&self.tables, table, key)?;
         note(&mut self.phases, self.alloc, transaction, seen)?;
         Ok(row)
@@ -111,7 +111,7 @@ impl<A: Allocator + Copy> Core<A> {
             number,
             start,
         };
-        check_turn(
+        check_turn_to_read(
             &self.sessions,
             &self.marks,
             &self.phases,
@@ -120,7 +120,7 @@ impl<A: Allocator + Copy> Core<A> {
         )?;
         self.schema.check_range(table, lower, upper)?;
         check_size(&self.tables, table, lower, upper)?;
-        check_room(&self.phases, session, number)?;
+        check_room_to_read(&self.phases, session, number)?;
         let (seen, rows) = observe_rows(&self.tables, table, lower, upper)?;
         note(&mut self.phases, self.alloc, transaction, seen)?;
         Ok(rows)
@@ -134,7 +134,7 @@ fn note<A: Allocator + Copy>(
     transaction: Transaction,
     seen: Observation<A>,
 ) -> Result<(), Fault>
-    requires few { room_fault phases.old transaction.session transaction.number ≡ None }
+    requires few { room_to_read phases.old transaction.session transaction.number ≡ None }
     ensures ok { OnOk result (phases.new ≡ noted phases.old transaction.session transaction.number transaction.start (observation_of seen)) }
     ensures err { OnErr result (phases.new ≡ phases.old) }
     ensures memory { IsOkUnless result Memory }
@@ -260,14 +260,14 @@ pub(crate) fn check_start<A: Allocator>(
 }
 
 // Whether a session may read for a transaction.
-fn check_turn<A: Allocator>(
+fn check_turn_to_read<A: Allocator>(
     sessions: &Sessions<A>,
     marks: &Marks<A>,
     phases: &ReadPhases<A>,
     counter: u64,
     transaction: Transaction,
 ) -> Result<(), Fault>
-    ensures { result_err result ≡ turn_fault sessions.now marks.now.marks phases.now counter transaction.session transaction.number transaction.start }
+    ensures { result_err result ≡ turn_to_read sessions.now marks.now.marks phases.now counter transaction.session transaction.number transaction.start }
 {
     let session = transaction.session;
     check_session(sessions, session)?;
@@ -292,12 +292,12 @@ fn check_size<A: Allocator + Clone>(
 }
 
 // Whether a read phase has room for another question.
-fn check_room<A: Allocator>(
+fn check_room_to_read<A: Allocator>(
     phases: &ReadPhases<A>,
     session: usize,
     number: u64,
 ) -> Result<(), Fault>
-    ensures { result_err result ≡ room_fault phases.now session number }
+    ensures { result_err result ≡ room_to_read phases.now session number }
 {
     if phases.questions(session, number) >= MAX_QUESTIONS {
         return Err(Fault::SetFull);

@@ -18,7 +18,7 @@ use crate::actives::count_active;
 use crate::core_closing::check_turn_to_close;
 use crate::core_reads::check_start;
 use crate::core_state::Core;
-use crate::entry_checks::{check_room, check_spare};
+use crate::entry_checks::{check_room_to_enter, check_spare};
 use occ_book::Marks;
 use occ_case::{Cause, Verdict};
 use occ_log::{Log, ReadPhases, Sessions, Transaction, Window};
@@ -159,7 +159,7 @@ impl<A: Allocator + Copy> Core<A> {
             self.counter,
             transaction,
         )?;
-        check_room(
+        check_room_to_enter(
             &self.schema,
             &self.sessions,
             &self.log,

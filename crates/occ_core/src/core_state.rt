@@ -2,7 +2,7 @@
 ghost use Rattle.std.specs.Prelude.{◌≡◌, ◌<◌, ◌≤◌, ◌+◌, ◌^◌, ℕ, [], length, IfOk, IfErr, IsOkUnless, true, Some, option_map};
 ghost use Rattle.std.specs.FinMap as finite;
 ghost use Rattle.occ_types.specs.declared.fault.Fault.TheVariants.{Memory};
-ghost use Rattle.occ_types.specs.Seen.{object_of};
+ghost use Rattle.occ_types.specs.PlainData.{object_of};
 ghost use Rattle.occ_types.specs.declared.limits.TheConstants.{MAX_COUNTER, MAX_LOG_ROWS, MAX_NUMBER};
 ghost use Rattle.occ_model.specs.Invariant.{Invariant};
 ghost use Rattle.occ_model.specs.Content.{IsInSchema};
@@ -11,7 +11,7 @@ ghost use Rattle.occ_model.specs.Poll.{row_numbered};
 ghost use Rattle.occ_model.specs.World.{opened, low, empty_base, active_count, has_session, last_entered, next_place};
 ghost use Rattle.occ_core.specs.Replies.{written_in};
 ghost use Rattle.occ_log.specs.Logs.{IsBegun};
-ghost use Rattle.occ_log.specs.Slots.{idle_slots};
+ghost use Rattle.occ_log.specs.SessionStates.{idle_slots};
 ghost use Rattle.occ_log.specs.Rows.{log_of, log_row_of};
 
 use occ_book::{Base, LogRow, Marks, Tables};

@@ -1,11 +1,11 @@
 //! What becomes of a transaction that has entered: its decision, its single writes, and its end.
 ghost use Rattle.std.specs.Prelude.{◌≡◌, ◌≤◌, ℕ, IfOk, IfErr, OnOk, IsSome, Some, None, Ok, Err, is_some, true, option_map};
-ghost use Rattle.occ_types.specs.Seen.{object_of};
+ghost use Rattle.occ_types.specs.PlainData.{object_of};
 ghost use Rattle.occ_model.specs.Event.{Decide, WriteOne, Finish, BackUp};
 ghost use Rattle.occ_model.specs.Refusal.{refusal};
 ghost use Rattle.occ_model.specs.Step.{decided};
 ghost use Rattle.occ_log.specs.Logs.{row_at};
-ghost use Rattle.occ_log.specs.Slots.{row_under_way, back_fault, writes_done, finish_fault};
+ghost use Rattle.occ_log.specs.SessionStates.{row_under_way, back_fault, writes_done, finish_fault};
 ghost use Rattle.occ_log.specs.Rows.{log_row_of, standing_of};
 ghost use Rattle.occ_core.specs.Core.{Transition};
 ghost use Rattle.occ_core.specs.Folding.{under_way_fault, back_fault_of};

@@ -4,8 +4,8 @@ ghost use Rattle.std.specs.Result.{result_err};
 ghost use Rattle.occ_model.specs.Refusal.{check_writes};
 ghost use Rattle.occ_log.specs.Logs.{row_at};
 ghost use Rattle.occ_log.specs.Rows.{slot_of};
-ghost use Rattle.occ_log.specs.Slots.{active_from};
-ghost use Rattle.occ_core.specs.Entries.{due_fault, busy_fault, spare_fault, turn_to_enter, write_fault, log_fault, counter_fault, room_to_enter};
+ghost use Rattle.occ_log.specs.SessionStates.{active_from};
+ghost use Rattle.occ_core.specs.EntryFaults.{due_fault, busy_fault, spare_fault, turn_to_enter, write_fault, log_fault, counter_fault, room_to_enter};
 
 use crate::actives::count_active;
 use crate::core_reads::{check_session, check_start, check_unclosed};
@@ -17,7 +17,7 @@ use occ_types::{Fault, Schema};
 use std::alloc::Allocator;
 
 // Whether a session may enter a transaction.
-pub(crate) fn check_turn<A: Allocator>(
+pub(crate) fn check_turn_to_enter<A: Allocator>(
     sessions: &Sessions<A>,
     marks: &Marks<A>,
     phases: &ReadPhases<A>,
@@ -66,7 +66,7 @@ pub(crate) fn check_spare(number: u64) -> Result<(), Fault>
 }
 
 // Whether writes fit the schema, and there is room for one more transaction.
-pub(crate) fn check_room<A: Allocator>(
+pub(crate) fn check_room_to_enter<A: Allocator>(
     schema: &Schema<A>,
     sessions: &Sessions<A>,
     log: &Log<A>,

@@ -1,7 +1,7 @@
 //! Replies: what a core says to its steps.
 ghost use Rattle.std.specs.Prelude.{◌≡◌, None, Some, option_map};
 ghost use Rattle.std.specs.Result.{result_err};
-ghost use Rattle.occ_types.specs.Seen.{object_of};
+ghost use Rattle.occ_types.specs.PlainData.{object_of};
 ghost use Rattle.occ_core.specs.Replies.{reading, scanning, forgetting, entering, decision, finishing, backing, writing, folding};
 ghost use Rattle.occ_core.specs.AtOnce.{ending_item};
 ghost use Rattle.occ_core.specs.RunningAlone.{running_item};

@@ -1,13 +1,14 @@
 -- What a change of a vector is, to those who see it as plain data.
-use Rattle.std.proofs.Common.{◌≡◌, ℕ, zero, suc, ◌+◌, ◌<◌, false, List, [], ◌∷◌, ◌++◌, get_or, length, map, Option, None, Some, refl, eqb-true, eq-eqb, sym, ap, subst, ◌∙◌, arith}
-use Rattle.std.specs.Prelude.{slice_get, slice_set, ◌==◌, is_some, true}
+use Rattle.std.proofs.Common.{◌≡◌, ℕ, zero, suc, ◌+◌, ◌<◌, false, List, [], ◌∷◌, ◌++◌, get_or, length, map, Option, None, Some, refl, eqb-true, eq-eqb, sym, ap, subst, ◌∙◌, arith, slice_get, slice_set, ◌==◌, is_some, true}
 use Rattle.std.specs.Borrow.{Bor}
 use Rattle.std.specs.Option.{option_map, option_copied}
 use Rattle.std.specs.Slice.{IsItemAt}
-use Rattle.std.proofs.lemmas.Option.{slice_get-map}
+use Rattle.std.proofs.lemmas.Option.{slice_get-map, slice_get_read}
+use Rattle.std.proofs.lemmas.List as lists
+use Rattle.std.proofs.lemmas.List.{map-set}
 use Rattle.occ_book.proofs.Views.{table-at}
 use Rattle.occ_model.specs.Log.{Case, LogRow, is_open}
-use Rattle.occ_log.specs.Slots.{Slot, Hold, idle_slots, last_of, HoldsArePlaced}
+use Rattle.occ_log.specs.SessionStates.{Slot, Hold, idle_slots, last_of, HoldsArePlaced}
 use Rattle.occ_book.specs.Undo.{ArePlaced}
 use Rattle.occ_log.proofs.Places.{slice_get-other}
 use Rattle.occ_model.proofs.Tests as tests
@@ -17,40 +18,33 @@ use Rattle.occ_book.specs.declared.rows.Standing.TheVariants as standings
 use Rattle.occ_book.specs.declared.rows.LogRow as code_row
 use Rattle.occ_log.specs.declared.sessions.SessionState as code_session
 
+-- a view of each, after one was replaced
+pub ruleset in_place = (map-set)
+
+-- what is seen of what is lent
+pub seen : {X Y : Type 0} (f : X → Y) (r : Option (Bor X)) → option_map (λ x. f x.now) r ≡ option_map f (option_copied r)
+seen f None = refl
+seen f (Some x) = refl
+
 -- what a look-up by place in a vector answers
 pub seen_at : {X Y : Type 0} (f : X → Y) (xs items : List X) (plain : List Y) (k : ℕ) (r : Option (Bor X)) → items ≡ xs → map f xs ≡ plain → IsItemAt items k r → option_map (λ x. f x.now) r ≡ slice_get plain k
 seen_at {X} f xs items plain k r same view is =
-    copied r ∙ ap (option_map f) (sym (table-at xs items k r r same is refl)) ∙ sym (slice_get-map f xs k) ∙ ap (λ ys. slice_get ys k) view
-  where
-    copied : (r : Option (Bor X)) → option_map (λ x. f x.now) r ≡ option_map f (option_copied r)
-    copied None = refl
-    copied (Some x) = refl
+    seen f r ∙ ap (option_map f) (sym (table-at xs items k r r same is refl)) ∙ sym (slice_get-map f xs k) ∙ ap (λ ys. slice_get ys k) view
 
--- a row takes another standing
-pub stood : {Z : Type 0} (rows : List (code_row.LogRow Z (ℕ × Case))) (place : ℕ) (old : code_row.LogRow Z (ℕ × Case)) (standing : code_standing.Standing (ℕ × Case)) (log : List LogRow) → log_of rows ≡ log → old ≡ get_or rows place old
-    → (row : LogRow) → slice_get log place ≡ Some row → log_of (slice_set rows place (record old { standing = standing })) ≡ slice_set log place (record row { standing = standing_of standing })
-stood {Z} rows place old standing log view is row there =
-    go rows place is (ap (λ l. slice_get l place) view ∙ there) ∙ ap (λ l. slice_set l place (record row { standing = standing_of standing })) view
-  where
-    go : (rows : List (code_row.LogRow Z (ℕ × Case))) (place : ℕ) → old ≡ get_or rows place old → slice_get (log_of rows) place ≡ Some row
-        → log_of (slice_set rows place (record old { standing = standing })) ≡ slice_set (log_of rows) place (record row { standing = standing_of standing })
-    go [] place is there = cc
-    go (x ∷ xs) zero is there =
-        let e : log_row_of x ≡ row = cc in
-        ap (λ r. r ∷ log_of xs) (ap (λ (r : code_row.LogRow Z (ℕ × Case)). record (log_row_of r) { standing = standing_of standing }) is ∙ ap (λ (r : LogRow). record r { standing = standing_of standing }) e)
-    go (x ∷ xs) (suc place) is there = ap (λ l. log_row_of x ∷ l) (go xs place is there)
+-- a row that is read at a place stands there
+pub row_there : {Z : Type 0} (rows : List (code_row.LogRow Z (ℕ × Case))) (k : ℕ) (row : code_row.LogRow Z (ℕ × Case)) → k < length (log_of rows) → row ≡ get_or rows k row → slice_get (log_of rows) k ≡ Some (log_row_of row)
+row_there rows k row less at =
+    let same = lists.length-map rows log_row_of in
+    slice_get-map log_row_of rows k ∙ ap (option_map log_row_of) (slice_get_read rows (length rows) k row refl (omega arith) at)
 
 -- a session is let go
 pub let_go : {Z : Type 0} (states : List (code_session.SessionState Z)) (place : ℕ) (old : code_session.SessionState Z) (slots : List Slot) → slots_of states ≡ slots → place < length slots → old ≡ get_or states place old
     → slots_of (slice_set states place (record { last = old.last; held = None })) ≡ slice_set slots place (record { last = last_of slots place; hold = None })
 let_go {Z} states place old slots view less is =
-    go states place (subst (λ l. place < length l) (sym view) less) is ∙ ap (λ l. slice_set l place (record { last = last_of l place; hold = None })) view
-  where
-    go : (states : List (code_session.SessionState Z)) (place : ℕ) → place < length (slots_of states) → old ≡ get_or states place old
-        → slots_of (slice_set states place (record { last = old.last; held = None })) ≡ slice_set (slots_of states) place (record { last = last_of (slots_of states) place; hold = None })
-    go [] place less is = absurd (omega arith)
-    go (x ∷ xs) zero less is = ap (λ (s : code_session.SessionState Z). record { last = s.last; hold = None } ∷ slots_of xs) is
-    go (x ∷ xs) (suc place) less is = ap (λ l. slot_of x ∷ l) (go xs place (omega arith) is)
+    let count = ap length view in
+    let same = lists.length-map states slot_of in
+    let last : last_of (slots_of states) place ≡ old.last = ap (λ o. elim o as (λ _. ℕ) [ None ↦ 0 | Some slot ↦ slot.last ]) (slice_get-map slot_of states place ∙ ap (option_map slot_of) (slice_get_read states (length states) place old refl (omega arith) is)) in
+    map-set slot_of states place (record { last = old.last; held = None }) ∙ (λ i. slice_set (view i) place (record { last = sym last i; hold = None })) ∙ ap (λ l. slice_set slots place (record { last = last_of l place; hold = None })) view
 
 -- one idle session more
 pub idle-push : (count : ℕ) → idle_slots count ++ record { last = 0; hold = None } ∷ [] ≡ idle_slots (count + 1)

@@ -1,45 +1,133 @@
--- A beginning of the log goes, and the places of its rows with it.
-use Rattle.std.proofs.Common.{◌≡◌, ℕ, zero, suc, ◌+◌, ◌-◌, ◌<◌, ◌≤◌, Bool, true, false, cond, List, [], ◌∷◌, map, drop, get_or, length, None, Some, refl, sym, ap, subst, ◌∙◌, arith}
-use Rattle.std.specs.Prelude.{◌&&◌, ◌||◌, ◌==◌, nat_le, if◌then◌else◌, slice_get, slice_set, Vec}
+-- The rows and the places that are listed, as rows come in, take another standing and go.
+use Rattle.std.proofs.Common.{◌≡◌, ℕ, zero, suc, ◌+◌, ◌-◌, ◌<◌, ◌≤◌, Bool, true, false, cond, List, [], ◌∷◌, ◌++◌, map, filter, drop, get_or, length, Some, refl, sym, ap, subst, ◌∙◌, arith, ◌&&◌, ◌||◌, ◌==◌, nat_le, slice_get, slice_set}
 use Rattle.std.specs.List.{list_any, prefix_len}
-use Rattle.std.proofs.lemmas.Bool.{leb-true, le-leb}
+use Rattle.std.proofs.Math.Seq.{drop-nil}
+use Rattle.std.proofs.lemmas.Bool.{leb-true, leb-false}
+use Rattle.std.proofs.lemmas.List.{map-append, append-nil, length-map}
+use Rattle.std.proofs.lemmas.List.Elements.{filter-append}
 use Rattle.occ_model.specs.Log.{Case, LogRow, Counts, is_open}
 use Rattle.occ_model.specs.Refusal.{foldable}
 use Rattle.occ_model.specs.Step.{foldable_part}
+use Rattle.occ_model.proofs.Orders.{Counts-push}
 use Rattle.occ_model.proofs.Tests as tests
 use Rattle.occ_book.specs.declared.rows.LogRow as code_row
-use Rattle.occ_log.specs.Logs.{Kept, row_at, rows_of, HaveNoGap, places_from, places_in, list_at, list_of, AreListed, lists_of, has_room, KeepRoom}
+use Rattle.occ_log.specs.Listing.{Listed, unlisted, listed_at}
+use Rattle.occ_log.specs.Logs.{HaveNoGap, AreListed, places_of, rows_of}
 use Rattle.occ_log.specs.Rows.{standing_of, log_row_of, log_of}
-use Rattle.occ_log.proofs.Listed.{before_first, row_from, lists-length}
-use Rattle.occ_log.proofs.Changes.{length-map}
 
-pub map-drop : {X Y : Type 0} (f : X → Y) (n : ℕ) (xs : List X) → map f (drop n xs) ≡ drop n (map f xs)
-map-drop f zero xs = refl
-map-drop f (suc n) [] = refl
-map-drop f (suc n) (x ∷ xs) = map-drop f n xs
+-- What is listed.
 
-slice_get-drop : {X : Type 0} (n k : ℕ) (xs : List X) → slice_get (drop n xs) k ≡ slice_get xs (n + k)
-slice_get-drop zero k xs = let same : k ≡ 0 + k = omega arith in ap (slice_get xs) same
-slice_get-drop (suc n) k [] = refl
-slice_get-drop (suc n) k (x ∷ xs) =
-    let same : suc (n + k) ≡ suc n + k = omega arith in
-    slice_get-drop n k xs ∙ ap (slice_get (x ∷ xs)) same
+-- a row comes in
+pub listed-push : (first : ℕ) (rows log : List LogRow) (row : LogRow) (old new : List Listed) → AreListed first rows old → row.place ≡ first + length rows → log ≡ rows ++ row ∷ []
+    → ((session : ℕ) → (listed_at new session).places ≡ cond (row.session == session) ((listed_at old session).places ++ row.place ∷ []) (listed_at old session).places) → AreListed first log new
+listed-push first rows log row old new are place is now = record {
+  placed = subst (λ l. Counts first (places_of l)) (sym is) (subst (Counts first) (sym (map-append (λ (r : LogRow). r.place) rows (row ∷ [])))
+      (Counts-push first row.place (places_of rows) are.placed (place ∙ ap (λ n. first + n) (sym (length-map rows (λ (r : LogRow). r.place))))));
+  listed = λ session. now session ∙ ap (λ l. cond (row.session == session) (l ++ row.place ∷ []) l) (are.listed session) ∙ go session (row.session == session)
+      ∙ sym (map-append (λ (r : LogRow). r.place) (rows_of session rows) (cond (row.session == session) (row ∷ []) []))
+      ∙ ap places_of (sym (filter-append (λ (r : LogRow). r.session == session) rows (row ∷ [])) ∙ ap (rows_of session) (sym is));
+}
+  where
+    go : (session : ℕ) (b : Bool) → cond b (places_of (rows_of session rows) ++ row.place ∷ []) (places_of (rows_of session rows)) ≡ places_of (rows_of session rows) ++ places_of (cond b (row ∷ []) [])
+    go session true = refl
+    go session false = sym (append-nil (places_of (rows_of session rows)))
 
--- What is found after a fold.
+-- a row is replaced by one of its session and place
+pub listed-set : (first : ℕ) (rows log : List LogRow) (k : ℕ) (row next : LogRow) (lists : List Listed) → AreListed first rows lists → slice_get rows k ≡ Some row → next.session ≡ row.session → next.place ≡ row.place
+    → log ≡ slice_set rows k next → AreListed first log lists
+listed-set first rows log k row next lists are there own place is = record {
+  placed = subst (λ l. Counts first (places_of l)) (sym is) (subst (Counts first) (sym (all rows k there)) are.placed);
+  listed = λ session. are.listed session ∙ sym (ap (λ l. places_of (rows_of session l)) is ∙ some session rows k there);
+}
+  where
+    all : (rows : List LogRow) (k : ℕ) → slice_get rows k ≡ Some row → places_of (slice_set rows k next) ≡ places_of rows
+    all [] k there = refl
+    all (x ∷ rows) zero there = let same : x ≡ row = cc in ap (λ n. n ∷ places_of rows) (place ∙ ap (λ (r : LogRow). r.place) (sym same))
+    all (x ∷ rows) (suc k) there = ap (λ l. x.place ∷ l) (all rows k there)
 
--- a row that stays has its place
-pub row_stays : (old new : Kept) (count place : ℕ) → new.rows ≡ drop count old.rows → new.first ≡ old.first + count → new.first ≤ place → row_at new place ≡ row_at old place
-row_stays old new count place rows first from =
-    let far : count + (place - new.first) ≡ place - old.first = omega arith in
-    let low : old.first ≤ place = omega arith in
-    sym (row_from new place from) ∙ ap (λ l. slice_get l (place - new.first)) rows ∙ slice_get-drop count (place - new.first) old.rows
-    ∙ ap (slice_get old.rows) far ∙ row_from old place low
+    some : (session : ℕ) (rows : List LogRow) (k : ℕ) → slice_get rows k ≡ Some row → places_of (rows_of session (slice_set rows k next)) ≡ places_of (rows_of session rows)
+    some session [] k there = refl
+    some session (x ∷ rows) zero there =
+        let same : x ≡ row = cc in
+        chosen next (next.session == session)
+        ∙ (λ i. cond ((own ∙ ap (λ (r : LogRow). r.session) (sym same)) i == session) ((place ∙ ap (λ (r : LogRow). r.place) (sym same)) i ∷ places_of (rows_of session rows)) (places_of (rows_of session rows)))
+        ∙ sym (chosen x (x.session == session))
+      where
+        chosen : (r : LogRow) (b : Bool) → places_of (cond b (r ∷ rows_of session rows) (rows_of session rows)) ≡ cond b (r.place ∷ places_of (rows_of session rows)) (places_of (rows_of session rows))
+        chosen r true = refl
+        chosen r false = refl
+    some session (x ∷ rows) (suc k) there = go (x.session == session) (some session rows k there)
+      where
+        go : (b : Bool) → places_of (rows_of session (slice_set rows k next)) ≡ places_of (rows_of session rows)
+            → places_of (cond b (x ∷ rows_of session (slice_set rows k next)) (rows_of session (slice_set rows k next))) ≡ places_of (cond b (x ∷ rows_of session rows) (rows_of session rows))
+        go true again = ap (λ l. x.place ∷ l) again
+        go false again = again
 
--- a row that was folded stands nowhere
-pub row_goes : (old new : Kept) (count place : ℕ) → new.first ≡ old.first + count → place < old.first + count → row_at new place ≡ None
-row_goes old new count place first less =
-    let before : place < new.first = omega arith in
-    sym (before_first new place before)
+-- the rows stay, and what is listed of each session
+pub listed-same : (first : ℕ) (rows log : List LogRow) (old new : List Listed) → AreListed first rows old → log ≡ rows → ((session : ℕ) → (listed_at new session).places ≡ (listed_at old session).places) → AreListed first log new
+listed-same first rows log old new are is now = record {
+  placed = subst (λ l. Counts first (places_of l)) (sym is) are.placed;
+  listed = λ session. now session ∙ are.listed session ∙ ap (λ l. places_of (rows_of session l)) (sym is);
+}
+
+counts-drop : (n count : ℕ) (rows : List LogRow) → Counts n (places_of rows) → Counts (n + count) (places_of (drop count rows))
+counts-drop n zero rows counts = let same : n ≡ n + 0 = omega arith in subst (λ m. Counts m (places_of rows)) same counts
+counts-drop n (suc count) [] counts = tt
+counts-drop n (suc count) (row ∷ rows) counts =
+    let same : suc n + count ≡ n + suc count = omega arith in
+    subst (λ m. Counts m (places_of (drop count rows))) same (counts-drop (suc n) count rows counts.1)
+
+-- of a session's places, those from one on are the places of its rows from there on
+places-from : (session n first : ℕ) (rows : List LogRow) → Counts first (places_of rows)
+    → filter (λ place. nat_le n place) (places_of (rows_of session rows)) ≡ places_of (rows_of session (drop (n - first) rows))
+places-from session n first [] counts = ap (λ (l : List LogRow). places_of (rows_of session l)) (sym (drop-nil (n - first)))
+places-from session n first (row ∷ rows) counts = tests.decided (nat_le n row.place)
+    (λ yes. let up = leb-true n row.place yes in
+    let is = counts.0 in
+    let none : n - first ≡ 0 = omega arith in
+    let later : n - suc first ≡ 0 = omega arith in
+    stays yes (row.session == session) (places-from session n (suc first) rows counts.1 ∙ ap (λ m. places_of (rows_of session (drop m rows))) later)
+    ∙ ap (λ m. places_of (rows_of session (drop m (row ∷ rows)))) (sym none))
+    (λ no. let is = counts.0 in
+    let up : first < n = tests.decided (nat_le n first) (λ yes. absurd (tests.clash {A = ⊥} (nat_le n first) yes (ap (nat_le n) (sym is) ∙ no))) (λ below. leb-false n first below) in
+    let one : n - first ≡ suc (n - suc first) = omega arith in
+    goes no (row.session == session) ∙ places-from session n (suc first) rows counts.1 ∙ ap (λ m. places_of (rows_of session (drop m (row ∷ rows)))) (sym one))
+  where
+    own : List ℕ
+    own = places_of (rows_of session rows)
+
+    stays : nat_le n row.place ≡ true → (b : Bool) → filter (λ place. nat_le n place) own ≡ own
+        → filter (λ place. nat_le n place) (places_of (cond b (row ∷ rows_of session rows) (rows_of session rows))) ≡ places_of (cond b (row ∷ rows_of session rows) (rows_of session rows))
+    stays up true again = ap (λ b. cond b (row.place ∷ filter (λ place. nat_le n place) own) (filter (λ place. nat_le n place) own)) up ∙ ap (λ l. row.place ∷ l) again
+    stays up false again = again
+
+    goes : nat_le n row.place ≡ false → (b : Bool) → filter (λ place. nat_le n place) (places_of (cond b (row ∷ rows_of session rows) (rows_of session rows))) ≡ filter (λ place. nat_le n place) own
+    goes lost true = ap (λ b. cond b (row.place ∷ filter (λ place. nat_le n place) own) (filter (λ place. nat_le n place) own)) lost
+    goes lost false = refl
+
+-- the first rows go
+pub listed-drop : (first count : ℕ) (rows log : List LogRow) (old new : List Listed) → AreListed first rows old → log ≡ drop count rows
+    → ((session : ℕ) → (listed_at new session).places ≡ filter (λ place. nat_le (first + count) place) (listed_at old session).places) → AreListed (first + count) log new
+listed-drop first count rows log old new are is now =
+    let far : first + count - first ≡ count = omega arith in
+    record {
+      placed = subst (λ l. Counts (first + count) (places_of l)) (sym is) (counts-drop first count rows are.placed);
+      listed = λ session. now session ∙ ap (filter (λ place. nat_le (first + count) place)) (are.listed session) ∙ places-from session (first + count) first rows are.placed
+          ∙ ap (λ n. places_of (rows_of session (drop n rows))) far ∙ ap (λ l. places_of (rows_of session l)) (sym is);
+    }
+
+-- one more row of a session takes no memory where its list and the rows have room
+pub room-at : (b : Bool) (lists : List Listed) (k : ℕ) → get_or (map (λ list. list.free && b) lists) k false ≡ ((get_or lists k unlisted).free && b)
+room-at b [] k = refl
+room-at b (list ∷ lists) zero = refl
+room-at b (list ∷ lists) (suc k) = room-at b lists k
+
+pub room-of : (b : Bool) (lists : List Listed) (session : ℕ) → 1 ≤ session → get_or (map (λ list. list.free && b) lists) (session - 1) false ≡ ((listed_at lists session).free && b)
+room-of b lists session from =
+    let index : suc (session - 1) ≡ session = omega arith in
+    room-at b lists (session - 1) ∙ ap (λ n. (listed_at lists n).free && b) index
+
+-- What can be folded.
 
 no_gap-later : (row : LogRow) (rows : List LogRow) → HaveNoGap (row ∷ rows) → HaveNoGap rows
 no_gap-later row rows counts session = go (row.session == session) (counts session)
@@ -54,77 +142,7 @@ no_gap-drop zero rows counts = counts
 no_gap-drop (suc count) [] counts = counts
 no_gap-drop (suc count) (row ∷ rows) counts = no_gap-drop count rows (no_gap-later row rows counts)
 
--- no more rows can be folded than stand in the log
-pub part_within : (low : ℕ) (rows : List LogRow) → length (foldable_part low rows) ≤ length rows
-part_within low [] = omega arith
-part_within low (row ∷ rows) = go (foldable low row.standing) (part_within low rows)
-  where
-    go : (b : Bool) → length (foldable_part low rows) ≤ length rows → length (elim b as (λ _. List LogRow) [ true ↦ row ∷ foldable_part low rows | false ↦ [] ]) ≤ suc (length rows)
-    go true within = omega arith
-    go false within = omega arith
-
--- The places of a session's rows.
-
--- none of them goes that lies from the first row on
-places-kept : (session n first : ℕ) (rows : List LogRow) → n ≤ first → places_from n (places_in session first rows) ≡ places_in session first rows
-places-kept session n first [] from = refl
-places-kept session n first (row ∷ rows) from = go (row.session == session) (places-kept session n (suc first) rows (omega arith))
-  where
-    stays : nat_le n first ≡ true
-    stays = tests.decided (nat_le n first) (λ yes. yes) (λ no. absurd (tests.clash (nat_le n first) (le-leb n first from) no))
-
-    go : (b : Bool) → places_from n (places_in session (suc first) rows) ≡ places_in session (suc first) rows
-        → places_from n (if b then first ∷ places_in session (suc first) rows else places_in session (suc first) rows) ≡ (if b then first ∷ places_in session (suc first) rows else places_in session (suc first) rows)
-    go true again = ap (λ b. cond b (first ∷ places_from n (places_in session (suc first) rows)) (places_from n (places_in session (suc first) rows))) stays ∙ ap (λ l. first ∷ l) again
-    go false again = again
-
-places-drop : (session first count : ℕ) (rows : List LogRow) → places_from (first + count) (places_in session first rows) ≡ places_in session (first + count) (drop count rows)
-places-drop session first zero rows =
-    let same : first + 0 ≡ first = omega arith in
-    places-kept session (first + 0) first rows (omega arith) ∙ ap (λ n. places_in session n rows) (sym same)
-places-drop session first (suc count) [] = refl
-places-drop session first (suc count) (row ∷ rows) =
-    let next : suc first + count ≡ first + suc count = omega arith in
-    go (row.session == session) ∙ subst (λ n. places_from n (places_in session (suc first) rows) ≡ places_in session n (drop count rows)) next (places-drop session (suc first) count rows)
-  where
-    goes : nat_le (first + suc count) first ≡ false
-    goes = tests.decided (nat_le (first + suc count) first) (λ yes. let up = leb-true (first + suc count) first yes in absurd (omega arith)) (λ no. no)
-
-    go : (b : Bool) → places_from (first + suc count) (if b then first ∷ places_in session (suc first) rows else places_in session (suc first) rows) ≡ places_from (first + suc count) (places_in session (suc first) rows)
-    go true = ap (λ b. cond b (first ∷ places_from (first + suc count) (places_in session (suc first) rows)) (places_from (first + suc count) (places_in session (suc first) rows))) goes
-    go false = refl
-
-list-map : (f : List ℕ → List ℕ) → f [] ≡ [] → (lists : List (List ℕ)) (session : ℕ) → list_of (map f lists) session ≡ f (list_of lists session)
-list-map f none lists zero = sym none
-list-map f none lists (suc k) = go lists k
-  where
-    go : (lists : List (List ℕ)) (k : ℕ) → list_at (map f lists) k ≡ f (list_at lists k)
-    go [] k = sym none
-    go (x ∷ xs) zero = refl
-    go (x ∷ xs) (suc k) = go xs k
-
--- the lists without the places of what was folded
-pub listed-fold : (first count next : ℕ) (rows log : List LogRow) (lists later : List (List ℕ)) → AreListed first rows lists → next ≡ first + count → log ≡ drop count rows → later ≡ map (places_from next) lists → AreListed next log later
-listed-fold first count next rows log lists later listed next_is log_is later_is session =
-    ap (λ l. list_of l session) later_is ∙ list-map (places_from next) refl lists session ∙ ap (places_from next) (listed session)
-    ∙ subst (λ n. places_from n (places_in session first rows) ≡ places_in session n (drop count rows)) (sym next_is) (places-drop session first count rows)
-    ∙ ap (places_in session next) (sym log_is)
-
--- Lists that lose their beginnings one after another.
-
--- so many of them have
-abbrev pub kept_below : ℕ → ℕ → List (List ℕ) → List (List ℕ)
-kept_below first zero lists = lists
-kept_below first (suc n) [] = []
-kept_below first (suc n) (list ∷ lists) = places_from first list ∷ kept_below first n lists
-
-pub kept_all : (first : ℕ) (lists : List (List ℕ)) → kept_below first (length lists) lists ≡ map (places_from first) lists
-kept_all first [] = refl
-kept_all first (list ∷ lists) = ap (λ l. places_from first list ∷ l) (kept_all first lists)
-
 module _ {Z : Type 0} where
-  -- Tests of the rows.
-
   pub open_rows : (rows : List (code_row.LogRow Z (ℕ × Case))) → list_any (λ row. is_open (standing_of row.standing)) rows ≡ list_any (λ row. is_open row.standing) (log_of rows)
   open_rows [] = refl
   open_rows (row ∷ rows) = ap (λ b. is_open (standing_of row.standing) || b) (open_rows rows)
@@ -137,64 +155,3 @@ module _ {Z : Type 0} where
           → cond b (1 + prefix_len (λ row. foldable low (standing_of row.standing)) rows) 0 ≡ length (elim b as (λ _. List LogRow) [ true ↦ log_row_of row ∷ foldable_part low (log_of rows) | false ↦ [] ])
       go true again = let e : 1 + prefix_len (λ row. foldable low (standing_of row.standing)) rows ≡ suc (length (foldable_part low (log_of rows))) = omega arith in e
       go false again = refl
-
-  -- one more of the lists has lost its beginning
-  pub kept_next : (first n : ℕ) (lists : List (List ℕ)) (items : List (Vec ℕ Z)) (was now : Vec ℕ Z) → lists_of items ≡ kept_below first n lists → n < length lists → was ≡ get_or items n was → now.items ≡ places_from first was.items
-      → lists_of (slice_set items n now) ≡ kept_below first (n + 1) lists
-  kept_next first n lists items was now is less at kept =
-      let one : suc n ≡ n + 1 = omega arith in
-      go n lists items is less at ∙ ap (λ m. kept_below first m lists) one
-    where
-      head : List ℕ → List (List ℕ) → List ℕ
-      head d [] = d
-      head d (x ∷ xs) = x
-
-      tail : List (List ℕ) → List (List ℕ)
-      tail [] = []
-      tail (x ∷ xs) = xs
-
-      go : (n : ℕ) (lists : List (List ℕ)) (items : List (Vec ℕ Z)) → lists_of items ≡ kept_below first n lists → n < length lists → was ≡ get_or items n was → lists_of (slice_set items n now) ≡ kept_below first (suc n) lists
-      go n [] items is less at = absurd (omega arith)
-      go zero (list ∷ lists) [] is less at = cc
-      go zero (list ∷ lists) (x ∷ xs) is less at =
-          let same : was.items ≡ list = ap (λ (v : Vec ℕ Z). v.items) at ∙ ap (head []) is in
-          λ i. (kept ∙ ap (places_from first) same) i ∷ ap tail is i
-      go (suc n) (list ∷ lists) [] is less at = cc
-      go (suc n) (list ∷ lists) (x ∷ xs) is less at =
-          λ i. ap (head []) is i ∷ go n lists xs (ap tail is) (omega arith) at i
-
-  -- as many lists as before
-  pub lists-count : (f : List ℕ → List ℕ) (old new : List (Vec ℕ Z)) → lists_of new ≡ map f (lists_of old) → length new ≡ length old
-  lists-count f old new is = sym (lists-length new) ∙ ap length is ∙ length-map f (lists_of old) ∙ lists-length old
-
-  -- Room that stays.
-
-  pub room_same : {X : Type 0} (old new : List (Vec X Z)) → new ≡ old → KeepRoom old new
-  room_same old new same place there = subst (λ xs. slice_get (map has_room xs) place ≡ Some true) (sym same) there
-
-  room_set : (xs : List (Vec ℕ Z)) (k : ℕ) (was now : Vec ℕ Z) → was ≡ get_or xs k was → (has_room was ≡ true → has_room now ≡ true) → KeepRoom xs (slice_set xs k now)
-  room_set [] k was now at still place there = there
-  room_set (x ∷ xs) zero was now at still zero there =
-      let was_room : has_room x ≡ true = cc in
-      ap Some (still (ap has_room at ∙ was_room))
-  room_set (x ∷ xs) zero was now at still (suc place) there = there
-  room_set (x ∷ xs) (suc k) was now at still zero there = there
-  room_set (x ∷ xs) (suc k) was now at still (suc place) there = room_set xs k was now at still place there
-
-  pub room_next : (old xs : List (Vec ℕ Z)) (k : ℕ) (was now : Vec ℕ Z) → KeepRoom old xs → was ≡ get_or xs k was → (has_room was ≡ true → has_room now ≡ true) → KeepRoom old (slice_set xs k now)
-  room_next old xs k was now keep at still place there = room_set xs k was now at still place (keep place there)
-
-  room_parts : (b : Bool) (xs : List (Vec ℕ Z)) (k : ℕ) → slice_get (map (λ (list : Vec ℕ Z). b && has_room list) xs) k ≡ Some true → (b ≡ true) × (slice_get (map has_room xs) k ≡ Some true)
-  room_parts b [] k there = cc
-  room_parts b (x ∷ xs) zero there =
-      let both : (b && has_room x) ≡ true = cc in
-      let parts = tests.and_true b (has_room x) both in
-      (parts.0, ap Some parts.1)
-  room_parts b (x ∷ xs) (suc k) there = room_parts b xs k there
-
-  -- a session has room where the rows and its list have
-  pub room_kept : (b c : Bool) (old new : List (Vec ℕ Z)) (k : ℕ) → (b ≡ true → c ≡ true) → KeepRoom old new → slice_get (map (λ (list : Vec ℕ Z). b && has_room list) old) k ≡ Some true
-      → slice_get (map (λ (list : Vec ℕ Z). c && has_room list) new) k ≡ Some true
-  room_kept b c old new k still keep there =
-      let parts = room_parts b old k there in
-      subst (λ t. slice_get (map (λ (list : Vec ℕ Z). t && has_room list) new) k ≡ Some true) (sym (still parts.0)) (keep k parts.1)

@@ -1,103 +1,122 @@
--- A row is found by its session and number, through the places of its session's rows.
-use Rattle.std.proofs.Common.{◌≡◌, ℕ, zero, suc, ◌+◌, ◌-◌, ◌<◌, ◌≤◌, Bool, true, false, cond, List, [], ◌∷◌, map, Option, None, Some, refl, sym, ap, ◌∙◌, arith, eqb-true, eq-eqb}
-use Rattle.std.specs.Prelude.{◌&&◌, ◌==◌, nat_lt, if◌then◌else◌, slice_get}
-use Rattle.std.proofs.lemmas.Bool.{ltb-true}
+-- A row is found by its place, and by its session and number, through the places of its session's rows.
+use Rattle.std.proofs.Common.{◌≡◌, ℕ, zero, suc, ◌+◌, ◌-◌, ◌<◌, ◌≤◌, Bool, true, false, cond, List, [], ◌∷◌, map, filter, find, length, Option, None, Some, refl, sym, ap, subst, ◌∙◌, arith, eq-eqb, ◌&&◌, ◌==◌, is_some, nat_lt, if◌then◌else◌, option_map, slice_get}
+use Rattle.std.proofs.lemmas.Bool.{ltb-true, ltb-false, lt-ltb, ne_eqb}
+use Rattle.std.proofs.lemmas.Option.{slice_get-map, slice_get_past}
 use Rattle.occ_model.specs.Log.{LogRow, Counts, numbers}
 use Rattle.occ_model.specs.Poll.{row_numbered}
+use Rattle.occ_model.proofs.Orders.{placed_at}
 use Rattle.occ_model.proofs.Tests as tests
-use Rattle.occ_log.specs.Logs.{Kept, row_at, places_in, rows_of}
-
--- By number.
-
--- a session without a row has none with a number
-pub none_numbered : (session number : ℕ) (rows : List LogRow) → slice_get (rows_of session rows) 0 ≡ None → row_numbered session number rows ≡ None
-none_numbered session number [] none = refl
-none_numbered session number (row ∷ rows) none = go (row.session == session) refl none (none_numbered session number rows)
-  where
-    go : (b : Bool) → (row.session == session) ≡ b → slice_get (cond b (row ∷ rows_of session rows) (rows_of session rows)) 0 ≡ None
-        → (slice_get (rows_of session rows) 0 ≡ None → row_numbered session number rows ≡ None) → row_numbered session number (row ∷ rows) ≡ None
-    go true e none again = cc
-    go false e none again = ap (λ b. if b && row.number == number then Some row else row_numbered session number rows) e ∙ again none
-
--- the rows begin with their first number
-pub first_number : (n : ℕ) (rows : List LogRow) (row : LogRow) → Counts n (map (λ r. r.number) rows) → slice_get rows 0 ≡ Some row → row.number ≡ n
-first_number n [] row counts there = cc
-first_number n (x ∷ xs) row counts there = let same : x ≡ row = cc in ap (λ (r : LogRow). r.number) (sym same) ∙ counts.0
-
--- no row has a number below the first one
-pub below_none : (session n number : ℕ) (rows : List LogRow) → Counts n (numbers session rows) → number < n → row_numbered session number rows ≡ None
-below_none session n number [] counts less = refl
-below_none session n number (row ∷ rows) counts less = go (row.session == session) refl counts (λ m c l. below_none session m number rows c l)
-  where
-    go : (b : Bool) → (row.session == session) ≡ b → Counts n (map (λ r. r.number) (cond b (row ∷ rows_of session rows) (rows_of session rows)))
-        → ((m : ℕ) → Counts m (numbers session rows) → number < m → row_numbered session number rows ≡ None) → row_numbered session number (row ∷ rows) ≡ None
-    go true e counts again =
-        let is : row.number ≡ n = counts.0 in
-        let other : (row.number == number) ≡ false = tests.decided (row.number == number) (λ yes. let same : row.number ≡ number = eqb-true row.number number yes in absurd (omega arith)) (λ no. no) in
-        ap (λ b. if b && row.number == number then Some row else row_numbered session number rows) e
-        ∙ ap (λ b. if b then Some row else row_numbered session number rows) other ∙ again (suc n) counts.1 (omega arith)
-    go false e counts again = ap (λ b. if b && row.number == number then Some row else row_numbered session number rows) e ∙ again n counts less
-
--- the row with the number that lies so far above the first one has so many of its session before it
-pub numbered_at : (session n d : ℕ) (rows : List LogRow) → Counts n (numbers session rows) → row_numbered session (n + d) rows ≡ slice_get (rows_of session rows) d
-numbered_at session n d [] counts = refl
-numbered_at session n d (row ∷ rows) counts = go (row.session == session) refl d counts (λ m k c. numbered_at session m k rows c)
-  where
-    go : (b : Bool) → (row.session == session) ≡ b → (d : ℕ) → Counts n (map (λ r. r.number) (cond b (row ∷ rows_of session rows) (rows_of session rows)))
-        → ((m k : ℕ) → Counts m (numbers session rows) → row_numbered session (m + k) rows ≡ slice_get (rows_of session rows) k)
-        → row_numbered session (n + d) (row ∷ rows) ≡ slice_get (cond b (row ∷ rows_of session rows) (rows_of session rows)) d
-    go true e zero counts again =
-        let is : row.number ≡ n = counts.0 in
-        let same : row.number ≡ n + 0 = omega arith in
-        ap (λ b. if b && row.number == n + 0 then Some row else row_numbered session (n + 0) rows) e
-        ∙ ap (λ b. if b then Some row else row_numbered session (n + 0) rows) (eq-eqb row.number (n + 0) same)
-    go true e (suc k) counts again =
-        let is : row.number ≡ n = counts.0 in
-        let next : n + suc k ≡ suc n + k = omega arith in
-        let other : (row.number == n + suc k) ≡ false = tests.decided (row.number == n + suc k) (λ yes. let same : row.number ≡ n + suc k = eqb-true row.number (n + suc k) yes in absurd (omega arith)) (λ no. no) in
-        ap (λ b. if b && row.number == n + suc k then Some row else row_numbered session (n + suc k) rows) e
-        ∙ ap (λ b. if b then Some row else row_numbered session (n + suc k) rows) other ∙ ap (λ m. row_numbered session m rows) next ∙ again (suc n) k counts.1
-    go false e d counts again = ap (λ b. if b && row.number == n + d then Some row else row_numbered session (n + d) rows) e ∙ again n d counts
-
-pub numbered_from : (session n number : ℕ) (rows : List LogRow) → Counts n (numbers session rows) → n ≤ number → slice_get (rows_of session rows) (number - n) ≡ row_numbered session number rows
-numbered_from session n number rows counts from =
-    let same : n + (number - n) ≡ number = omega arith in
-    sym (numbered_at session n (number - n) rows counts) ∙ ap (λ m. row_numbered session m rows) same
+use Rattle.occ_log.specs.Logs.{Kept, row_at, places_of, rows_of}
 
 -- By place.
 
--- the place that a session's list has is that of its row
-place_at : (session n i p : ℕ) (rows : List LogRow) → slice_get (places_in session n rows) i ≡ Some p → (d : ℕ) × (p ≡ n + d) × (slice_get rows d ≡ slice_get (rows_of session rows) i)
-place_at session n i p [] at = cc
-place_at session n i p (row ∷ rows) at = go (row.session == session) i at (λ k a. place_at session (suc n) k p rows a)
-  where
-    further : (found : Option LogRow) → (d : ℕ) × (p ≡ suc n + d) × (slice_get rows d ≡ found) → (d : ℕ) × (p ≡ n + d) × (slice_get (row ∷ rows) d ≡ found)
-    further found f = (suc f.0, (let e = f.1 in let same : p ≡ n + suc f.0 = omega arith in same), f.2)
-
-    go : (b : Bool) (i : ℕ) → slice_get (if b then n ∷ places_in session (suc n) rows else places_in session (suc n) rows) i ≡ Some p
-        → ((k : ℕ) → slice_get (places_in session (suc n) rows) k ≡ Some p → (d : ℕ) × (p ≡ suc n + d) × (slice_get rows d ≡ slice_get (rows_of session rows) k))
-        → (d : ℕ) × (p ≡ n + d) × (slice_get (row ∷ rows) d ≡ slice_get (cond b (row ∷ rows_of session rows) (rows_of session rows)) i)
-    go true zero at again = (0, (let is : n ≡ p = cc in let same : p ≡ n + 0 = omega arith in same), refl)
-    go true (suc k) at again = further (slice_get (rows_of session rows) k) (again k at)
-    go false i at again = further (slice_get (rows_of session rows) i) (again i at)
-
--- a session has as many rows as places
-pub none_at : (session n i : ℕ) (rows : List LogRow) → slice_get (places_in session n rows) i ≡ None → None ≡ slice_get (rows_of session rows) i
-none_at session n i [] at = refl
-none_at session n i (row ∷ rows) at = go (row.session == session) i at (λ k a. none_at session (suc n) k rows a)
-  where
-    go : (b : Bool) (i : ℕ) → slice_get (if b then n ∷ places_in session (suc n) rows else places_in session (suc n) rows) i ≡ None
-        → ((k : ℕ) → slice_get (places_in session (suc n) rows) k ≡ None → None ≡ slice_get (rows_of session rows) k)
-        → None ≡ slice_get (cond b (row ∷ rows_of session rows) (rows_of session rows)) i
-    go true zero at again = cc
-    go true (suc k) at again = again k at
-    go false i at again = again i at
-
-pub row_is : (kept : Kept) (session i p : ℕ) → slice_get (places_in session kept.first kept.rows) i ≡ Some p → row_at kept p ≡ slice_get (rows_of session kept.rows) i
+pub before_first : (kept : Kept) (place : ℕ) → place < kept.first → None ≡ row_at kept place
 unfolding row_at
-row_is kept session i p at =
-    let f = place_at session kept.first i p kept.rows at in
-    let e = f.1 in
-    let from : nat_lt p kept.first ≡ false = tests.decided (nat_lt p kept.first) (λ yes. let h = ltb-true p kept.first yes in absurd (omega arith)) (λ no. no) in
-    let far : p - kept.first ≡ f.0 = omega arith in
-    ap (λ b. if b then None else slice_get kept.rows (p - kept.first)) from ∙ ap (slice_get kept.rows) far ∙ f.2
+before_first kept place less = ap (λ b. if b then None else slice_get kept.rows (place - kept.first)) (sym (lt-ltb place kept.first less))
+
+pub row_from : (kept : Kept) (place : ℕ) → kept.first ≤ place → slice_get kept.rows (place - kept.first) ≡ row_at kept place
+unfolding row_at
+row_from kept place from = tests.decided (nat_lt place kept.first)
+    (λ yes. let less = ltb-true place kept.first yes in absurd (omega arith))
+    (λ no. ap (λ b. if b then None else slice_get kept.rows (place - kept.first)) (sym no))
+
+-- where a row is found, its place is that of a row of the log
+pub found_from : (kept : Kept) (place : ℕ) → is_some (row_at kept place) ≡ true → (kept.first ≤ place) × (place - kept.first < length kept.rows)
+found_from kept place found = tests.decided (nat_lt place kept.first)
+    (λ yes. let none = before_first kept place (ltb-true place kept.first yes) in let clash = ap is_some none ∙ found in cc)
+    (λ no. let from = ltb-false place kept.first no in (
+      from,
+      tests.decided (nat_lt (place - kept.first) (length kept.rows))
+          (λ yes. ltb-true (place - kept.first) (length kept.rows) yes)
+          (λ past. let none = slice_get_past kept.rows (place - kept.first) (ltb-false (place - kept.first) (length kept.rows) past) in
+          let clash = ap is_some (sym none ∙ row_from kept place from) ∙ found in cc),
+    ))
+
+pub at_index : (kept : Kept) (place : ℕ) (row : LogRow) → row_at kept place ≡ Some row → slice_get kept.rows (place - kept.first) ≡ Some row
+at_index kept place row there = row_from kept place (found_from kept place (ap is_some there)).0 ∙ there
+
+-- what passes a test stands in the list
+filtered : {X : Type 0} (test : X → Bool) (xs : List X) (i : ℕ) (x : X) → slice_get (filter test xs) i ≡ Some x → (index : ℕ) × (slice_get xs index ≡ Some x)
+filtered test [] i x there = cc
+filtered test (y ∷ ys) i x there = go (test y) i there (λ k at. let f = filtered test ys k x at in (suc f.0, f.1))
+  where
+    go : (b : Bool) (i : ℕ) → slice_get (cond b (y ∷ filter test ys) (filter test ys)) i ≡ Some x
+        → ((k : ℕ) → slice_get (filter test ys) k ≡ Some x → (index : ℕ) × (slice_get (y ∷ ys) index ≡ Some x)) → (index : ℕ) × (slice_get (y ∷ ys) index ≡ Some x)
+    go true zero at later = (0, at)
+    go true (suc k) at later = later k at
+    go false i at later = later i at
+
+-- at a place of a session stands its row
+pub row_is : (kept : Kept) (session i place : ℕ) → Counts kept.first (places_of kept.rows) → slice_get (places_of (rows_of session kept.rows)) i ≡ Some place → row_at kept place ≡ slice_get (rows_of session kept.rows) i
+row_is kept session i place placed at = go (slice_get (rows_of session kept.rows) i) refl (sym (slice_get-map (λ (row : LogRow). row.place) (rows_of session kept.rows) i) ∙ at)
+  where
+    go : (found : Option LogRow) → slice_get (rows_of session kept.rows) i ≡ found → option_map (λ row. row.place) found ≡ Some place → row_at kept place ≡ found
+    go None there none = cc
+    go (Some row) there some =
+        let f = filtered (λ row. row.session == session) kept.rows i row there in
+        let own : row.place ≡ place = cc in
+        let is = placed_at kept.first f.0 kept.rows row placed f.1 in
+        let index : place - kept.first ≡ f.0 = omega arith in
+        sym (row_from kept place (omega arith)) ∙ ap (slice_get kept.rows) index ∙ f.1
+
+pub none_is : (session i : ℕ) (rows : List LogRow) → slice_get (places_of (rows_of session rows)) i ≡ None → None ≡ slice_get (rows_of session rows) i
+none_is session i rows at = go (slice_get (rows_of session rows) i) (sym (slice_get-map (λ (row : LogRow). row.place) (rows_of session rows) i) ∙ at)
+  where
+    go : (found : Option LogRow) → option_map (λ row. row.place) found ≡ None → None ≡ found
+    go None none = refl
+    go (Some row) none = cc
+
+-- By number.
+
+-- of some rows, the first with a number
+abbrev with_number : ℕ → List LogRow → Option LogRow
+with_number number rows = find (λ row. row.number == number) rows
+
+-- a session's row with a number is among its rows
+among : (session number : ℕ) (rows : List LogRow) → row_numbered session number rows ≡ with_number number (rows_of session rows)
+among session number [] = refl
+among session number (row ∷ rows) = go (row.session == session) (among session number rows)
+  where
+    go : (b : Bool) → row_numbered session number rows ≡ with_number number (rows_of session rows)
+        → (if b && row.number == number then Some row else row_numbered session number rows) ≡ with_number number (cond b (row ∷ rows_of session rows) (rows_of session rows))
+    go true again = ap (cond (row.number == number) (Some row)) again
+    go false again = again
+
+pub none_numbered : (session number : ℕ) (rows : List LogRow) → slice_get (rows_of session rows) 0 ≡ None → row_numbered session number rows ≡ None
+none_numbered session number rows none = among session number rows ∙ go (rows_of session rows) none
+  where
+    go : (own : List LogRow) → slice_get own 0 ≡ None → with_number number own ≡ None
+    go [] none = refl
+    go (row ∷ own) none = cc
+
+-- of rows whose numbers have no gap, none has a number below that of the first
+below : (n number : ℕ) (rows : List LogRow) → Counts n (map (λ r. r.number) rows) → number < n → with_number number rows ≡ None
+below n number [] counts less = refl
+below n number (row ∷ rows) counts less =
+    ap (λ b. cond b (Some row) (with_number number rows)) (ne_eqb row.number number (λ e. let is = counts.0 in absurd (omega arith))) ∙ below (suc n) number rows counts.1 (omega arith)
+
+-- and the one whose number lies so far above that of the first has so many before it
+above : (n far : ℕ) (rows : List LogRow) → Counts n (map (λ r. r.number) rows) → with_number (n + far) rows ≡ slice_get rows far
+above n far [] counts = refl
+above n zero (row ∷ rows) counts = let is = counts.0 in ap (λ b. cond b (Some row) (with_number (n + 0) rows)) (eq-eqb row.number (n + 0) (omega arith))
+above n (suc far) (row ∷ rows) counts =
+    let next : n + suc far ≡ suc n + far = omega arith in
+    ap (λ b. cond b (Some row) (with_number (n + suc far) rows)) (ne_eqb row.number (n + suc far) (λ e. let is = counts.0 in absurd (omega arith)))
+    ∙ ap (λ m. with_number m rows) next ∙ above (suc n) far rows counts.1
+
+module _ (session number : ℕ) (rows : List LogRow) (oldest : LogRow) (counts : (first : ℕ) × Counts first (numbers session rows)) (there : slice_get (rows_of session rows) 0 ≡ Some oldest) where
+  -- the session's rows count from the number of the oldest
+  counted : Counts oldest.number (numbers session rows)
+  counted = go (rows_of session rows) counts there
+    where
+      go : (own : List LogRow) → (first : ℕ) × Counts first (map (λ r. r.number) own) → slice_get own 0 ≡ Some oldest → Counts oldest.number (map (λ r. r.number) own)
+      go [] counts there = cc
+      go (row ∷ own) counts there = let same : row ≡ oldest = cc in subst (λ n. Counts n (row.number ∷ map (λ r. r.number) own)) (sym counts.1.0 ∙ ap (λ (r : LogRow). r.number) same) counts.1
+
+  pub below_none : number < oldest.number → row_numbered session number rows ≡ None
+  below_none less = among session number rows ∙ below oldest.number number (rows_of session rows) counted less
+
+  pub numbered_from : oldest.number ≤ number → slice_get (rows_of session rows) (number - oldest.number) ≡ row_numbered session number rows
+  numbered_from from =
+      let same : oldest.number + (number - oldest.number) ≡ number = omega arith in
+      sym (above oldest.number (number - oldest.number) (rows_of session rows) counted) ∙ ap (λ m. with_number m (rows_of session rows)) same ∙ sym (among session number rows)

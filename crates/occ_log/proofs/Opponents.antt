@@ -1,79 +1,83 @@
 -- The opponents of an entry, found without a scan of the log: the active ones through their sessions, the finished ones through the window.
-use Rattle.std.proofs.Common.{◌≡◌, ℕ, zero, suc, ◌+◌, ◌≤◌, Bool, true, false, cond, ◌&&◌, ◌||◌, List, [], ◌∷◌, ◌++◌, Option, None, Some, refl, sym, ap, subst, ◌∙◌, arith, eq-eqb, inl, inr}
-use Rattle.std.specs.Prelude.{◌⊎◌, slice_get, ◌==◌, filter, nat_lt, nat_le, if◌then◌else◌}
+use Rattle.std.proofs.Common.{◌≡◌, ℕ, zero, suc, ◌+◌, ◌≤◌, Bool, true, false, cond, ◌&&◌, ◌||◌, List, [], ◌∷◌, ◌++◌, map, Option, None, Some, refl, sym, ap, subst, ◌∙◌, arith, inl, inr, ◌⊎◌, slice_get, filter, nat_lt, nat_le}
 use Rattle.std.specs.List.{list_any}
 use Rattle.std.specs.Cmp.{both_ways}
-use Rattle.std.proofs.lemmas.Bool.{ltb-true, le-leb, lt-ltb}
+use Rattle.std.proofs.lemmas.Bool.Decides.{nat_tests}
+use Rattle.std.proofs.lemmas.List.Folds.{list_any-append}
+use Rattle.std.proofs.lemmas.Map.Keys.{any_passes_from_place}
 use Rattle.std.specs.Ordering.{nat_cmp}
 use Rattle.std.specs.FinSet as sets
 use Rattle.std.specs.FinSet.{FinSet}
 use Rattle.occ_model.specs.State.{Write}
 use Rattle.occ_model.specs.Log.{LogRow, Standing, Open, Writing, Done, Back, is_active}
-use Rattle.occ_model.specs.Validity.{finished_within, writes_of, finished_opponents, active_opponents, AreSame}
+use Rattle.occ_model.specs.Validity.{finished_within, finished_opponents, active_opponents, AreSame}
 use Rattle.occ_model.specs.World.{latest}
 use Rattle.occ_model.specs.Invariant.{OneUnderWay, ActiveAreHeld, NumberIsBelow, NumbersAreBelow}
 use Rattle.occ_model.proofs.Tests as tests
 use Rattle.occ_model.proofs.Logs.{standing_at}
-use Rattle.occ_log.specs.Slots.{Slot, Hold, held_from, active_of, active_from, IsHeldAt}
+use Rattle.occ_log.specs.SessionStates.{Slot, Hold, held_from, active_of, active_from}
 use Rattle.occ_log.proofs.Holding.{held_place}
+use Rattle.occ_log.proofs.Places.{latest-first, latest-later}
 
--- The active ones.
+-- Tests of what is chosen from a list.
 
--- some active row passes the test
-abbrev pub some_active : (List Write → Bool) → List LogRow → Bool
-some_active test log = list_any test (active_opponents log)
-
-any-active : (test : List Write → Bool) (row : LogRow) (rows : List LogRow) → some_active test (row ∷ rows) ≡ ((is_active row.standing && test row.writes) || some_active test rows)
-any-active test row rows = go (is_active row.standing)
+any-chosen : {X Y : Type 0} (test : Y → Bool) (f : X → Y) (choose : X → Bool) (xs : List X) → list_any test (map f (filter choose xs)) ≡ list_any (λ x. choose x && test (f x)) xs
+any-chosen test f choose [] = refl
+any-chosen test f choose (x ∷ xs) = go (choose x) ∙ ap (λ b. (choose x && test (f x)) || b) (any-chosen test f choose xs)
   where
-    go : (b : Bool) → list_any test (writes_of (cond b (row ∷ filter (λ r. is_active r.standing) rows) (filter (λ r. is_active r.standing) rows))) ≡ ((b && test row.writes) || some_active test rows)
+    go : (b : Bool) → list_any test (map f (cond b (x ∷ filter choose xs) (filter choose xs))) ≡ ((b && test (f x)) || list_any test (map f (filter choose xs)))
     go true = refl
     go false = refl
 
--- a row at a place that is active and passes
-active_at : (test : List Write → Bool) (log : List LogRow) (place : ℕ) (row : LogRow) → slice_get log place ≡ Some row → is_active row.standing ≡ true → test row.writes ≡ true → some_active test log ≡ true
-active_at test [] place row there active passes = cc
-active_at test (x ∷ xs) zero row there active passes =
-    let e : x ≡ row = cc in
-    any-active test x xs ∙ tests.or_left _ _ (tests.both_true _ _ (ap (λ r. is_active r.standing) e ∙ active) (ap (λ r. test r.writes) e ∙ passes))
-active_at test (x ∷ xs) (suc place) row there active passes = any-active test x xs ∙ tests.or_right _ _ (active_at test xs place row there active passes)
+passes_at : {X : Type 0} (test : X → Bool) (xs : List X) → list_any test xs ≡ true → (k : ℕ) × (x : X) × (slice_get xs k ≡ Some x) × (test x ≡ true)
+passes_at test [] some = cc
+passes_at test (x ∷ xs) some = tests.decided (test x)
+    (λ here. (0, x, refl, here))
+    (λ away. let r = passes_at test xs (sym (ap (λ b. b || list_any test xs) away) ∙ some) in (suc r.0, r.1, r.2, r.3))
 
-pub record SomeActive (test : List Write → Bool) (log : List LogRow) : Type 0 where
-  pub place : ℕ
-  pub row : LogRow
-  pub there : slice_get log place ≡ Some row
-  pub active : is_active row.standing ≡ true
-  pub passes : test row.writes ≡ true
+-- The active ones.
 
-find_active : (test : List Write → Bool) (log : List LogRow) → some_active test log ≡ true → SomeActive test log
-find_active test [] some = absurd (tests.clash {A = ⊥} false (sym (sym some)) refl)
-find_active test (x ∷ xs) some = tests.decided (is_active x.standing && test x.writes)
-    (λ here. let parts = tests.and_true _ _ here in record { place = 0; row = x; there = refl; active = parts.0; passes = parts.1 })
-    (λ away. let r = find_active test xs (sym (ap (λ b. b || some_active test xs) away) ∙ sym (any-active test x xs) ∙ some) in record { place = suc r.place; row = r.row; there = r.there; active = r.active; passes = r.passes })
+-- the row of a session that is under way is active and passes
+abbrev held_passes : (List Write → Bool) → (ℕ → Option LogRow) → Slot → Bool
+held_passes test find slot = elim slot.hold [
+  | None ↦ false
+  | Some hold ↦ elim (find hold.place) [ None ↦ false | Some row ↦ is_active row.standing && test row.writes ]
+]
 
--- an active row is the latest of its session, and its session is held
+through_sessions : (test : List Write → Bool) (find : ℕ → Option LogRow) (slots : List Slot) → list_any test (active_from find slots) ≡ list_any (held_passes test find) slots
+through_sessions test find [] = refl
+through_sessions test find (slot ∷ slots) = list_any-append test (active_of find slot) (active_from find slots) ∙ (λ i. held slot.hold i || through_sessions test find slots i)
+  where
+    chosen : (b : Bool) (writes : List Write) → list_any test (cond b (writes ∷ []) []) ≡ (b && test writes)
+    chosen true writes = or-false (test writes)
+      where
+        or-false : (a : Bool) → (a || false) ≡ a
+        or-false true = refl
+        or-false false = refl
+    chosen false writes = refl
+
+    found : (o : Option LogRow) → list_any test (elim o as (λ _. List (List Write)) [ None ↦ [] | Some row ↦ cond (is_active row.standing) (row.writes ∷ []) [] ]) ≡ (elim o as (λ _. Bool) [ None ↦ false | Some row ↦ is_active row.standing && test row.writes ])
+    found None = refl
+    found (Some row) = chosen (is_active row.standing) row.writes
+
+    held : (h : Option Hold) → list_any test (elim h as (λ _. List (List Write)) [ None ↦ [] | Some hold ↦ elim (find hold.place) [ None ↦ [] | Some row ↦ cond (is_active row.standing) (row.writes ∷ []) [] ] ])
+        ≡ (elim h as (λ _. Bool) [ None ↦ false | Some hold ↦ elim (find hold.place) [ None ↦ false | Some row ↦ is_active row.standing && test row.writes ] ])
+    held None = refl
+    held (Some hold) = found (find hold.place)
+
+-- an active row is the latest of its session
 latest_active : (log : List LogRow) (place : ℕ) (row : LogRow) → OneUnderWay log → slice_get log place ≡ Some row → is_active row.standing ≡ true → latest row.session log ≡ Some row
 latest_active [] place row one there active = cc
 latest_active (x ∷ xs) zero row one there active =
     let e : x ≡ row = cc in
-    subst (λ r. latest r.session (x ∷ xs) ≡ Some r) e (
-    ap (λ l. elim l as (λ _. Option LogRow) [ None ↦ if x.session == x.session then Some x else None | Some l ↦ Some l ]) (one.0 (ap (λ r. is_active r.standing) e ∙ active))
-    ∙ ap (λ b. if b then Some x else None) (eq-eqb x.session x.session refl))
-latest_active (x ∷ xs) (suc place) row one there active =
-    ap (λ l. elim l as (λ _. Option LogRow) [ None ↦ if x.session == row.session then Some x else None | Some l ↦ Some l ]) (latest_active xs place row one.1 there active)
+    subst (λ r. latest r.session (x ∷ xs) ≡ Some r) e (latest-first x.session x xs (one.0 (ap (λ r. is_active r.standing) e ∙ active)) refl)
+latest_active (x ∷ xs) (suc place) row one there active = latest-later row.session x row xs (latest_active xs place row one.1 there active)
 
+-- and its session is held
 held_active : (held : FinSet nat_cmp) (log : List LogRow) (place : ℕ) (row : LogRow) → ActiveAreHeld held log → slice_get log place ≡ Some row → is_active row.standing ≡ true → sets.contains held row.session ≡ true
 held_active held [] place row are there active = cc
 held_active held (x ∷ xs) zero row are there active = let e : x ≡ row = cc in ap (λ r. sets.contains held r.session) (sym e) ∙ are.0 (ap (λ r. is_active r.standing) e ∙ active)
 held_active held (x ∷ xs) (suc place) row are there active = held_active held xs place row are.1 there active
-
-any-append : (test : List Write → Bool) (xs ys : List (List Write)) → list_any test (xs ++ ys) ≡ (list_any test xs || list_any test ys)
-any-append test [] ys = refl
-any-append test (x ∷ xs) ys = ap (λ b. test x || b) (any-append test xs ys) ∙ or_assoc (test x) (list_any test xs) (list_any test ys)
-  where
-    or_assoc : (a b c : Bool) → (a || (b || c)) ≡ ((a || b) || c)
-    or_assoc true b c = refl
-    or_assoc false b c = refl
 
 -- each row that is found by its place stands in the log
 abbrev pub FindsStanding : (ℕ → Option LogRow) → List LogRow → Type 0
@@ -83,84 +87,41 @@ FindsStanding find log = (place : ℕ) (row : LogRow) → find place ≡ Some ro
 abbrev pub IsFoundOrNone : (ℕ → Option LogRow) → List LogRow → ℕ → Hold → Type 0
 IsFoundOrNone find log session hold = ((row : LogRow) × (find hold.place ≡ Some row) × (latest session log ≡ Some row)) ⊎ (latest session log ≡ None)
 
--- what a session's row gives, some active row is
-from_session : (test : List Write → Bool) (log : List LogRow) (find : ℕ → Option LogRow) → FindsStanding find log → (session : Slot) → list_any test (active_of find session) ≡ true → some_active test log ≡ true
-from_session test log find stands session some = at_held session.hold some
-  where
-    at_row : (index : ℕ) (row : LogRow) → slice_get log index ≡ Some row → (b : Bool) → is_active row.standing ≡ b → list_any test (cond b (row.writes ∷ []) []) ≡ true → some_active test log ≡ true
-    at_row index row there true e some = active_at test log index row there e (or-false (test row.writes) some)
-      where
-        or-false : (a : Bool) → (a || false) ≡ true → a ≡ true
-        or-false true e = refl
-        or-false false e = cc
-    at_row index row there false e some = cc
-
-    at_place : (place : ℕ) (o : Option LogRow) → find place ≡ o → list_any test (elim o as (λ _. List (List Write)) [ None ↦ [] | Some row ↦ cond (is_active row.standing) (row.writes ∷ []) [] ]) ≡ true → some_active test log ≡ true
-    at_place place None e some = cc
-    at_place place (Some row) e some = let s = stands place row e in at_row s.0 row s.1 (is_active row.standing) refl some
-
-    at_held : (h : Option Hold) → list_any test (elim h as (λ _. List (List Write)) [ None ↦ [] | Some hold ↦ elim (find hold.place) [ None ↦ [] | Some row ↦ cond (is_active row.standing) (row.writes ∷ []) [] ] ]) ≡ true → some_active test log ≡ true
-    at_held None some = cc
-    at_held (Some hold) some = at_place hold.place (find hold.place) refl some
-
-from_sessions : (test : List Write → Bool) (log : List LogRow) (find : ℕ → Option LogRow) → FindsStanding find log → (sessions : List Slot) → list_any test (active_from find sessions) ≡ true → some_active test log ≡ true
-from_sessions test log find stands [] some = cc
-from_sessions test log find stands (session ∷ sessions) some = tests.decided (list_any test (active_of find session))
-    (λ here. from_session test log find stands session here)
-    (λ away. from_sessions test log find stands sessions (sym (ap (λ b. b || list_any test (active_from find sessions)) away) ∙ sym (any-append test (active_of find session) (active_from find sessions)) ∙ some))
-
--- a session at a place gives its row
-to_sessions : (test : List Write → Bool) (find : ℕ → Option LogRow) (sessions : List Slot) (k : ℕ) (session : Slot) → slice_get sessions k ≡ Some session → list_any test (active_of find session) ≡ true → list_any test (active_from find sessions) ≡ true
-to_sessions test find [] k session there some = cc
-to_sessions test find (x ∷ xs) zero session there some = let e : x ≡ session = cc in any-append test (active_of find x) (active_from find xs) ∙ tests.or_left _ _ (ap (λ s. list_any test (active_of find s)) e ∙ some)
-to_sessions test find (x ∷ xs) (suc k) session there some = any-append test (active_of find x) (active_from find xs) ∙ tests.or_right _ _ (to_sessions test find xs k session there some)
-
--- the row that is held stands at its place, and is the latest of its session
-pub held-get : (session place : ℕ) (log : List LogRow) (row : LogRow) → IsHeldAt session place log row → slice_get log place ≡ Some row
-held-get session place [] row at = absurd at
-held-get session zero (first ∷ rows) row at = ap Some at.0
-held-get session (suc place) (first ∷ rows) row at = held-get session place rows row at
-
-pub held-latest : (session place : ℕ) (log : List LogRow) (row : LogRow) → IsHeldAt session place log row → latest session log ≡ Some row
-held-latest session place [] row at = absurd at
-held-latest session zero (first ∷ rows) row at =
-    ap (λ l. elim l as (λ _. Option LogRow) [ None ↦ if first.session == session then Some first else None | Some l ↦ Some l ]) at.2
-    ∙ ap (λ b. if b then Some first else None) (eq-eqb first.session session (ap (λ r. r.session) at.0 ∙ at.1)) ∙ ap Some at.0
-held-latest session (suc place) (first ∷ rows) row at =
-    ap (λ l. elim l as (λ _. Option LogRow) [ None ↦ if first.session == session then Some first else None | Some l ↦ Some l ]) (held-latest session place rows row at)
-
--- the row of a slot, found by its place
-slot_row : (test : List Write → Bool) (find : ℕ → Option LogRow) (slots : List Slot) (place : ℕ) (slot : Slot) (hold : Hold) (row : LogRow) → slice_get slots place ≡ Some slot → slot.hold ≡ Some hold → find hold.place ≡ Some row
-    → is_active row.standing ≡ true → test row.writes ≡ true → list_any test (active_from find slots) ≡ true
-slot_row test find slots place slot hold row there held found active passes = to_sessions test find slots place slot there (
-    ap (λ h. list_any test (elim h as (λ _. List (List Write)) [ None ↦ [] | Some hold ↦ elim (find hold.place) [ None ↦ [] | Some row ↦ cond (is_active row.standing) (row.writes ∷ []) [] ] ])) held
-    ∙ ap (λ o. list_any test (elim o as (λ _. List (List Write)) [ None ↦ [] | Some row ↦ cond (is_active row.standing) (row.writes ∷ []) [] ])) found
-    ∙ ap (λ b. list_any test (cond b (row.writes ∷ []) [])) active
-    ∙ tests.or_left _ _ passes)
-
--- an active row is found through its session
-row_found : (test : List Write → Bool) (log : List LogRow) (find : ℕ → Option LogRow) (slots : List Slot) → OneUnderWay log → ActiveAreHeld (held_from 1 slots) log
-    → ((place : ℕ) (slot : Slot) (hold : Hold) → slice_get slots place ≡ Some slot → slot.hold ≡ Some hold → IsFoundOrNone find log (suc place) hold)
-    → (place : ℕ) (row : LogRow) → slice_get log place ≡ Some row → is_active row.standing ≡ true → test row.writes ≡ true → list_any test (active_from find slots) ≡ true
-row_found test log find slots one are rows place row there active passes =
-    let slot = held_place slots row.session (held_active (held_from 1 slots) log place row are there active) in
-    let is : latest (suc slot.place) log ≡ Some row = ap (λ s. latest s log) (sym slot.is_number) ∙ latest_active log place row one there active in
-    go slot.place slot.session slot.at slot.there slot.held is (rows slot.place slot.session slot.at slot.there slot.held)
-  where
-    go : (k : ℕ) (slot : Slot) (hold : Hold) → slice_get slots k ≡ Some slot → slot.hold ≡ Some hold → latest (suc k) log ≡ Some row → IsFoundOrNone find log (suc k) hold → list_any test (active_from find slots) ≡ true
-    go k slot hold there held is (inl at) =
-        let e : Some at.0 ≡ Some row = sym at.2 ∙ is in
-        let same : at.0 ≡ row = cc in
-        slot_row test find slots k slot hold row there held (at.1 ∙ ap Some same) active passes
-    go k slot hold there held is (inr none) = let e : None ≡ Some row = sym none ∙ is in cc
-
 -- Where rows are found by their places, the active ones are those that are found through their sessions.
 pub active_same : (log : List LogRow) (find : ℕ → Option LogRow) (slots : List Slot) → FindsStanding find log → OneUnderWay log → ActiveAreHeld (held_from 1 slots) log
     → ((place : ℕ) (slot : Slot) (hold : Hold) → slice_get slots place ≡ Some slot → slot.hold ≡ Some hold → IsFoundOrNone find log (suc place) hold)
     → AreSame (active_from find slots) (active_opponents log)
-active_same log find slots stands one are rows test = both_ways _ _ (from_sessions test log find stands slots) (λ some.
-    let found = find_active test log some in
-    row_found test log find slots one are rows found.place found.row found.there found.active found.passes)
+active_same log find slots stands one are rows test =
+    through_sessions test find slots ∙ both_ways _ _ from_slots to_slots ∙ sym (any-chosen test (λ (row : LogRow). row.writes) (λ row. is_active row.standing) log)
+  where
+    passes : LogRow → Bool
+    passes row = is_active row.standing && test row.writes
+
+    from_slots : list_any (held_passes test find) slots ≡ true → list_any passes log ≡ true
+    from_slots some = let s = passes_at (held_passes test find) slots some in held s.1.hold s.3
+      where
+        found : (place : ℕ) (o : Option LogRow) → find place ≡ o → (elim o as (λ _. Bool) [ None ↦ false | Some row ↦ passes row ]) ≡ true → list_any passes log ≡ true
+        found place None e some = cc
+        found place (Some row) e some = let s = stands place row e in any_passes_from_place passes log s.0 row s.1 some
+
+        held : (h : Option Hold) → (elim h as (λ _. Bool) [ None ↦ false | Some hold ↦ elim (find hold.place) [ None ↦ false | Some row ↦ passes row ] ]) ≡ true → list_any passes log ≡ true
+        held None some = cc
+        held (Some hold) some = found hold.place (find hold.place) refl some
+
+    to_slots : list_any passes log ≡ true → list_any (held_passes test find) slots ≡ true
+    to_slots some =
+        let r = passes_at passes log some in
+        let active = (tests.and_true (is_active r.1.standing) (test r.1.writes) r.3).0 in
+        let slot = held_place slots r.1.session (held_active (held_from 1 slots) log r.0 r.1 are r.2 active) in
+        any_passes_from_place (held_passes test find) slots slot.place slot.session slot.there
+        (ap (λ h. elim h as (λ _. Bool) [ None ↦ false | Some hold ↦ elim (find hold.place) [ None ↦ false | Some row ↦ passes row ] ]) slot.held
+        ∙ go (suc slot.place) slot.at r.1 r.3 (ap (λ s. latest s log) (sym slot.is_number) ∙ latest_active log r.0 r.1 one r.2 active) (rows slot.place slot.session slot.at slot.there slot.held))
+      where
+        go : (session : ℕ) (hold : Hold) (row : LogRow) → passes row ≡ true → latest session log ≡ Some row → IsFoundOrNone find log session hold → (elim (find hold.place) as (λ _. Bool) [ None ↦ false | Some row ↦ passes row ]) ≡ true
+        go session hold row pass is (inl at) =
+            let same : at.0 ≡ row = let e = sym at.2 ∙ is in cc in
+            ap (λ o. elim o as (λ _. Bool) [ None ↦ false | Some row ↦ passes row ]) at.1 ∙ ap passes same ∙ pass
+        go session hold row pass is (inr none) = let e : None ≡ Some row = sym none ∙ is in cc
 
 -- The finished ones.
 
@@ -170,34 +131,25 @@ some_finished test log finish low start = list_any test (finished_opponents log 
 
 pub any-finished : (test : List Write → Bool) (row : LogRow) (rows : List LogRow) (finish low start : ℕ) → some_finished test (row ∷ rows) finish low start
     ≡ (((finished_within low finish row.standing && finished_within start finish row.standing) && test row.writes) || some_finished test rows finish low start)
-any-finished test row rows finish low start = go (finished_within low finish row.standing && finished_within start finish row.standing)
+any-finished test row rows finish low start = any-chosen test (λ (r : LogRow). r.writes) within (row ∷ rows) ∙ ap (λ b. (within row && test row.writes) || b) (sym (any-chosen test (λ (r : LogRow). r.writes) within rows))
   where
     within : LogRow → Bool
     within r = finished_within low finish r.standing && finished_within start finish r.standing
 
-    go : (b : Bool) → list_any test (writes_of (cond b (row ∷ filter within rows) (filter within rows))) ≡ ((b && test row.writes) || list_any test (writes_of (filter within rows)))
-    go true = refl
-    go false = refl
-
 -- a row that isn't finished adds nothing
 pub finished-push : (test : List Write → Bool) (rows : List LogRow) (row : LogRow) (finish low start : ℕ) → finished_within low finish row.standing ≡ false → some_finished test (rows ++ row ∷ []) finish low start ≡ some_finished test rows finish low start
 finished-push test [] row finish low start out = any-finished test row [] finish low start ∙ ap (λ b. ((b && finished_within start finish row.standing) && test row.writes) || false) out
-finished-push test (x ∷ xs) row finish low start out = any-finished test x (xs ++ row ∷ []) finish low start
-    ∙ ap (λ b. ((finished_within low finish x.standing && finished_within start finish x.standing) && test x.writes) || b) (finished-push test xs row finish low start out)
-    ∙ sym (any-finished test x xs finish low start)
+finished-push test (x ∷ xs) row finish low start out =
+    grind (arith, any-finished test x (xs ++ row ∷ []) finish low start, any-finished test x xs finish low start, finished-push test xs row finish low start out)
 
 -- a row that turns without finishing changes nothing
 pub finished-turn : (test : List Write → Bool) (before later : List LogRow) (row : LogRow) (standing : Standing) (finish low start : ℕ)
     → finished_within low finish row.standing ≡ false → finished_within low finish standing ≡ false
     → some_finished test (before ++ standing_at row standing ∷ later) finish low start ≡ some_finished test (before ++ row ∷ later) finish low start
 finished-turn test [] later row standing finish low start was now =
-    any-finished test (standing_at row standing) later finish low start
-    ∙ ap (λ b. ((b && finished_within start finish standing) && test row.writes) || some_finished test later finish low start) now
-    ∙ sym (any-finished test row later finish low start ∙ ap (λ b. ((b && finished_within start finish row.standing) && test row.writes) || some_finished test later finish low start) was)
+    grind (arith, any-finished test (standing_at row standing) later finish low start, any-finished test row later finish low start, was, now)
 finished-turn test (x ∷ xs) later row standing finish low start was now =
-    any-finished test x (xs ++ standing_at row standing ∷ later) finish low start
-    ∙ ap (λ b. ((finished_within low finish x.standing && finished_within start finish x.standing) && test x.writes) || b) (finished-turn test xs later row standing finish low start was now)
-    ∙ sym (any-finished test x (xs ++ row ∷ later) finish low start)
+    grind (arith, any-finished test x (xs ++ standing_at row standing ∷ later) finish low start, any-finished test x (xs ++ row ∷ later) finish low start, finished-turn test xs later row standing finish low start was now)
 
 -- One row more finishes: it takes the next number.
 module _ (test : List Write → Bool) (counter low start : ℕ) where
@@ -205,65 +157,39 @@ module _ (test : List Write → Bool) (counter low start : ℕ) where
   within_more (Open index case) below bound = refl
   within_more (Writing done) below bound = refl
   within_more (Back cause) below bound = refl
-  within_more (Done number) below bound = ap (λ b. nat_lt bound number && b) (le-leb number (counter + 1) (omega arith) ∙ sym (le-leb number counter below))
+  within_more (Done number) below bound = grind (arith, nat_tests)
 
   others_more : (rows : List LogRow) → NumbersAreBelow counter rows → some_finished test rows (counter + 1) low start ≡ some_finished test rows counter low start
   others_more [] below = refl
-  others_more (x ∷ xs) below = any-finished test x xs (counter + 1) low start
-      ∙ (λ i. ((within_more x.standing below.0 low i && within_more x.standing below.0 start i) && test x.writes) || others_more xs below.1 i)
-      ∙ sym (any-finished test x xs counter low start)
+  others_more (x ∷ xs) below =
+      grind (arith, any-finished test x xs (counter + 1) low start, any-finished test x xs counter low start, within_more x.standing below.0 low, within_more x.standing below.0 start, others_more xs below.1)
 
   new_within : (bound : ℕ) → bound ≤ counter → finished_within bound (counter + 1) (Done (counter + 1)) ≡ true
-  new_within bound up = tests.both_true _ _ (lt-ltb bound (counter + 1) (omega arith)) (le-leb (counter + 1) (counter + 1) (omega arith))
-
-  swap_or : (a b c : Bool) → (a || (b || c)) ≡ (b || (a || c))
-  swap_or true true c = refl
-  swap_or true false c = refl
-  swap_or false b c = refl
+  new_within bound up = grind (arith, nat_tests)
 
   -- the row that finishes, among the others
   pub finished-more : (before later : List LogRow) (row : LogRow) → NumbersAreBelow counter (before ++ row ∷ later) → finished_within low counter row.standing ≡ false → low ≤ counter → start ≤ counter
       → some_finished test (before ++ standing_at row (Done (counter + 1)) ∷ later) (counter + 1) low start ≡ (some_finished test (before ++ row ∷ later) counter low start || test row.writes)
   finished-more [] later row below was up begun =
-      any-finished test (standing_at row (Done (counter + 1))) later (counter + 1) low start
-      ∙ (λ i. ((new_within low up i && new_within start begun i) && test row.writes) || others_more later below.1 i)
-      ∙ or_comm (test row.writes) (some_finished test later counter low start)
-      ∙ sym (ap (λ b. b || test row.writes) (any-finished test row later counter low start ∙ ap (λ b. ((b && finished_within start counter row.standing) && test row.writes) || some_finished test later counter low start) was))
-    where
-      or_comm : (a b : Bool) → (a || b) ≡ (b || a)
-      or_comm true true = refl
-      or_comm true false = refl
-      or_comm false true = refl
-      or_comm false false = refl
+      grind (arith, any-finished test (standing_at row (Done (counter + 1))) later (counter + 1) low start, any-finished test row later counter low start, new_within low up, new_within start begun, others_more later below.1, was)
   finished-more (x ∷ xs) later row below was up begun =
-      any-finished test x (xs ++ standing_at row (Done (counter + 1)) ∷ later) (counter + 1) low start
-      ∙ (λ i. ((within_more x.standing below.0 low i && within_more x.standing below.0 start i) && test x.writes) || finished-more xs later row below.1 was up begun i)
-      ∙ or_assoc ((finished_within low counter x.standing && finished_within start counter x.standing) && test x.writes) (some_finished test (xs ++ row ∷ later) counter low start) (test row.writes)
-      ∙ ap (λ b. b || test row.writes) (sym (any-finished test x (xs ++ row ∷ later) counter low start))
-    where
-      or_assoc : (a b c : Bool) → (a || (b || c)) ≡ ((a || b) || c)
-      or_assoc true b c = refl
-      or_assoc false b c = refl
+      grind (
+        arith,
+        any-finished test x (xs ++ standing_at row (Done (counter + 1)) ∷ later) (counter + 1) low start,
+        any-finished test x (xs ++ row ∷ later) counter low start,
+        within_more x.standing below.0 low,
+        within_more x.standing below.0 start,
+        finished-more xs later row below.1 was up begun,
+      )
 
 -- above a start, the window's own lower end says nothing more
 pub finished-low : (test : List Write → Bool) (rows : List LogRow) (finish low higher start : ℕ) → low ≤ start → higher ≤ start → some_finished test rows finish low start ≡ some_finished test rows finish higher start
 finished-low test [] finish low higher start up more = refl
-finished-low test (x ∷ xs) finish low higher start up more = any-finished test x xs finish low start
-    ∙ (λ i. (same x.standing i && test x.writes) || finished-low test xs finish low higher start up more i)
-    ∙ sym (any-finished test x xs finish higher start)
+finished-low test (x ∷ xs) finish low higher start up more =
+    grind (arith, any-finished test x xs finish low start, any-finished test x xs finish higher start, same x.standing, finished-low test xs finish low higher start up more)
   where
-    one : (number bound : ℕ) → bound ≤ start → ((nat_lt bound number && nat_le number finish) && (nat_lt start number && nat_le number finish)) ≡ (nat_lt start number && nat_le number finish)
-    one number bound up = tests.decided (nat_lt start number && nat_le number finish)
-        (λ e. let parts = tests.and_true _ _ e in let above = ltb-true start number parts.0 in
-        ap (λ b. (nat_lt bound number && nat_le number finish) && b) e ∙ tests.both_true _ _ (tests.both_true _ _ (lt-ltb bound number (omega arith)) parts.1) refl ∙ sym e)
-        (λ e. ap (λ b. (nat_lt bound number && nat_le number finish) && b) e ∙ and-false _ ∙ sym e)
-      where
-        and-false : (a : Bool) → (a && false) ≡ false
-        and-false true = refl
-        and-false false = refl
-
     same : (s : Standing) → (finished_within low finish s && finished_within start finish s) ≡ (finished_within higher finish s && finished_within start finish s)
     same (Open index case) = refl
     same (Writing done) = refl
     same (Back cause) = refl
-    same (Done number) = one number low up ∙ sym (one number higher more)
+    same (Done number) = grind (arith, nat_tests)

@@ -1,10 +1,9 @@
 -- The read phases in a map, seen as the model has them: what a look-up finds, and what a change of the map does.
-use Rattle.std.proofs.Common.{◌≡◌, ℕ, Bool, true, false, cond, ◌&&◌, List, [], ◌∷◌, ◌++◌, Option, None, Some, refl, sym, ap, ◌∙◌}
-use Rattle.std.specs.Prelude.{◌==◌, map, filter}
+use Rattle.std.proofs.Common.{◌≡◌, ℕ, Bool, true, false, cond, ◌&&◌, List, [], ◌∷◌, ◌++◌, Option, None, Some, refl, sym, ap, ◌∙◌, ◌==◌, map, filter}
 use Rattle.std.specs.Option.{option_map}
 use Rattle.std.specs.Map.{lookup}
 use Rattle.std.specs.Ordering.{is_eq, eq_by_cmp}
-use Rattle.std.specs.Cmp.{eq_by_cmp_equiv, Equal-is, tied_itself}
+use Rattle.std.specs.Cmp.{both_ways, eq_by_cmp_equiv, Equal-is, tied_itself}
 use Rattle.std.specs.FinMap.{FinMap, empty, from_entries, get, insert, remove, retain_keys, find, get-from_entries, get-insert, get-remove, get-retain_keys, same_map}
 use Rattle.std.proofs.lemmas.Bool.{eqb-true, eq-eqb}
 use Rattle.std.proofs.lemmas.Map.Entries.{lookup-filter-keys}
@@ -23,14 +22,9 @@ is_same q k = (q.0 == k.0) && (q.1 == k.1)
 tied : (q k : ℕ × ℕ) → eq_by_cmp phase_cmp q k ≡ true → q ≡ k
 tied q k e = phase_cmp-IsAntisymmetric q k ((Equal-is (phase_cmp q k)).0 e)
 
-alike : (b c : Bool) → (b ≡ true → c ≡ true) → (c ≡ true → b ≡ true) → b ≡ c
-alike true c f g = sym (f refl)
-alike false true f g = g refl
-alike false false f g = refl
-
 -- the map finds by equality what the model finds by order
 same-tied : (q k : ℕ × ℕ) → is_same q k ≡ eq_by_cmp phase_cmp q k
-same-tied q k = alike (is_same q k) (eq_by_cmp phase_cmp q k)
+same-tied q k = both_ways (is_same q k) (eq_by_cmp phase_cmp q k)
     (λ e. let both = tests.and_true (q.0 == k.0) (q.1 == k.1) e in
     let same : q ≡ k = (λ i. (eqb-true q.0 k.0 both.0 i, eqb-true q.1 k.1 both.1 i)) in
     ap (eq_by_cmp phase_cmp q) (sym same) ∙ ap is_eq (tied_itself phase_cmp_total q))

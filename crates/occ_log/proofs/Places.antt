@@ -1,11 +1,16 @@
 -- The log as an array: rows that are replaced in place, and rows that come in.
-use Rattle.std.proofs.Common.{◌≡◌, ℕ, zero, suc, ◌+◌, ◌<◌, Bool, true, false, cond, List, [], ◌∷◌, ◌++◌, map, get_or, length, Option, None, Some, refl, sym, ap, ◌∙◌, arith, eqb-true, eq-eqb}
-use Rattle.std.specs.Prelude.{slice_get, slice_set, ◌==◌, filter, if◌then◌else◌}
+use Rattle.std.proofs.Common.{◌≡◌, ℕ, zero, suc, ◌+◌, ◌<◌, Bool, true, false, cond, List, [], ◌∷◌, ◌++◌, length, Option, None, Some, refl, sym, ap, ◌∙◌, arith, eqb-true, eq-eqb, slice_get, slice_set, ◌==◌, filter, if◌then◌else◌}
+use Rattle.std.proofs.lemmas.Bool.{ne_eqb}
+use Rattle.std.proofs.lemmas.List as lists
+use Rattle.std.proofs.lemmas.List.{length-append}
+use Rattle.std.proofs.lemmas.List.Elements.{filter-append}
+use Rattle.std.proofs.lemmas.Option.{slice_get_within}
 use Rattle.occ_model.specs.Log.{LogRow, Standing, is_active}
 use Rattle.occ_model.specs.World.{latest, turn}
 use Rattle.occ_model.proofs.Tests as tests
 use Rattle.occ_model.proofs.Logs.{standing_at}
-use Rattle.occ_log.specs.Slots.{IsHeldAt}
+use Rattle.occ_model.proofs.Turns.{latest-push}
+use Rattle.occ_log.specs.SessionStates.{IsHeldAt}
 
 pub slice_get-set : {X : Type 0} (xs : List X) (k : ℕ) (x y : X) → slice_get xs k ≡ Some x → slice_get (slice_set xs k y) k ≡ Some y
 slice_get-set [] k x y there = cc
@@ -20,26 +25,26 @@ slice_get-other (z ∷ zs) (suc k) zero y ne = refl
 slice_get-other (z ∷ zs) (suc k) (suc q) y ne = slice_get-other zs k q y (λ e. ne (ap suc e))
 
 pub slice_get-below : {X : Type 0} (xs : List X) (k : ℕ) (x : X) → slice_get xs k ≡ Some x → k < length xs
-slice_get-below [] k x there = cc
-slice_get-below (z ∷ zs) zero x there = omega arith
-slice_get-below (z ∷ zs) (suc k) x there = let h = slice_get-below zs k x there in omega arith
+slice_get-below = slice_get_within
 
-pub slice_get-last : {X : Type 0} (xs : List X) (x : X) → slice_get (xs ++ x ∷ []) (length xs) ≡ Some x
-slice_get-last [] x = refl
-slice_get-last (z ∷ zs) x = slice_get-last zs x
-
-latest-first : (session : ℕ) (first : LogRow) (rows : List LogRow) → latest session rows ≡ None → first.session ≡ session → latest session (first ∷ rows) ≡ Some first
+pub latest-first : (session : ℕ) (first : LogRow) (rows : List LogRow) → latest session rows ≡ None → first.session ≡ session → latest session (first ∷ rows) ≡ Some first
 latest-first session first rows none is =
     ap (λ l. elim l as (λ _. Option LogRow) [ None ↦ if first.session == session then Some first else None | Some l ↦ Some l ]) none
     ∙ ap (λ b. if b then Some first else None) (eq-eqb first.session session is)
 
-latest-later : (session : ℕ) (first row : LogRow) (rows : List LogRow) → latest session rows ≡ Some row → latest session (first ∷ rows) ≡ Some row
+pub latest-later : (session : ℕ) (first row : LogRow) (rows : List LogRow) → latest session rows ≡ Some row → latest session (first ∷ rows) ≡ Some row
 latest-later session first row rows is = ap (λ l. elim l as (λ _. Option LogRow) [ None ↦ if first.session == session then Some first else None | Some l ↦ Some l ]) is
 
 pub held_latest : (session place : ℕ) (log : List LogRow) (row : LogRow) → IsHeldAt session place log row → latest session log ≡ Some row
 held_latest session place [] row at = absurd at
 held_latest session zero (first ∷ rows) row at = latest-first session first rows at.2 (ap (λ r. r.session) at.0 ∙ at.1) ∙ ap Some at.0
 held_latest session (suc place) (first ∷ rows) row at = latest-later session first row rows (held_latest session place rows row at)
+
+-- the row that is held stands at its place
+pub held-get : (session place : ℕ) (log : List LogRow) (row : LogRow) → IsHeldAt session place log row → slice_get log place ≡ Some row
+held-get session place [] row at = absurd at
+held-get session zero (first ∷ rows) row at = ap Some at.0
+held-get session (suc place) (first ∷ rows) row at = held-get session place rows row at
 
 -- to turn the latest row of a session is to replace it at its place
 pub turn-at : (session place : ℕ) (standing : Standing) (log : List LogRow) (row : LogRow) → IsHeldAt session place log row → turn session standing log ≡ slice_set log place (standing_at row standing)
@@ -58,28 +63,29 @@ held-set-own session place [] row next same at = absurd at
 held-set-own session zero (first ∷ rows) row next same at = (refl, same ∙ at.1, at.2)
 held-set-own session (suc place) (first ∷ rows) row next same at = held-set-own session place rows row next same at
 
-latest-none-set : (session k : ℕ) (rows : List LogRow) (old next : LogRow) → slice_get rows k ≡ Some old → next.session ≡ old.session → latest session rows ≡ None → latest session (slice_set rows k next) ≡ None
+pub none-later : (session : ℕ) (first : LogRow) (rows : List LogRow) → latest session (first ∷ rows) ≡ None → (latest session rows ≡ None) × ((first.session == session) ≡ false)
+none-later session first rows none = go (latest session rows) refl (first.session == session) refl none
+  where
+    go : (l : Option LogRow) → latest session rows ≡ l → (b : Bool) → (first.session == session) ≡ b → (elim l as (λ _. Option LogRow) [ None ↦ if b then Some first else None | Some r ↦ Some r ]) ≡ None
+        → (latest session rows ≡ None) × ((first.session == session) ≡ false)
+    go None e true own none = cc
+    go None e false own none = (e, own)
+    go (Some r) e b own none = cc
+
+none-first : (session : ℕ) (first : LogRow) (rows : List LogRow) → latest session rows ≡ None → (first.session == session) ≡ false → latest session (first ∷ rows) ≡ None
+none-first session first rows none other =
+    ap (λ l. elim l as (λ _. Option LogRow) [ None ↦ if first.session == session then Some first else None | Some r ↦ Some r ]) none ∙ ap (λ b. if b then Some first else None) other
+
+-- a session that has no row has none after another row was replaced
+pub latest-none-set : (session k : ℕ) (rows : List LogRow) (old next : LogRow) → slice_get rows k ≡ Some old → next.session ≡ old.session → latest session rows ≡ None → latest session (slice_set rows k next) ≡ None
 latest-none-set session k [] old next there same none = none
 latest-none-set session zero (first ∷ rows) old next there same none =
+    let parts = none-later session first rows none in
     let is : first ≡ old = cc in
-    go (latest session rows) refl none (same ∙ ap (λ r. r.session) (sym is))
-  where
-    go : (l : Option LogRow) → latest session rows ≡ l → (elim l as (λ _. Option LogRow) [ None ↦ if first.session == session then Some first else None | Some r ↦ Some r ]) ≡ None
-        → next.session ≡ first.session → latest session (next ∷ rows) ≡ None
-    go None e none same = ap (λ l. elim l as (λ _. Option LogRow) [ None ↦ if next.session == session then Some next else None | Some r ↦ Some r ]) e
-        ∙ tests.decided (first.session == session)
-        (λ own. absurd (clash (sym (ap (λ b. if b then Some first else None) own) ∙ none)))
-        (λ other. ap (λ b. if b then Some next else None) (ap (λ s. s == session) same ∙ other))
-      where
-        clash : Some first ≡ None → ⊥
-        clash e = cc
-    go (Some r) e none same = cc
-latest-none-set session (suc k) (first ∷ rows) old next there same none = go (latest session rows) refl none (latest-none-set session k rows old next there same)
-  where
-    go : (l : Option LogRow) → latest session rows ≡ l → (elim l as (λ _. Option LogRow) [ None ↦ if first.session == session then Some first else None | Some r ↦ Some r ]) ≡ None
-        → (latest session rows ≡ None → latest session (slice_set rows k next) ≡ None) → latest session (first ∷ slice_set rows k next) ≡ None
-    go None e none onward = ap (λ l. elim l as (λ _. Option LogRow) [ None ↦ if first.session == session then Some first else None | Some r ↦ Some r ]) (onward e) ∙ none
-    go (Some r) e none onward = cc
+    none-first session next rows parts.0 (ap (λ s. s == session) (same ∙ ap (λ r. r.session) (sym is)) ∙ parts.1)
+latest-none-set session (suc k) (first ∷ rows) old next there same none =
+    let parts = none-later session first rows none in
+    none-first session first (slice_set rows k next) (latest-none-set session k rows old next there same parts.0) parts.1
 
 -- another session's row stays where it is
 pub held-set-other : (session place k : ℕ) (log : List LogRow) (row old next : LogRow) → (place ≡ k → ⊥) → slice_get log k ≡ Some old → next.session ≡ old.session → IsHeldAt session place log row → IsHeldAt session place (slice_set log k next) row
@@ -90,13 +96,7 @@ held-set-other session (suc place) zero (first ∷ rows) row old next ne there s
 held-set-other session (suc place) (suc k) (first ∷ rows) row old next ne there same at = held-set-other session place k rows row old next (λ e. ne (ap suc e)) there same at
 
 latest-none-push : (session : ℕ) (rows : List LogRow) (row : LogRow) → (row.session ≡ session → ⊥) → latest session rows ≡ None → latest session (rows ++ row ∷ []) ≡ None
-latest-none-push session [] row ne none = ap (λ b. if b then Some row else None) (tests.decided (row.session == session) (λ e. absurd (ne (eqb-true row.session session e))) (λ e. e))
-latest-none-push session (first ∷ rows) row ne none = go (latest session rows) refl none (latest-none-push session rows row ne)
-  where
-    go : (l : Option LogRow) → latest session rows ≡ l → (elim l as (λ _. Option LogRow) [ None ↦ if first.session == session then Some first else None | Some r ↦ Some r ]) ≡ None
-        → (latest session rows ≡ None → latest session (rows ++ row ∷ []) ≡ None) → latest session (first ∷ rows ++ row ∷ []) ≡ None
-    go None e none onward = ap (λ l. elim l as (λ _. Option LogRow) [ None ↦ if first.session == session then Some first else None | Some r ↦ Some r ]) (onward e) ∙ none
-    go (Some r) e none onward = cc
+latest-none-push session rows row ne none = latest-push session row rows ∙ ap (λ b. if b then Some row else latest session rows) (ne_eqb row.session session ne) ∙ none
 
 pub held-push-other : (session place : ℕ) (log : List LogRow) (row next : LogRow) → (next.session ≡ session → ⊥) → IsHeldAt session place log row → IsHeldAt session place (log ++ next ∷ []) row
 held-push-other session place [] row next ne at = absurd at
@@ -112,6 +112,9 @@ held-push-own session (first ∷ rows) next is = held-push-own session rows next
 abbrev pub count_active : List LogRow → ℕ
 count_active log = length (filter (λ row. is_active row.standing) log)
 
+count-append : (xs ys : List LogRow) → count_active (xs ++ ys) ≡ count_active xs + count_active ys
+count-append xs ys = simp (filter-append, length-append)
+
 count-first : (row : LogRow) (rows : List LogRow) → count_active (row ∷ rows) ≡ cond (is_active row.standing) 1 0 + count_active rows
 count-first row rows = go (is_active row.standing)
   where
@@ -120,39 +123,7 @@ count-first row rows = go (is_active row.standing)
     go false = omega arith
 
 pub count-push : (rows : List LogRow) (row : LogRow) → count_active (rows ++ row ∷ []) ≡ count_active rows + cond (is_active row.standing) 1 0
-count-push [] row = let e = count-first row [] in omega arith
-count-push (first ∷ rows) row =
-    let a = count-first first (rows ++ row ∷ []) in
-    let b = count-first first rows in
-    let c = count-push rows row in
-    omega arith
-
-zero_case : (set was others new first old : ℕ) → set ≡ new + others → was ≡ first + others → first ≡ old → set + old ≡ was + new
-zero_case set was others new first old a b c = omega arith
-
-pub count-set : (log : List LogRow) (k : ℕ) (old next : LogRow) → slice_get log k ≡ Some old → count_active (slice_set log k next) + cond (is_active old.standing) 1 0 ≡ count_active log + cond (is_active next.standing) 1 0
-count-set [] k old next there = cc
-count-set (first ∷ rows) zero old next there =
-    let is : first ≡ old = cc in
-    let a = count-first next rows in
-    let b = count-first first rows in
-    let c : cond (is_active first.standing) 1 0 ≡ cond (is_active old.standing) 1 0 = ap (λ r. cond (is_active r.standing) 1 0) is in
-    zero_case (count_active (next ∷ rows)) (count_active (first ∷ rows)) (count_active rows) (cond (is_active next.standing) 1 0) (cond (is_active first.standing) 1 0) (cond (is_active old.standing) 1 0) a b c
-count-set (first ∷ rows) (suc k) old next there =
-    let a = count-first first (slice_set rows k next) in
-    let b = count-first first rows in
-    let c = count-set rows k old next there in
-    omega arith
-
-pub length-set : {X : Type 0} (xs : List X) (k : ℕ) (x : X) → length (slice_set xs k x) ≡ length xs
-length-set [] k x = refl
-length-set (y ∷ ys) zero x = refl
-length-set (y ∷ ys) (suc k) x = ap suc (length-set ys k x)
-
-pub held-session : (session place : ℕ) (log : List LogRow) (row : LogRow) → IsHeldAt session place log row → row.session ≡ session
-held-session session place [] row at = absurd at
-held-session session zero (first ∷ rows) row at = at.1
-held-session session (suc place) (first ∷ rows) row at = held-session session place rows row at
+count-push rows row = let more = count-append rows (row ∷ []) in let one = count-first row [] in omega arith
 
 -- the log around a row at a place
 pub record Split (log : List LogRow) (place : ℕ) (row : LogRow) : Type 0 where
@@ -167,6 +138,23 @@ split-at (first ∷ rows) zero row there = let e : first ≡ row = cc in record 
 split-at (first ∷ rows) (suc place) row there =
     let s = split-at rows place row there in
     record { before = first ∷ s.before; later = s.later; was = ap (λ l. first ∷ l) s.was; now = λ next. ap (λ l. first ∷ l) (s.now next) }
+
+pub count-set : (log : List LogRow) (k : ℕ) (old next : LogRow) → slice_get log k ≡ Some old → count_active (slice_set log k next) + cond (is_active old.standing) 1 0 ≡ count_active log + cond (is_active next.standing) 1 0
+count-set log k old next there =
+    let s = split-at log k old there in
+    let was = ap count_active s.was ∙ count-append s.before (old ∷ s.later) in
+    let now = ap count_active (s.now next) ∙ count-append s.before (next ∷ s.later) in
+    let first = count-first old s.later in
+    let other = count-first next s.later in
+    omega arith
+
+pub length-set : {X : Type 0} (xs : List X) (k : ℕ) (x : X) → length (slice_set xs k x) ≡ length xs
+length-set = lists.length-set
+
+pub held-session : (session place : ℕ) (log : List LogRow) (row : LogRow) → IsHeldAt session place log row → row.session ≡ session
+held-session session place [] row at = absurd at
+held-session session zero (first ∷ rows) row at = at.1
+held-session session (suc place) (first ∷ rows) row at = held-session session place rows row at
 
 -- the number of a session's latest row, or else another number
 abbrev pub latest_number_or : ℕ → ℕ → List LogRow → ℕ
@@ -193,18 +181,3 @@ number-set base session (suc k) (first ∷ rows) row next there same number =
     first_number base session first (slice_set rows k next)
     ∙ number-set (if first.session == session then first.number else base) session k rows row next there same number
     ∙ sym (first_number base session first rows)
-
--- a view of each, after one was replaced
-pub map-set : {X Y : Type 0} (f : X → Y) (xs : List X) (k : ℕ) (x : X) → map f (slice_set xs k x) ≡ slice_set (map f xs) k (f x)
-map-set f [] k x = refl
-map-set f (y ∷ ys) zero x = refl
-map-set f (y ∷ ys) (suc k) x = ap (λ l. f y ∷ l) (map-set f ys k x)
-
-pub map-append : {X Y : Type 0} (f : X → Y) (xs ys : List X) → map f (xs ++ ys) ≡ map f xs ++ map f ys
-map-append f [] ys = refl
-map-append f (x ∷ xs) ys = ap (λ l. f x ∷ l) (map-append f xs ys)
-
-pub slice_get-map : {X Y : Type 0} (f : X → Y) (xs : List X) (k : ℕ) (x : X) → k < length xs → Rattle.std.specs.Prelude.slice_get (map f xs) k ≡ Some (f (get_or xs k x))
-slice_get-map f [] k x less = absurd (omega arith)
-slice_get-map f (y ∷ ys) zero x less = refl
-slice_get-map f (y ∷ ys) (suc k) x less = slice_get-map f ys k x (omega arith)

@@ -1,7 +1,8 @@
 -- What clauses see of the log that a core keeps, and how its rows are found.
-use Rattle.std.specs.Prelude.{◌≡◌, ℕ, zero, suc, ◌-◌, Bool, true, ◌&&◌, ◌==◌, nat_lt, nat_le, List, [], ◌∷◌, map, filter, length, Option, None, Some, if◌then◌else◌, slice_get, Vec, vec_len, vec_capacity}
+use Rattle.std.specs.Prelude.{◌≡◌, ℕ, zero, suc, ◌-◌, Bool, true, false, ◌&&◌, ◌==◌, nat_lt, List, [], ◌∷◌, map, filter, length, Option, None, Some, if◌then◌else◌, slice_get, get_or, Vec}
 use Rattle.occ_book.specs.declared.rows.LogRow as code_row
 use Rattle.occ_model.specs.Log.{Case, LogRow, Counts, numbers}
+use Rattle.occ_log.specs.Listing.{Listed, listed_at, has_room}
 use Rattle.occ_log.specs.Rows.{log_of}
 
 pub record Kept : Type 0 where
@@ -19,7 +20,7 @@ row_at kept place = if nat_lt place kept.first then None else slice_get kept.row
 
 -- one more row of a session takes no memory
 abbrev pub HasRoom : Kept → ℕ → Type 0
-HasRoom kept session = slice_get kept.free (session - 1) ≡ Some true
+HasRoom kept session = get_or kept.free (session - 1) false ≡ true
 
 -- a log without a row that begins at the first place of all
 pub record IsBegun (count : ℕ) (kept : Kept) : Type 0 where
@@ -32,55 +33,29 @@ pub record IsLogOf (kept : Kept) (place sessions : ℕ) : Type 0 where
   pub begins : kept.first ≡ place
   pub knows : kept.sessions ≡ sessions
 
--- the places of a session's rows, where the first row has this place
-abbrev pub places_in : ℕ → ℕ → List LogRow → List ℕ
-places_in session place [] = []
-places_in session place (row ∷ rows) =
-    if row.session == session then place ∷ places_in session (suc place) rows else places_in session (suc place) rows
-
-abbrev pub list_at : List (List ℕ) → ℕ → List ℕ
-list_at [] place = []
-list_at (list ∷ lists) zero = list
-list_at (list ∷ lists) (suc place) = list_at lists place
-
--- a session's list, of lists that stand in the order of the sessions
-abbrev pub list_of : List (List ℕ) → ℕ → List ℕ
-list_of lists zero = []
-list_of lists (suc place) = list_at lists place
-
 -- a session's rows, in the order of entry
 abbrev pub rows_of : ℕ → List LogRow → List LogRow
 rows_of session rows = filter (λ row. row.session == session) rows
+
+-- the places of some rows
+abbrev pub places_of : List LogRow → List ℕ
+places_of rows = map (λ row. row.place) rows
 
 -- the numbers of each session stand without a gap
 abbrev pub HaveNoGap : List LogRow → Type 0
 HaveNoGap rows = (session : ℕ) → (first : ℕ) × Counts first (numbers session rows)
 
--- of some places, those from a first one on
-abbrev pub places_from : ℕ → List ℕ → List ℕ
-places_from first places = filter (λ place. nat_le first place) places
-
--- each session's list has the places of its rows
-abbrev pub AreListed : ℕ → List LogRow → List (List ℕ) → Type 0
-AreListed first rows lists = (session : ℕ) → list_of lists session ≡ places_in session first rows
+-- the rows have their places, from the first one on, and what is kept of each session has those of its rows
+pub record AreListed (first : ℕ) (rows : List LogRow) (lists : List Listed) : Type 0 where
+  pub placed : Counts first (places_of rows)
+  pub listed : (session : ℕ) → (listed_at lists session).places ≡ places_of (rows_of session rows)
 
 module _ {Z : Type 0} where
-  abbrev pub lists_of : List (Vec ℕ Z) → List (List ℕ)
-  lists_of lists = map (λ list. list.items) lists
-
-  -- a vector has room for one more
-  abbrev pub has_room : {X : Type 0} → Vec X Z → Bool
-  has_room items = nat_lt (vec_len items) (vec_capacity items)
-
-  -- each vector that has room for one more still has it
-  abbrev pub KeepRoom : {X : Type 0} → List (Vec X Z) → List (Vec X Z) → Type 0
-  KeepRoom old new = (place : ℕ) → slice_get (map has_room old) place ≡ Some true → slice_get (map has_room new) place ≡ Some true
-
-  -- the log, of the place of its first row, its rows, and the lists of their places
-  abbrev pub kept_of : ℕ → Vec (code_row.LogRow Z (ℕ × Case)) Z → Vec (Vec ℕ Z) Z → Kept
+  -- the log, of the place of its first row, its rows, and what is kept of each session
+  abbrev pub kept_of : ℕ → Vec (code_row.LogRow Z (ℕ × Case)) Z → List Listed → Kept
   kept_of first rows lists = record {
     first = first;
     rows = log_of rows.items;
-    sessions = length lists.items;
-    free = map (λ (list : Vec ℕ Z). has_room rows && has_room list) lists.items;
+    sessions = length lists;
+    free = map (λ (list : Listed). list.free && has_room rows) lists;
   }

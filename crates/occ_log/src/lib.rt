@@ -2,6 +2,7 @@
 //! Each part is seen as plain data of the model.
 #![tactic(auto)]
 
+mod listing;
 mod log;
 mod phases;
 mod sessions;

@@ -1,16 +1,18 @@
 //! The decision log.
-ghost use Rattle.std.specs.Prelude.{◌≡◌, ◌<◌, ◌≤◌, ◌+◌, ◌-◌, ◌^◌, ℕ, [], ◌∷◌, ◌++◌, length, drop, map, is_some, true, IfOk, OnOk, slice_get, slice_set, Some};
+ghost use Rattle.std.specs.Prelude.{◌≡◌, ◌<◌, ◌≤◌, ◌+◌, ◌-◌, ◌^◌, ℕ, [], ◌∷◌, ◌++◌, length, drop, is_some, true, IfOk, OnOk, slice_get, slice_set, Some};
 ghost use Rattle.std.specs.List.{list_any, prefix_len};
 ghost use Rattle.std.specs.Option.{option_map};
-ghost use Rattle.occ_types.specs.Seen.{object_of};
-ghost use Rattle.occ_log.specs.Logs.{row_at, HasRoom, IsBegun, HaveNoGap, KeepRoom, has_room, lists_of, places_from, rows_of, places_in};
+ghost use Rattle.occ_types.specs.PlainData.{object_of};
+ghost use Rattle.occ_log.specs.Listing.{has_room};
+ghost use Rattle.occ_log.specs.Logs.{row_at, HasRoom, IsBegun, HaveNoGap, rows_of};
 ghost use Rattle.occ_log.specs.Rows.{log_row_of, log_of, standing_of};
-ghost use Rattle.occ_log.specs.Slots.{written_at};
+ghost use Rattle.occ_log.specs.SessionStates.{written_at};
 ghost use Rattle.occ_model.specs.Log.{LogRow as PlainRow, is_open};
 ghost use Rattle.occ_model.specs.Poll.{row_numbered};
 ghost use Rattle.occ_model.specs.Refusal.{foldable};
 ghost use Rattle.occ_model.specs.Step.{foldable_part};
 
+use crate::listing::Listing;
 use occ_book::{LogRow, Standing};
 use occ_case::OpenCase;
 use occ_types::Object;
@@ -26,19 +28,18 @@ use std::marker::Model;
 pub struct Log<A: Allocator> {
     first: usize,
     rows: Vec<LogRow<A, OpenCase<A>>, A>,
-    // Of each session, in order, the places of its rows.
-    places: Vec<Vec<usize, A>, A>,
+    places: Listing<A>,
 }
 
 impl<A: Allocator> Model for Log<A> {
-    ghost use Rattle.occ_log.specs.Logs.{Kept, AreListed, kept_of, lists_of};
+    ghost use Rattle.occ_log.specs.Logs.{Kept, AreListed, kept_of};
     ghost use Rattle.occ_log.specs.Rows.{log_of};
 
     ghost Value = { Kept };
 
     ghost view = { λ l. kept_of l.first l.rows l.places };
 
-    ghost invariant = { λ l. AreListed l.first (log_of l.rows.items) (lists_of l.places.items) };
+    ghost invariant = { λ l. AreListed l.first (log_of l.rows.items) l.places };
 }
 
 impl<A: Allocator + Copy> Log<A> {
@@ -47,10 +48,7 @@ impl<A: Allocator + Copy> Log<A> {
     pub fn new(alloc: A, sessions: usize) -> Result<Log<A>, AllocError>
         ensures { IfOk result (λ log. IsBegun sessions log) }
     {
-        let mut places = Vec::with_capacity(alloc, sessions)?;
-        for _ in 0..sessions {
-            places.push(Vec::new(alloc))?;
-        }
+        let places = Listing::new(alloc, sessions)?;
         Ok(Log {
             first: 0,
             rows: Vec::new(alloc),
@@ -102,20 +100,8 @@ impl<A: Allocator> Log<A> {
     fn row_of(&self, session: usize, before: usize) -> Option<&LogRow<A, OpenCase<A>>>
         ensures { option_map (λ r. log_row_of r.now) result ≡ slice_get (rows_of session self.now.rows) before }
     {
-        let place = self.place_of(session, before)?;
+        let place = self.places.get(session, before)?;
         self.row(place)
-    }
-
-    // The place of that row.
-    fn place_of(&self, session: usize, before: usize) -> Option<usize>
-        ensures { result ≡ slice_get (places_in session self.now.first self.now.rows) before }
-    {
-        let lists = &self.places;
-        if session == 0 {
-            return None;
-        }
-        let places = lists.get(session - 1)?;
-        places.get(before).copied()
     }
 
     /// The rows, in the order of entry.
@@ -146,9 +132,7 @@ impl<A: Allocator> Log<A> {
         ensures sessions { self.new.sessions ≡ self.old.sessions }
     {
         self.rows.reserve(1)?;
-        let places = &mut self.places[session - 1];
-        places.reserve(1)?;
-        Ok(())
+        self.places.reserve(session)
     }
 
     /// A row comes in at the end, in the room that was taken for one of its session (`reserve`). It has the place of the next row. It
@@ -161,8 +145,7 @@ impl<A: Allocator> Log<A> {
         ensures first { self.new.first ≡ self.old.first }
         ensures sessions { self.new.sessions ≡ self.old.sessions }
     {
-        let places = &mut self.places[row.session - 1];
-        places.push_reserved(row.place);
+        self.places.push(row.session, row.place);
         self.rows.push_reserved(row);
     }
 
@@ -178,6 +161,7 @@ impl<A: Allocator> Log<A> {
     }
 
     /// Whether a row is open: entered, and not decided.
+    #[tactic(auto, using(crate::proofs::Folding::open_rows))]
     pub fn has_open(&self) -> bool
         ensures { result ≡ list_any (λ row. is_open row.standing) self.now.rows }
     {
@@ -205,7 +189,7 @@ impl<A: Allocator> Log<A> {
     {
         self.first += count;
         drop_front(&mut self.rows, count);
-        keep_lists(&mut self.places, self.first);
+        self.places.begin_at(self.first);
     }
 }
 
@@ -254,23 +238,6 @@ fn drop_front<T: Drop, A: Allocator>(items: &mut Vec<T, A>, count: usize)
     ensures room { has_room items.old ≡ true → has_room items.new ≡ true }
 {
     drop(items.drain(..count));
-}
-
-// Each list keeps its places from the first one of the log on.
-fn keep_lists<A: Allocator>(lists: &mut Vec<Vec<usize, A>, A>, first: usize)
-    ensures lists { lists_of lists.new.items ≡ map (places_from first) (lists_of lists.old.items) }
-    ensures room { KeepRoom lists.old.items lists.new.items }
-{
-    for place in 0..lists.len() {
-        keep_places(&mut lists[place], first);
-    }
-}
-
-fn keep_places<A: Allocator>(places: &mut Vec<usize, A>, first: usize)
-    ensures items { places.new.items ≡ places_from first places.old.items }
-    ensures room { has_room places.old ≡ true → has_room places.new ≡ true }
-{
-    places.retain(|place| first <= *place);
 }
 
 impl<A: Allocator + Clone> Log<A> {

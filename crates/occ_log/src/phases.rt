@@ -4,8 +4,8 @@ ghost use Rattle.std.specs.Option.{option_map};
 ghost use Rattle.std.specs.FinMap as finite;
 ghost use Rattle.occ_types.specs.declared.fault.Fault.TheVariants.{Memory};
 ghost use Rattle.occ_types.specs.declared.limits.TheConstants as limit;
-ghost use Rattle.occ_types.specs.Seen.{question_of};
-ghost use Rattle.occ_sets.specs.Seen.{answer_of};
+ghost use Rattle.occ_types.specs.PlainData.{question_of};
+ghost use Rattle.occ_sets.specs.PlainSets.{answer_of};
 ghost use Rattle.occ_log.specs.Phases.{phase_of, reads_of};
 
 use indexmap::IndexMap;
@@ -78,7 +78,7 @@ impl<A: Allocator> ReadPhases<A> {
     pub fn start(&self, session: usize, number: u64) -> Option<u64>
         ensures { result ≡ option_map (λ phase. phase.start) (finite.get self.now (session, number)) }
     {
-        match self.phases.get(&(session, number)) {
+        match self.phase(session, number) {
             Some(phase) => Some(phase.start),
             None => None,
         }
@@ -88,10 +88,17 @@ impl<A: Allocator> ReadPhases<A> {
     pub fn questions(&self, session: usize, number: u64) -> usize
         ensures { result ≡ length (reads_of (finite.get self.now (session, number))) }
     {
-        match self.phases.get(&(session, number)) {
+        match self.phase(session, number) {
             Some(phase) => phase.reads.len(),
             None => 0,
         }
+    }
+
+    // A phase, or none where it is not under way.
+    fn phase(&self, session: usize, number: u64) -> Option<&Phase<A>>
+        ensures { option_map (λ phase. phase_of phase.now) result ≡ finite.get self.now (session, number) }
+    {
+        self.phases.get(&(session, number))
     }
 
     /// Ends a phase and hands it out, or none where it is not under way. It takes no memory.
@@ -137,9 +144,7 @@ impl<A: Allocator + Copy> ReadPhases<A> {
         let Some(phase) = self.phases.get_mut(&(session, number)) else {
             return Ok(ReadSet::new(alloc));
         };
-        phase.reads.share()?;
-        let shared = phase.reads.clone()?;
-        Ok(shared)
+        share_reads(&mut phase.reads)
     }
 
     /// Notes a question and the tables' answer after the others of a transaction's phase, which has less than `MAX_QUESTIONS` of them. It
@@ -168,4 +173,15 @@ impl<A: Allocator + Copy> ReadPhases<A> {
         self.phases.insert(key, phase)?;
         Ok(())
     }
+}
+
+// One more owner of some reads.
+fn share_reads<A: Allocator + Copy>(reads: &mut ReadSet<A>) -> Result<ReadSet<A>, Fault>
+    ensures shared { IfOk result (λ shared. shared ≡ reads.old) }
+    ensures kept { reads.new ≡ reads.old }
+    ensures memory { IsOkUnless result Memory }
+{
+    reads.share()?;
+    let shared = reads.clone()?;
+    Ok(shared)
 }

@@ -1,7 +1,7 @@
 //! What a core keeps of each session.
 ghost use Rattle.std.specs.Prelude.{◌≡◌, ◌<◌, ℕ, length, IfOk, None, Some, slice_get, slice_set};
 ghost use Rattle.std.specs.Option.{option_map};
-ghost use Rattle.occ_log.specs.Slots.{Slot, idle_slots, last_of};
+ghost use Rattle.occ_log.specs.SessionStates.{Slot, idle_slots, last_of};
 ghost use Rattle.occ_log.specs.Rows.{slot_of, hold_of};
 
 use occ_sets::WriteSet;
@@ -35,7 +35,7 @@ pub struct Sessions<A: Allocator> {
 
 impl<A: Allocator> Model for Sessions<A> {
     ghost use Rattle.std.specs.Prelude.{List};
-    ghost use Rattle.occ_log.specs.Slots.{Slot};
+    ghost use Rattle.occ_log.specs.SessionStates.{Slot};
 
     ghost Value = { List Slot };
 
@@ -86,6 +86,7 @@ impl<A: Allocator> Sessions<A> {
     }
 
     /// The session at a place, which has to be there, has a row under way that entered under this number.
+    #[tactic(auto, using(crate::proofs::Changes::in_place))]
     pub fn hold(&mut self, place: usize, number: u64, held: Held<A>)
         requires { place < length self.old }
         ensures { self.new ≡ slice_set self.old place (record { last = number; hold = Some (hold_of held) }) }
@@ -97,6 +98,7 @@ impl<A: Allocator> Sessions<A> {
     }
 
     /// The session at a place, which has to be there, has had a transaction under this number, and has none under way.
+    #[tactic(auto, using(crate::proofs::Changes::in_place))]
     pub fn pass(&mut self, place: usize, number: u64)
         requires { place < length self.old }
         ensures { self.new ≡ slice_set self.old place (record { last = number; hold = None }) }

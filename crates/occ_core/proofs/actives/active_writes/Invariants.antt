@@ -1,6 +1,6 @@
 use Rattle.std.proofs.Common.{◌≡◌, ◌++◌, drop}
 use Rattle.occ_log.specs.Logs.{row_at}
-use Rattle.occ_log.specs.Slots.{active_from}
+use Rattle.occ_log.specs.SessionStates.{active_from}
 use Rattle.occ_core.proofs.actives.active_writes.Given as goal
 
 -- what was found, before the sessions that are left

@@ -1,5 +1,5 @@
 use Rattle.std.proofs.Common.{◌<◌, length, arith}
-use Rattle.occ_log.specs.Slots.{active_from}
+use Rattle.occ_log.specs.SessionStates.{active_from}
 use Rattle.occ_log.specs.Logs.{row_at}
 use Rattle.occ_core.proofs.Counting.{some_of, none_of, count_found, count_skipped}
 use Rattle.occ_core.proofs.actives.count_active.Goals as goal

@@ -1,6 +1,6 @@
 use Rattle.std.proofs.Common.{◌≡◌, ◌≤◌, ◌+◌, drop, length}
 use Rattle.occ_log.specs.Logs.{row_at}
-use Rattle.occ_log.specs.Slots.{active_from}
+use Rattle.occ_log.specs.SessionStates.{active_from}
 use Rattle.occ_core.proofs.actives.count_active.Given as goal
 
 -- what was counted, before the sessions that are left

@@ -1,6 +1,6 @@
 use Rattle.std.proofs.Common.{ap, ◌∙◌, length}
 use Rattle.occ_model.specs.World.{active_count}
-use Rattle.occ_log.specs.Slots.{active_from}
+use Rattle.occ_log.specs.SessionStates.{active_from}
 use Rattle.occ_core.specs.Core.{parts_of}
 use Rattle.occ_core.proofs.Counting.{active_counted}
 use Rattle.occ_core.proofs.Placed.{rows_found}

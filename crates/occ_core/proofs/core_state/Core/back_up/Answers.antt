@@ -1,5 +1,5 @@
 use Rattle.std.proofs.Common.{ap, sym, subst, ◌∙◌, ◌-◌, length, Err}
-use Rattle.occ_log.specs.Slots.{HoldsArePlaced, last_of}
+use Rattle.occ_log.specs.SessionStates.{HoldsArePlaced, last_of}
 use Rattle.occ_log.proofs.Changes.{placed-free}
 use Rattle.std.proofs.lemmas.Result.{err_from_is_err_and}
 use Rattle.occ_core.specs.Core.{parts_of}

@@ -2,7 +2,7 @@ use Rattle.std.proofs.Common.{ap, sym, ◌∙◌, Some, length}
 use Rattle.std.specs.Result.{result_err}
 use Rattle.std.proofs.lemmas.Result.{err_from_is_err_and}
 use Rattle.occ_core.specs.AtOnce.{turn_to_end}
-use Rattle.occ_core.specs.Entries.{room_to_enter}
+use Rattle.occ_core.specs.EntryFaults.{room_to_enter}
 use Rattle.occ_core.specs.Core.{parts_of}
 use Rattle.occ_core.proofs.Placed.{rows_found}
 use Rattle.occ_core.proofs.SerialEnding.{serial_turned, serial_roomed}
@@ -20,6 +20,6 @@ pub returns : goal.returns
 returns g c =
     let t = c.args.transaction in
     let found = rows_found c.self.inside.log c.self.invariant.log_match.begins in
-    c.check_room.ensures ∙ ap (λ at. room_to_enter c.self.inside.schema c.self.inside.sessions (length c.self.inside.log.rows) at c.self.inside.counter c.args.writes.now) found
+    c.check_room_to_enter.ensures ∙ ap (λ at. room_to_enter c.self.inside.schema c.self.inside.sessions (length c.self.inside.log.rows) at c.self.inside.counter c.args.writes.now) found
     ∙ sym (serial_roomed (parts_of c.self.inside) c.args.self.now.world (ap (λ s. s.world) c.self.view_is) t.session t.number t.start c.args.writes.now c.self.invariant.sound
     (sym (ap (λ at. turn_to_end c.self.inside.sessions c.self.inside.marks.marks at c.self.inside.phases c.self.inside.counter t.session t.number t.start) found) ∙ sym c.in_ok-check_turn_to_end.ensures))

@@ -2,10 +2,10 @@ use Rattle.std.proofs.Common.{ap, sym, subst, ◌∙◌, ◌+◌, ◌∷◌, [],
 use Rattle.occ_model.specs.Log.{Done}
 use Rattle.occ_model.specs.Step.{entering}
 use Rattle.occ_core.specs.Core.{parts_of}
-use Rattle.occ_core.specs.Parts.{AreSound, world_of}
+use Rattle.occ_core.specs.CoreParts.{AreSound, world_of}
 use Rattle.occ_book.specs.Undo.{ArePlaced}
 use Rattle.occ_log.specs.Rows.{log_row_of}
-use Rattle.occ_log.specs.Slots.{HoldsArePlaced}
+use Rattle.occ_log.specs.SessionStates.{HoldsArePlaced}
 use Rattle.occ_log.specs.Window.{advanced}
 use Rattle.occ_core.proofs.AtOnce.{commit_whole}
 use Rattle.occ_core.proofs.Staying.{session_passed, marks_kept, log_kept, base_kept, still_placed, at_err, unmoved, same_log, placed_all}

@@ -1,5 +1,4 @@
-use Rattle.std.proofs.Common.{ap, sym, ◌∙◌, ◌-◌, Some}
-use Rattle.std.specs.Prelude.{is_some, slice_set}
+use Rattle.std.proofs.Common.{ap, sym, ◌∙◌, ◌-◌, Some, is_some, slice_set}
 use Rattle.std.proofs.lemmas.Result.{err_from_is_err_and}
 use Rattle.occ_model.specs.Validity.{verdict}
 use Rattle.occ_core.specs.Core.{parts_of}

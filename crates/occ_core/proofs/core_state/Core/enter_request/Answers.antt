@@ -1,5 +1,4 @@
-use Rattle.std.proofs.Common.{◌≤◌, Some, refl, ap, sym, subst, ◌∙◌, ◌-◌, length, [], ◌∷◌, ◌++◌, arith}
-use Rattle.std.specs.Prelude.{slice_set}
+use Rattle.std.proofs.Common.{◌≤◌, Some, refl, ap, sym, subst, ◌∙◌, ◌-◌, length, [], ◌∷◌, ◌++◌, arith, slice_set}
 use Rattle.std.specs.FinMap as finite
 use Rattle.std.proofs.lemmas.Result.{err_from_is_err_and}
 use Rattle.occ_model.specs.Event.{Enter, Request, Refused}
@@ -7,7 +6,7 @@ use Rattle.occ_model.specs.Log.{LogRow, Open}
 use Rattle.occ_model.specs.World.{next_place, reads_under}
 use Rattle.occ_model.specs.Step.{Step, refused}
 use Rattle.occ_core.specs.Core.{parts_of}
-use Rattle.occ_core.specs.Parts.{world_of}
+use Rattle.occ_core.specs.CoreParts.{world_of}
 use Rattle.occ_log.specs.Logs.{HasRoom}
 use Rattle.occ_log.specs.Rows.{log_row_of}
 use Rattle.occ_log.proofs.Places.{length-set}

@@ -1,8 +1,7 @@
-use Rattle.std.proofs.Common.{ap, sym, subst, ◌∙◌, ◌-◌, length, Some}
-use Rattle.std.specs.Prelude.{is_some, option_map}
+use Rattle.std.proofs.Common.{ap, sym, subst, ◌∙◌, ◌-◌, length, Some, is_some, option_map}
 use Rattle.std.proofs.lemmas.Result.{err_from_is_err_and}
 use Rattle.occ_core.specs.Core.{parts_of}
-use Rattle.occ_log.specs.Slots.{HoldsArePlaced, last_of, finish_fault}
+use Rattle.occ_log.specs.SessionStates.{HoldsArePlaced, last_of, finish_fault}
 use Rattle.occ_log.specs.Rows.{log_row_of, standing_of, hold_of}
 use Rattle.occ_core.proofs.Calls.{slot_below}
 use Rattle.occ_log.proofs.Changes.{placed-free}

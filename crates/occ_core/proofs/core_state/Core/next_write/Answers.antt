@@ -1,5 +1,4 @@
-use Rattle.std.proofs.Common.{ap, sym, ◌∙◌}
-use Rattle.std.specs.Prelude.{option_map}
+use Rattle.std.proofs.Common.{ap, sym, ◌∙◌, option_map}
 use Rattle.occ_core.specs.Core.{parts_of}
 use Rattle.occ_log.specs.Rows.{log_row_of}
 use Rattle.occ_core.proofs.Nexts.{next_none, next_idle, next_at, next_free}

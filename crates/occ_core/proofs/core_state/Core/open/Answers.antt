@@ -1,8 +1,8 @@
 use Rattle.std.proofs.Common.{ap, sym, subst, ◌∙◌, length}
-use Rattle.occ_core.specs.Parts.{world_of, AreSound}
+use Rattle.occ_core.specs.CoreParts.{world_of, AreSound}
 use Rattle.occ_core.proofs.Openings.{opened_world, opened_sound, opened_is, idle_length}
-use Rattle.occ_types.specs.Seen.{table_of}
-use Rattle.occ_log.specs.Slots.{HoldsArePlaced}
+use Rattle.occ_types.specs.PlainData.{table_of}
+use Rattle.occ_log.specs.SessionStates.{HoldsArePlaced}
 use Rattle.occ_log.proofs.Changes.{length-map, idle-placed}
 use Rattle.occ_core.proofs.core_state.Core.open.Goals as goal
 

@@ -3,7 +3,7 @@ use Rattle.occ_model.specs.State.{Observation}
 use Rattle.occ_model.specs.Log.{Case, Open}
 use Rattle.occ_model.specs.World.{reads_under}
 use Rattle.std.specs.FinMap as finite
-use Rattle.occ_log.specs.Slots.{active_from}
+use Rattle.occ_log.specs.SessionStates.{active_from}
 use Rattle.occ_core.specs.Core.{parts_of}
 use Rattle.occ_core.proofs.Reading.{reads_are}
 use Rattle.occ_core.proofs.Entering.{open_case, open_row}

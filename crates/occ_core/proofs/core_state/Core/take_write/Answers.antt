@@ -1,5 +1,5 @@
 use Rattle.std.proofs.Common.{ap, sym, ◌∙◌, Some}
-use Rattle.occ_types.specs.Seen.{object_of}
+use Rattle.occ_types.specs.PlainData.{object_of}
 use Rattle.occ_core.specs.declared.steps.Step.TheVariants as steps
 use Rattle.occ_core.specs.Replies.{writing}
 use Rattle.occ_core.proofs.Replied.{answered}

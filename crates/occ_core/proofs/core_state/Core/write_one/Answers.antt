@@ -1,13 +1,12 @@
-use Rattle.std.proofs.Common.{◌≡◌, ap, sym, subst, ◌∙◌, ◌+◌, Err, Some, refl}
-use Rattle.std.specs.Prelude.{is_some}
+use Rattle.std.proofs.Common.{◌≡◌, ap, sym, subst, ◌∙◌, ◌+◌, Err, Some, refl, is_some}
 use Rattle.std.specs.Option.{option_copied}
 use Rattle.std.proofs.lemmas.Result.{err_from_is_err_and}
-use Rattle.occ_types.specs.Seen.{object_of}
+use Rattle.occ_types.specs.PlainData.{object_of}
 use Rattle.occ_model.specs.State.{Write}
 use Rattle.occ_core.specs.Core.{parts_of}
-use Rattle.occ_core.specs.Parts.{AreSound}
-use Rattle.occ_log.specs.Slots.{HoldsArePlaced}
-use Rattle.occ_core.specs.Parts.{world_of}
+use Rattle.occ_core.specs.CoreParts.{AreSound}
+use Rattle.occ_log.specs.SessionStates.{HoldsArePlaced}
+use Rattle.occ_core.specs.CoreParts.{world_of}
 use Rattle.occ_model.specs.Log.{Writing}
 use Rattle.occ_log.proofs.Changes.{puts_some}
 use Rattle.occ_core.specs.Replies.{written_in, IsNextWrite}

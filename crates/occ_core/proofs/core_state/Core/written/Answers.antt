@@ -1,5 +1,5 @@
 use Rattle.std.proofs.Common.{ap, ◌∙◌}
-use Rattle.occ_log.specs.Slots.{written_at}
+use Rattle.occ_log.specs.SessionStates.{written_at}
 use Rattle.occ_core.specs.Replies.{written_in}
 use Rattle.occ_core.proofs.Placed.{rows_found}
 use Rattle.occ_core.proofs.core_state.Core.written.Goals as goal

@@ -1,29 +1,27 @@
-use Rattle.std.proofs.Common.{◌≡◌, ◌-◌, ◌+◌, drop, length, refl, sym, ap, subst, ◌∙◌, arith}
-use Rattle.occ_log.specs.Logs.{HasRoom, has_room, lists_of, places_from}
+use Rattle.std.proofs.Common.{◌≡◌, ◌-◌, ◌+◌, suc, false, drop, get_or, length, refl, sym, ap, ◌∙◌, arith}
+use Rattle.std.proofs.lemmas.List.{length-map, drop-map}
+use Rattle.occ_model.proofs.Tests.{and_true, both_true}
+use Rattle.occ_log.specs.Listing.{has_room}
 use Rattle.occ_log.specs.Rows.{log_row_of, log_of}
-use Rattle.occ_log.proofs.Changes.{length-map}
-use Rattle.occ_log.proofs.Folding.{map-drop, listed-fold, lists-count, room_kept}
+use Rattle.occ_log.proofs.Folding.{listed-drop, room-at}
 use Rattle.occ_log.proofs.log.Log.fold.Goals as goal
 
 pub drop_front-requires : goal.drop_front-requires
 drop_front-requires g c =
     let few = c.requires.count in
-    let same : length c.self.inside.rows.items ≡ length c.args.self.now.rows = sym (length-map log_row_of c.self.inside.rows.items) ∙ ap (λ k. length k.rows) c.self.view_is in
+    let same = length-map c.self.inside.rows.items log_row_of in
+    let rows = ap (λ k. length k.rows) c.self.view_is in
     omega arith
 
 pub invariant_of-self : goal.invariant_of-self
 invariant_of-self g c =
-    listed-fold c.self.inside.first c.args.count (c.self.inside.first + c.args.count) (log_of c.self.inside.rows.items) (log_of c.drop_front.new.items.items) (lists_of c.self.inside.places.items) (lists_of c.keep_lists.new.lists.items) c.self.invariant refl
-    (ap log_of c.drop_front.ensures.items ∙ map-drop log_row_of c.args.count c.self.inside.rows.items) c.keep_lists.ensures.lists
+    listed-drop c.self.inside.first c.args.count (log_of c.self.inside.rows.items) (log_of c.drop_front.new.items.items) c.self.inside.places c.begin_at.new.self c.self.invariant
+    (ap log_of c.drop_front.ensures.items ∙ sym (drop-map log_row_of c.args.count c.self.inside.rows.items)) c.begin_at.ensures.places
 
 pub returns-clause-rows : goal.returns-clause-rows
-returns-clause-rows g c = ap log_of c.drop_front.ensures.items ∙ map-drop log_row_of c.args.count c.self.inside.rows.items ∙ ap (λ k. drop c.args.count k.rows) c.self.view_is
-
-pub returns-clause-sessions : goal.returns-clause-sessions
-returns-clause-sessions g c =
-    lists-count (places_from (c.self.inside.first + c.args.count)) c.self.inside.places.items c.keep_lists.new.lists.items c.keep_lists.ensures.lists ∙ ap (λ k. k.sessions) c.self.view_is
+returns-clause-rows g c = ap log_of c.drop_front.ensures.items ∙ sym (drop-map log_row_of c.args.count c.self.inside.rows.items) ∙ ap (λ k. drop c.args.count k.rows) c.self.view_is
 
 pub returns-clause-room : goal.returns-clause-room
 returns-clause-room g c = λ session had.
-    room_kept (has_room c.self.inside.rows) (has_room c.drop_front.new.items) c.self.inside.places.items c.keep_lists.new.lists.items (session - 1) c.drop_front.ensures.room c.keep_lists.ensures.room
-    (subst (λ k. HasRoom k session) (sym c.self.view_is) had)
+    let parts = and_true _ _ (sym (room-at (has_room c.self.inside.rows) c.self.inside.places (session - 1)) ∙ ap (λ k. get_or k.free (session - 1) false) c.self.view_is ∙ had) in
+    room-at (has_room c.drop_front.new.items) c.begin_at.new.self (session - 1) ∙ both_true _ _ (c.begin_at.ensures.room (suc (session - 1)) parts.0) (c.drop_front.ensures.room parts.1)

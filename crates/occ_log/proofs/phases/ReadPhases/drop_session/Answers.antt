@@ -1,5 +1,4 @@
-use Rattle.std.proofs.Common.{rules}
-use Rattle.std.specs.Prelude.{◌==◌, not}
+use Rattle.std.proofs.Common.{rules, ◌==◌, not}
 use Rattle.indexmap.proofs.CallerLemmas.{filter-RetainsPairs}
 use Rattle.occ_log.proofs.PhaseViews.{phases-retained}
 use Rattle.occ_log.proofs.phases.ReadPhases.drop_session.Goals as goal

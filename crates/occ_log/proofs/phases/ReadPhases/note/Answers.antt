@@ -1,13 +1,12 @@
-use Rattle.std.proofs.Common.{◌<◌, ℕ, cond, length, Ok, Err, Some, None, refl, sym, ap, subst, ◌∙◌}
-use Rattle.std.specs.Prelude.{Result}
+use Rattle.std.proofs.Common.{◌<◌, ℕ, cond, length, Ok, Err, Some, None, refl, sym, ap, subst, ◌∙◌, Result}
 use Rattle.std.specs.Result.{OnErr, IsOkUnless}
 use Rattle.std.proofs.lemmas.Result.{err_from_is_err_and}
 use Rattle.occ_types.specs.declared.fault.Fault.TheVariants.{SetFull, Memory}
 use Rattle.occ_sets.proofs.Observations.{room_for}
 use Rattle.std.specs.Option.{IsSome, option_copied_mut}
 use Rattle.indexmap.specs.IndexMap.{IndexMap}
-use Rattle.occ_types.specs.Seen.{question_of}
-use Rattle.occ_sets.specs.Seen.{answer_of}
+use Rattle.occ_types.specs.PlainData.{question_of}
+use Rattle.occ_sets.specs.PlainSets.{answer_of}
 use Rattle.occ_log.specs.Phases.{reads_of, phases_of}
 use Rattle.occ_types.specs.declared.limits.TheConstants as limit
 use Rattle.occ_log.specs.declared.phases.Phase as code_phase

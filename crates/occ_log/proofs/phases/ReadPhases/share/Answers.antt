@@ -1,5 +1,6 @@
-use Rattle.std.proofs.Common.{Some, None, refl, sym, ap, subst, ◌∙◌}
+use Rattle.std.proofs.Common.{List, Some, None, IfOk, ◌≡◌, refl, sym, ap, subst, ◌∙◌}
 use Rattle.std.specs.Option.{IsSome, option_copied_mut}
+use Rattle.occ_model.specs.State.{Observation}
 use Rattle.occ_log.specs.Phases.{reads_of}
 use Rattle.occ_log.specs.declared.phases.Phase as code_phase
 use Rattle.occ_log.proofs.PhaseViews.{phase-found, phases-same}
@@ -12,28 +13,15 @@ returns-in_default-clause-shared g c =
     c.new.ensures ∙ ap reads_of (phase-found c.self.inside.phases.entries (c.args.session, c.args.number) None c.args.self.now c.self.view_is at)
 
 -- the phase has the reads that it had
-pub returns-in_err-share-clause-kept : goal.returns-in_err-share-clause-kept
-returns-in_err-share-clause-kept g c =
-    let at = sym (ap option_copied_mut c.in-Some.is) ∙ c.get_mut.ensures.value in
-    let was = c.in-Some.phase.now in
-    let phase : code_phase.Phase g.row.A.Denot = record { start = was.start; reads = c.share.new.self } in
-    phases-same c.self.inside.phases.entries (c.get_mut.follows.lender phase).entries (c.args.session, c.args.number) was phase c.args.self.now c.self.view_is at ((c.get_mut.follows.holds phase).3 (subst IsSome at refl)).0 refl c.share.ensures.kept
-
-pub returns-in_err-shared-clause-kept : goal.returns-in_err-shared-clause-kept
-returns-in_err-shared-clause-kept g c =
-    let at = sym (ap option_copied_mut c.in-Some.is) ∙ c.get_mut.ensures.value in
-    let was = c.in-Some.phase.now in
-    let phase : code_phase.Phase g.row.A.Denot = record { start = was.start; reads = c.share.new.self } in
-    phases-same c.self.inside.phases.entries (c.get_mut.follows.lender phase).entries (c.args.session, c.args.number) was phase c.args.self.now c.self.view_is at ((c.get_mut.follows.holds phase).3 (subst IsSome at refl)).0 refl c.share.ensures.kept
-
 pub returns-clause-kept : goal.returns-clause-kept
 returns-clause-kept g c =
     let at = sym (ap option_copied_mut c.in-Some.is) ∙ c.get_mut.ensures.value in
     let was = c.in-Some.phase.now in
-    let phase : code_phase.Phase g.row.A.Denot = record { start = was.start; reads = c.share.new.self } in
-    phases-same c.self.inside.phases.entries (c.get_mut.follows.lender phase).entries (c.args.session, c.args.number) was phase c.args.self.now c.self.view_is at ((c.get_mut.follows.holds phase).3 (subst IsSome at refl)).0 refl c.share.ensures.kept
+    let phase : code_phase.Phase g.row.A.Denot = record { start = was.start; reads = c.share_reads.new.reads } in
+    phases-same c.self.inside.phases.entries (c.get_mut.follows.lender phase).entries (c.args.session, c.args.number) was phase c.args.self.now c.self.view_is at ((c.get_mut.follows.holds phase).3 (subst IsSome at refl)).0 refl c.share_reads.ensures.kept
 
 pub returns-clause-shared : goal.returns-clause-shared
 returns-clause-shared g c =
     let at = sym (ap option_copied_mut c.in-Some.is) ∙ c.get_mut.ensures.value in
-    c.in_ok-shared.ensures.cases ∙ c.share.ensures.kept ∙ ap reads_of (phase-found c.self.inside.phases.entries (c.args.session, c.args.number) (Some c.in-Some.phase.now) c.args.self.now c.self.view_is at)
+    subst (λ (reads : List Observation). IfOk c.share_reads.result (λ shared. shared ≡ reads))
+    (ap reads_of (phase-found c.self.inside.phases.entries (c.args.session, c.args.number) (Some c.in-Some.phase.now) c.args.self.now c.self.view_is at)) c.share_reads.ensures.shared

@@ -1,6 +1,6 @@
 use Rattle.std.proofs.Common.{rules}
 use Rattle.std.proofs.lemmas.Fn.{filter_same}
-use Rattle.occ_log.proofs.log.keep_places.Goals as goal
+use Rattle.occ_log.proofs.listing.keep_from.Goals as goal
 
 pub returns-clause-items : goal.returns-clause-items
 returns-clause-items g c = filter_same _ _ _ (λ x b f' k. search rules) _ _ c.retain.ensures.filtered

@@ -11,7 +11,7 @@ use Rattle.occ_model.specs.Log.{LogRow, is_active}
 use Rattle.occ_model.specs.World.{ReadPhase, phase_cmp}
 use Rattle.occ_model.specs.Refusal.{check_writes}
 use Rattle.occ_core.specs.Reads.{session_fault, closed_fault, start_fault}
-use Rattle.occ_log.specs.Slots.{Slot, last_of, active_from}
+use Rattle.occ_log.specs.SessionStates.{Slot, last_of, active_from}
 
 -- a number is not the one after that of the session's last transaction
 abbrev pub due_fault : ℕ → ℕ → Option Fault
