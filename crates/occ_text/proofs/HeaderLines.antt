@@ -1,11 +1,9 @@
 -- The lines of a header: what is read is spelled so, and what is spelled so is read again.
-use Rattle.std.proofs.Common.{◌≡◌, ℕ, ◌^◌, ◌<◌, ◌≤◌, ◌&&◌, Bool, true, false, cond, ltb, leb, List, [], ◌∷◌, length, map, Option, Some, None, refl, sym, ap, subst, ◌∙◌, arith}
+use Rattle.std.proofs.Common.{◌≡◌, ℕ, ◌^◌, ◌+◌, ◌<◌, ◌≤◌, ◌&&◌, Bool, true, false, cond, ltb, leb, List, [], ◌∷◌, length, map, Option, Some, None, refl, sym, ap, subst, ◌∙◌, arith}
 use Rattle.std.specs.Prelude.{option_and_then, option_map, codes}
 use Rattle.std.specs.List.{All}
 use Rattle.std.specs.Str.{bytes_eq}
-use Rattle.std.specs.Fmt.{decimal}
 use Rattle.std.proofs.lemmas.Bool.{ltb-true, lt-ltb, leb-true, le-leb}
-use Rattle.std.proofs.lemmas.Slice.Eq.{bytes_eq-Decides}
 use Rattle.std.proofs.lemmas.List.{length-map}
 use Rattle.std.proofs.lemmas.List.Elements.{All-nil, All-cons}
 use Rattle.occ_types.specs.declared.kind.Kind.{Kind}
@@ -18,15 +16,16 @@ use Rattle.occ_types.specs.Schema.{Table}
 use Rattle.occ_text.specs.declared.versions.Version.{Version}
 use Rattle.occ_text.specs.declared.versions.Version.TheVariants.{One, Two}
 use Rattle.occ_text.specs.Spelling.{line_text, IsToken, AreTokens}
-use Rattle.occ_text.specs.Reading.{Reads, is_token, tokens_of, number_of, name_of}
+use Rattle.occ_text.specs.Reading.{Reads, is_token, tokens_of, name_of}
 use Rattle.occ_text.specs.Headers.{version_text, key_kind_word, kind_word, table_tokens, table_text, count_text, Within, KindFits, TableFits, TableHasLine}
-use Rattle.occ_text.specs.HeaderReading.{at_least, count_of_parts, count_of_tokens, count_of_line, version_of, pair_kind_of, newer_kind_of, key_kind_of, kind_of, kinds_of, if_few, columns_of, table_of_parts, table_of_tokens, table_of_line}
-use Rattle.occ_text.proofs.Numbers.{some_or_none, number_takes, number_again}
+use Rattle.occ_text.specs.HeaderReading.{count_line, count_of_line, version_of, pair_kind_of, newer_kind_of, key_kind_of, kind_of, kinds_of, if_few, columns_of, table_of_parts, table_of_tokens, table_of_line}
+use Rattle.occ_text.proofs.Numbers.{some_or_none}
 use Rattle.occ_text.proofs.Escapes.{some_is, bind_value, map_value}
 use Rattle.occ_text.proofs.Words.{both, IsToken-from_test, tokens_takes, tokens_again, name_reads}
-use Rattle.occ_text.proofs.Spelled.{IsToken-decimal, IsToken-name}
+use Rattle.occ_text.proofs.Spelled.{IsToken-name}
 use Rattle.occ_text.proofs.Readers.{takes, word_is, name_again}
-use Rattle.occ_text.proofs.TokenLists.{two_tokens, more_tokens}
+use Rattle.occ_text.proofs.Fields.{IsField, number_field, after_word, tested_field, fitting_field, field_reads}
+use Rattle.occ_text.proofs.TokenLists.{more_tokens}
 
 -- a test that passed leaves what stands behind it
 pub tested : {X : Type 0} (b : Bool) (o : Option X) (x : X) → cond b o None ≡ Some x → (b ≡ true) × (o ≡ Some x)
@@ -35,54 +34,15 @@ tested false o x h = absurd cc
 
 -- ---- counts
 
-record Count (wanted : List ℕ) (least most : ℕ) (tokens : List (List ℕ)) (n : ℕ) : Type 0 where
-  spelled : tokens ≡ wanted ∷ decimal n ∷ []
-  fits : Within least most n
-
-parts_take : (wanted : List ℕ) (least most : ℕ) (word digits : List ℕ) (n : ℕ) → count_of_parts wanted least most word digits ≡ Some n → Count wanted least most (word ∷ digits ∷ []) n
-unfolding count_of_parts
-parts_take wanted least most word digits n h =
-    let t = tested (bytes_eq word wanted) (option_and_then (at_least least) (number_of most digits)) n h in
-    let b = bind_value (number_of most digits) (at_least least) n t.1 in
-    let l = tested (leb least b.0) (Some b.0) n b.2 in
-    let d = number_takes most digits b.0 b.1 in
-    let w = word_is word wanted t.0 in
-    subst (Count wanted least most (word ∷ digits ∷ [])) (some_is b.0 n l.1) (record {
-      spelled = λ i. w i ∷ d.0 i ∷ [];
-      fits = record { least_count = leb-true least b.0 l.0; most_count = d.1 };
-    })
-
-count_tokens_take : (wanted : List ℕ) (least most : ℕ) (tokens : List (List ℕ)) (n : ℕ) → count_of_tokens wanted least most tokens ≡ Some n → Count wanted least most tokens n
-unfolding count_of_tokens
-count_tokens_take wanted least most [] n h = absurd cc
-count_tokens_take wanted least most (word ∷ []) n h = absurd cc
-count_tokens_take wanted least most (word ∷ digits ∷ []) n h = parts_take wanted least most word digits n h
-count_tokens_take wanted least most (word ∷ digits ∷ other ∷ more) n h = absurd cc
-
-count_takes : (wanted : List ℕ) (least most : ℕ) (line : List ℕ) (n : ℕ) → count_of_line wanted least most line ≡ Some n → (line ≡ count_text wanted n) × Within least most n
-unfolding count_of_line
-count_takes wanted least most line n h =
-    let t = bind_value (tokens_of line) (count_of_tokens wanted least most) n h in
-    let r = count_tokens_take wanted least most t.0 n t.2 in
-    ((tokens_takes line t.0 t.1).0 ∙ ap line_text r.spelled, r.fits)
-
-word_passes : (word : List ℕ) → bytes_eq word word ≡ true
-word_passes word = (bytes_eq-Decides word word).1 refl
-
-count_again : (wanted : List ℕ) (least most n : ℕ) → most < 2 ^ 64 → IsToken wanted → Within least most n → count_of_line wanted least most (count_text wanted n) ≡ Some n
-unfolding count_of_line count_of_tokens count_of_parts
-count_again wanted least most n small word fits =
-    let le = fits.most_count in
-    let spelled = tokens_again (wanted ∷ decimal n ∷ []) (two_tokens word (IsToken-decimal n (omega arith))) in
-    ap (option_and_then (count_of_tokens wanted least most)) spelled
-    ∙ rw (word_passes wanted, number_again most n small le, le-leb least n fits.least_count) refl
+pub count_field : (word : List ℕ) (least most : ℕ) → most < 2 ^ 64 → IsToken word → IsField (count_line word least most) (λ n. length word + 1 + 21)
+count_field word least most small token =
+    after_word token (fitting_field (Within least most) (tested_field (λ (n : ℕ). leb least n) (number_field most small))
+    (λ n fits. record { least_count = leb-true least n fits.1; most_count = fits.0 }) (λ n fits. (fits.most_count, le-leb least n fits.least_count)))
 
 -- the reader of counts is right
-pub count_reads : (wanted : List ℕ) (least most : ℕ) (line : List ℕ) → most < 2 ^ 64 → IsToken wanted → Reads (count_text wanted) (Within least most) line (count_of_line wanted least most line)
-count_reads wanted least most line small word = record {
-  found = some_or_none (count_of_line wanted least most line) (λ n. (line ≡ count_text wanted n) × Within least most n) (λ n h. count_takes wanted least most line n h);
-  again = λ n fits e. ap (count_of_line wanted least most) e ∙ count_again wanted least most n small word fits;
-}
+pub count_reads : (word : List ℕ) (least most : ℕ) (line : List ℕ) (count : Option ℕ) → most < 2 ^ 64 → IsToken word → count ≡ count_of_line word least most line → Reads (count_text word) (Within least most) line count
+unfolding count_of_line
+count_reads word least most line count small token is = field_reads (count_field word least most small token) is
 
 -- ---- kinds
 

@@ -1,6 +1,8 @@
 pub mod Cuts
 pub mod Digits
 pub mod Escapes
+pub mod Fields
+pub mod ValueFields
 pub mod HeaderLines
 pub mod Line
 pub mod Numbers
@@ -12,9 +14,8 @@ pub mod Rows
 pub mod SchemaLines
 pub mod Sending
 pub mod Spelled
-pub mod StepLines
-pub mod StepsSpelled
 pub mod StepsTaken
+pub mod StepLines
 pub mod Taking
 pub mod TokenLists
 pub mod TokenBytes

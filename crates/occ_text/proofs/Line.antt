@@ -1,10 +1,12 @@
 -- Lines out of the bytes that are still to come.
 use Rattle.std.proofs.Common.{◌≡◌, ◌≢◌, ℕ, ◌+◌, ◌-◌, ◌<◌, ◌≤◌, List, [], ◌∷◌, ◌++◌, length, take, drop, get_or, Option, refl, sym, ap, subst, ◌∙◌, append_assoc, take-append-drop, length-append, length-drop, arith}
-use Rattle.std.specs.List.{slice_range}
-use Rattle.std.proofs.lemmas.List.{append-nil, drop-drop, drop-take, drop_more, length-take-le}
+use Rattle.std.specs.List.{All, slice_range}
+use Rattle.memchr.specs.Find.{Nowhere, Passes, is_byte}
+use Rattle.std.proofs.lemmas.Bool.Decides.{nat_tests}
+use Rattle.std.proofs.lemmas.List.{append-nil, drop-drop, drop-take, drop_more, get_or-take, length-take-le}
 use Rattle.std.specs.Prelude.{Ok}
 use Rattle.std.proofs.KnownBytes.{Consumes-trans, Consumes-kept, prepend_known-read}
-use Rattle.std.proofs.lemmas.List.Elements.{All-append}
+use Rattle.std.proofs.lemmas.List.Elements.{All-append, All-from_get_or}
 use Rattle.std.specs.Io.KnownBytes.{Consumes, Keeps, prepend_known}
 use Rattle.occ_text.specs.declared.input.Piece.{Piece}
 use Rattle.occ_text.specs.declared.input.Piece.TheVariants.{Whole, Part, Long, Nothing}
@@ -82,3 +84,10 @@ GatherGives-from_last Long a b c mid new taken line ends p =
     (mid.line ++ p.0, p.1, Consumes-trans a b p.1 mid.line p.0 taken p.2, All-append (λ (byte : ℕ). byte ≢ 10) mid.line p.0 line.no_feed p.3, p.4)
 GatherGives-from_last Nothing a b c mid new taken line ends p =
     (subst (Consumes a c) (sym p.2) (Consumes-kept a b c mid.line taken p.0), p.1, subst IsLine (sym p.2) line)
+
+-- before its first place a byte doesn't stand
+pub before_first : (byte : ℕ) (bytes : List ℕ) (place : ℕ) → place ≤ length bytes → Nowhere (Passes (is_byte byte) bytes) 0 place → All (λ b. b ≢ byte) (take place bytes)
+before_first byte bytes place within none =
+    All-from_get_or (λ b. b ≢ byte) (take place bytes) 0 (λ i inside same.
+    let below : i < place = omega (arith, inside, length-take-le place bytes within) in
+    none i (omega arith) below (grind (arith, nat_tests, get_or-take place bytes i 0 below, same)))

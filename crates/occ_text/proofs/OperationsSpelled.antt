@@ -14,13 +14,12 @@ use Rattle.occ_text.specs.declared.versions.Version.{Version}
 use Rattle.occ_text.specs.Spelling.{key_text, end_text, row_text, IsToken, IsName, KeyFits, EndFits, RowFits}
 use Rattle.occ_text.specs.Reading.{Reads, is_name}
 use Rattle.occ_text.specs.Operations.{Operation, Get, Scan, Put, Delete, Add, operation_parts, operation_text, OperationFits}
-use Rattle.occ_text.specs.OperationReading.{get_of, delete_of, scan_of, put_of, add_of, short_operation, long_operation, operation_of_parts, read_operation}
-use Rattle.occ_text.proofs.Numbers.{some_or_none, int_again}
+use Rattle.occ_text.specs.OperationReading.{operation_of_parts, read_operation}
+use Rattle.occ_text.proofs.Numbers.{some_or_none}
 use Rattle.occ_text.proofs.Words.{both, split_joined, IsName-from_test}
 use Rattle.occ_text.proofs.Values.{Lacks, Separates, plain_differs}
 use Rattle.occ_text.proofs.Spelled.{of_key, of_end, of_cell, of_row, IsToken-name, IsToken-key, IsToken-end, IsToken-row, IsToken-int}
-use Rattle.occ_text.proofs.Readers.{name_again, key_again, end_again, row_again}
-use Rattle.occ_text.proofs.OperationsTaken.{operation_takes}
+use Rattle.occ_text.proofs.OperationsTaken.{operation_takes, parts_again}
 
 -- ---- no colon stands in a part
 
@@ -99,14 +98,6 @@ parts_some (Delete table key) = omega arith
 parts_some (Add table key amount) = omega arith
 
 -- ---- what is spelled is read
-
-parts_again : (version : Version) (operation : Operation) → OperationFits version operation → operation_of_parts version (operation_parts operation) ≡ Some operation
-unfolding operation_of_parts short_operation long_operation get_of delete_of scan_of put_of add_of
-parts_again version (Get table key) fits = rw (name_again table fits.0, key_again version key fits.1) refl
-parts_again version (Scan table lower upper) fits = rw (name_again table fits.0, end_again version lower fits.1, end_again version upper fits.2) refl
-parts_again version (Put table key row) fits = rw (name_again table fits.0, key_again version key fits.1, row_again row fits.2) refl
-parts_again version (Delete table key) fits = rw (name_again table fits.0, key_again version key fits.1) refl
-parts_again version (Add table key amount) fits = rw (name_again table fits.0, key_again version key fits.1, int_again amount fits.2) refl
 
 pub operation_again : (version : Version) (operation : Operation) → OperationFits version operation → read_operation version (operation_text operation) ≡ Some operation
 unfolding read_operation

@@ -9,8 +9,7 @@ use Rattle.occ_text.specs.StepReading.{step_of_tokens, step_of_line}
 use Rattle.occ_text.proofs.Numbers.{some_or_none}
 use Rattle.occ_text.proofs.Escapes.{bind_value}
 use Rattle.occ_text.proofs.Words.{tokens_takes, tokens_again}
-use Rattle.occ_text.proofs.StepsTaken.{tokens_take}
-use Rattle.occ_text.proofs.StepsSpelled.{tokens_again_of, step_AreTokens}
+use Rattle.occ_text.proofs.StepsTaken.{tokens_take, step_again}
 
 line_takes : (version : Version) (line : List ℕ) (step : Step) → step_of_line version line ≡ Some step → (line ≡ step_text step) × StepFits version step
 unfolding step_of_line
@@ -22,7 +21,7 @@ line_takes version line step h =
 line_again : (version : Version) (step : Step) → StepFits version step → step_of_line version (step_text step) ≡ Some step
 unfolding step_of_line
 line_again version step fits =
-    ap (option_and_then (step_of_tokens version)) (tokens_again (step_tokens step) (step_AreTokens version step fits)) ∙ tokens_again_of version step fits
+    ap (option_and_then (step_of_tokens version)) (tokens_again (step_tokens step) (step_again version step fits).words) ∙ (step_again version step fits).same
 
 -- the reader of steps is right
 pub step_reads : (version : Version) (line : List ℕ) → Reads step_text (StepFits version) line (step_of_line version line)

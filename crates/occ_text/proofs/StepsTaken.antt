@@ -1,21 +1,32 @@
--- What is read of the tokens of a step is spelled so.
-use Rattle.std.proofs.Common.{◌≡◌, ℕ, ◌^◌, ◌-◌, Bool, true, false, cond, List, [], ◌∷◌, Some, None, Result, refl, sym, ap, subst, ◌∙◌}
-use Rattle.std.specs.Prelude.{codes}
+-- What is read of the tokens of a step is spelled so, and what it is spelled as is read again.
+use Rattle.std.proofs.Common.{◌≡◌, ℕ, ◌^◌, ◌-◌, ◌+◌, Bool, true, false, cond, List, [], ◌∷◌, ◌++◌, length, map, Option, Some, None, lit<, refl, sym, ap, subst, ◌∙◌, arith}
+use Rattle.std.specs.Prelude.{option_map, option_and_then, codes}
 use Rattle.std.specs.Str.{bytes_eq}
+use Rattle.std.specs.Fmt.{decimal}
+use Rattle.std.proofs.lemmas.List.Elements.{All-cons}
 use Rattle.occ_text.specs.declared.versions.Version.{Version}
 use Rattle.occ_text.specs.declared.steps.Act.{Act}
-use Rattle.occ_text.specs.Reading.{number_of, name_of}
-use Rattle.occ_text.specs.declared.tokens.Unread.{Unread}
-use Rattle.occ_text.specs.Escapes.{Gives, read_key, read_end, read_row}
-use Rattle.occ_text.specs.Steps.{Step, Does, Get, Scan, Put, Delete, Forge, RawRead, Alone, Show, Checkpoint, act_word, step_tokens, StepFits}
-use Rattle.occ_text.specs.StepReading.{act_of, likely_act, bare_step, act_step, get_step, delete_step, transaction_of, start_of, forge_step, scan_step, put_step, raw_step, short_step, last_step, long_step, counted_step, alone_step, alone_of_tokens, step_of_tokens}
-use Rattle.occ_text.proofs.Numbers.{number_takes}
-use Rattle.occ_text.proofs.Escapes.{some_is, bind_value}
-use Rattle.occ_text.proofs.Words.{name_reads}
-use Rattle.occ_text.proofs.Values.{key_reads, end_reads, row_reads}
+use Rattle.occ_text.specs.declared.steps.Act.TheVariants as acts
+use Rattle.occ_text.specs.Spelling.{key_text, end_text, row_text, IsToken, AreTokens}
+use Rattle.occ_text.specs.Reading.{is_token, number_of}
+use Rattle.occ_text.specs.Operations.{operation_text}
 use Rattle.occ_text.specs.OperationReading.{operations_of}
-use Rattle.occ_text.proofs.OperationTokens.{operations_take}
-use Rattle.occ_text.proofs.Readers.{takes, word_is, this_word, no_word}
+use Rattle.occ_text.specs.Fields.{Tokens, next_token, at_end, ◌⊗◌}
+use Rattle.occ_text.specs.Steps.{Step, Does, Get, Scan, Put, Delete, Forge, RawRead, Alone, Show, Checkpoint, act_word, step_tokens, StepFits}
+use Rattle.occ_text.specs.StepReading as reading
+use Rattle.occ_text.specs.StepReading.{act_of, likely_act, get_step, delete_step, forge_step, scan_step, put_step, raw_step, forms, act_step, act_or, next_step, alone_step, alone_of_tokens, step_of_tokens}
+use Rattle.occ_text.proofs.Numbers.{number_takes, number_again}
+use Rattle.occ_text.proofs.Escapes.{some_is, bind_value, map_value}
+use Rattle.occ_text.proofs.Words.{IsToken-from_test}
+use Rattle.occ_text.proofs.Spelled.{IsToken-decimal}
+use Rattle.occ_text.proofs.OperationTokens.{operations_take, operations_again, AreTokens-operations}
+use Rattle.occ_text.proofs.Readers.{word_is, this_word}
+use Rattle.occ_text.proofs.TokenLists.{more_tokens}
+use Rattle.occ_text.specs.ValueFields as fields
+use Rattle.occ_text.proofs.ValueFields.{name_field, key_field, end_field, row_field}
+use Rattle.occ_text.proofs.Fields.{IsField, IsSpelled, EachTakes, number_field, one_and_other, alone_takes, behind_takes, by_word-takes, alone_spelled, behind_spelled, end-takes, append_nil}
+
+-- ---- acts
 
 if_act : (word : List ℕ) (likely act : Act) (p : Bool) → bytes_eq word (act_word likely) ≡ p → cond p (Some likely) None ≡ Some act → word ≡ act_word act
 if_act word likely act true is h = word_is word (act_word likely) is ∙ ap act_word (some_is likely act h)
@@ -27,158 +38,110 @@ act_takes [] act h = absurd cc
 act_takes (a ∷ []) act h = absurd cc
 act_takes (a ∷ b ∷ cs) act h = if_act (a ∷ b ∷ cs) (likely_act a b) act _ refl h
 
--- ---- what was read of some tokens
+act_again : (act : Act) → act_of (act_word act) ≡ Some act
+unfolding act_of likely_act
+act_again acts.Begin = refl
+act_again acts.Abandon = refl
+act_again acts.Submit = refl
+act_again acts.Close = refl
+act_again acts.Enter = refl
+act_again acts.Serial = refl
+act_again acts.Decide = refl
+act_again acts.Write = refl
+act_again acts.Finish = refl
+act_again acts.BackUp = refl
 
+act_alone : (act : Act) → bytes_eq (act_word act) (codes "alone") ≡ false
+act_alone acts.Begin = refl
+act_alone acts.Abandon = refl
+act_alone acts.Submit = refl
+act_alone acts.Close = refl
+act_alone acts.Enter = refl
+act_alone acts.Serial = refl
+act_alone acts.Decide = refl
+act_alone acts.Write = refl
+act_alone acts.Finish = refl
+act_alone acts.BackUp = refl
+
+IsToken-act : (act : Act) → IsToken (act_word act)
+unfolding is_token
+IsToken-act acts.Begin = IsToken-from_test _ refl
+IsToken-act acts.Abandon = IsToken-from_test _ refl
+IsToken-act acts.Submit = IsToken-from_test _ refl
+IsToken-act acts.Close = IsToken-from_test _ refl
+IsToken-act acts.Enter = IsToken-from_test _ refl
+IsToken-act acts.Serial = IsToken-from_test _ refl
+IsToken-act acts.Decide = IsToken-from_test _ refl
+IsToken-act acts.Write = IsToken-from_test _ refl
+IsToken-act acts.Finish = IsToken-from_test _ refl
+IsToken-act acts.BackUp = IsToken-from_test _ refl
+
+-- ---- what stands behind a word
+
+session_field : IsField reading.session (λ n. 21)
+session_field = number_field 255 (lit< tt)
+
+of_key : (version : Version) → IsField (reading.session ⊗ fields.name ⊗ fields.key version) (λ p. 21 + (17 + (length (key_text p.1.1) + 1)))
+of_key version = one_and_other session_field (one_and_other name_field (key_field version))
+
+of_row : (version : Version) → IsField (reading.session ⊗ fields.name ⊗ fields.key version ⊗ fields.row) (λ p. 21 + (17 + ((length (key_text p.1.1.0) + 1) + (length (row_text p.1.1.1) + 1))))
+of_row version = one_and_other session_field (one_and_other name_field (one_and_other (key_field version) row_field))
+
+of_ends : (version : Version) → IsField (reading.session ⊗ fields.name ⊗ fields.end version ⊗ fields.end version) (λ p. 21 + (17 + ((length (end_text p.1.1.0) + 1) + (length (end_text p.1.1.1) + 1))))
+of_ends version = one_and_other session_field (one_and_other name_field (one_and_other (end_field version) (end_field version)))
+
+of_numbers : IsField (reading.session ⊗ reading.transaction ⊗ reading.start) (λ p. 63)
+of_numbers = one_and_other session_field (one_and_other (number_field (2 ^ 32 - 1) (lit< tt)) (number_field (2 ^ 64 - 1) (lit< tt)))
+
+of_raw : (version : Version) → IsField (reading.session ⊗ reading.transaction ⊗ reading.start ⊗ fields.name ⊗ fields.key version) (λ p. 21 + (21 + (21 + (17 + (length (key_text p.1.1.1.1) + 1)))))
+of_raw version =
+    one_and_other session_field (one_and_other (number_field (2 ^ 32 - 1) (lit< tt)) (one_and_other (number_field (2 ^ 64 - 1) (lit< tt)) (one_and_other name_field (key_field version))))
+
+-- ---- what is read is spelled so
+
+forms_take : (version : Version) → EachTakes step_tokens (StepFits version) (forms version)
+unfolding get_step put_step scan_step delete_step forge_step raw_step
+forms_take version = (
+  behind_takes step_tokens (StepFits version) (codes "get") (λ p. Get p.0 p.1.0 p.1.1) (of_key version) (λ p. refl) (λ p f. (f.0, f.1.0, f.1.1)),
+  (
+    behind_takes step_tokens (StepFits version) (codes "put") (λ p. Put p.0 p.1.0 p.1.1.0 p.1.1.1) (of_row version) (λ p. refl) (λ p f. (f.0, f.1.0, f.1.1.0, f.1.1.1)),
+    (
+      behind_takes step_tokens (StepFits version) (codes "scan") (λ p. Scan p.0 p.1.0 p.1.1.0 p.1.1.1) (of_ends version) (λ p. refl) (λ p f. (f.0, f.1.0, f.1.1.0, f.1.1.1)),
+      (
+        behind_takes step_tokens (StepFits version) (codes "delete") (λ p. Delete p.0 p.1.0 p.1.1) (of_key version) (λ p. refl) (λ p f. (f.0, f.1.0, f.1.1)),
+        (
+          behind_takes step_tokens (StepFits version) (codes "forge") (λ p. Forge p.0 p.1.0 p.1.1) of_numbers (λ p. refl) (λ p f. (f.0, f.1.0, f.1.1)),
+          (
+            behind_takes step_tokens (StepFits version) (codes "rawread") (λ p. RawRead p.0 p.1.0 p.1.1.0 p.1.1.1.0 p.1.1.1.1) (of_raw version) (λ p. refl) (λ p f. (f.0, f.1.0, f.1.1.0, f.1.1.1.0, f.1.1.1.1)),
+            (
+              alone_takes step_tokens (StepFits version) (codes "show") Show refl tt,
+              (alone_takes step_tokens (StepFits version) (codes "checkpoint") Checkpoint refl tt, tt),
+            ),
+          ),
+        ),
+      ),
+    ),
+  ),
+)
+
+step_takes : (version : Version) (word : List ℕ) (tokens : Tokens) (p : Step × Tokens) → next_step version (word, tokens) ≡ Some p → (word ∷ tokens ≡ step_tokens p.0 ++ p.1) × StepFits version p.0
+unfolding next_step act_step
+step_takes version word tokens p h = by (act_of word) refl h
+  where
+    by : (act : Option Act) → act_of word ≡ act → act_or version (word, tokens) act ≡ Some p → (word ∷ tokens ≡ step_tokens p.0 ++ p.1) × StepFits version p.0
+    by (Some act) is k =
+        let t = behind_takes step_tokens (StepFits version) (act_word act) (Does act) session_field (λ n. refl) (λ n f. f) tokens p k in
+        (ap (λ (w : List ℕ). w ∷ tokens) (act_takes word act is) ∙ t.0, t.1)
+    by None is k = by_word-takes step_tokens (StepFits version) (forms version) word tokens p (forms_take version) k
+
+-- what was read of some tokens
 pub record Read (version : Version) (tokens : List (List ℕ)) (step : Step) : Type 0 where
   pub spelled : tokens ≡ step_tokens step
   pub fits : StepFits version step
 
-bare_takes : (version : Version) (word : List ℕ) (b d : Bool) (step : Step) → bytes_eq word (codes "show") ≡ b → bytes_eq word (codes "checkpoint") ≡ d → cond b (Some Show) (cond d (Some Checkpoint) None) ≡ Some step → Read version (word ∷ []) step
-bare_takes version word true d step h k e =
-    subst (Read version (word ∷ [])) (some_is Show step e) (record { spelled = ap (λ (w : List ℕ). w ∷ []) (word_is word (codes "show") h); fits = tt })
-bare_takes version word false true step h k e =
-    subst (Read version (word ∷ [])) (some_is Checkpoint step e) (record { spelled = ap (λ (w : List ℕ). w ∷ []) (word_is word (codes "checkpoint") k); fits = tt })
-bare_takes version word false false step h k e = absurd cc
-
-does_takes : (version : Version) (word session : List ℕ) (step : Step) → act_step word session ≡ Some step → Read version (word ∷ session ∷ []) step
-unfolding act_step
-does_takes version word session step h =
-    let a = bind_value (act_of word) _ step h in
-    let s = bind_value (number_of 255 session) _ step a.2 in
-    let w = act_takes word a.0 a.1 in
-    let n = number_takes 255 session s.0 s.1 in
-    subst (Read version (word ∷ session ∷ [])) (some_is (Does a.0 s.0) step s.2) (record { spelled = λ i. w i ∷ n.0 i ∷ []; fits = n.1 })
-
-get_takes : (version : Version) (session table key : List ℕ) (step : Step) → get_step version session table key ≡ Some step → Read version (codes "get" ∷ session ∷ table ∷ key ∷ []) step
-unfolding get_step
-get_takes version session table key step h =
-    let s = bind_value (number_of 255 session) _ step h in
-    let t = bind_value (name_of table) _ step s.2 in
-    let k = bind_value (read_key version key) _ step t.2 in
-    let n = number_takes 255 session s.0 s.1 in
-    let name = takes (name_reads table) t.0 t.1 in
-    let one = takes (key_reads version key) k.0 k.1 in
-    subst (Read version (codes "get" ∷ session ∷ table ∷ key ∷ [])) (some_is (Get s.0 t.0 k.0) step k.2) (record {
-      spelled = λ i. codes "get" ∷ n.0 i ∷ name.0 i ∷ one.0 i ∷ [];
-      fits = (n.1, name.1, one.1);
-    })
-
-delete_takes : (version : Version) (session table key : List ℕ) (step : Step) → delete_step version session table key ≡ Some step → Read version (codes "delete" ∷ session ∷ table ∷ key ∷ []) step
-unfolding delete_step
-delete_takes version session table key step h =
-    let s = bind_value (number_of 255 session) _ step h in
-    let t = bind_value (name_of table) _ step s.2 in
-    let k = bind_value (read_key version key) _ step t.2 in
-    let n = number_takes 255 session s.0 s.1 in
-    let name = takes (name_reads table) t.0 t.1 in
-    let one = takes (key_reads version key) k.0 k.1 in
-    subst (Read version (codes "delete" ∷ session ∷ table ∷ key ∷ [])) (some_is (Delete s.0 t.0 k.0) step k.2) (record {
-      spelled = λ i. codes "delete" ∷ n.0 i ∷ name.0 i ∷ one.0 i ∷ [];
-      fits = (n.1, name.1, one.1);
-    })
-
-forge_takes : (version : Version) (session number start : List ℕ) (step : Step) → forge_step session number start ≡ Some step → Read version (codes "forge" ∷ session ∷ number ∷ start ∷ []) step
-unfolding forge_step
-forge_takes version session number start step h =
-    let s = bind_value (number_of 255 session) _ step h in
-    let n = bind_value (transaction_of number) _ step s.2 in
-    let b = bind_value (start_of start) _ step n.2 in
-    let one = number_takes 255 session s.0 s.1 in
-    let two = number_takes (2 ^ 32 - 1) number n.0 n.1 in
-    let three = number_takes (2 ^ 64 - 1) start b.0 b.1 in
-    subst (Read version (codes "forge" ∷ session ∷ number ∷ start ∷ [])) (some_is (Forge s.0 n.0 b.0) step b.2) (record {
-      spelled = λ i. codes "forge" ∷ one.0 i ∷ two.0 i ∷ three.0 i ∷ [];
-      fits = (one.1, two.1, three.1);
-    })
-
-raw_takes : (version : Version) (session number start table key : List ℕ) (step : Step) → raw_step version session number start table key ≡ Some step → Read version (codes "rawread" ∷ session ∷ number ∷ start ∷ table ∷ key ∷ []) step
-unfolding raw_step
-raw_takes version session number start table key step h =
-    let s = bind_value (number_of 255 session) _ step h in
-    let n = bind_value (transaction_of number) _ step s.2 in
-    let b = bind_value (start_of start) _ step n.2 in
-    let t = bind_value (name_of table) _ step b.2 in
-    let k = bind_value (read_key version key) _ step t.2 in
-    let one = number_takes 255 session s.0 s.1 in
-    let two = number_takes (2 ^ 32 - 1) number n.0 n.1 in
-    let three = number_takes (2 ^ 64 - 1) start b.0 b.1 in
-    let name = takes (name_reads table) t.0 t.1 in
-    let four = takes (key_reads version key) k.0 k.1 in
-    subst (Read version (codes "rawread" ∷ session ∷ number ∷ start ∷ table ∷ key ∷ [])) (some_is (RawRead s.0 n.0 b.0 t.0 k.0) step k.2) (record {
-      spelled = λ i. codes "rawread" ∷ one.0 i ∷ two.0 i ∷ three.0 i ∷ name.0 i ∷ four.0 i ∷ [];
-      fits = (one.1, two.1, three.1, name.1, four.1);
-    })
-
-scan_takes : (version : Version) (session table lower upper : List ℕ) (step : Step) → scan_step version session table lower upper ≡ Some step → Read version (codes "scan" ∷ session ∷ table ∷ lower ∷ upper ∷ []) step
-unfolding scan_step
-scan_takes version session table lower upper step h =
-    let s = bind_value (number_of 255 session) _ step h in
-    let t = bind_value (name_of table) _ step s.2 in
-    let l = bind_value (read_end version lower) _ step t.2 in
-    let u = bind_value (read_end version upper) _ step l.2 in
-    let n = number_takes 255 session s.0 s.1 in
-    let name = takes (name_reads table) t.0 t.1 in
-    let low = takes (end_reads version lower) l.0 l.1 in
-    let high = takes (end_reads version upper) u.0 u.1 in
-    subst (Read version (codes "scan" ∷ session ∷ table ∷ lower ∷ upper ∷ [])) (some_is (Scan s.0 t.0 l.0 u.0) step u.2) (record {
-      spelled = λ i. codes "scan" ∷ n.0 i ∷ name.0 i ∷ low.0 i ∷ high.0 i ∷ [];
-      fits = (n.1, name.1, low.1, high.1);
-    })
-
-put_takes : (version : Version) (session table key row : List ℕ) (step : Step) → put_step version session table key row ≡ Some step → Read version (codes "put" ∷ session ∷ table ∷ key ∷ row ∷ []) step
-unfolding put_step
-put_takes version session table key row step h =
-    let s = bind_value (number_of 255 session) _ step h in
-    let t = bind_value (name_of table) _ step s.2 in
-    let k = bind_value (read_key version key) _ step t.2 in
-    let r = bind_value (read_row row) _ step k.2 in
-    let n = number_takes 255 session s.0 s.1 in
-    let name = takes (name_reads table) t.0 t.1 in
-    let one = takes (key_reads version key) k.0 k.1 in
-    let cells = takes (row_reads row) r.0 r.1 in
-    subst (Read version (codes "put" ∷ session ∷ table ∷ key ∷ row ∷ [])) (some_is (Put s.0 t.0 k.0 r.0) step r.2) (record {
-      spelled = λ i. codes "put" ∷ n.0 i ∷ name.0 i ∷ one.0 i ∷ cells.0 i ∷ [];
-      fits = (n.1, name.1, one.1, cells.1);
-    })
-
-short_takes : (version : Version) (word session second third : List ℕ) (step : Step) → short_step version word session second third ≡ Some step → Read version (word ∷ session ∷ second ∷ third ∷ []) step
-unfolding short_step
-short_takes version word session second third step h =
-    let rest = session ∷ second ∷ third ∷ [] in
-    this_word (Read version) (codes "get") word rest (get_step version session second third) _ step _ refl (get_takes version session second third step)
-    (this_word (Read version) (codes "delete") word rest (delete_step version session second third) _ step _ refl (delete_takes version session second third step)
-    (this_word (Read version) (codes "forge") word rest (forge_step session second third) None step _ refl (forge_takes version session second third step) (no_word (Read version) (word ∷ rest) step))) h
-
-last_takes : (version : Version) (word session table key last : List ℕ) (step : Step) → last_step version word session table key last ≡ Some step → Read version (word ∷ session ∷ table ∷ key ∷ last ∷ []) step
-unfolding last_step
-last_takes version word session table key last step h =
-    let rest = session ∷ table ∷ key ∷ last ∷ [] in
-    this_word (Read version) (codes "scan") word rest (scan_step version session table key last) _ step _ refl (scan_takes version session table key last step)
-    (this_word (Read version) (codes "put") word rest (put_step version session table key last) None step _ refl (put_takes version session table key last step) (no_word (Read version) (word ∷ rest) step)) h
-
-long_takes : (version : Version) (word session number start table key : List ℕ) (step : Step) → long_step version word session number start table key ≡ Some step → Read version (word ∷ session ∷ number ∷ start ∷ table ∷ key ∷ []) step
-unfolding long_step
-long_takes version word session number start table key step h =
-    let rest = session ∷ number ∷ start ∷ table ∷ key ∷ [] in
-    this_word (Read version) (codes "rawread") word rest (raw_step version session number start table key) None step _ refl (raw_takes version session number start table key step) (no_word (Read version) (word ∷ rest) step) h
-
-bare_step_takes : (version : Version) (word : List ℕ) (step : Step) → bare_step word ≡ Some step → Read version (word ∷ []) step
-unfolding bare_step
-bare_step_takes version word step h = bare_takes version word (bytes_eq word (codes "show")) (bytes_eq word (codes "checkpoint")) step refl refl h
-
-counted_takes : (version : Version) (word : List ℕ) (tokens : List (List ℕ)) (step : Step) → counted_step version word tokens ≡ Some step → Read version (word ∷ tokens) step
-unfolding counted_step
-counted_takes version word [] step h = bare_step_takes version word step h
-counted_takes version word (s ∷ []) step h = does_takes version word s step h
-counted_takes version word (s ∷ t ∷ []) step h = absurd cc
-counted_takes version word (s ∷ t ∷ k ∷ []) step h = short_takes version word s t k step h
-counted_takes version word (s ∷ t ∷ k ∷ l ∷ []) step h = last_takes version word s t k l step h
-counted_takes version word (s ∷ n ∷ b ∷ t ∷ k ∷ []) step h = long_takes version word s n b t k step h
-counted_takes version word (s ∷ t ∷ k ∷ l ∷ m ∷ more ∷ others) step h = absurd cc
-
-alone_takes : (version : Version) (session : List ℕ) (tokens : List (List ℕ)) (step : Step) → alone_step version session tokens ≡ Some step → Read version (codes "alone" ∷ session ∷ tokens) step
+run_takes : (version : Version) (session : List ℕ) (tokens : List (List ℕ)) (step : Step) → alone_step version session tokens ≡ Some step → Read version (codes "alone" ∷ session ∷ tokens) step
 unfolding alone_step
-alone_takes version session tokens step h =
+run_takes version session tokens step h =
     let s = bind_value (number_of 255 session) _ step h in
     let o = bind_value (operations_of version tokens) _ step s.2 in
     let n = number_takes 255 session s.0 s.1 in
@@ -191,25 +154,62 @@ alone_takes version session tokens step h =
 alone_tokens_take : (version : Version) (tokens : List (List ℕ)) (step : Step) → alone_of_tokens version tokens ≡ Some step → Read version (codes "alone" ∷ tokens) step
 unfolding alone_of_tokens
 alone_tokens_take version [] step h = absurd cc
-alone_tokens_take version (session ∷ tokens) step h = alone_takes version session tokens step h
+alone_tokens_take version (session ∷ tokens) step h = run_takes version session tokens step h
+
+others_take : (version : Version) (word : List ℕ) (tokens : Tokens) (step : Step) → option_and_then (λ (s : Step × Tokens). option_map (λ end. s.0) (at_end s.1)) (next_step version (word, tokens)) ≡ Some step → Read version (word ∷ tokens) step
+others_take version word tokens step h =
+    let s = bind_value (next_step version (word, tokens)) _ step h in
+    let e = map_value (at_end s.0.1) (λ u. s.0.0) step s.2 in
+    let t = step_takes version word tokens s.0 s.1 in
+    subst (Read version (word ∷ tokens)) e.2 (record { spelled = t.0 ∙ ap (λ (l : Tokens). step_tokens s.0.0 ++ l) (end-takes s.0.1 e.0 e.1) ∙ append_nil (step_tokens s.0.0); fits = t.1 })
 
 pub tokens_take : (version : Version) (tokens : List (List ℕ)) (step : Step) → step_of_tokens version tokens ≡ Some step → Read version tokens step
 unfolding step_of_tokens
 tokens_take version [] step h = absurd cc
 tokens_take version (word ∷ tokens) step h =
-    this_word (Read version) (codes "alone") word tokens (alone_of_tokens version tokens) (counted_step version word tokens) step _ refl (alone_tokens_take version tokens step) (counted_takes version word tokens step) h
+    this_word (Read version) (codes "alone") word tokens (alone_of_tokens version tokens) _ step _ refl (alone_tokens_take version tokens step) (others_take version word tokens step) h
 
--- what was read of the tokens behind the first word is what was read of all
-pub gives_alone : {S : Type 0} (version : Version) (view : S → Step) (r : Result S Unread) (all rest : List (List ℕ)) (word : List ℕ) → all ≡ word ∷ rest → bytes_eq word (codes "alone") ≡ true
-    → Gives view r (alone_of_tokens version rest) → Gives view r (step_of_tokens version all)
-unfolding step_of_tokens
-gives_alone version view r all rest word same is gives =
-    let e : step_of_tokens version (word ∷ rest) ≡ alone_of_tokens version rest = rw is refl in
-    subst (Gives view r) (sym (ap (step_of_tokens version) same ∙ e)) gives
+-- ---- what is spelled so is read again
 
-pub gives_counted : {S : Type 0} (version : Version) (view : S → Step) (r : Result S Unread) (all rest : List (List ℕ)) (word : List ℕ) → all ≡ word ∷ rest → bytes_eq word (codes "alone") ≡ false
-    → Gives view r (counted_step version word rest) → Gives view r (step_of_tokens version all)
+pub record Again (version : Version) (step : Step) : Type 0 where
+  pub words : AreTokens (step_tokens step)
+  pub same : step_of_tokens version (step_tokens step) ≡ Some step
+
+-- a step that isn't a run alone
+other_again : (version : Version) (word : List ℕ) (rest : Tokens) (step : Step) {most : ℕ} → bytes_eq word (codes "alone") ≡ false → step_tokens step ≡ word ∷ rest
+    → IsSpelled (λ tokens. option_and_then (next_step version) (next_token tokens)) (word ∷ rest) step most → Again version step
 unfolding step_of_tokens
-gives_counted version view r all rest word same other gives =
-    let e : step_of_tokens version (word ∷ rest) ≡ counted_step version word rest = rw other refl in
-    subst (Gives view r) (sym (ap (step_of_tokens version) same ∙ e)) gives
+other_again version word rest step other is s =
+    let read : next_step version (word, rest) ≡ Some (step, []) = ap (λ (l : Tokens). next_step version (word, l)) (sym (append_nil rest)) ∙ s.again [] in
+    record {
+      words = subst AreTokens (sym is) s.words;
+      same = ap (step_of_tokens version) is ∙ rw other (ap (option_and_then (λ (p : Step × Tokens). option_map (λ end. p.0) (at_end p.1))) read);
+    }
+
+pub step_again : (version : Version) (step : Step) → StepFits version step → Again version step
+unfolding step_of_tokens alone_of_tokens alone_step next_step act_step get_step delete_step forge_step scan_step put_step raw_step act_of likely_act is_token
+step_again version (Does act session) fits =
+    other_again version _ _ (Does act session) (act_alone act) refl (behind_spelled (Does act) session session_field (IsToken-act act) (λ rest. ap (act_or version (act_word act, rest)) (act_again act)) fits)
+step_again version (Get session table key) fits =
+    other_again version _ _ (Get session table key) refl refl (behind_spelled (λ p. Get p.0 p.1.0 p.1.1) (session, (table, key)) (of_key version) (IsToken-from_test (codes "get") refl) (λ rest. refl) (fits.0, (fits.1, fits.2)))
+step_again version (Put session table key row) fits =
+    other_again version _ _ (Put session table key row) refl refl
+    (behind_spelled (λ p. Put p.0 p.1.0 p.1.1.0 p.1.1.1) (session, (table, (key, row))) (of_row version) (IsToken-from_test (codes "put") refl) (λ rest. refl) (fits.0, (fits.1, (fits.2, fits.3))))
+step_again version (Scan session table lower upper) fits =
+    other_again version _ _ (Scan session table lower upper) refl refl
+    (behind_spelled (λ p. Scan p.0 p.1.0 p.1.1.0 p.1.1.1) (session, (table, (lower, upper))) (of_ends version) (IsToken-from_test (codes "scan") refl) (λ rest. refl) (fits.0, (fits.1, (fits.2, fits.3))))
+step_again version (Delete session table key) fits =
+    other_again version _ _ (Delete session table key) refl refl (behind_spelled (λ p. Delete p.0 p.1.0 p.1.1) (session, (table, key)) (of_key version) (IsToken-from_test (codes "delete") refl) (λ rest. refl) (fits.0, (fits.1, fits.2)))
+step_again version (Forge session number start) fits =
+    other_again version _ _ (Forge session number start) refl refl (behind_spelled (λ p. Forge p.0 p.1.0 p.1.1) (session, (number, start)) of_numbers (IsToken-from_test (codes "forge") refl) (λ rest. refl) (fits.0, (fits.1, fits.2)))
+step_again version (RawRead session number start table key) fits =
+    other_again version _ _ (RawRead session number start table key) refl refl
+    (behind_spelled (λ p. RawRead p.0 p.1.0 p.1.1.0 p.1.1.1.0 p.1.1.1.1) (session, (number, (start, (table, key)))) (of_raw version) (IsToken-from_test (codes "rawread") refl) (λ rest. refl)
+    (fits.0, (fits.1, (fits.2, (fits.3, fits.4)))))
+step_again version (Alone session operations) fits = record {
+  words = more_tokens (codes "alone") (decimal session ∷ map operation_text operations) (IsToken-from_test (codes "alone") refl)
+      (record { some = omega arith; each = All-cons IsToken (decimal session) (map operation_text operations) (IsToken-decimal session (omega (arith, fits.0))) (AreTokens-operations version operations fits.2) });
+  same = rw (number_again 255 session (lit< tt) fits.0, operations_again version operations fits.1 fits.2) refl;
+}
+step_again version Show fits = other_again version _ _ Show refl refl (alone_spelled (IsToken-from_test (codes "show") refl) (λ rest. refl))
+step_again version Checkpoint fits = other_again version _ _ Checkpoint refl refl (alone_spelled (IsToken-from_test (codes "checkpoint") refl) (λ rest. refl))

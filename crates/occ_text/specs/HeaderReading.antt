@@ -9,26 +9,16 @@ use Rattle.occ_types.specs.declared.kind.PartKind.TheVariants as parts
 use Rattle.occ_types.specs.Schema.{Table}
 use Rattle.occ_text.specs.declared.versions.Version.{Version}
 use Rattle.occ_text.specs.declared.versions.Version.TheVariants.{One, Two}
-use Rattle.occ_text.specs.Reading.{◌>>=◌, tokens_of, number_of, name_of}
-
--- a number that isn't too small
-abbrev pub at_least : ℕ → ℕ → Option ℕ
-at_least least n = if nat_le least n then Some n else None
+use Rattle.occ_text.specs.Reading.{◌>>=◌, tokens_of, name_of}
+use Rattle.occ_text.specs.Headers.{Within}
+use Rattle.occ_text.specs.Fields.{Field, number, after, tested, fitting, of_line}
 
 -- WORD N
-unfoldable pub count_of_parts : List ℕ → ℕ → ℕ → List ℕ → List ℕ → Option ℕ
-count_of_parts wanted least most word number = if bytes_eq word wanted then option_and_then (at_least least) (number_of most number) else None
+abbrev pub count_line : List ℕ → ℕ → ℕ → Field ℕ
+count_line word least most = after word (fitting (Within least most) (tested (λ n. nat_le least n) (number most)))
 
--- the count of some tokens
-unfoldable pub count_of_tokens : List ℕ → ℕ → ℕ → List (List ℕ) → Option ℕ
-count_of_tokens wanted least most [] = None
-count_of_tokens wanted least most (word ∷ []) = None
-count_of_tokens wanted least most (word ∷ number ∷ []) = count_of_parts wanted least most word number
-count_of_tokens wanted least most (word ∷ number ∷ other ∷ more) = None
-
--- the count of a line
 unfoldable pub count_of_line : List ℕ → ℕ → ℕ → List ℕ → Option ℕ
-count_of_line wanted least most line = option_and_then (count_of_tokens wanted least most) (tokens_of line)
+count_of_line word least most line = of_line (count_line word least most) line
 
 -- the version that a text's first line says
 unfoldable pub version_of : List ℕ → Option Version

@@ -1,13 +1,14 @@
 pub mod Digits
 pub mod Escapes
 pub mod Faults
+pub mod Fields
 pub mod HeaderReading
 pub mod HeaderTaking
 pub mod Headers
 pub mod Line
 pub mod OperationReading
 pub mod Operations
-pub mod Parts
+pub mod SeparatedParts
 pub mod Printing
 pub mod Reading
 pub mod Sending
@@ -16,3 +17,4 @@ pub mod Status
 pub mod StepReading
 pub mod Steps
 pub mod TokenBytes
+pub mod ValueFields

@@ -1,69 +1,46 @@
--- Reading the operations of a run alone, by the number of their parts and then by their words.
-use Rattle.std.specs.Prelude.{◌==◌, ℕ, List, [], ◌∷◌, Option, Some, None, if◌then◌else◌, option_map, option_and_then, codes}
+-- Reading the operations of a run alone, by their words.
+use Rattle.std.specs.Prelude.{◌==◌, ℕ, List, [], ◌∷◌, Option, Some, None, option_map, option_and_then, codes}
 use Rattle.std.specs.List.{slice_split}
-use Rattle.std.specs.Str.{bytes_eq}
-use Rattle.occ_text.specs.Reading.{◌>>=◌, name_of, int_of}
+use Rattle.occ_text.specs.Fields.{Tokens, Field, next_token, ◌⊗◌, behind, by_word, whole}
+use Rattle.occ_text.specs.ValueFields.{name, key, end, row, int}
 use Rattle.occ_text.specs.declared.versions.Version.{Version}
-use Rattle.occ_text.specs.Escapes.{read_key, read_end, read_row}
-use Rattle.occ_text.specs.Operations.{Operation, Get, Scan, Put, Delete, Add}
+use Rattle.occ_text.specs.Operations.{Operation, Get, Scan, Put, Delete, Add, operation_parts, OperationFits}
 
 -- get:NAME:KEY
-unfoldable pub get_of : Version → List ℕ → List ℕ → Option Operation
-get_of version table key = do
-  t ← name_of table
-  k ← read_key version key
-  Some (Get t k)
+unfoldable pub get_of : Version → Tokens → Option (Operation × Tokens)
+get_of version = behind (λ p. Get p.0 p.1) (name ⊗ key version)
 
 -- delete:NAME:KEY
-unfoldable pub delete_of : Version → List ℕ → List ℕ → Option Operation
-delete_of version table key = do
-  t ← name_of table
-  k ← read_key version key
-  Some (Delete t k)
+unfoldable pub delete_of : Version → Tokens → Option (Operation × Tokens)
+delete_of version = behind (λ p. Delete p.0 p.1) (name ⊗ key version)
 
 -- scan:NAME:KEY:KEY
-unfoldable pub scan_of : Version → List ℕ → List ℕ → List ℕ → Option Operation
-scan_of version table lower upper = do
-  t ← name_of table
-  l ← read_end version lower
-  u ← read_end version upper
-  Some (Scan t l u)
+unfoldable pub scan_of : Version → Tokens → Option (Operation × Tokens)
+scan_of version = behind (λ p. Scan p.0 p.1.0 p.1.1) (name ⊗ end version ⊗ end version)
 
 -- put:NAME:KEY:ROW
-unfoldable pub put_of : Version → List ℕ → List ℕ → List ℕ → Option Operation
-put_of version table key row = do
-  t ← name_of table
-  k ← read_key version key
-  r ← read_row row
-  Some (Put t k r)
+unfoldable pub put_of : Version → Tokens → Option (Operation × Tokens)
+put_of version = behind (λ p. Put p.0 p.1.0 p.1.1) (name ⊗ key version ⊗ row)
 
 -- add:NAME:KEY:INT
-unfoldable pub add_of : Version → List ℕ → List ℕ → List ℕ → Option Operation
-add_of version table key amount = do
-  t ← name_of table
-  k ← read_key version key
-  n ← int_of amount
-  Some (Add t k n)
+unfoldable pub add_of : Version → Tokens → Option (Operation × Tokens)
+add_of version = behind (λ p. Add p.0 p.1.0 p.1.1) (name ⊗ key version ⊗ int)
 
--- WORD:NAME:KEY
-unfoldable pub short_operation : Version → List ℕ → List ℕ → List ℕ → Option Operation
-short_operation version word table key = if bytes_eq word (codes "get") then get_of version table key
-    else (if bytes_eq word (codes "delete") then delete_of version table key else None)
+abbrev pub forms : Version → List (List ℕ × (Tokens → Option (Operation × Tokens)))
+forms version =
+    (codes "get", get_of version)
+    ∷ (codes "put", put_of version)
+    ∷ (codes "scan", scan_of version)
+    ∷ (codes "delete", delete_of version)
+    ∷ (codes "add", add_of version)
+    ∷ []
 
--- WORD:NAME:KEY:LAST
-unfoldable pub long_operation : Version → List ℕ → List ℕ → List ℕ → List ℕ → Option Operation
-long_operation version word table key last = if bytes_eq word (codes "scan") then scan_of version table key last
-    else (if bytes_eq word (codes "put") then put_of version table key last
-    else (if bytes_eq word (codes "add") then add_of version table key last else None))
+-- the parts of an operation
+abbrev pub operation_field : Version → Field Operation
+operation_field version = record { read = λ parts. option_and_then (by_word (forms version)) (next_token parts); spell = operation_parts; fits = OperationFits version }
 
--- the operation of some parts
-unfoldable pub operation_of_parts : Version → List (List ℕ) → Option Operation
-operation_of_parts version [] = None
-operation_of_parts version (word ∷ []) = None
-operation_of_parts version (word ∷ t ∷ []) = None
-operation_of_parts version (word ∷ t ∷ k ∷ []) = short_operation version word t k
-operation_of_parts version (word ∷ t ∷ k ∷ l ∷ []) = long_operation version word t k l
-operation_of_parts version (word ∷ t ∷ k ∷ l ∷ more ∷ others) = None
+unfoldable pub operation_of_parts : Version → Tokens → Option Operation
+operation_of_parts version parts = whole (operation_field version) parts
 
 -- the operation of a token
 unfoldable pub read_operation : Version → List ℕ → Option Operation

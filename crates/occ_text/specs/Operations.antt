@@ -5,7 +5,7 @@ use Rattle.std.specs.Fmt.{signed_decimal}
 use Rattle.std.specs.List.{join_with_byte}
 use Rattle.occ_types.specs.Key.{Key}
 use Rattle.occ_types.specs.Row.{Row}
-use Rattle.occ_types.specs.Seen.{key_of, end_of}
+use Rattle.occ_types.specs.PlainData.{key_of, end_of}
 use Rattle.occ_text.specs.Spelling.{key_text, end_text, row_text, IsName, KeyFits, EndFits, RowFits}
 use Rattle.occ_text.specs.declared.versions.Version.{Version}
 use Rattle.occ_text.specs.declared.operations.Operation as code_operation

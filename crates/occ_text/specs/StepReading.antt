@@ -1,12 +1,14 @@
--- Reading the lines of steps, by the number of their tokens and then by their words.
-use Rattle.std.specs.Prelude.{◌-◌, ◌^◌, ◌==◌, ℕ, List, [], ◌∷◌, Option, Some, None, if◌then◌else◌, option_and_then, codes}
+-- Reading the lines of steps, by their words.
+use Rattle.std.specs.Prelude.{◌-◌, ◌^◌, ◌==◌, ℕ, List, [], ◌∷◌, Option, Some, None, if◌then◌else◌, option_map, option_and_then, codes}
 use Rattle.std.specs.Str.{bytes_eq}
 use Rattle.occ_text.specs.declared.steps.Act.{Act}
 use Rattle.occ_text.specs.declared.steps.Act.TheVariants.{Begin, Abandon, Submit, Close, Enter, Serial, Decide, Write, Finish, BackUp}
 pub use Rattle.occ_text.specs.Reading.{◌>>=◌}
-use Rattle.occ_text.specs.Reading.{tokens_of, number_of, name_of}
+use Rattle.occ_text.specs.Reading.{tokens_of, number_of}
+pub use Rattle.occ_text.specs.ValueFields.{next_end}
+use Rattle.occ_text.specs.ValueFields.{name, key, end, row}
+use Rattle.occ_text.specs.Fields.{Tokens, Field, at_end, number, ◌⊗◌, behind, alone, by_word}
 use Rattle.occ_text.specs.declared.versions.Version.{Version}
-use Rattle.occ_text.specs.Escapes.{read_key, read_end, read_row}
 use Rattle.occ_text.specs.OperationReading.{operations_of}
 use Rattle.occ_text.specs.Steps.{Step, Does, Get, Scan, Put, Delete, Forge, RawRead, Alone, Show, Checkpoint, act_word}
 
@@ -31,101 +33,67 @@ act_of [] = None
 act_of (a ∷ []) = None
 act_of (a ∷ b ∷ cs) = act_if (a ∷ b ∷ cs) (likely_act a b)
 
--- WORD
-unfoldable pub bare_step : List ℕ → Option Step
-bare_step word = if bytes_eq word (codes "show") then Some Show else (if bytes_eq word (codes "checkpoint") then Some Checkpoint else None)
+-- ---- what stands behind a word
 
--- WORD S
-unfoldable pub act_step : List ℕ → List ℕ → Option Step
-act_step word session = do
-  act ← act_of word
-  s ← number_of 255 session
-  Some (Does act s)
+abbrev pub session : Field ℕ
+session = number 255
+
+-- the number of a transaction, and its start
+abbrev pub transaction : Field ℕ
+transaction = number (2 ^ 32 - 1)
+
+abbrev pub start : Field ℕ
+start = number (2 ^ 64 - 1)
+
+-- ---- the forms
 
 -- get S NAME KEY
-unfoldable pub get_step : Version → List ℕ → List ℕ → List ℕ → Option Step
-get_step version session table key = do
-  s ← number_of 255 session
-  t ← name_of table
-  k ← read_key version key
-  Some (Get s t k)
+unfoldable pub get_step : Version → Tokens → Option (Step × Tokens)
+get_step version = behind (λ p. Get p.0 p.1.0 p.1.1) (session ⊗ name ⊗ key version)
 
 -- delete S NAME KEY
-unfoldable pub delete_step : Version → List ℕ → List ℕ → List ℕ → Option Step
-delete_step version session table key = do
-  s ← number_of 255 session
-  t ← name_of table
-  k ← read_key version key
-  Some (Delete s t k)
-
--- the number of a transaction
-abbrev pub transaction_of : List ℕ → Option ℕ
-transaction_of = number_of (2 ^ 32 - 1)
-
--- the start of a transaction
-abbrev pub start_of : List ℕ → Option ℕ
-start_of = number_of (2 ^ 64 - 1)
-
--- forge S N START
-unfoldable pub forge_step : List ℕ → List ℕ → List ℕ → Option Step
-forge_step session number start = do
-  s ← number_of 255 session
-  n ← transaction_of number
-  from ← start_of start
-  Some (Forge s n from)
-
--- rawread S N START NAME KEY
-unfoldable pub raw_step : Version → List ℕ → List ℕ → List ℕ → List ℕ → List ℕ → Option Step
-raw_step version session number start table key = do
-  s ← number_of 255 session
-  n ← transaction_of number
-  from ← start_of start
-  t ← name_of table
-  k ← read_key version key
-  Some (RawRead s n from t k)
-
--- scan S NAME KEY KEY
-unfoldable pub scan_step : Version → List ℕ → List ℕ → List ℕ → List ℕ → Option Step
-scan_step version session table lower upper = do
-  s ← number_of 255 session
-  t ← name_of table
-  l ← read_end version lower
-  u ← read_end version upper
-  Some (Scan s t l u)
+unfoldable pub delete_step : Version → Tokens → Option (Step × Tokens)
+delete_step version = behind (λ p. Delete p.0 p.1.0 p.1.1) (session ⊗ name ⊗ key version)
 
 -- put S NAME KEY ROW
-unfoldable pub put_step : Version → List ℕ → List ℕ → List ℕ → List ℕ → Option Step
-put_step version session table key row = do
-  s ← number_of 255 session
-  t ← name_of table
-  k ← read_key version key
-  r ← read_row row
-  Some (Put s t k r)
+unfoldable pub put_step : Version → Tokens → Option (Step × Tokens)
+put_step version = behind (λ p. Put p.0 p.1.0 p.1.1.0 p.1.1.1) (session ⊗ name ⊗ key version ⊗ row)
 
--- WORD S NAME KEY, or WORD S N START
-unfoldable pub short_step : Version → List ℕ → List ℕ → List ℕ → List ℕ → Option Step
-short_step version word session second third = if bytes_eq word (codes "get") then get_step version session second third
-    else (if bytes_eq word (codes "delete") then delete_step version session second third
-    else (if bytes_eq word (codes "forge") then forge_step session second third else None))
+-- scan S NAME KEY KEY
+unfoldable pub scan_step : Version → Tokens → Option (Step × Tokens)
+scan_step version = behind (λ p. Scan p.0 p.1.0 p.1.1.0 p.1.1.1) (session ⊗ name ⊗ end version ⊗ end version)
 
--- WORD S NAME KEY LAST
-unfoldable pub last_step : Version → List ℕ → List ℕ → List ℕ → List ℕ → List ℕ → Option Step
-last_step version word session table key last = if bytes_eq word (codes "scan") then scan_step version session table key last
-    else (if bytes_eq word (codes "put") then put_step version session table key last else None)
+-- forge S N START
+unfoldable pub forge_step : Tokens → Option (Step × Tokens)
+forge_step = behind (λ p. Forge p.0 p.1.0 p.1.1) (session ⊗ transaction ⊗ start)
 
--- WORD S N START NAME KEY
-unfoldable pub long_step : Version → List ℕ → List ℕ → List ℕ → List ℕ → List ℕ → List ℕ → Option Step
-long_step version word session number start table key = if bytes_eq word (codes "rawread") then raw_step version session number start table key else None
+-- rawread S N START NAME KEY
+unfoldable pub raw_step : Version → Tokens → Option (Step × Tokens)
+raw_step version = behind (λ p. RawRead p.0 p.1.0 p.1.1.0 p.1.1.1.0 p.1.1.1.1) (session ⊗ transaction ⊗ start ⊗ name ⊗ key version)
 
--- the step of a word and some tokens, by their number
-unfoldable pub counted_step : Version → List ℕ → List (List ℕ) → Option Step
-counted_step version word [] = bare_step word
-counted_step version word (s ∷ []) = act_step word s
-counted_step version word (s ∷ t ∷ []) = None
-counted_step version word (s ∷ t ∷ k ∷ []) = short_step version word s t k
-counted_step version word (s ∷ t ∷ k ∷ l ∷ []) = last_step version word s t k l
-counted_step version word (s ∷ n ∷ from ∷ t ∷ k ∷ []) = long_step version word s n from t k
-counted_step version word (s ∷ t ∷ k ∷ l ∷ m ∷ more ∷ others) = None
+abbrev pub forms : Version → List (List ℕ × (Tokens → Option (Step × Tokens)))
+forms version =
+    (codes "get", get_step version)
+    ∷ (codes "put", put_step version)
+    ∷ (codes "scan", scan_step version)
+    ∷ (codes "delete", delete_step version)
+    ∷ (codes "forge", forge_step)
+    ∷ (codes "rawread", raw_step version)
+    ∷ (codes "show", alone Show)
+    ∷ (codes "checkpoint", alone Checkpoint)
+    ∷ []
+
+-- WORD S
+unfoldable pub act_step : Act → Tokens → Option (Step × Tokens)
+act_step act = behind (Does act) session
+
+abbrev pub act_or : Version → List ℕ × Tokens → Option Act → Option (Step × Tokens)
+act_or version token (Some act) = act_step act token.1
+act_or version token None = by_word (forms version) token
+
+-- what a word and the tokens behind it say: an act, or a step of another form
+unfoldable pub next_step : Version → List ℕ × Tokens → Option (Step × Tokens)
+next_step version token = act_or version token (act_of token.0)
 
 -- alone S OP ..
 unfoldable pub alone_step : Version → List ℕ → List (List ℕ) → Option Step
@@ -142,7 +110,8 @@ alone_of_tokens version (s ∷ tokens) = alone_step version s tokens
 -- the step of some tokens
 unfoldable pub step_of_tokens : Version → List (List ℕ) → Option Step
 step_of_tokens version [] = None
-step_of_tokens version (word ∷ tokens) = if bytes_eq word (codes "alone") then alone_of_tokens version tokens else counted_step version word tokens
+step_of_tokens version (word ∷ tokens) = if bytes_eq word (codes "alone") then alone_of_tokens version tokens
+    else option_and_then (λ step. option_map (λ end. step.0) (at_end step.1)) (next_step version (word, tokens))
 
 -- the step of a line
 unfoldable pub step_of_line : Version → List ℕ → Option Step

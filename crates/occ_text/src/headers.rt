@@ -5,23 +5,24 @@ ghost use Rattle.std.specs.List.{list_any};
 ghost use Rattle.std.specs.Io.KnownBytes.{prepend_known};
 ghost use Rattle.occ_types.specs.Schema as plain;
 ghost use Rattle.occ_types.specs.Fits.{has_name};
-ghost use Rattle.occ_types.specs.Seen.{table_of, tables_of};
+ghost use Rattle.occ_types.specs.PlainData.{table_of, tables_of};
 ghost use Rattle.occ_text.specs.Escapes.{Gives};
 ghost use Rattle.occ_text.specs.Faults.{widened};
 ghost use Rattle.occ_text.specs.declared.faults.LineFault.TheVariants as line_faults;
 ghost use Rattle.occ_text.specs.declared.faults.ReadFault.TheVariants as read_faults;
-ghost use Rattle.occ_text.specs.HeaderReading.{version_of, count_of_parts, count_of_tokens, count_of_line, table_of_parts, table_of_tokens, table_of_line};
+ghost use Rattle.occ_text.specs.HeaderReading.{version_of, count_of_line, table_of_parts, table_of_tokens, table_of_line};
 ghost use Rattle.occ_text.specs.HeaderTaking.{TablesSoFar, table_behind, NextTaken, TablesTaken, LimitsTaken, HeaderTaken, header_of};
 ghost use Rattle.occ_text.specs.Headers.{version_text, count_text, table_text, Within, TableHasLine};
 ghost use Rattle.occ_text.specs.Line.{Taken, HasFailed};
 ghost use Rattle.occ_text.specs.Reading.{Reads};
 ghost use Rattle.occ_text.specs.Spelling.{IsToken};
 
+use crate::cursors::{at_end, next_number, next_word};
 use crate::faults::{LineFault, ReadFault, read_at_line};
 use crate::input::Input;
 use crate::kinds::{columns, key_kind};
-use crate::parts::Parts;
-use crate::tokens::{Unread, is_word, name, number, tokens};
+use crate::separated_parts::Parts;
+use crate::tokens::{Unread, is_word, name, tokens};
 use crate::versions::Version;
 use occ_types::limits::{MAX_KEEP, MAX_QUEUE, MAX_SESSIONS, MAX_TABLES};
 use occ_types::{Schema, TableDef, Text};
@@ -78,39 +79,27 @@ pub fn is_steps(line: &[u8]) -> bool
     is_word(line, "steps")
 }
 
-// The number of a word and a number, if the word is the one that is wanted and the number lies within limits.
-#[tactic(auto, unfolding(crate::specs::HeaderReading::count_of_parts))]
-fn count_of_parts(wanted: &str, least: u64, most: u64, word: &[u8], digits: &[u8]) -> Option<u64>
-    ensures { result ≡ count_of_parts wanted.now least most word.now digits.now }
+#[tactic(auto, unfolding(crate::specs::HeaderReading::count_of_line))]
+fn count_value(line: &[u8], word: &str, least: u64, most: u64) -> Option<u64>
+    ensures { result ≡ count_of_line word.now least most line.now }
 {
-    if !is_word(word, wanted) {
+    let mut parts = tokens(line)?;
+    next_word(&mut parts, word)?;
+    let count = next_number(&mut parts, most)?;
+    if count < least {
         return None;
     }
-    let count = number(digits, most)?;
-    if least <= count { Some(count) } else { None }
-}
-
-// The number of two tokens.
-fn count_of_tokens(wanted: &str, least: u64, most: u64, mut parts: Parts<'_>) -> Option<u64>
-    ensures { result ≡ count_of_tokens wanted.now least most parts.entry }
-{
-    let word = parts.take_part()?;
-    let digits = parts.take_part()?;
-    match parts.take_part() {
-        None => count_of_parts(wanted, least, most, word, digits),
-        Some(_) => None,
-    }
+    at_end(&mut parts)?;
+    Some(count)
 }
 
 /// The number of a line of a word and a number within limits. None where the line is none.
-#[tactic(auto, unfolding(crate::specs::HeaderReading::count_of_line))]
 pub fn count(line: &[u8], word: &str, least: u64, most: u64) -> Option<u64>
     requires { IsToken word.now }
     ensures exact { result ≡ count_of_line word.now least most line.now }
     ensures grammar { Reads (count_text word.now) (Within least most) line.now result }
 {
-    let parts = tokens(line)?;
-    count_of_tokens(word, least, most, parts)
+    count_value(line, word, least, most)
 }
 
 #[tactic(auto, unfolding(crate::specs::HeaderReading::table_of_parts))]

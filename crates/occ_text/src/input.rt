@@ -1,12 +1,12 @@
 //! Input that is taken line by line, in a bounded room whatever the text is.
 
-ghost use Rattle.std.specs.Prelude.{◌≡◌, ◌≤◌, ◌<◌, ◌+◌, [], length, IfOk, IfErr, true, false};
+ghost use Rattle.std.specs.Prelude.{◌≡◌, ◌≢◌, ◌≤◌, ◌<◌, ◌+◌, [], All, take, length, slice_index, IfOk, IfErr, true, false};
 ghost use Rattle.std.specs.Io.KnownBytes.{Keeps, IsAtEnd, ReadConsumes, prepend_known};
 ghost use Rattle.occ_text.specs.Line.{LineGives, LineTaken, GatherGives, PieceGives, TakesPiece, HasFailed};
 ghost use Rattle.occ_text.specs.declared.faults.LineFault.TheVariants as line_faults;
 
 use crate::faults::{LineFault, ReadFailed};
-use crate::parts::find;
+use memchr::memchr;
 use std::alloc::{AllocError, Allocator};
 use std::io::{ErrorKind, Read};
 use std::marker::Model;
@@ -217,7 +217,7 @@ impl<A: Allocator> Input<A> {
         ensures unfailed { self.new.failed ≡ self.old.failed }
     {
         let unread = &self.block[self.from..self.to];
-        let len = find(unread, FEED);
+        let len = before_feed(unread);
         if self.line.len() + len > MAX_LINE {
             return Piece::Long;
         }
@@ -229,6 +229,18 @@ impl<A: Allocator> Input<A> {
             self.from = self.to;
             Piece::Part
         }
+    }
+}
+
+/// How many bytes stand before the first line feed, or all of them where there is none.
+fn before_feed(bytes: &[u8]) -> usize
+    ensures within { result ≤ length bytes.now }
+    ensures before { All (λ byte. byte ≢ 10) (take result bytes.now) }
+    ensures found { result < length bytes.now → slice_index bytes.now result ≡ 10 }
+{
+    match memchr(FEED, bytes) {
+        Some(place) => place,
+        None => bytes.len(),
     }
 }
 

@@ -4,7 +4,7 @@ ghost use Rattle.std.specs.Prelude.{◌≡◌};
 ghost use Rattle.occ_text.specs.Escapes.{Gives};
 ghost use Rattle.occ_text.specs.HeaderReading.{pair_kind_of, newer_kind_of, key_kind_of, kind_of, columns_of};
 
-use crate::parts::Parts;
+use crate::separated_parts::Parts;
 use crate::tokens::{Unread, is_word};
 use crate::versions::Version;
 use occ_types::limits::MAX_COLUMNS;

@@ -1,6 +1,7 @@
 //! The texts of the store: lines, tokens, values, headers and steps, and what can go wrong with them.
 #![tactic(auto)]
 
+pub mod cursors;
 pub mod faults;
 pub mod headers;
 pub mod input;
@@ -8,7 +9,7 @@ mod kinds;
 pub mod operation_reading;
 pub mod operations;
 pub mod output;
-pub mod parts;
+pub mod separated_parts;
 mod step_forms;
 pub mod step_reading;
 mod step_words;

@@ -2,14 +2,15 @@
 
 ghost use Rattle.std.specs.Prelude.{◌≡◌, Some, IfOk, map};
 ghost use Rattle.occ_text.specs.Escapes.{Gives};
+ghost use Rattle.occ_text.specs.Fields.{GivesNext, by_word};
 ghost use Rattle.occ_text.specs.Operations as plain;
 ghost use Rattle.occ_text.specs.Operations.{operation_of, operation_text, OperationFits};
-ghost use Rattle.occ_text.specs.OperationReading.{get_of, delete_of, scan_of, put_of, add_of, short_operation, long_operation, operation_of_parts, read_operation, operations_of};
+ghost use Rattle.occ_text.specs.OperationReading.{get_of, delete_of, scan_of, put_of, add_of, forms, operation_of_parts, read_operation, operations_of};
 
+use crate::cursors::{at_end, next_end, next_int, next_key, next_name, next_row, next_token};
 use crate::operations::Operation;
-use crate::parts::Parts;
-use crate::texts;
-use crate::tokens::{Unread, int, is_word, name};
+use crate::separated_parts::Parts;
+use crate::tokens::{Unread, is_word};
 use crate::versions::Version;
 use std::alloc::Allocator;
 
@@ -18,13 +19,12 @@ use std::alloc::Allocator;
 fn get_of<'a, A: Allocator + Copy>(
     alloc: A,
     version: Version,
-    table: &'a [u8],
-    key: &[u8],
+    parts: &mut Parts<'a>,
 ) -> Result<Operation<'a, A>, Unread>
-    ensures { Gives operation_of result (get_of version table.now key.now) }
+    ensures { GivesNext operation_of result (get_of version parts.old) parts.new }
 {
-    let table = name(table).ok_or(Unread::Malformed)?;
-    let key = texts::key(alloc, version, key)?;
+    let table = next_name(parts).ok_or(Unread::Malformed)?;
+    let key = next_key(alloc, version, parts)?;
     Ok(Operation::Get { table, key })
 }
 
@@ -33,13 +33,12 @@ fn get_of<'a, A: Allocator + Copy>(
 fn delete_of<'a, A: Allocator + Copy>(
     alloc: A,
     version: Version,
-    table: &'a [u8],
-    key: &[u8],
+    parts: &mut Parts<'a>,
 ) -> Result<Operation<'a, A>, Unread>
-    ensures { Gives operation_of result (delete_of version table.now key.now) }
+    ensures { GivesNext operation_of result (delete_of version parts.old) parts.new }
 {
-    let table = name(table).ok_or(Unread::Malformed)?;
-    let key = texts::key(alloc, version, key)?;
+    let table = next_name(parts).ok_or(Unread::Malformed)?;
+    let key = next_key(alloc, version, parts)?;
     Ok(Operation::Delete { table, key })
 }
 
@@ -48,15 +47,13 @@ fn delete_of<'a, A: Allocator + Copy>(
 fn scan_of<'a, A: Allocator + Copy>(
     alloc: A,
     version: Version,
-    table: &'a [u8],
-    lower: &[u8],
-    upper: &[u8],
+    parts: &mut Parts<'a>,
 ) -> Result<Operation<'a, A>, Unread>
-    ensures { Gives operation_of result (scan_of version table.now lower.now upper.now) }
+    ensures { GivesNext operation_of result (scan_of version parts.old) parts.new }
 {
-    let table = name(table).ok_or(Unread::Malformed)?;
-    let lower = texts::end(alloc, version, lower)?;
-    let upper = texts::end(alloc, version, upper)?;
+    let table = next_name(parts).ok_or(Unread::Malformed)?;
+    let lower = next_end(alloc, version, parts)?;
+    let upper = next_end(alloc, version, parts)?;
     Ok(Operation::Scan {
         table,
         lower,
@@ -69,15 +66,13 @@ fn scan_of<'a, A: Allocator + Copy>(
 fn put_of<'a, A: Allocator + Copy>(
     alloc: A,
     version: Version,
-    table: &'a [u8],
-    key: &[u8],
-    row: &[u8],
+    parts: &mut Parts<'a>,
 ) -> Result<Operation<'a, A>, Unread>
-    ensures { Gives operation_of result (put_of version table.now key.now row.now) }
+    ensures { GivesNext operation_of result (put_of version parts.old) parts.new }
 {
-    let table = name(table).ok_or(Unread::Malformed)?;
-    let key = texts::key(alloc, version, key)?;
-    let row = texts::row(alloc, row)?;
+    let table = next_name(parts).ok_or(Unread::Malformed)?;
+    let key = next_key(alloc, version, parts)?;
+    let row = next_row(alloc, parts)?;
     Ok(Operation::Put { table, key, row })
 }
 
@@ -86,62 +81,41 @@ fn put_of<'a, A: Allocator + Copy>(
 fn add_of<'a, A: Allocator + Copy>(
     alloc: A,
     version: Version,
-    table: &'a [u8],
-    key: &[u8],
-    amount: &[u8],
+    parts: &mut Parts<'a>,
 ) -> Result<Operation<'a, A>, Unread>
-    ensures { Gives operation_of result (add_of version table.now key.now amount.now) }
+    ensures { GivesNext operation_of result (add_of version parts.old) parts.new }
 {
-    let table = name(table).ok_or(Unread::Malformed)?;
-    let key = texts::key(alloc, version, key)?;
-    let amount = int(amount).ok_or(Unread::Malformed)?;
+    let table = next_name(parts).ok_or(Unread::Malformed)?;
+    let key = next_key(alloc, version, parts)?;
+    let amount = next_int(parts).ok_or(Unread::Malformed)?;
     Ok(Operation::Add { table, key, amount })
 }
 
-/// `WORD:NAME:KEY`.
-#[tactic(auto, unfolding(crate::specs::OperationReading::short_operation))]
-fn short_operation<'a, A: Allocator + Copy>(
+/// The operation of a word, from the parts behind it.
+fn next_operation<'a, A: Allocator + Copy>(
     alloc: A,
     version: Version,
     word: &[u8],
-    table: &'a [u8],
-    key: &[u8],
+    parts: &mut Parts<'a>,
 ) -> Result<Operation<'a, A>, Unread>
-    ensures { Gives operation_of result (short_operation version word.now table.now key.now) }
+    ensures { GivesNext operation_of result (by_word (forms version) (word.now, parts.old)) parts.new }
 {
     if is_word(word, "get") {
-        get_of(alloc, version, table, key)
-    } else if is_word(word, "delete") {
-        delete_of(alloc, version, table, key)
-    } else {
-        Err(Unread::Malformed)
-    }
-}
-
-/// `WORD:NAME:KEY:LAST`.
-#[tactic(auto, unfolding(crate::specs::OperationReading::long_operation))]
-fn long_operation<'a, A: Allocator + Copy>(
-    alloc: A,
-    version: Version,
-    word: &[u8],
-    table: &'a [u8],
-    key: &[u8],
-    last: &[u8],
-) -> Result<Operation<'a, A>, Unread>
-    ensures { Gives operation_of result (long_operation version word.now table.now key.now last.now) }
-{
-    if is_word(word, "scan") {
-        scan_of(alloc, version, table, key, last)
+        get_of(alloc, version, parts)
     } else if is_word(word, "put") {
-        put_of(alloc, version, table, key, last)
+        put_of(alloc, version, parts)
+    } else if is_word(word, "scan") {
+        scan_of(alloc, version, parts)
+    } else if is_word(word, "delete") {
+        delete_of(alloc, version, parts)
     } else if is_word(word, "add") {
-        add_of(alloc, version, table, key, last)
+        add_of(alloc, version, parts)
     } else {
         Err(Unread::Malformed)
     }
 }
 
-/// The operation of some parts, by their number.
+#[tactic(auto, unfolding(crate::specs::OperationReading::operation_of_parts))]
 fn operation_of_parts<'a, A: Allocator + Copy>(
     alloc: A,
     version: Version,
@@ -149,22 +123,10 @@ fn operation_of_parts<'a, A: Allocator + Copy>(
 ) -> Result<Operation<'a, A>, Unread>
     ensures { Gives operation_of result (operation_of_parts version parts.entry) }
 {
-    let Some(word) = parts.take_part() else {
-        return Err(Unread::Malformed);
-    };
-    let Some(table) = parts.take_part() else {
-        return Err(Unread::Malformed);
-    };
-    let Some(key) = parts.take_part() else {
-        return Err(Unread::Malformed);
-    };
-    let Some(last) = parts.take_part() else {
-        return short_operation(alloc, version, word, table, key);
-    };
-    match parts.take_part() {
-        None => long_operation(alloc, version, word, table, key, last),
-        Some(_) => Err(Unread::Malformed),
-    }
+    let word = next_token(&mut parts).ok_or(Unread::Malformed)?;
+    let operation = next_operation(alloc, version, word, &mut parts)?;
+    at_end(&mut parts).ok_or(Unread::Malformed)?;
+    Ok(operation)
 }
 
 #[tactic(auto, unfolding(crate::specs::OperationReading::read_operation))]

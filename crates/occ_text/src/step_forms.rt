@@ -2,15 +2,16 @@
 
 ghost use Rattle.std.specs.Prelude.{◌≡◌};
 ghost use Rattle.occ_text.specs.Escapes.{Gives};
+ghost use Rattle.occ_text.specs.Fields.{GivesNext};
 ghost use Rattle.occ_text.specs.StepReading.{get_step, delete_step, forge_step, scan_step, put_step, raw_step, alone_step};
 ghost use Rattle.occ_text.specs.Steps.{step_of};
 
+use crate::cursors::{next_end, next_key, next_name, next_row};
 use crate::operation_reading::operations;
-use crate::parts::Parts;
-use crate::step_words::{self, transaction};
+use crate::separated_parts::Parts;
+use crate::step_words::{self, next_session, next_start, next_transaction};
 use crate::steps::Step;
-use crate::texts;
-use crate::tokens::{Unread, name};
+use crate::tokens::Unread;
 use crate::versions::Version;
 use std::alloc::Allocator;
 
@@ -19,15 +20,13 @@ use std::alloc::Allocator;
 pub(crate) fn get_step<'a, A: Allocator + Copy>(
     alloc: A,
     version: Version,
-    session: &[u8],
-    table: &'a [u8],
-    key: &[u8],
+    parts: &mut Parts<'a>,
 ) -> Result<Step<'a, A>, Unread>
-    ensures { Gives step_of result (get_step version session.now table.now key.now) }
+    ensures { GivesNext step_of result (get_step version parts.old) parts.new }
 {
-    let session = step_words::session(session).ok_or(Unread::Malformed)?;
-    let table = name(table).ok_or(Unread::Malformed)?;
-    let key = texts::key(alloc, version, key)?;
+    let session = next_session(parts).ok_or(Unread::Malformed)?;
+    let table = next_name(parts).ok_or(Unread::Malformed)?;
+    let key = next_key(alloc, version, parts)?;
     Ok(Step::Get {
         session,
         table,
@@ -40,15 +39,13 @@ pub(crate) fn get_step<'a, A: Allocator + Copy>(
 pub(crate) fn delete_step<'a, A: Allocator + Copy>(
     alloc: A,
     version: Version,
-    session: &[u8],
-    table: &'a [u8],
-    key: &[u8],
+    parts: &mut Parts<'a>,
 ) -> Result<Step<'a, A>, Unread>
-    ensures { Gives step_of result (delete_step version session.now table.now key.now) }
+    ensures { GivesNext step_of result (delete_step version parts.old) parts.new }
 {
-    let session = step_words::session(session).ok_or(Unread::Malformed)?;
-    let table = name(table).ok_or(Unread::Malformed)?;
-    let key = texts::key(alloc, version, key)?;
+    let session = next_session(parts).ok_or(Unread::Malformed)?;
+    let table = next_name(parts).ok_or(Unread::Malformed)?;
+    let key = next_key(alloc, version, parts)?;
     Ok(Step::Delete {
         session,
         table,
@@ -58,16 +55,12 @@ pub(crate) fn delete_step<'a, A: Allocator + Copy>(
 
 /// `forge S N START`.
 #[tactic(auto, unfolding(crate::specs::StepReading::forge_step))]
-pub(crate) fn forge_step<'a, A: Allocator>(
-    session: &[u8],
-    number: &[u8],
-    start: &[u8],
-) -> Result<Step<'a, A>, Unread>
-    ensures { Gives step_of result (forge_step session.now number.now start.now) }
+pub(crate) fn forge_step<'a, A: Allocator>(parts: &mut Parts<'a>) -> Result<Step<'a, A>, Unread>
+    ensures { GivesNext step_of result (forge_step parts.old) parts.new }
 {
-    let session = step_words::session(session).ok_or(Unread::Malformed)?;
-    let number = transaction(number).ok_or(Unread::Malformed)?;
-    let start = step_words::start(start).ok_or(Unread::Malformed)?;
+    let session = next_session(parts).ok_or(Unread::Malformed)?;
+    let number = next_transaction(parts).ok_or(Unread::Malformed)?;
+    let start = next_start(parts).ok_or(Unread::Malformed)?;
     Ok(Step::Forge {
         session,
         number,
@@ -80,17 +73,14 @@ pub(crate) fn forge_step<'a, A: Allocator>(
 pub(crate) fn scan_step<'a, A: Allocator + Copy>(
     alloc: A,
     version: Version,
-    session: &[u8],
-    table: &'a [u8],
-    lower: &[u8],
-    upper: &[u8],
+    parts: &mut Parts<'a>,
 ) -> Result<Step<'a, A>, Unread>
-    ensures { Gives step_of result (scan_step version session.now table.now lower.now upper.now) }
+    ensures { GivesNext step_of result (scan_step version parts.old) parts.new }
 {
-    let session = step_words::session(session).ok_or(Unread::Malformed)?;
-    let table = name(table).ok_or(Unread::Malformed)?;
-    let lower = texts::end(alloc, version, lower)?;
-    let upper = texts::end(alloc, version, upper)?;
+    let session = next_session(parts).ok_or(Unread::Malformed)?;
+    let table = next_name(parts).ok_or(Unread::Malformed)?;
+    let lower = next_end(alloc, version, parts)?;
+    let upper = next_end(alloc, version, parts)?;
     Ok(Step::Scan {
         session,
         table,
@@ -104,17 +94,14 @@ pub(crate) fn scan_step<'a, A: Allocator + Copy>(
 pub(crate) fn put_step<'a, A: Allocator + Copy>(
     alloc: A,
     version: Version,
-    session: &[u8],
-    table: &'a [u8],
-    key: &[u8],
-    row: &[u8],
+    parts: &mut Parts<'a>,
 ) -> Result<Step<'a, A>, Unread>
-    ensures { Gives step_of result (put_step version session.now table.now key.now row.now) }
+    ensures { GivesNext step_of result (put_step version parts.old) parts.new }
 {
-    let session = step_words::session(session).ok_or(Unread::Malformed)?;
-    let table = name(table).ok_or(Unread::Malformed)?;
-    let key = texts::key(alloc, version, key)?;
-    let row = texts::row(alloc, row)?;
+    let session = next_session(parts).ok_or(Unread::Malformed)?;
+    let table = next_name(parts).ok_or(Unread::Malformed)?;
+    let key = next_key(alloc, version, parts)?;
+    let row = next_row(alloc, parts)?;
     Ok(Step::Put {
         session,
         table,
@@ -128,19 +115,15 @@ pub(crate) fn put_step<'a, A: Allocator + Copy>(
 pub(crate) fn raw_step<'a, A: Allocator + Copy>(
     alloc: A,
     version: Version,
-    session: &[u8],
-    number: &[u8],
-    start: &[u8],
-    table: &'a [u8],
-    key: &[u8],
+    parts: &mut Parts<'a>,
 ) -> Result<Step<'a, A>, Unread>
-    ensures { Gives step_of result (raw_step version session.now number.now start.now table.now key.now) }
+    ensures { GivesNext step_of result (raw_step version parts.old) parts.new }
 {
-    let session = step_words::session(session).ok_or(Unread::Malformed)?;
-    let number = transaction(number).ok_or(Unread::Malformed)?;
-    let start = step_words::start(start).ok_or(Unread::Malformed)?;
-    let table = name(table).ok_or(Unread::Malformed)?;
-    let key = texts::key(alloc, version, key)?;
+    let session = next_session(parts).ok_or(Unread::Malformed)?;
+    let number = next_transaction(parts).ok_or(Unread::Malformed)?;
+    let start = next_start(parts).ok_or(Unread::Malformed)?;
+    let table = next_name(parts).ok_or(Unread::Malformed)?;
+    let key = next_key(alloc, version, parts)?;
     Ok(Step::RawRead {
         session,
         number,

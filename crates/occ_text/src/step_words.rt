@@ -1,10 +1,13 @@
 //! The words of steps, and the numbers that stand behind them.
 
 ghost use Rattle.std.specs.Prelude.{◌≡◌, ◌-◌, ◌^◌};
+ghost use Rattle.occ_text.specs.Fields.{before, next_number};
 ghost use Rattle.occ_text.specs.Reading.{number_of};
 ghost use Rattle.occ_text.specs.StepReading.{act_of, likely_act};
 ghost use Rattle.occ_text.specs.Steps.{act_word};
 
+use crate::cursors::next_number;
+use crate::separated_parts::Parts;
 use crate::steps::Act;
 use crate::tokens::{is_word, number};
 
@@ -68,16 +71,24 @@ pub(crate) fn session(token: &[u8]) -> Option<usize>
     Some(number(token, 255)? as usize)
 }
 
-/// The number of a transaction, which may be one that its session never comes to.
-pub(crate) fn transaction(token: &[u8]) -> Option<u64>
-    ensures { result ≡ number_of (2 ^ 32 - 1) token.now }
+/// The next token as a session.
+pub(crate) fn next_session(parts: &mut Parts<'_>) -> Option<usize>
+    ensures { before parts.new result ≡ next_number 255 parts.old }
 {
-    number(token, u32::MAX as u64)
+    let session = next_number(parts, 255)?;
+    Some(session as usize)
+}
+
+/// The number of a transaction, which may be one that its session never comes to.
+pub(crate) fn next_transaction(parts: &mut Parts<'_>) -> Option<u64>
+    ensures { before parts.new result ≡ next_number (2 ^ 32 - 1) parts.old }
+{
+    next_number(parts, u32::MAX as u64)
 }
 
 /// The start of a transaction, which may lie above the counter.
-pub(crate) fn start(token: &[u8]) -> Option<u64>
-    ensures { result ≡ number_of (2 ^ 64 - 1) token.now }
+pub(crate) fn next_start(parts: &mut Parts<'_>) -> Option<u64>
+    ensures { before parts.new result ≡ next_number (2 ^ 64 - 1) parts.old }
 {
-    number(token, u64::MAX)
+    next_number(parts, u64::MAX)
 }

@@ -3,11 +3,11 @@
 ghost use Rattle.std.specs.Prelude.{◌≡◌, Some, ℕ, List, Option, option_map, IfOk};
 ghost use Rattle.occ_types.specs.Key as keys;
 ghost use Rattle.occ_types.specs.Row as rows;
-ghost use Rattle.occ_types.specs.Seen.{part_of, key_of, end_of, cell_of};
+ghost use Rattle.occ_types.specs.PlainData.{part_of, key_of, end_of, cell_of};
 ghost use Rattle.occ_text.specs.Spelling.{is_plain, text_text, key_text, end_text, row_text, IsText, KeyFits, EndFits, RowFits};
 ghost use Rattle.occ_text.specs.Escapes.{Gives, hex_value, escape_of, front_of, unescaped, text_of, read_part, simple_key, pair_key, key_of_parts, read_key, is_missing, read_end, read_cell, read_row};
 
-use crate::parts::Parts;
+use crate::separated_parts::Parts;
 use crate::tokens::{Unread, begins_with, int, is_word, number, without_first};
 use crate::versions::Version;
 use occ_types::{Cell, Key, KeyPart, Pair, Row, Text};
@@ -71,7 +71,7 @@ fn unescape<A: Allocator>(alloc: A, bytes: &[u8]) -> Result<Vec<u8, A>, Unread>
 }
 
 #[tactic(auto, unfolding(crate::specs::Escapes::text_of))]
-fn text_value<A: Allocator>(alloc: A, token: &[u8]) -> Result<Text<A>, Unread>
+fn text_value<A: Allocator + Clone>(alloc: A, token: &[u8]) -> Result<Text<A>, Unread>
     ensures { Gives (λ text. text) result (text_of token.now) }
 {
     if !begins_with(token, b'\'') {
@@ -79,14 +79,14 @@ fn text_value<A: Allocator>(alloc: A, token: &[u8]) -> Result<Text<A>, Unread>
     }
     let bytes = unescape(alloc, without_first(token))?;
     match String::from_utf8(bytes) {
-        Ok(text) => Ok(Text::from_string(text)),
+        Ok(text) => Ok(Text::from_string(text)?),
         Err(_) => Err(Unread::Malformed),
     }
 }
 
 /// A number or a text.
 #[tactic(auto, unfolding(crate::specs::Escapes::read_part))]
-fn part_value<A: Allocator>(alloc: A, token: &[u8]) -> Result<KeyPart<A>, Unread>
+fn part_value<A: Allocator + Clone>(alloc: A, token: &[u8]) -> Result<KeyPart<A>, Unread>
     ensures { Gives part_of result (read_part token.now) }
 {
     if begins_with(token, b'\'') {
@@ -97,7 +97,7 @@ fn part_value<A: Allocator>(alloc: A, token: &[u8]) -> Result<KeyPart<A>, Unread
 
 /// A key that is no pair.
 #[tactic(auto, unfolding(crate::specs::Escapes::simple_key))]
-fn simple_key<A: Allocator>(alloc: A, token: &[u8]) -> Result<Key<A>, Unread>
+fn simple_key<A: Allocator + Clone>(alloc: A, token: &[u8]) -> Result<Key<A>, Unread>
     ensures { Gives key_of result (simple_key token.now) }
 {
     match part_value(alloc, token)? {
@@ -174,7 +174,7 @@ fn end_value<A: Allocator + Copy>(
 }
 
 #[tactic(auto, unfolding(crate::specs::Escapes::read_cell))]
-fn cell_value<A: Allocator>(alloc: A, token: &[u8]) -> Result<Cell<A>, Unread>
+fn cell_value<A: Allocator + Clone>(alloc: A, token: &[u8]) -> Result<Cell<A>, Unread>
     ensures { Gives cell_of result (read_cell token.now) }
 {
     if begins_with(token, b'\'') {
@@ -192,12 +192,12 @@ fn row_value<A: Allocator + Clone>(alloc: A, token: &[u8]) -> Result<Row<A>, Unr
     while let Some(part) = parts.take_part() {
         cells.push(cell_value(alloc.clone()?, part)?)?;
     }
-    Ok(Row::from_cells(cells))
+    Ok(Row::from_cells(cells)?)
 }
 
 /// A text: `'` and its bytes, those that are no letter, digit, `_`, `-` or `.` as `%` and two lower-case hexadecimal digits.
 /// `Malformed` where the token is none.
-pub fn text<A: Allocator>(alloc: A, token: &[u8]) -> Result<Text<A>, Unread>
+pub fn text<A: Allocator + Clone>(alloc: A, token: &[u8]) -> Result<Text<A>, Unread>
     ensures exact { Gives (λ text. text) result (text_of token.now) }
     ensures found { IfOk result (λ text. (token.now ≡ text_text text) × IsText text) }
     ensures again { (text : List ℕ) → IsText text → token.now ≡ text_text text → Gives (λ text. text) result (Some text) }

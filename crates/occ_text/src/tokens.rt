@@ -8,12 +8,12 @@ ghost use Rattle.std.specs.Char.{is_ascii_lowercase};
 ghost use Rattle.std.specs.Fmt.{decimal, signed_decimal};
 ghost use Rattle.occ_text.specs.declared.tokens.Unread.TheVariants.{Memory};
 ghost use Rattle.occ_text.specs.Spelling.{line_text, AreTokens, IsName};
-ghost use Rattle.occ_text.specs.Parts.{parts_left};
+ghost use Rattle.occ_text.specs.SeparatedParts.{parts_left};
 ghost use Rattle.occ_text.specs.Digits.{begins_decimal, with_digit};
 ghost use Rattle.occ_text.specs.TokenBytes.{may_follow};
 ghost use Rattle.occ_text.specs.Reading.{Reads, is_token, tokens_of, is_name, name_of, begins_with, decimal_of, number_of, negated, int_of};
 
-use crate::parts::Parts;
+use crate::separated_parts::Parts;
 use std::alloc::{AllocError, AllocFailed};
 use std::str;
 

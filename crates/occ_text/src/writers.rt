@@ -3,7 +3,7 @@
 ghost use Rattle.std.specs.Prelude.{◌≡◌, ◌<◌, ◌++◌, OnOk, string_bytes};
 ghost use Rattle.std.specs.Fmt.{decimal, signed_decimal};
 ghost use Rattle.occ_types.specs.Key as keys;
-ghost use Rattle.occ_types.specs.Seen.{part_of, key_of, end_of, cell_of};
+ghost use Rattle.occ_types.specs.PlainData.{part_of, key_of, end_of, cell_of};
 ghost use Rattle.occ_text.specs.Spelling.{hex_digit, escaped_byte, escaped, text_text, part_text, key_text, end_text, cell_text, row_text, comma};
 
 use crate::texts::is_plain;

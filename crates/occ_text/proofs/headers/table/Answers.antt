@@ -1,4 +1,4 @@
-use Rattle.occ_types.specs.Seen.{table_of}
+use Rattle.occ_types.specs.PlainData.{table_of}
 use Rattle.occ_text.specs.HeaderReading.{table_of_line}
 use Rattle.occ_text.specs.Headers.{table_text, TableHasLine}
 use Rattle.occ_text.proofs.HeaderLines.{table_reads}

@@ -1,5 +1,5 @@
 use Rattle.std.proofs.Common.{arith}
-use Rattle.occ_types.specs.Seen.{table_of}
+use Rattle.occ_types.specs.PlainData.{table_of}
 use Rattle.occ_text.proofs.Taking.{behind_read, behind_taken}
 use Rattle.occ_text.proofs.headers.table_behind.Goals as goal
 

@@ -1,5 +1,5 @@
 use Rattle.std.proofs.Common.{ℕ, List, ap, sym, subst}
-use Rattle.occ_types.specs.Seen.{table_of}
+use Rattle.occ_types.specs.PlainData.{table_of}
 use Rattle.occ_text.specs.Escapes.{Gives}
 use Rattle.occ_text.specs.HeaderReading.{table_of_tokens}
 use Rattle.occ_text.proofs.Readers.{behind}

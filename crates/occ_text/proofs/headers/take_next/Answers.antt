@@ -1,6 +1,6 @@
 use Rattle.std.proofs.Common.{Err, ◌∙◌, ap, subst}
 use Rattle.std.proofs.lemmas.Result.{err_from_is_err_and}
-use Rattle.occ_types.specs.Seen.{table_of, tables_of}
+use Rattle.occ_types.specs.PlainData.{table_of, tables_of}
 use Rattle.occ_text.specs.Escapes.{Gives}
 use Rattle.occ_text.specs.HeaderTaking.{table_behind}
 use Rattle.occ_text.proofs.Taking.{next_read, next_unread}

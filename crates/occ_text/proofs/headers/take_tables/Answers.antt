@@ -1,6 +1,6 @@
 use Rattle.std.proofs.Common.{◌∙◌, ◌+◌, sym, ap}
 use Rattle.std.proofs.lemmas.List.{length-map}
-use Rattle.occ_types.specs.Seen.{table_of, tables_of}
+use Rattle.occ_types.specs.PlainData.{table_of, tables_of}
 use Rattle.occ_text.proofs.Taking.{table_pushed_by, tables_end, tables_none, tables_stop, tables_refused}
 use Rattle.occ_text.proofs.headers.take_tables.Goals as goal
 

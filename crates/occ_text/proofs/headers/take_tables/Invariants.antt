@@ -1,6 +1,6 @@
 use Rattle.std.proofs.Common.{◌≡◌, ◌+◌, ◌-◌, length, map}
 use Rattle.std.specs.Io.KnownBytes.{Consumes, prepend_known}
-use Rattle.occ_types.specs.Seen.{tables_of}
+use Rattle.occ_types.specs.PlainData.{tables_of}
 use Rattle.occ_text.specs.Headers.{table_text}
 use Rattle.occ_text.specs.Line.{lines_text}
 use Rattle.occ_text.specs.HeaderTaking.{TablesSoFar}

@@ -1,4 +1,4 @@
-use Rattle.occ_types.specs.Seen.{end_of}
+use Rattle.occ_types.specs.PlainData.{end_of}
 use Rattle.occ_text.specs.Spelling.{end_text, EndFits}
 use Rattle.occ_text.specs.Escapes.{read_end}
 use Rattle.occ_text.proofs.Values.{found_by, again_by, end_reads}

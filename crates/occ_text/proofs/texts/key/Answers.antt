@@ -1,4 +1,4 @@
-use Rattle.occ_types.specs.Seen.{key_of}
+use Rattle.occ_types.specs.PlainData.{key_of}
 use Rattle.occ_text.specs.Spelling.{key_text, KeyFits}
 use Rattle.occ_text.specs.Escapes.{read_key}
 use Rattle.occ_text.proofs.Values.{found_by, again_by, key_reads}

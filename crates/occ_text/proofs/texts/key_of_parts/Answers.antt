@@ -1,5 +1,5 @@
 use Rattle.std.proofs.Common.{ℕ, List, ap, sym, subst}
-use Rattle.occ_types.specs.Seen.{key_of}
+use Rattle.occ_types.specs.PlainData.{key_of}
 use Rattle.occ_text.specs.Escapes.{Gives, key_of_parts}
 use Rattle.occ_text.proofs.Readers.{behind}
 use Rattle.occ_text.proofs.texts.key_of_parts.Goals as goal

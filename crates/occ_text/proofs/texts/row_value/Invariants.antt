@@ -1,6 +1,6 @@
 use Rattle.std.proofs.Common.{◌≡◌, ◌++◌, List, length, option_map}
 use Rattle.occ_types.specs.Row.{Cell}
-use Rattle.occ_types.specs.Seen.{row_of}
+use Rattle.occ_types.specs.PlainData.{row_of}
 use Rattle.occ_text.specs.Escapes.{read_cells, read_row}
 use Rattle.occ_text.proofs.texts.row_value.Given as goal
 

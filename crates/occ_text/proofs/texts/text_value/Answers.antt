@@ -9,7 +9,7 @@ returns-in-Ok g c =
     let same = ap (λ v. v.items) c.in-Ok.ensures.ok in
     text_made c.args.token.now c.without_first.result.now c.in_ok-bytes.bytes.items (sym c.if-not-begins_with.ensures) c.without_first.ensures c.in_ok-bytes.ensures
     (subst IsUtf8 same (IsUtf8-string_bytes c.in-Ok.text))
-    ∙ ap Some (sym same ∙ sym c.from_string.ensures)
+    ∙ ap Some (sym same ∙ sym c.in_ok-from_string-in-Ok.ensures)
 
 pub returns : goal.returns
 returns g c =

@@ -1,6 +1,6 @@
 use Rattle.std.proofs.Common.{sym, ap, ◌∙◌, arith}
 use Rattle.std.specs.Option.{option_map}
-use Rattle.occ_types.specs.Seen.{cell_of}
+use Rattle.occ_types.specs.PlainData.{cell_of}
 use Rattle.occ_types.proofs.Walks.{is_there}
 use Rattle.occ_text.proofs.Rows.{row_more}
 use Rattle.occ_text.proofs.writers.write_row.Goals as goal

@@ -1,7 +1,7 @@
 //! Parts between separators, one after another, without memory.
 
 ghost use Rattle.std.specs.Prelude.{◌≡◌, ◌<◌, ◌≤◌, ◌≢◌, [], ◌∷◌, All, take, length, slice_index, option_map, MatchOption};
-ghost use Rattle.occ_text.specs.Parts.{parts_left};
+ghost use Rattle.occ_text.specs.SeparatedParts.{parts_left};
 
 use std::marker::Model;
 
@@ -14,7 +14,7 @@ pub struct Parts<'a> {
 
 impl<'a> Model for Parts<'a> {
     ghost use Rattle.std.specs.Prelude.{List, ℕ, option_map};
-    ghost use Rattle.occ_text.specs.Parts.{parts_left};
+    ghost use Rattle.occ_text.specs.SeparatedParts.{parts_left};
 
     ghost Value = { List (List ℕ) };
 

@@ -1,6 +1,6 @@
 use Rattle.std.proofs.Common.{arith}
 use Rattle.occ_text.proofs.Cuts.{cut_none, cut_some}
-use Rattle.occ_text.proofs.parts.cut.Goals as goal
+use Rattle.occ_text.proofs.separated_parts.cut.Goals as goal
 
 pub returns-in-empty : goal.returns-in-empty
 returns-in-empty c =
