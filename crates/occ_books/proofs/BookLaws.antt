@@ -14,11 +14,11 @@ use Rattle.occ_types.specs.declared.kind.PartKind.TheVariants as part_kinds
 use Rattle.occ_types.specs.Key.{Key}
 use Rattle.occ_types.specs.Object.{Object}
 use Rattle.occ_types.specs.Schema.{Table, check_tables}
-use Rattle.occ_types.specs.Seen.{table_asked}
+use Rattle.occ_types.specs.PlainData.{table_asked}
 use Rattle.occ_text.specs.declared.versions.Version.{Version}
 use Rattle.occ_text.specs.declared.versions.Version.TheVariants as versions
 use Rattle.occ_text.specs.Spelling.{IsToken}
-use Rattle.occ_text.specs.Reading.{is_token, tokens_of}
+use Rattle.occ_text.specs.Reading.{Reads, is_token, tokens_of}
 use Rattle.occ_text.specs.Line.{IsLine, HasNoFeed, CannotStand, AtEnd, NoLine, OtherLine, lines_text}
 use Rattle.occ_text.specs.Headers.{KindFits, TableFits, TableHasLine, version_text, part_kind_word, key_kind_word, kind_word, table_tokens, table_text}
 use Rattle.occ_text.specs.HeaderReading.{table_of_tokens, table_of_line}
@@ -29,20 +29,20 @@ use Rattle.occ_text.proofs.TokenLists.{two_tokens}
 use Rattle.occ_text.proofs.HeaderLines.{count_reads, table_reads, same_version}
 use Rattle.occ_text.proofs.SchemaLines.{each_fits}
 use Rattle.occ_print.specs.Books.{Book, book_lines, book_text}
-use Rattle.occ_books.specs.NumberLines.{head_of_line, mark_of_line, began_text, began_of_line}
-use Rattle.occ_books.specs.RowLines.{Asked, AskedOne, AskedSpan, asked_of_line, pair_of_line, write_of_line, at_of_line}
-use Rattle.occ_books.specs.Places.{Frame, InRow, frame_of, Place, rows_to_come, writes_to_come, reads_to_come, pairs_to_come, behind_entries, entries_to_come, behind_numbers, numbers_to_come, behind_began, behind_read, Counted, Leads, LeadOn, MayEnd, Stopped}
+use Rattle.occ_books.specs.NumberLines.{began_text}
+use Rattle.occ_books.specs.RowLines.{Asked, AskedOne, AskedSpan}
+use Rattle.occ_books.specs.Places.{Frame, InRow, frame_of, Place, rows_to_come, writes_to_come, reads_to_come, pairs_to_come, behind_entries, entries_to_come, behind_numbers, numbers_to_come, behind_began, behind_read, Counted, Leads, LeadOn, MayEnd, point, start, Stopped}
 use Rattle.occ_books.specs.Places as places
 use Rattle.occ_books.specs.declared.number_lines.Began.{Began}
 use Rattle.occ_books.specs.declared.number_lines.Began.TheVariants as begun
 use Rattle.occ_print.specs.declared.sections.Section.{Section}
 use Rattle.occ_print.specs.declared.sections.Section.TheVariants as sections
 use Rattle.occ_books.specs.WholeBooks.{BookFits, IsEnding}
-use Rattle.occ_books.proofs.LinesAgain.{wide, head_line-again, mark_line-again, began_line-again}
-use Rattle.occ_books.proofs.RowLinesAgain.{asked_line-again, pair_line-again, write_line-again, at_line-again}
-use Rattle.occ_books.proofs.LineLengths.{width, joined_width, words_have_no_feed, line_of_words, asked_is_line, pair_is_line, write_is_line, at_is_line, head_is_line, mark_is_line, counts_is_line, count_is_line, began_is_line}
+use Rattle.occ_text.proofs.Fields.{width, joined_width, words_have_no_feed, line_of_words, field_is_line}
+use Rattle.occ_books.proofs.NumberLines.{wide, head_field, head_reads, mark_field, mark_reads, number_word_width, counts_field, began_reads, began_is_line, count_is_line}
+use Rattle.occ_books.proofs.RowLines.{asked_reads, asked_is_line, pair_is_field, pair_reads, write_reads, write_is_line, at_is_field, at_reads, entry_word_width}
 use Rattle.occ_books.proofs.TextLines.{first_byte, cut_at_feed, within_line, begins_line, nothing_is_no_line, lines_behind}
-use Rattle.occ_books.proofs.Leading.{lead_on}
+use Rattle.occ_books.proofs.LinesTaken.{lead_on}
 use Rattle.occ_books.proofs.BookLeads.{book_leads, ending_leads}
 
 -- ---- what holds of each place that lines lead to
@@ -132,13 +132,12 @@ sound_on (line ∷ lines) p q s h = sound_on lines h.0 q (sound_next p h.0 line 
 -- ---- one line leads to one place
 
 -- a line tells one value
-one_value : {X : Type 0} (read : List ℕ → Option X) (line a b : List ℕ) (x y : X) → line ≡ a → line ≡ b → read a ≡ Some x → read b ≡ Some y → x ≡ y
-one_value read line a b x y p q r t = some_is x y (sym r ∙ ap read (sym p ∙ q) ∙ t)
+one_value : {X : Type 0} {spell : X → List ℕ} {fits : X → Type 0} {line : List ℕ} {read : Option X} (reads : Reads spell fits line read) (x y : X) → fits x → fits y → line ≡ spell x → line ≡ spell y → x ≡ y
+one_value reads x y f g p q = some_is x y (sym (reads.again x f p) ∙ reads.again y g q)
 
 one_count : (word : List ℕ) (least most : ℕ) (line : List ℕ) (q r : Place) (to : ℕ → Place) → IsToken word → most < 2 ^ 64 → Counted word least most line q to → Counted word least most line r to → q ≡ r
 one_count word least most line q r to token small h k =
-    let reads = count_reads word least most line small token in
-    let same = some_is h.0 k.0 (sym (reads.again h.0 h.1 h.2) ∙ reads.again k.0 k.1 k.2) in
+    let same = one_value (count_reads word least most line _ small token refl) h.0 k.0 h.1 k.1 h.2 k.2 in
     h.3 ∙ ap to same ∙ sym k.3
 
 IsToken-sessions : IsToken (codes "sessions")
@@ -197,33 +196,31 @@ only_next (places.Sessions version) q r line s h k = one_count (codes "sessions"
 only_next (places.Queue version sessions) q r line s h k = h.3 ∙ sym k.3
 only_next (places.Keep version sessions) q r line s h k = h.3 ∙ sym k.3
 only_next (places.Tables version sessions tables) q r line s (inl h) (inl k) =
-    let same = one_value (table_of_line version) line (table_text h.0) (table_text k.0) h.0 k.0 h.2 k.2 (table_again version h.0 (last_table version tables h.0 h.1)) (table_again version k.0 (last_table version tables k.0 k.1)) in
+    let same = one_value (table_reads version line) h.0 k.0 (last_table version tables h.0 h.1) (last_table version tables k.0 k.1) h.2 k.2 in
     h.3 ∙ ap (λ (t : Table). places.Tables version sessions (tables ++ t ∷ [])) same ∙ sym k.3
 only_next (places.Tables version sessions tables) q r line s (inl h) (inr k) = absurd (table_is_no_beginning h.0 k.1.0 (sym h.2 ∙ k.1.2))
 only_next (places.Tables version sessions tables) q r line s (inr h) (inl k) = absurd (table_is_no_beginning k.0 h.1.0 (sym k.2 ∙ h.1.2))
 only_next (places.Tables version sessions tables) q r line s (inr h) (inr k) =
-    let same = one_value began_of_line line _ _ h.1.0 k.1.0 h.1.2 k.1.2 (began_line-again h.1.0 h.1.1) (began_line-again k.1.0 k.1.1) in
+    let same = one_value (began_reads line) h.1.0 k.1.0 h.1.1 k.1.1 h.1.2 k.1.2 in
     h.1.3 ∙ ap (behind_began (frame_of version tables sessions)) same ∙ sym k.1.3
 only_next (places.NumberOf section frame rows numbers last) q r line s h k =
-    let small = small_sessions frame.sessions s.sessions in
-    let same = one_value (mark_of_line section frame.sessions) line _ _ h.0 k.0 h.3 k.3 (mark_line-again section frame.sessions h.0 small h.1) (mark_line-again section frame.sessions k.0 small k.1) in
+    let same = one_value (mark_reads section frame.sessions line _ (small_sessions frame.sessions s.sessions) refl) h.0 k.0 h.1 k.1 h.3 k.3 in
     h.4 ∙ ap (λ mark. numbers_to_come section frame rows numbers mark.session) same ∙ sym k.4
 only_next (places.EntryOf section frame rows last) q r line s h k =
-    let same = one_value (at_of_line frame.version section frame.schema) line _ _ h.0 k.0 h.3 k.3 (at_line-again frame.version section frame.schema h.0 s.tables h.1) (at_line-again frame.version section frame.schema k.0 s.tables k.1) in
+    let same = one_value (at_reads frame.version section frame.schema line s.tables) h.0 k.0 h.1 k.1 h.3 k.3 in
     h.4 ∙ ap (λ entry. entries_to_come section frame rows (Some entry.0)) same ∙ sym k.4
 only_next (places.Log frame) q r line s h k = one_count (codes "log") 0 (2 ^ 64 - 1) line q r (rows_to_come frame) IsToken-log wide h k
 only_next (places.LogRow frame rows) q r line s h k =
-    let small = small_sessions frame.sessions s.sessions in
-    let same = one_value (head_of_line frame.sessions) line _ _ h.0 k.0 h.2 k.2 (head_line-again frame.sessions h.0 small h.1) (head_line-again frame.sessions k.0 small k.1) in
+    let same = one_value (head_reads frame.sessions line _ (small_sessions frame.sessions s.sessions) refl) h.0 k.0 h.1 k.1 h.2 k.2 in
     h.3 ∙ ap (λ head. reads_to_come (record { frame = frame; rows = rows; head = head }) head.reads) same ∙ sym k.3
 only_next (places.ReadOf row reads) q r line s h k =
-    let same = one_value (asked_of_line row.frame.version row.frame.schema) line _ _ h.0 k.0 h.2 k.2 (asked_line-again row.frame.version row.frame.schema h.0 s.tables h.1) (asked_line-again row.frame.version row.frame.schema k.0 s.tables k.1) in
+    let same = one_value (asked_reads row.frame.version row.frame.schema line s.tables) h.0 k.0 h.1 k.1 h.2 k.2 in
     h.3 ∙ ap (behind_read row reads) same ∙ sym k.3
 only_next (places.PairOf row reads table pairs last) q r line s h k =
-    let same = one_value (pair_of_line row.frame.version row.frame.schema table) line _ _ h.0 k.0 h.3 k.3 (pair_line-again row.frame.version row.frame.schema table h.0 h.1) (pair_line-again row.frame.version row.frame.schema table k.0 k.1) in
+    let same = one_value (pair_reads row.frame.version row.frame.schema table line s.tables) h.0 k.0 h.1 k.1 h.3 k.3 in
     h.4 ∙ ap (λ pair. pairs_to_come row reads table pairs (Some pair.0)) same ∙ sym k.4
 only_next (places.WriteOf row writes written) q r line s h k =
-    let same = one_value (write_of_line row.frame.version row.frame.schema) line _ _ h.0 k.0 h.3 k.3 (write_line-again row.frame.version row.frame.schema h.0 s.tables h.1) (write_line-again row.frame.version row.frame.schema k.0 s.tables k.1) in
+    let same = one_value (write_reads row.frame.version row.frame.schema line s.tables) h.0 k.0 h.1 k.1 h.3 k.3 in
     h.4 ∙ ap (λ write. writes_to_come row writes (written ++ write.0 ∷ [])) same ∙ sym k.4
 only_next (places.Marks frame) q r line s h k = one_count (codes "marks") 0 (2 ^ 64 - 1) line q r (λ n. numbers_to_come sections.Store frame 0 n 0) IsToken-marks wide h k
 only_next (places.State frame) q r line s h k = one_count (codes "state") 0 (2 ^ 64 - 1) line q r (λ n. entries_to_come sections.Store frame n None) IsToken-state wide h k
@@ -293,16 +290,16 @@ is_line (places.Queue version sessions) q line s h = counted_is_line (codes "que
 is_line (places.Keep version sessions) q line s h = counted_is_line (codes "keep") 1 4096 line q _ IsToken-keep (omega arith) (lit< tt) h
 is_line (places.Tables version sessions tables) q line s (inl h) = subst IsLine (sym h.2) (table_is_line version h.0 (last_table version tables h.0 h.1))
 is_line (places.Tables version sessions tables) q line s (inr h) = subst IsLine (sym h.1.2) (began_is_line h.1.0 h.1.1)
-is_line (places.NumberOf section frame rows numbers last) q line s h = subst IsLine (sym h.3) (mark_is_line section frame.sessions h.0 (small_sessions frame.sessions s.sessions) h.1)
-is_line (places.EntryOf section frame rows last) q line s h = subst IsLine (sym h.3) (at_is_line frame.version section frame.schema h.0 s.tables h.1)
+is_line (places.NumberOf section frame rows numbers last) q line s h = subst IsLine (sym h.3) (field_is_line h.0 (mark_field section frame.sessions (small_sessions frame.sessions s.sessions)) (omega (arith, number_word_width section)) h.1)
+is_line (places.EntryOf section frame rows last) q line s h = subst IsLine (sym h.3) (field_is_line h.0 (at_is_field frame.version section frame.schema s.tables) (omega (arith, entry_word_width section)) h.1)
 is_line (places.Log frame) q line s h = counted_is_line (codes "log") 0 (2 ^ 64 - 1) line q _ IsToken-log (omega arith) wide h
-is_line (places.LogRow frame rows) q line s h = subst IsLine (sym h.2) (head_is_line frame.sessions h.0 (small_sessions frame.sessions s.sessions) h.1)
+is_line (places.LogRow frame rows) q line s h = subst IsLine (sym h.2) (field_is_line h.0 (head_field frame.sessions (small_sessions frame.sessions s.sessions)) (omega arith) h.1)
 is_line (places.ReadOf row reads) q line s h = subst IsLine (sym h.2) (asked_is_line row.frame.version row.frame.schema h.0 s.tables h.1)
-is_line (places.PairOf row reads table pairs last) q line s h = subst IsLine (sym h.3) (pair_is_line row.frame.version row.frame.schema table h.0 s.tables h.1)
+is_line (places.PairOf row reads table pairs last) q line s h = subst IsLine (sym h.3) (field_is_line h.0 (pair_is_field row.frame.version row.frame.schema table s.tables) (omega arith) h.1)
 is_line (places.WriteOf row writes written) q line s h = subst IsLine (sym h.3) (write_is_line row.frame.version row.frame.schema h.0 s.tables h.1)
 is_line (places.Marks frame) q line s h = counted_is_line (codes "marks") 0 (2 ^ 64 - 1) line q _ IsToken-marks (omega arith) wide h
 is_line (places.State frame) q line s h = counted_is_line (codes "state") 0 (2 ^ 64 - 1) line q _ IsToken-state (omega arith) wide h
-is_line places.Counter q line s h = subst IsLine (sym h.2) (counts_is_line h.0 h.1)
+is_line places.Counter q line s h = subst IsLine (sym h.2) (field_is_line h.0 counts_field (omega arith) h.1)
 is_line places.Audit q line s h = audit_is_line line h.0
 is_line places.End q line s h = absurd h
 
@@ -337,8 +334,8 @@ can_stand place next line lines rest alone leads is (OtherLine other (Some after
     let c = cut_at_feed line other (lines_text lines) after alone.no_feed single.no_feed (sym is ∙ taken ∙ append_assoc other (10 ∷ []) after) in
     never (next, subst (λ (l : List ℕ). Leads place l next) c.0 leads)
 
-never_stops : (lines : List (List ℕ)) (p to : Place) → Sound p → LeadOn p lines to → MayEnd to → (first number : ℕ) → Stopped p (Some (lines_text lines)) first number → ⊥
-never_stops lines p to s led may first number h = by h.rest h.taken h.stuck h.unended
+never_stops : (lines : List (List ℕ)) (p to : Place) → Sound p → LeadOn p lines to → MayEnd to → (first number : ℕ) → Stopped p (point (Some (lines_text lines)) first) number → ⊥
+never_stops lines p to s led may first number h = by h.rest.left h.took.taken h.stuck h.unended
   where
     after : (place : Place) (more : List (List ℕ)) (rest : List ℕ) → Sound place → LeadOn place more to → rest ≡ lines_text more → CannotStand (λ l. (x : Place) × Leads place l x) (Some rest) → (IsAtEnd (Some rest) → MayEnd place → ⊥) → ⊥
     after place [] rest sound leads is stuck unended = unended is (subst MayEnd leads may)
@@ -348,14 +345,14 @@ never_stops lines p to s led may first number h = by h.rest h.taken h.stuck h.un
     by : (rest : Option (List ℕ)) → Consumes (Some (lines_text lines)) rest (lines_text h.lines) → CannotStand (λ l. (x : Place) × Leads h.place l x) rest → places.Unended rest h.place → ⊥
     by None taken stuck unended = absurd taken
     by (Some rest) taken stuck unended =
-        let b = lines_behind lines h.lines rest (are_lines lines p to s led) (are_lines h.lines p h.place s h.led) taken in
+        let b = lines_behind lines h.lines rest (are_lines lines p to s led) (are_lines h.lines p h.place s h.took.leads) taken in
         let parts = led_apart h.lines b.more p to (subst (λ (l : List (List ℕ)). LeadOn p l to) b.whole led) in
-        let here = only_place h.lines p parts.0 h.place s parts.1 h.led in
-        after h.place b.more rest (sound_on h.lines p h.place s h.led) (subst (λ (x : Place). LeadOn x b.more to) here parts.2) b.left stuck unended
+        let here = only_place h.lines p parts.0 h.place s parts.1 h.took.leads in
+        after h.place b.more rest (sound_on h.lines p h.place s h.took.leads) (subst (λ (x : Place). LeadOn x b.more to) here parts.2) b.left stuck unended
 
-pub book_never_stops : (book : Book) → BookFits book → (lines : List (List ℕ)) → IsEnding lines → (number : ℕ) → Stopped places.Version (Some (book_text book ++ lines_text lines)) 0 number → ⊥
+pub book_never_stops : (book : Book) → BookFits book → (lines : List (List ℕ)) → IsEnding lines → (number : ℕ) → Stopped places.Version (start (Some (book_text book ++ lines_text lines))) number → ⊥
 book_never_stops book fits lines ending number h =
     let e = ending_leads lines ending in
     let all = lead_on (book_lines book) lines places.Version places.Audit e.0 (book_leads book fits) e.1 in
     never_stops (book_lines book ++ lines) places.Version e.0 tt all e.2 0 number
-    (subst (λ (text : List ℕ). Stopped places.Version (Some text) 0 number) (sym (flat_map-append (λ (l : List ℕ). l ++ 10 ∷ []) (book_lines book) lines)) h)
+    (subst (λ (text : List ℕ). Stopped places.Version (start (Some text)) number) (sym (flat_map-append (λ (l : List ℕ). l ++ 10 ∷ []) (book_lines book) lines)) h)

@@ -35,8 +35,8 @@ use Rattle.occ_books.specs.Taking.{is_behind, RisesFrom, ReadFits, StandingFits,
 use Rattle.occ_books.specs.Places.{Frame, InRow, frame_of, in_row, Place, rows_to_come, writes_to_come, reads_to_come, pairs_to_come, behind_entries, entries_to_come, behind_numbers, numbers_to_come, behind_began, IsAbove, Leads, LeadOn, MayEnd}
 use Rattle.occ_books.specs.Places as places
 use Rattle.occ_books.specs.WholeBooks.{EntryFits, BaseFits, BookFits, IsEnding}
-use Rattle.occ_books.proofs.Leading.{lead_on}
-use Rattle.occ_books.proofs.PartsLeading.{limits_lead}
+use Rattle.occ_books.proofs.LinesTaken.{lead_on}
+use Rattle.occ_books.proofs.PartPlaces.{limits_lead}
 use Rattle.occ_books.proofs.TableLeads.{tables_lead, schema_so_far}
 use Rattle.occ_books.proofs.RowTaking.{head_line}
 

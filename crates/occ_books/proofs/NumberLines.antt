@@ -1,175 +1,190 @@
--- The lines of numbers: what is read is spelled so.
-use Rattle.std.proofs.Common.{◌≡◌, ℕ, zero, suc, ◌^◌, ◌-◌, ◌==◌, ◌≤◌, Bool, true, false, cond, List, [], ◌∷◌, Option, Some, None, ◌⊎◌, inl, inr, refl, ap, subst, ◌∙◌, arith}
+-- The lines of numbers are fields: what is read is spelled so, what is spelled so is read again, and they are lines.
+use Rattle.std.proofs.Common.{◌≡◌, ◌+◌, ℕ, zero, suc, ◌^◌, ◌-◌, ◌==◌, ◌<◌, ◌≤◌, not, true, List, [], ◌∷◌, length, Option, Some, None, lit<, refl, sym, ap, ◌∙◌, arith}
 use Rattle.std.specs.Prelude.{option_map, codes}
-use Rattle.std.specs.Str.{bytes_eq}
-use Rattle.std.specs.Fmt.{decimal}
+use Rattle.std.proofs.lemmas.Bool.{ne_eqb}
 use Rattle.occ_model.specs.declared.verdict.Cause.TheVariants.{Conflict, TooOld}
-use Rattle.occ_text.specs.Spelling.{line_text}
-use Rattle.occ_text.specs.Reading.{tokens_of, number_of}
-use Rattle.occ_text.proofs.Numbers.{number_takes}
-use Rattle.occ_text.proofs.Escapes.{some_is, bind_value, map_value}
-use Rattle.occ_text.proofs.Words.{tokens_takes}
-use Rattle.occ_text.proofs.Readers.{word_is}
 use Rattle.occ_book.specs.declared.rows.Standing.TheVariants.{Open, Writing, Done, Back}
+use Rattle.occ_print.specs.Books.{number_word}
+use Rattle.occ_print.specs.declared.sections.Section.{Section}
+use Rattle.occ_print.specs.declared.sections.Section.TheVariants as sections
+use Rattle.occ_text.specs.Line.{IsLine}
+use Rattle.occ_text.specs.Spelling.{IsToken}
+use Rattle.occ_text.specs.Reading.{Reads, is_token}
+use Rattle.occ_text.specs.Headers.{count_text, Within}
+use Rattle.occ_text.specs.HeaderReading.{count_of_line}
+use Rattle.occ_text.specs.Fields.{number}
+use Rattle.occ_text.proofs.Words.{IsToken-from_test}
+use Rattle.occ_text.proofs.HeaderLines.{count_field, count_reads}
+use Rattle.occ_text.proofs.Fields.{IsField, IsSpelled, number_field, after_word, both_fields, one_and_other, tested_field, fitting_field, shaped_field, alone_takes, behind_takes, alone_spelled, behind_spelled, within, words_field, field_reads, field_is_line}
 use Rattle.occ_books.specs.declared.number_lines.Head.{Head}
 use Rattle.occ_books.specs.declared.number_lines.Mark.{Mark}
 use Rattle.occ_books.specs.declared.number_lines.Counts.{Counts}
 use Rattle.occ_books.specs.declared.number_lines.BaseHead.{BaseHead}
-use Rattle.occ_print.specs.Books.{number_word}
-use Rattle.occ_print.specs.declared.sections.Section.{Section}
-use Rattle.occ_books.specs.Cursors.{Tokens, next_word, next_number, at_end}
-use Rattle.occ_books.specs.NumberLines.{Stand, stand_tokens, head_tokens, head_text, mark_text, base_text, counts_text, IsSession, StandFits, HeadFits, MarkFits, BaseHeadFits, CountsFit, bare_stand, counted_stand, stand_of, unless_zero, next_session, head_of, head_of_line, mark_of, mark_of_line, base_of, base_of_line, counts_of, counts_of_line}
-use Rattle.occ_books.proofs.Lines.{number-takes, word-takes, end-takes}
+use Rattle.occ_books.specs.declared.number_lines.Began.{Began}
+use Rattle.occ_books.specs.declared.number_lines.Began.TheVariants as begun
+use Rattle.occ_books.specs.NumberLines.{Stand, stand_tokens, head_text, mark_text, base_text, began_text, counts_text, IsSession, StandFits, HeadFits, MarkFits, BaseHeadFits, BeganFits, CountsFit, number64, next_session, session, next_stand, stand, head_from, head_parts, head_line, head_of_line, mark_line, mark_of_line, base_head_line, base_of_line, began_unless, began_of_line, counts_line, counts_of_line}
 
--- one of two: the first where its test passes
-pub either : {X : Type 0} (b : Bool) (o p : Option X) (x : X) → cond b o p ≡ Some x → ((b ≡ true) × (o ≡ Some x)) ⊎ (p ≡ Some x)
-either true o p x h = inl (refl, h)
-either false o p x h = inr h
+pub wide : 2 ^ 64 - 1 < 2 ^ 64
+wide = lit< tt
 
-record StandRead (writes : ℕ) (tokens : Tokens) (stand : Stand) : Type 0 where
-  spelled : tokens ≡ stand_tokens stand
-  fits : StandFits writes stand
+pub number64_field : IsField number64 (λ n. 21)
+number64_field = number_field (2 ^ 64 - 1) wide
 
-bare-takes : (writes : ℕ) (word : List ℕ) (stand : Stand) → bare_stand word ≡ Some stand → StandRead writes (word ∷ []) stand
-unfolding bare_stand
-bare-takes writes word stand h = elim (either (bytes_eq word (codes "open")) (Some (Open tt)) _ stand h) [
-  | inl a ↦ subst (StandRead writes (word ∷ [])) (some_is (Open tt) stand a.1) (record { spelled = ap (λ (w : List ℕ). w ∷ []) (word_is word (codes "open") a.0); fits = tt })
-  | inr r ↦ elim (either (bytes_eq word (codes "conflict")) (Some (Back Conflict)) _ stand r) [
-    | inl a ↦ subst (StandRead writes (word ∷ [])) (some_is (Back Conflict) stand a.1) (record { spelled = ap (λ (w : List ℕ). w ∷ []) (word_is word (codes "conflict") a.0); fits = tt })
-    | inr s ↦ elim (either (bytes_eq word (codes "tooold")) (Some (Back TooOld)) None stand s) [
-      | inl a ↦ subst (StandRead writes (word ∷ [])) (some_is (Back TooOld) stand a.1) (record { spelled = ap (λ (w : List ℕ). w ∷ []) (word_is word (codes "tooold") a.0); fits = tt })
-      | inr n ↦ absurd cc
-    ]
-  ]
-]
+from_1 : (n : ℕ) → not (n == 0) ≡ true → 1 ≤ n
+from_1 zero h = absurd cc
+from_1 (suc n) h = omega arith
 
-counted-takes : (writes : ℕ) (word digits : List ℕ) (stand : Stand) → counted_stand writes word digits ≡ Some stand → StandRead writes (word ∷ digits ∷ []) stand
-unfolding counted_stand
-counted-takes writes word digits stand h = elim (either (bytes_eq word (codes "writing")) (option_map Writing (number_of writes digits)) _ stand h) [
-  | inl a ↦ (
-      let v = map_value (number_of writes digits) Writing stand a.1 in
-      let n = number_takes writes digits v.0 v.1 in
-      let w = word_is word (codes "writing") a.0 in
-      subst (StandRead writes (word ∷ digits ∷ [])) v.2 (record { spelled = λ i. w i ∷ n.0 i ∷ []; fits = n.1 }))
-  | inr r ↦ elim (either (bytes_eq word (codes "done")) (option_map Done (number_of (2 ^ 64 - 1) digits)) None stand r) [
-    | inl a ↦ (
-        let v = map_value (number_of (2 ^ 64 - 1) digits) Done stand a.1 in
-        let n = number_takes (2 ^ 64 - 1) digits v.0 v.1 in
-        let w = word_is word (codes "done") a.0 in
-        subst (StandRead writes (word ∷ digits ∷ [])) v.2 (record { spelled = λ i. w i ∷ n.0 i ∷ []; fits = n.1 }))
-    | inr n ↦ absurd cc
-  ]
-]
-
-stand-takes : (writes : ℕ) (tokens : Tokens) (stand : Stand) → stand_of writes tokens ≡ Some stand → StandRead writes tokens stand
-unfolding stand_of
-stand-takes writes [] stand h = absurd cc
-stand-takes writes (word ∷ []) stand h = bare-takes writes word stand h
-stand-takes writes (word ∷ digits ∷ []) stand h = counted-takes writes word digits stand h
-stand-takes writes (word ∷ digits ∷ other ∷ more) stand h = absurd cc
-
-nonzero : {X : Type 0} (b : Bool) (x y : X) → cond b None (Some x) ≡ Some y → x ≡ y
-nonzero true x y h = absurd cc
-nonzero false x y h = some_is x y h
-
-unless_zero-takes : (n : ℕ) (rest : Tokens) (p : ℕ × Tokens) → unless_zero (n, rest) ≡ Some p → (1 ≤ n) × ((n, rest) ≡ p)
-unless_zero-takes zero rest p h = absurd cc
-unless_zero-takes (suc n) rest p h = (omega arith, nonzero (suc n == 0) (suc n, rest) p h)
-
-session-takes : (sessions : ℕ) (tokens : Tokens) (p : ℕ × Tokens) → next_session sessions tokens ≡ Some p → (tokens ≡ decimal p.0 ∷ p.1) × IsSession sessions p.0
+session_field : (sessions : ℕ) → sessions < 2 ^ 64 → IsField (session sessions) (λ n. 21)
 unfolding next_session
-session-takes sessions tokens p h =
-    let n = bind_value (next_number sessions tokens) unless_zero p h in
-    let t = number-takes sessions tokens n.0 n.1 in
-    let u = unless_zero-takes n.0.0 n.0.1 p n.2 in
-    subst (λ (q : ℕ × Tokens). (tokens ≡ decimal q.0 ∷ q.1) × IsSession sessions q.0) u.1 (t.0, record { first = u.0; last = t.1 })
+session_field sessions small =
+    fitting_field (IsSession sessions) (tested_field (λ (n : ℕ). not (n == 0)) (number_field sessions small))
+    (λ n fits. record { first = from_1 n fits.1; last = fits.0 }) (λ n fits. (fits.last, ap not (ne_eqb n 0 (λ e. omega (arith, fits.first, e)))))
 
-record HeadRead (sessions : ℕ) (tokens : Tokens) (head : Head) : Type 0 where
-  spelled : tokens ≡ head_tokens head
-  fits : HeadFits sessions head
+stand_field : (writes : ℕ) → writes ≤ 2 ^ 64 - 1 → IsField (stand writes) (λ s. 40)
+unfolding next_stand is_token
+stand_field writes few =
+    words_field (stand writes) (
+    (codes "open", _)
+    ∷ (codes "writing", _)
+    ∷ (codes "done", _)
+    ∷ (codes "conflict", _)
+    ∷ (codes "tooold", _)
+    ∷ []) (λ s. 40) (λ tokens. refl) (
+      alone_takes stand_tokens (StandFits writes) (codes "open") (Open tt) refl tt,
+      (
+        behind_takes stand_tokens (StandFits writes) (codes "writing") Writing (number_field writes small) (λ n. refl) (λ n fits. fits),
+        (
+          behind_takes stand_tokens (StandFits writes) (codes "done") Done number64_field (λ n. refl) (λ n fits. fits),
+          (
+            alone_takes stand_tokens (StandFits writes) (codes "conflict") (Back Conflict) refl tt,
+            (alone_takes stand_tokens (StandFits writes) (codes "tooold") (Back TooOld) refl tt, tt),
+          ),
+        ),
+      ),
+    ) spelled
+  where
+    small : writes < 2 ^ 64
+    small = omega (arith, few)
 
-head-takes : (sessions : ℕ) (tokens : Tokens) (head : Head) → head_of sessions tokens ≡ Some head → HeadRead sessions tokens head
-unfolding head_of
-head-takes sessions tokens head h =
-    let w = bind_value (next_word (codes "row") tokens) _ head h in
-    let a = bind_value (next_number (2 ^ 64 - 1) w.0.1) _ head w.2 in
-    let b = bind_value (next_session sessions a.0.1) _ head a.2 in
-    let c = bind_value (next_number (2 ^ 64 - 1) b.0.1) _ head b.2 in
-    let d = bind_value (next_number (2 ^ 64 - 1) c.0.1) _ head c.2 in
-    let e = bind_value (next_number (2 ^ 64 - 1) d.0.1) _ head d.2 in
-    let f = bind_value (next_number (2 ^ 64 - 1) e.0.1) _ head e.2 in
-    let g = bind_value (next_number (2 ^ 64 - 1) f.0.1) _ head f.2 in
-    let s = bind_value (stand_of g.0.0 g.0.1) _ head g.2 in
-    let wt = word-takes (codes "row") tokens w.0 w.1 in
-    let at = number-takes (2 ^ 64 - 1) w.0.1 a.0 a.1 in
-    let bt = session-takes sessions a.0.1 b.0 b.1 in
-    let ct = number-takes (2 ^ 64 - 1) b.0.1 c.0 c.1 in
-    let dt = number-takes (2 ^ 64 - 1) c.0.1 d.0 d.1 in
-    let et = number-takes (2 ^ 64 - 1) d.0.1 e.0 e.1 in
-    let ft = number-takes (2 ^ 64 - 1) e.0.1 f.0 f.1 in
-    let gt = number-takes (2 ^ 64 - 1) f.0.1 g.0 g.1 in
-    let st = stand-takes g.0.0 g.0.1 s.0 s.1 in
-    let on : (x : List ℕ) (r q : Tokens) → r ≡ q → x ∷ r ≡ x ∷ q = λ x r q i. ap (λ (l : Tokens). x ∷ l) i in
-    subst (HeadRead sessions tokens) (some_is _ head s.2) (record {
-      spelled = wt ∙ on _ _ _ (at.0 ∙ on _ _ _ (bt.0 ∙ on _ _ _ (ct.0 ∙ on _ _ _ (dt.0 ∙ on _ _ _ (et.0 ∙ on _ _ _ (ft.0 ∙ on _ _ _ (gt.0 ∙ on _ _ _ st.spelled)))))));
-      fits = record { place = at.1; session = bt.1; number = ct.1; start = dt.1; finish = et.1; reads = ft.1; writes = gt.1; stand = st.fits };
-    })
+    spelled : (s : Stand) → StandFits writes s → IsSpelled (next_stand writes) (stand_tokens s) s 40
+    spelled (Open tt) fits = within (alone_spelled (IsToken-from_test _ refl) (λ rest. refl)) (omega arith)
+    spelled (Writing done) fits = within (behind_spelled Writing done (number_field writes small) (IsToken-from_test _ refl) (λ rest. refl) fits) (omega arith)
+    spelled (Done number) fits = within (behind_spelled Done number number64_field (IsToken-from_test _ refl) (λ rest. refl) fits) (omega arith)
+    spelled (Back Conflict) fits = within (alone_spelled (IsToken-from_test _ refl) (λ rest. refl)) (omega arith)
+    spelled (Back TooOld) fits = within (alone_spelled (IsToken-from_test _ refl) (λ rest. refl)) (omega arith)
 
-pub head_line-takes : (sessions : ℕ) (line : List ℕ) (head : Head) → head_of_line sessions line ≡ Some head → (line ≡ head_text head) × HeadFits sessions head
+pub head_field : (sessions : ℕ) → sessions < 2 ^ 64 → IsField (head_line sessions) (λ head. 191)
+unfolding is_token
+head_field sessions small =
+    after_word (IsToken-from_test (codes "row") refl)
+    (shaped_field head_from head_parts (HeadFits sessions) (λ p. refl) (λ head. refl)
+    (one_and_other number64_field (one_and_other (session_field sessions small) (one_and_other number64_field (one_and_other number64_field
+    (one_and_other number64_field (one_and_other number64_field (both_fields number64_field stand_field)))))))
+    (λ p f. record { place = f.0; session = f.1.0; number = f.1.1.0; start = f.1.1.1.0; finish = f.1.1.1.1.0; reads = f.1.1.1.1.1.0; writes = f.1.1.1.1.1.1.0; stand = f.1.1.1.1.1.1.1 })
+    (λ head f. (f.place, (f.session, (f.number, (f.start, (f.finish, (f.reads, (f.writes, f.stand)))))))))
+
+number_word-IsToken : (section : Section) → IsToken (number_word section)
+unfolding is_token
+number_word-IsToken sections.Base = IsToken-from_test (codes "last") refl
+number_word-IsToken sections.Store = IsToken-from_test (codes "mark") refl
+
+pub number_word_width : (section : Section) → length (number_word section) ≤ 10
+number_word_width sections.Base = omega arith
+number_word_width sections.Store = omega arith
+
+pub mark_field : (section : Section) (sessions : ℕ) → sessions < 2 ^ 64 → IsField (mark_line section sessions) (λ mark. length (number_word section) + 1 + 42)
+mark_field section sessions small =
+    after_word (number_word-IsToken section)
+    (shaped_field (λ p. record { session = p.0; number = p.1 }) (λ mark. (mark.session, mark.number)) (MarkFits sessions) (λ p. refl) (λ mark. refl)
+    (one_and_other (session_field sessions small) number64_field)
+    (λ p f. record { session = f.0; number = f.1 }) (λ mark f. (f.session, f.number)))
+
+pub base_field : IsField base_head_line (λ head. 68)
+unfolding is_token
+base_field =
+    after_word (IsToken-from_test (codes "base") refl)
+    (shaped_field (λ p. record { place = p.0; numbers = p.1.0; rows = p.1.1 }) (λ head. (head.place, (head.numbers, head.rows))) BaseHeadFits (λ p. refl) (λ head. refl)
+    (one_and_other (session_field (2 ^ 64 - 1) wide) (one_and_other number64_field number64_field))
+    (λ p f. record { place = f.0; numbers = f.1.0; rows = f.1.1 }) (λ head f. (f.place, (f.numbers, f.rows))))
+
+pub counts_field : IsField counts_line (λ counts. 54)
+unfolding is_token
+counts_field =
+    after_word (IsToken-from_test (codes "counter") refl)
+    (shaped_field (λ p. record { counter = p.0; low = p.1 }) (λ counts. (counts.counter, counts.low)) CountsFit (λ p. refl) (λ counts. refl)
+    (one_and_other number64_field (after_word (IsToken-from_test (codes "low") refl) number64_field))
+    (λ p f. record { counter = f.0; low = f.1 }) (λ counts f. (f.counter, f.low)))
+
+-- ---- the readers are right
+
+pub head_reads : (sessions : ℕ) (line : List ℕ) (head : Option Head) → sessions < 2 ^ 64 → head ≡ head_of_line sessions line → Reads head_text (HeadFits sessions) line head
 unfolding head_of_line
-head_line-takes sessions line head h =
-    let t = bind_value (tokens_of line) (head_of sessions) head h in
-    let r = head-takes sessions t.0 head t.2 in
-    ((tokens_takes line t.0 t.1).0 ∙ ap line_text r.spelled, r.fits)
+head_reads sessions line head small is = field_reads (head_field sessions small) is
 
-pub mark_line-takes : (section : Section) (sessions : ℕ) (line : List ℕ) (mark : Mark) → mark_of_line section sessions line ≡ Some mark → (line ≡ mark_text section mark) × MarkFits sessions mark
-unfolding mark_of_line mark_of
-mark_line-takes section sessions line mark h =
-    let t = bind_value (tokens_of line) (mark_of section sessions) mark h in
-    let w = bind_value (next_word (number_word section) t.0) _ mark t.2 in
-    let a = bind_value (next_session sessions w.0.1) _ mark w.2 in
-    let b = bind_value (next_number (2 ^ 64 - 1) a.0.1) _ mark a.2 in
-    let e = bind_value (at_end b.0.1) _ mark b.2 in
-    let wt = word-takes (number_word section) t.0 w.0 w.1 in
-    let at = session-takes sessions w.0.1 a.0 a.1 in
-    let bt = number-takes (2 ^ 64 - 1) a.0.1 b.0 b.1 in
-    let et = end-takes b.0.1 e.0 e.1 in
-    let on : (x : List ℕ) (r q : Tokens) → r ≡ q → x ∷ r ≡ x ∷ q = λ x r q i. ap (λ (l : Tokens). x ∷ l) i in
-    subst (λ (m : Mark). (line ≡ mark_text section m) × MarkFits sessions m) (some_is _ mark e.2)
-    ((tokens_takes line t.0 t.1).0 ∙ ap line_text (wt ∙ on _ _ _ (at.0 ∙ on _ _ _ (bt.0 ∙ on _ _ _ et))), record { session = at.1; number = bt.1 })
+pub mark_reads : (section : Section) (sessions : ℕ) (line : List ℕ) (mark : Option Mark) → sessions < 2 ^ 64 → mark ≡ mark_of_line section sessions line → Reads (mark_text section) (MarkFits sessions) line mark
+unfolding mark_of_line
+mark_reads section sessions line mark small is = field_reads (mark_field section sessions small) is
 
-pub base_line-takes : (line : List ℕ) (head : BaseHead) → base_of_line line ≡ Some head → (line ≡ base_text head) × BaseHeadFits head
-unfolding base_of_line base_of
-base_line-takes line head h =
-    let t = bind_value (tokens_of line) base_of head h in
-    let w = bind_value (next_word (codes "base") t.0) _ head t.2 in
-    let a = bind_value (next_session (2 ^ 64 - 1) w.0.1) _ head w.2 in
-    let b = bind_value (next_number (2 ^ 64 - 1) a.0.1) _ head a.2 in
-    let r = bind_value (next_number (2 ^ 64 - 1) b.0.1) _ head b.2 in
-    let e = bind_value (at_end r.0.1) _ head r.2 in
-    let wt = word-takes (codes "base") t.0 w.0 w.1 in
-    let at = session-takes (2 ^ 64 - 1) w.0.1 a.0 a.1 in
-    let bt = number-takes (2 ^ 64 - 1) a.0.1 b.0 b.1 in
-    let rt = number-takes (2 ^ 64 - 1) b.0.1 r.0 r.1 in
-    let et = end-takes r.0.1 e.0 e.1 in
-    let on : (x : List ℕ) (r q : Tokens) → r ≡ q → x ∷ r ≡ x ∷ q = λ x r q i. ap (λ (l : Tokens). x ∷ l) i in
-    subst (λ (m : BaseHead). (line ≡ base_text m) × BaseHeadFits m) (some_is _ head e.2)
-    ((tokens_takes line t.0 t.1).0 ∙ ap line_text (wt ∙ on _ _ _ (at.0 ∙ on _ _ _ (bt.0 ∙ on _ _ _ (rt.0 ∙ on _ _ _ et)))), record { place = at.1; numbers = bt.1; rows = rt.1 })
+pub base_reads : (line : List ℕ) (head : Option BaseHead) → head ≡ base_of_line line → Reads base_text BaseHeadFits line head
+unfolding base_of_line
+base_reads line head is = field_reads base_field is
 
-pub counts_line-takes : (line : List ℕ) (counts : Counts) → counts_of_line line ≡ Some counts → (line ≡ counts_text counts) × CountsFit counts
-unfolding counts_of_line counts_of
-counts_line-takes line counts h =
-    let t = bind_value (tokens_of line) counts_of counts h in
-    let w = bind_value (next_word (codes "counter") t.0) _ counts t.2 in
-    let a = bind_value (next_number (2 ^ 64 - 1) w.0.1) _ counts w.2 in
-    let v = bind_value (next_word (codes "low") a.0.1) _ counts a.2 in
-    let b = bind_value (next_number (2 ^ 64 - 1) v.0.1) _ counts v.2 in
-    let e = bind_value (at_end b.0.1) _ counts b.2 in
-    let wt = word-takes (codes "counter") t.0 w.0 w.1 in
-    let at = number-takes (2 ^ 64 - 1) w.0.1 a.0 a.1 in
-    let vt = word-takes (codes "low") a.0.1 v.0 v.1 in
-    let bt = number-takes (2 ^ 64 - 1) v.0.1 b.0 b.1 in
-    let et = end-takes b.0.1 e.0 e.1 in
-    let on : (x : List ℕ) (r q : Tokens) → r ≡ q → x ∷ r ≡ x ∷ q = λ x r q i. ap (λ (l : Tokens). x ∷ l) i in
-    subst (λ (m : Counts). (line ≡ counts_text m) × CountsFit m) (some_is _ counts e.2)
-    ((tokens_takes line t.0 t.1).0 ∙ ap line_text (wt ∙ on _ _ _ (at.0 ∙ on _ _ _ (vt ∙ on _ _ _ (bt.0 ∙ on _ _ _ et)))), record { counter = at.1; low = bt.1 })
+pub counts_reads : (line : List ℕ) (counts : Option Counts) → counts ≡ counts_of_line line → Reads counts_text CountsFit line counts
+unfolding counts_of_line
+counts_reads line counts is = field_reads counts_field is
+
+-- ---- how the log begins
+
+IsToken-log : IsToken (codes "log")
+unfolding is_token
+IsToken-log = IsToken-from_test (codes "log") refl
+
+log_reads : (line : List ℕ) → Reads (count_text (codes "log")) (Within 0 (2 ^ 64 - 1)) line (count_of_line (codes "log") 0 (2 ^ 64 - 1) line)
+log_reads line = count_reads (codes "log") 0 (2 ^ 64 - 1) line _ wide IsToken-log refl
+
+abbrev first_byte : List ℕ → ℕ
+first_byte [] = 0
+first_byte (byte ∷ bytes) = byte
+
+log_is_no_base : (rows : ℕ) (head : BaseHead) → count_text (codes "log") rows ≡ base_text head → ⊥
+log_is_no_base rows head e = let f : 108 ≡ 98 = ap first_byte e in absurd (omega (arith, f))
+
+-- what was read of a line as a count of rows, and what as a base, gives how the log begins
+pub began_reads_by : (line : List ℕ) (rows : Option ℕ) (head : Option BaseHead) → Reads (count_text (codes "log")) (Within 0 (2 ^ 64 - 1)) line rows → Reads base_text BaseHeadFits line head → Reads began_text BeganFits line (began_unless rows head)
+began_reads_by line (Some n) head log base = record {
+  found = log.found;
+  again = λ began fits e. by began fits e;
+}
+  where
+    by : (began : Began) → BeganFits began → line ≡ began_text began → Some (begun.Log n) ≡ Some began
+    by (begun.Log m) fits e = ap (option_map begun.Log) (log.again m fits e)
+    by (begun.Base other) fits e = absurd (log_is_no_base n other (sym log.found.0 ∙ e))
+began_reads_by line None (Some head) log base = record {
+  found = base.found;
+  again = λ began fits e. by began fits e;
+}
+  where
+    by : (began : Began) → BeganFits began → line ≡ began_text began → Some (begun.Base head) ≡ Some began
+    by (begun.Log m) fits e = let none : None ≡ Some m = log.again m fits e in cc
+    by (begun.Base other) fits e = ap (option_map begun.Base) (base.again other fits e)
+began_reads_by line None None log base = record {
+  found = tt;
+  again = λ began fits e. by began fits e;
+}
+  where
+    by : (began : Began) → BeganFits began → line ≡ began_text began → None ≡ Some began
+    by (begun.Log m) fits e = ap (option_map begun.Log) (log.again m fits e)
+    by (begun.Base other) fits e = ap (option_map begun.Base) (base.again other fits e)
+
+pub began_reads : (line : List ℕ) → Reads began_text BeganFits line (began_of_line line)
+began_reads line = began_reads_by line _ _ (log_reads line) (base_reads line _ refl)
+
+pub began_line-again : (began : Began) → BeganFits began → began_of_line (began_text began) ≡ Some began
+began_line-again began fits = (began_reads (began_text began)).again began fits refl
+
+pub count_is_line : (word : List ℕ) (least most n : ℕ) → IsToken word → length word ≤ 100 → most < 2 ^ 64 → Within least most n → IsLine (count_text word n)
+count_is_line word least most n token short small fits = field_is_line n (count_field word least most small token) (omega (arith, short)) fits
+
+pub began_is_line : (began : Began) → BeganFits began → IsLine (began_text began)
+began_is_line (begun.Log rows) fits = count_is_line (codes "log") 0 (2 ^ 64 - 1) rows IsToken-log (omega arith) wide fits
+began_is_line (begun.Base head) fits = field_is_line head base_field (omega arith) fits

@@ -1,145 +1,52 @@
--- The lines of keys and rows: what is read is spelled so.
-use Rattle.std.proofs.Common.{◌≡◌, ℕ, ◌^◌, ◌-◌, List, [], ◌∷◌, ◌++◌, Option, Some, None, inl, inr, refl, sym, ap, subst, ◌∙◌, append_assoc}
-use Rattle.std.specs.Prelude.{option_map, codes}
-use Rattle.std.specs.Str.{bytes_eq}
+-- The lines of keys and rows are fields: what is read is spelled so, what is spelled so is read again, and they are lines.
+use Rattle.std.proofs.Common.{◌≡◌, ℕ, ◌+◌, ◌≤◌, List, [], ◌∷◌, ◌++◌, length, Option, Some, None, refl, sym, ap, subst, ◌∙◌, arith, append_assoc}
+use Rattle.std.specs.Prelude.{codes}
 use Rattle.std.specs.Fmt.{decimal}
-use Rattle.occ_types.specs.Key.{Key}
-use Rattle.occ_types.specs.Object.{Object}
-use Rattle.occ_types.specs.Question.{Question, One, Span}
-use Rattle.occ_types.specs.Row.{Row}
-use Rattle.occ_types.specs.Schema.{Schema, check_question}
-use Rattle.occ_model.specs.State.{Write, Found}
+use Rattle.occ_types.specs.Question.{One, Span}
+use Rattle.occ_types.specs.Schema.{Schema, check_tables}
+use Rattle.occ_model.specs.State.{Write}
 use Rattle.occ_text.specs.declared.versions.Version.{Version}
-use Rattle.occ_text.specs.Spelling.{line_text, key_text, end_text, row_text}
-use Rattle.occ_text.specs.Reading.{tokens_of}
-use Rattle.occ_text.specs.Escapes.{read_end}
-use Rattle.occ_print.specs.Books.{table_name, answer_text, pair_line, write_line, entry_word, entry_line}
+use Rattle.occ_text.specs.Line.{IsLine}
+use Rattle.occ_text.specs.Spelling.{line_text, key_text, end_text, IsToken}
+use Rattle.occ_text.specs.Reading.{Reads, is_token}
+use Rattle.occ_text.specs.Fields.{both, ◌⊗◌}
+use Rattle.occ_text.proofs.Numbers.{some_or_none}
+use Rattle.occ_text.proofs.Words.{IsToken-from_test}
+use Rattle.occ_text.proofs.Readers.{takes}
+use Rattle.occ_text.proofs.Fields.{IsField, IsSpelled, after_word, both_fields, one_and_other, behind_takes, behind_spelled, within, words_field, field_reads, field_is_line}
+use Rattle.occ_print.specs.Books.{table_name, pair_line, write_line, entry_word, entry_line}
 use Rattle.occ_print.specs.declared.sections.Section.{Section}
-use Rattle.occ_text.proofs.Escapes.{some_is, bind_value, map_value}
-use Rattle.occ_text.proofs.Words.{tokens_takes}
-use Rattle.occ_text.proofs.Values.{end_reads}
-use Rattle.occ_text.proofs.Readers.{takes, word_is}
-use Rattle.occ_books.specs.Cursors.{Tokens, next_token, next_word, next_number, at_end}
-use Rattle.occ_books.specs.SchemaReaders.{row_in, next_table, next_key, next_row, next_object}
-use Rattle.occ_books.specs.RowLines.{Asked, AskedOne, AskedSpan, asked_text, FoundFits, SpanFits, AskedFits, PairFits, WriteFits, AtFits, found_in, next_found, one_behind, next_span, span_behind, asked_behind, asked_in, asked_of_line, pair_in, pair_of_line, put_behind, del_behind, write_behind, write_in, write_of_line, at_in, at_of_line}
-use Rattle.occ_books.proofs.Lines.{next-takes, token-takes, number-takes, word-takes, end-takes, row_in-takes, table-takes, key-takes, row-takes, object-takes, passes}
-use Rattle.occ_books.proofs.NumberLines.{either}
-
-on : (x : List ℕ) {r q : Tokens} → r ≡ q → x ∷ r ≡ x ∷ q
-on x e = ap (λ (l : Tokens). x ∷ l) e
-
--- ---- answers of a key
-
-abbrev pub found_text : Option Row → List ℕ
-found_text row = answer_text (Found row)
-
-record FoundRead (schema : Schema) (table : ℕ) (token : List ℕ) (row : Option Row) : Type 0 where
-  spelled : token ≡ found_text row
-  fits : FoundFits schema table row
-
-found_in-takes : (schema : Schema) (table : ℕ) (token : List ℕ) (row : Option Row) → found_in schema table token ≡ Some row → FoundRead schema table token row
-unfolding found_in
-found_in-takes schema table token row h = elim (either (bytes_eq token (codes "none")) (Some None) (option_map (λ (r : Row). Some r) (row_in schema table token)) row h) [
-  | inl a ↦ subst (FoundRead schema table token) (some_is None row a.1) (record { spelled = word_is token (codes "none") a.0; fits = tt })
-  | inr m ↦ (
-      let v = map_value (row_in schema table token) (λ (r : Row). Some r) row m in
-      let r = row_in-takes schema table token v.0 v.1 in
-      subst (FoundRead schema table token) v.2 (record { spelled = r.spelled; fits = record { cells = r.fits; checked = r.checked } }))
-]
-
-next_found-takes : (schema : Schema) (table : ℕ) (tokens : Tokens) (p : Option Row × Tokens) → next_found schema table tokens ≡ Some p → (tokens ≡ found_text p.0 ∷ p.1) × FoundFits schema table p.0
-unfolding next_found
-next_found-takes schema table tokens p h =
-    let t = next-takes (found_in schema table) tokens p h in
-    let f = found_in-takes schema table t.0 p.0 t.1 in
-    (t.2 ∙ ap (λ (w : List ℕ). w ∷ p.1) f.spelled, f.fits)
+use Rattle.occ_print.specs.declared.sections.Section.TheVariants as sections
+use Rattle.occ_books.specs.NumberLines.{number64}
+use Rattle.occ_books.specs.RowLines.{table_field, object_field, row_field, found_field, ends_field, Asked, AskedOne, AskedSpan, asked_text, found_text, asked_tokens, write_tokens, AskedFits, PairFits, WriteFits, AtFits, one_behind, span_behind, next_asked, asked_line, asked_of_line, pair_field, pair_of_line, put_behind, del_behind, next_write, write_field, write_of_line, at_field, at_of_line}
+use Rattle.occ_books.proofs.TableNames.{checked_place}
+use Rattle.occ_books.proofs.NumberLines.{number64_field}
+use Rattle.occ_books.proofs.SchemaFields.{table_is_field, key_is_field, object_is_field, row_is_field, found_is_field, ends_is_field}
 
 -- ---- reads
 
-abbrev pub asked_tokens : Schema → Asked → Tokens
-asked_tokens schema (AskedOne object row) = codes "one" ∷ table_name schema object.0 ∷ key_text object.1 ∷ found_text row ∷ []
-asked_tokens schema (AskedSpan (One table key) count) = []
-asked_tokens schema (AskedSpan (Span table lower upper) count) = codes "span" ∷ table_name schema table ∷ end_text lower ∷ end_text upper ∷ decimal count ∷ []
+pub asked_is_field : (version : Version) (schema : Schema) → check_tables schema ≡ None → IsField (asked_line version schema) (λ asked. 6600)
+unfolding next_asked one_behind span_behind is_token
+asked_is_field version schema good =
+    words_field (asked_line version schema) ((codes "one", one_behind version schema) ∷ (codes "span", span_behind version schema) ∷ []) (λ y. 6600) (λ tokens. refl) (
+      behind_takes (asked_tokens schema) (AskedFits version schema) (codes "one") (λ p. AskedOne p.0 p.1) one (λ p. refl) (λ p fits. (fits.0, fits.1)),
+      (behind_takes (asked_tokens schema) (AskedFits version schema) (codes "span") (λ p. AskedSpan (Span p.0 p.1.0.0 p.1.0.1) p.1.1) span (λ p. refl) (λ p fits. (fits.1.0, fits.1.1)), tt),
+    ) spelled
+  where
+    one : IsField (both (object_field version schema) (λ object. found_field schema object.0)) (λ p. 6566)
+    one = both_fields (object_is_field version schema good) (λ object fits. found_is_field schema object.0 good)
 
-record AskedRead (version : Version) (schema : Schema) (tokens : Tokens) (asked : Asked) : Type 0 where
-  spelled : tokens ≡ asked_tokens schema asked
-  fits : AskedFits version schema asked
+    span : IsField (both (table_field schema) (λ table. ends_field version schema table ⊗ number64)) (λ p. 814)
+    span = both_fields (table_is_field schema good) (λ table there. one_and_other (ends_is_field version schema table) number64_field)
 
-one-takes : (version : Version) (schema : Schema) (tokens : Tokens) (asked : Asked) → one_behind version schema tokens ≡ Some asked → AskedRead version schema (codes "one" ∷ tokens) asked
-unfolding one_behind
-one-takes version schema tokens asked h =
-    let o = bind_value (next_object version schema tokens) _ asked h in
-    let f = bind_value (next_found schema o.0.0.0 o.0.1) _ asked o.2 in
-    let e = bind_value (at_end f.0.1) _ asked f.2 in
-    let ot = object-takes version schema tokens o.0 o.1 in
-    let ft = next_found-takes schema o.0.0.0 o.0.1 f.0 f.1 in
-    let et = end-takes f.0.1 e.0 e.1 in
-    subst (AskedRead version schema (codes "one" ∷ tokens)) (some_is (AskedOne o.0.0 f.0.0) asked e.2) (record {
-      spelled = on _ (ot.0 ∙ on _ (on _ (ft.0 ∙ on _ et)));
-      fits = (record { key = ot.1; checked = ot.2 }, ft.1);
-    })
+    spelled : (asked : Asked) → AskedFits version schema asked → IsSpelled (next_asked version schema) (asked_tokens schema asked) asked 6600
+    spelled (AskedOne object row) fits = within (behind_spelled (λ p. AskedOne p.0 p.1) (object, row) one (IsToken-from_test _ refl) (λ rest. refl) (fits.0, fits.1)) (omega arith)
+    spelled (AskedSpan (One table key) count) fits = absurd fits.0.ends
+    spelled (AskedSpan (Span table lower upper) count) fits =
+        within (behind_spelled (λ p. AskedSpan (Span p.0 p.1.0.0 p.1.0.1) p.1.1) (table, ((lower, upper), count)) span (IsToken-from_test _ refl) (λ rest. refl)
+        (checked_place schema table _ fits.0.checked, (fits.0, fits.1))) (omega arith)
 
-record SpanRead (version : Version) (schema : Schema) (table : ℕ) (tokens : Tokens) (p : Question × Tokens) : Type 0 where
-  lower : Option Key
-  upper : Option Key
-  is : p.0 ≡ Span table lower upper
-  spelled : tokens ≡ end_text lower ∷ end_text upper ∷ p.1
-  fits : SpanFits version schema p.0
-
-next_span-takes : (version : Version) (schema : Schema) (table : ℕ) (tokens : Tokens) (p : Question × Tokens) → next_span version schema table tokens ≡ Some p → SpanRead version schema table tokens p
-unfolding next_span
-next_span-takes version schema table tokens p h =
-    let a = bind_value (next_token tokens) _ p h in
-    let l = bind_value (read_end version a.0.0) _ p a.2 in
-    let b = bind_value (next_token a.0.1) _ p l.2 in
-    let u = bind_value (read_end version b.0.0) _ p b.2 in
-    let q = passes (check_question schema (Span table l.0 u.0)) (Span table l.0 u.0, b.0.1) p u.2 in
-    let at = token-takes tokens a.0 a.1 in
-    let bt = token-takes a.0.1 b.0 b.1 in
-    let lt = takes (end_reads version a.0.0) l.0 l.1 in
-    let ut = takes (end_reads version b.0.0) u.0 u.1 in
-    subst (SpanRead version schema table tokens) q.1 (record {
-      lower = l.0;
-      upper = u.0;
-      is = refl;
-      spelled = at ∙ (λ i. lt.0 i ∷ a.0.1) ∙ on _ (bt ∙ (λ i. ut.0 i ∷ b.0.1));
-      fits = record { ends = (lt.1, ut.1); checked = q.0 };
-    })
-
-span-takes : (version : Version) (schema : Schema) (tokens : Tokens) (asked : Asked) → span_behind version schema tokens ≡ Some asked → AskedRead version schema (codes "span" ∷ tokens) asked
-unfolding span_behind
-span-takes version schema tokens asked h =
-    let t = bind_value (next_table schema tokens) _ asked h in
-    let q = bind_value (next_span version schema t.0.0 t.0.1) _ asked t.2 in
-    let n = bind_value (next_number (2 ^ 64 - 1) q.0.1) _ asked q.2 in
-    let e = bind_value (at_end n.0.1) _ asked n.2 in
-    let tt_ = table-takes schema tokens t.0 t.1 in
-    let qt = next_span-takes version schema t.0.0 t.0.1 q.0 q.1 in
-    let nt = number-takes (2 ^ 64 - 1) q.0.1 n.0 n.1 in
-    let et = end-takes n.0.1 e.0 e.1 in
-    subst (AskedRead version schema (codes "span" ∷ tokens)) (ap (λ (x : Question). AskedSpan x n.0.0) (sym qt.is) ∙ some_is (AskedSpan q.0.0 n.0.0) asked e.2) (record {
-      spelled = on _ (tt_ ∙ on _ (qt.spelled ∙ on _ (on _ (nt.0 ∙ on _ et))));
-      fits = (subst (SpanFits version schema) qt.is qt.fits, nt.1);
-    })
-
-asked-takes : (version : Version) (schema : Schema) (tokens : Tokens) (asked : Asked) → asked_in version schema tokens ≡ Some asked → AskedRead version schema tokens asked
-unfolding asked_in
-asked-takes version schema tokens asked h =
-    let t = bind_value (next_token tokens) (asked_behind version schema) asked h in
-    let all = token-takes tokens t.0 t.1 in
-    elim (either (bytes_eq t.0.0 (codes "one")) (one_behind version schema t.0.1) _ asked t.2) [
-      | inl a ↦ (
-          let w = word_is t.0.0 (codes "one") a.0 in
-          subst (λ (l : Tokens). AskedRead version schema l asked) (sym (all ∙ ap (λ (x : List ℕ). x ∷ t.0.1) w)) (one-takes version schema t.0.1 asked a.1))
-      | inr r ↦ elim (either (bytes_eq t.0.0 (codes "span")) (span_behind version schema t.0.1) None asked r) [
-        | inl a ↦ (
-            let w = word_is t.0.0 (codes "span") a.0 in
-            subst (λ (l : Tokens). AskedRead version schema l asked) (sym (all ∙ ap (λ (x : List ℕ). x ∷ t.0.1) w)) (span-takes version schema t.0.1 asked a.1))
-        | inr n ↦ absurd cc
-      ]
-    ]
-
-pub asked_spelling : (version : Version) (schema : Schema) (asked : Asked) → AskedFits version schema asked → line_text (asked_tokens schema asked) ≡ asked_text schema asked
+asked_spelling : (version : Version) (schema : Schema) (asked : Asked) → AskedFits version schema asked → line_text (asked_tokens schema asked) ≡ asked_text schema asked
 asked_spelling version schema (AskedOne object row) fits =
     let n = table_name schema object.0 in
     let k = key_text object.1 in
@@ -154,107 +61,75 @@ asked_spelling version schema (AskedSpan (Span table lower upper) count) fits =
     sym (append_assoc (codes "span") (32 ∷ (n ++ 32 ∷ (l ++ 32 ∷ u))) (32 ∷ c)
     ∙ ap (λ (x : List ℕ). codes "span" ++ 32 ∷ x) (append_assoc n (32 ∷ (l ++ 32 ∷ u)) (32 ∷ c) ∙ ap (λ (x : List ℕ). n ++ 32 ∷ x) (append_assoc l (32 ∷ u) (32 ∷ c))))
 
-pub asked_line-takes : (version : Version) (schema : Schema) (line : List ℕ) (asked : Asked) → asked_of_line version schema line ≡ Some asked → (line ≡ asked_text schema asked) × AskedFits version schema asked
+respelled : {X : Type 0} {a b : X → List ℕ} {fits : X → Type 0} {line : List ℕ} {read : Option X} → ((x : X) → fits x → a x ≡ b x) → Reads a fits line read → Reads b fits line read
+respelled {b = b} {fits = fits} {line = line} {read = read} same reads = record {
+  found = some_or_none read (λ x. (line ≡ b x) × fits x) (λ x h. let t = takes reads x h in (t.0 ∙ same x t.1, t.1));
+  again = λ x fits e. reads.again x fits (e ∙ sym (same x fits));
+}
+
+pub asked_reads : (version : Version) (schema : Schema) (line : List ℕ) → check_tables schema ≡ None → Reads (asked_text schema) (AskedFits version schema) line (asked_of_line version schema line)
 unfolding asked_of_line
-asked_line-takes version schema line asked h =
-    let t = bind_value (tokens_of line) (asked_in version schema) asked h in
-    let r = asked-takes version schema t.0 asked t.2 in
-    ((tokens_takes line t.0 t.1).0 ∙ ap line_text r.spelled ∙ asked_spelling version schema asked r.fits, r.fits)
+asked_reads version schema line good = respelled (asked_spelling version schema) (field_reads (asked_is_field version schema good) refl)
+
+pub asked_is_line : (version : Version) (schema : Schema) (asked : Asked) → check_tables schema ≡ None → AskedFits version schema asked → IsLine (asked_text schema asked)
+asked_is_line version schema asked good fits = subst IsLine (asked_spelling version schema asked fits) (field_is_line asked (asked_is_field version schema good) (omega arith) fits)
 
 -- ---- rows that a range answered
 
-pub pair_line-takes : (version : Version) (schema : Schema) (table : ℕ) (line : List ℕ) (pair : Key × Row) → pair_of_line version schema table line ≡ Some pair → (line ≡ pair_line pair) × PairFits version schema table pair
-unfolding pair_of_line pair_in
-pair_line-takes version schema table line pair h =
-    let t = bind_value (tokens_of line) (pair_in version schema table) pair h in
-    let w = bind_value (next_word (codes "pair") t.0) _ pair t.2 in
-    let k = bind_value (next_key version schema table w.0.1) _ pair w.2 in
-    let r = bind_value (next_row schema table k.0.1) _ pair k.2 in
-    let e = bind_value (at_end r.0.1) _ pair r.2 in
-    let wt = word-takes (codes "pair") t.0 w.0 w.1 in
-    let kt = key-takes version schema table w.0.1 k.0 k.1 in
-    let rt = row-takes schema table k.0.1 r.0 r.1 in
-    let et = end-takes r.0.1 e.0 e.1 in
-    subst (λ (p : Key × Row). (line ≡ pair_line p) × PairFits version schema table p) (some_is (k.0.0, r.0.0) pair e.2) (
-      (tokens_takes line t.0 t.1).0 ∙ ap line_text (wt ∙ on _ (kt.0 ∙ on _ (rt.0 ∙ on _ et))),
-      (record { key = kt.1; checked = kt.2 }, record { cells = rt.1; checked = rt.2 }),
-    )
+pub pair_is_field : (version : Version) (schema : Schema) (table : ℕ) → check_tables schema ≡ None → IsField (pair_field version schema table) (λ pair. 6554)
+unfolding is_token
+pair_is_field version schema table good = after_word (IsToken-from_test (codes "pair") refl) (one_and_other (key_is_field version schema table) (row_is_field schema table good))
+
+pub pair_reads : (version : Version) (schema : Schema) (table : ℕ) (line : List ℕ) → check_tables schema ≡ None → Reads pair_line (PairFits version schema table) line (pair_of_line version schema table line)
+unfolding pair_of_line
+pair_reads version schema table line good = field_reads (pair_is_field version schema table good) refl
 
 -- ---- writes
 
-abbrev pub write_tokens : Schema → Write → Tokens
-write_tokens schema (object, None) = codes "del" ∷ table_name schema object.0 ∷ key_text object.1 ∷ []
-write_tokens schema (object, Some row) = codes "put" ∷ table_name schema object.0 ∷ key_text object.1 ∷ row_text row ∷ []
+pub write_is_field : (version : Version) (schema : Schema) → check_tables schema ≡ None → IsField (write_field version schema) (λ write. 6600)
+unfolding next_write put_behind del_behind is_token
+write_is_field version schema good =
+    words_field (write_field version schema) ((codes "put", put_behind version schema) ∷ (codes "del", del_behind version schema) ∷ []) (λ y. 6600) (λ tokens. refl) (
+      behind_takes (write_tokens schema) (WriteFits version schema) (codes "put") (λ p. (p.0, Some p.1)) put (λ p. refl) (λ p fits. (fits.0, fits.1)),
+      (behind_takes (write_tokens schema) (WriteFits version schema) (codes "del") (λ object. (object, None)) (object_is_field version schema good) (λ object. refl) (λ object fits. (fits, tt)), tt),
+    ) spelled
+  where
+    put : IsField (both (object_field version schema) (λ object. row_field schema object.0)) (λ p. 6566)
+    put = both_fields (object_is_field version schema good) (λ object fits. row_is_field schema object.0 good)
 
-record WriteRead (version : Version) (schema : Schema) (tokens : Tokens) (write : Write) : Type 0 where
-  spelled : line_text tokens ≡ write_line schema write
-  fits : WriteFits version schema write
+    spelled : (write : Write) → WriteFits version schema write → IsSpelled (next_write version schema) (write_tokens schema write) write 6600
+    spelled (object, Some row) fits = within (behind_spelled (λ p. (p.0, Some p.1)) (object, row) put (IsToken-from_test _ refl) (λ rest. refl) (fits.0, fits.1)) (omega arith)
+    spelled (object, None) fits = within (behind_spelled (λ object. (object, None)) object (object_is_field version schema good) (IsToken-from_test _ refl) (λ rest. refl) fits.0) (omega arith)
 
-put-takes : (version : Version) (schema : Schema) (tokens : Tokens) (write : Write) → put_behind version schema tokens ≡ Some write → WriteRead version schema (codes "put" ∷ tokens) write
-unfolding put_behind
-put-takes version schema tokens write h =
-    let o = bind_value (next_object version schema tokens) _ write h in
-    let r = bind_value (next_row schema o.0.0.0 o.0.1) _ write o.2 in
-    let e = bind_value (at_end r.0.1) _ write r.2 in
-    let ot = object-takes version schema tokens o.0 o.1 in
-    let rt = row-takes schema o.0.0.0 o.0.1 r.0 r.1 in
-    let et = end-takes r.0.1 e.0 e.1 in
-    subst (WriteRead version schema (codes "put" ∷ tokens)) (some_is (o.0.0, Some r.0.0) write e.2) (record {
-      spelled = ap line_text (on _ (ot.0 ∙ on _ (on _ (rt.0 ∙ on _ et))));
-      fits = (record { key = ot.1; checked = ot.2 }, record { cells = rt.1; checked = rt.2 });
-    })
+write_spelling : (schema : Schema) (write : Write) → line_text (write_tokens schema write) ≡ write_line schema write
+write_spelling schema (object, None) = refl
+write_spelling schema (object, Some row) = refl
 
-del-takes : (version : Version) (schema : Schema) (tokens : Tokens) (write : Write) → del_behind version schema tokens ≡ Some write → WriteRead version schema (codes "del" ∷ tokens) write
-unfolding del_behind
-del-takes version schema tokens write h =
-    let o = bind_value (next_object version schema tokens) _ write h in
-    let e = bind_value (at_end o.0.1) _ write o.2 in
-    let ot = object-takes version schema tokens o.0 o.1 in
-    let et = end-takes o.0.1 e.0 e.1 in
-    subst (WriteRead version schema (codes "del" ∷ tokens)) (some_is (o.0.0, None) write e.2) (record {
-      spelled = ap line_text (on _ (ot.0 ∙ on _ (on _ et)));
-      fits = (record { key = ot.1; checked = ot.2 }, tt);
-    })
-
-write-takes : (version : Version) (schema : Schema) (tokens : Tokens) (write : Write) → write_in version schema tokens ≡ Some write → WriteRead version schema tokens write
-unfolding write_in
-write-takes version schema tokens write h =
-    let t = bind_value (next_token tokens) (write_behind version schema) write h in
-    let all = token-takes tokens t.0 t.1 in
-    elim (either (bytes_eq t.0.0 (codes "put")) (put_behind version schema t.0.1) _ write t.2) [
-      | inl a ↦ (
-          let w = word_is t.0.0 (codes "put") a.0 in
-          subst (λ (l : Tokens). WriteRead version schema l write) (sym (all ∙ ap (λ (x : List ℕ). x ∷ t.0.1) w)) (put-takes version schema t.0.1 write a.1))
-      | inr r ↦ elim (either (bytes_eq t.0.0 (codes "del")) (del_behind version schema t.0.1) None write r) [
-        | inl a ↦ (
-            let w = word_is t.0.0 (codes "del") a.0 in
-            subst (λ (l : Tokens). WriteRead version schema l write) (sym (all ∙ ap (λ (x : List ℕ). x ∷ t.0.1) w)) (del-takes version schema t.0.1 write a.1))
-        | inr n ↦ absurd cc
-      ]
-    ]
-
-pub write_line-takes : (version : Version) (schema : Schema) (line : List ℕ) (write : Write) → write_of_line version schema line ≡ Some write → (line ≡ write_line schema write) × WriteFits version schema write
+pub write_reads : (version : Version) (schema : Schema) (line : List ℕ) → check_tables schema ≡ None → Reads (write_line schema) (WriteFits version schema) line (write_of_line version schema line)
 unfolding write_of_line
-write_line-takes version schema line write h =
-    let t = bind_value (tokens_of line) (write_in version schema) write h in
-    let r = write-takes version schema t.0 write t.2 in
-    ((tokens_takes line t.0 t.1).0 ∙ r.spelled, r.fits)
+write_reads version schema line good = respelled (λ write fits. write_spelling schema write) (field_reads (write_is_field version schema good) refl)
+
+pub write_line-again : (version : Version) (schema : Schema) (write : Write) → check_tables schema ≡ None → WriteFits version schema write → write_of_line version schema (write_line schema write) ≡ Some write
+write_line-again version schema write good fits = (write_reads version schema (write_line schema write) good).again write fits refl
+
+pub write_is_line : (version : Version) (schema : Schema) (write : Write) → check_tables schema ≡ None → WriteFits version schema write → IsLine (write_line schema write)
+write_is_line version schema write good fits = subst IsLine (write_spelling schema write) (field_is_line write (write_is_field version schema good) (omega arith) fits)
 
 -- ---- rows of the state
 
-pub at_line-takes : (version : Version) (section : Section) (schema : Schema) (line : List ℕ) (entry : Object × Row) → at_of_line version section schema line ≡ Some entry → (line ≡ entry_line section schema entry) × AtFits version schema entry
-unfolding at_of_line at_in
-at_line-takes version section schema line entry h =
-    let t = bind_value (tokens_of line) (at_in version section schema) entry h in
-    let w = bind_value (next_word (entry_word section) t.0) _ entry t.2 in
-    let o = bind_value (next_object version schema w.0.1) _ entry w.2 in
-    let r = bind_value (next_row schema o.0.0.0 o.0.1) _ entry o.2 in
-    let e = bind_value (at_end r.0.1) _ entry r.2 in
-    let wt = word-takes (entry_word section) t.0 w.0 w.1 in
-    let ot = object-takes version schema w.0.1 o.0 o.1 in
-    let rt = row-takes schema o.0.0.0 o.0.1 r.0 r.1 in
-    let et = end-takes r.0.1 e.0 e.1 in
-    subst (λ (p : Object × Row). (line ≡ entry_line section schema p) × AtFits version schema p) (some_is (o.0.0, r.0.0) entry e.2) (
-      (tokens_takes line t.0 t.1).0 ∙ ap line_text (wt ∙ on _ (ot.0 ∙ on _ (on _ (rt.0 ∙ on _ et)))),
-      (record { key = ot.1; checked = ot.2 }, record { cells = rt.1; checked = rt.2 }),
-    )
+entry_word-IsToken : (section : Section) → IsToken (entry_word section)
+unfolding is_token
+entry_word-IsToken sections.Base = IsToken-from_test (codes "from") refl
+entry_word-IsToken sections.Store = IsToken-from_test (codes "at") refl
+
+pub entry_word_width : (section : Section) → length (entry_word section) ≤ 10
+entry_word_width sections.Base = omega arith
+entry_word_width sections.Store = omega arith
+
+pub at_is_field : (version : Version) (section : Section) (schema : Schema) → check_tables schema ≡ None → IsField (at_field version section schema) (λ entry. length (entry_word section) + 1 + 6566)
+at_is_field version section schema good =
+    after_word (entry_word-IsToken section) (both_fields (object_is_field version schema good) (λ object fits. row_is_field schema object.0 good))
+
+pub at_reads : (version : Version) (section : Section) (schema : Schema) (line : List ℕ) → check_tables schema ≡ None → Reads (entry_line section schema) (AtFits version schema) line (at_of_line version section schema line)
+unfolding at_of_line
+at_reads version section schema line good = field_reads (at_is_field version section schema good) refl

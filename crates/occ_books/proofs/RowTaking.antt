@@ -9,13 +9,14 @@ use Rattle.occ_types.specs.Object.{Object, object_cmp}
 use Rattle.occ_types.specs.Question.{Question, One, Span}
 use Rattle.occ_types.specs.Row.{Row}
 use Rattle.occ_types.specs.Schema.{Schema}
-use Rattle.occ_types.specs.Seen.{table_asked}
+use Rattle.occ_types.specs.PlainData.{table_asked}
 use Rattle.occ_model.specs.State.{Write, Observation, Rows}
 use Rattle.occ_model.specs.Overlay.{set, own}
 use Rattle.occ_model.specs.RangeLaws.{IsDistinctWrites}
 use Rattle.occ_model.proofs.OwnWrites.{sets_own}
 use Rattle.occ_model.specs.Log.{LogRow, Standing}
 use Rattle.occ_model.specs.declared.verdict.Cause.TheVariants.{Conflict, TooOld}
+use Rattle.occ_text.specs.declared.faults.ReadFault.{ReadFault}
 use Rattle.occ_text.specs.declared.versions.Version.{Version}
 use Rattle.occ_text.specs.Spelling.{line_text}
 use Rattle.occ_print.specs.Books.{question_text, pair_line, read_lines, write_line, standing_text, row_line, row_lines}
@@ -23,9 +24,10 @@ use Rattle.occ_book.specs.declared.rows.Standing.TheVariants as stands
 use Rattle.occ_books.specs.declared.number_lines.Head.{Head}
 use Rattle.occ_books.specs.NumberLines.{Stand, stand_tokens, head_text, IsSession, StandFits, HeadFits}
 use Rattle.occ_books.specs.RowLines.{AskedSpan, asked_text, AskedFits, PairFits, WriteFits}
-use Rattle.occ_books.specs.Taking.{TakesLines, Gathered, ReadFits, RisesFrom, StandingFits, LogRowFits, StandsSo, IsRowOf}
-use Rattle.occ_books.specs.Places.{IsAbove, last_key}
-use Rattle.occ_books.proofs.Gathering.{more_lines, single_lines}
+use Rattle.occ_books.specs.Taking.{AllFit, ReadFits, RisesFrom, StandingFits, LogRowFits, StandsSo, IsRowOf}
+use Rattle.occ_books.specs.Places as places
+use Rattle.occ_books.specs.Places.{InRow, ReadOf, Position, Took, FailsFrom, frame_of, in_row, rows_to_come, writes_to_come, reads_to_come, pairs_to_come, IsAbove, last_key}
+use Rattle.occ_books.proofs.LinesTaken.{both, spelled, fails}
 
 -- ---- writes
 
@@ -69,17 +71,24 @@ rises_behind (Some last) (row ∷ rows) pair above rises = (rises.0, rises_behin
 pub rises-more : (rows now : List (Key × Row)) (pair : Key × Row) → now ≡ rows ++ pair ∷ [] → IsAbove (last_key rows) pair.0 → RisesFrom None rows → RisesFrom None now
 rises-more rows now pair is above so_far = subst (RisesFrom None) (sym is) (rises_behind None rows pair (subst (λ (k : Option Key). IsAbove k pair.0) (last_of rows) above) so_far)
 
-pub span_taken : (version : Version) (schema : Schema) (question : Question) (rows : List (Key × Row)) (n table : ℕ) (a b c : Option (List ℕ)) → TakesLines a b (asked_text schema (AskedSpan question n) ∷ []) × AskedFits version schema (AskedSpan question n)
-    → table ≡ table_asked question → Gathered (λ (pair : Key × Row). pair_line pair ∷ []) (PairFits version schema table) b c rows → length rows ≡ n → RisesFrom None rows
-    → TakesLines a c (read_lines schema (question, Rows rows)) × ReadFits version schema (question, Rows rows)
-span_taken version schema (One t key) rows n table a b c head same pairs count rises = absurd head.1.0.ends
-span_taken version schema (Span t lower upper) rows n table a b c head same pairs count rises =
+pub span_taken : (version : Version) (schema : Schema) (question : Question) (rows : List (Key × Row)) (row : InRow) (reads n table : ℕ) {a b c : Position} → table ≡ table_asked question
+    → Took (ReadOf row reads) (pairs_to_come row reads (table_asked question) n None) a b (asked_text schema (AskedSpan question n) ∷ []) × AskedFits version schema (AskedSpan question n)
+    → Took (pairs_to_come row reads table n None) (reads_to_come row reads) b c (map pair_line rows) × (AllFit (PairFits version schema table) n rows × RisesFrom None rows)
+    → Took (ReadOf row reads) (reads_to_come row reads) a c (read_lines schema (question, Rows rows)) × ReadFits version schema (question, Rows rows)
+span_taken version schema (One t key) rows row reads n table same head pairs = absurd head.1.0.ends
+span_taken version schema (Span t lower upper) rows row reads n table {a} {b} {c} same head pairs =
     let question = Span t lower upper in
-    let first : TakesLines a b (line_text (question_text schema question ∷ decimal (length rows) ∷ []) ∷ []) =
-    subst (λ (k : ℕ). TakesLines a b (line_text (question_text schema question ∷ decimal k ∷ []) ∷ [])) (sym count) head.0 in
-    let rest : TakesLines b c (map pair_line rows) = subst (TakesLines b c) (single_lines pair_line rows) pairs.taken in
-    let g = subst (λ (k : ℕ). Gathered (λ (pair : Key × Row). pair_line pair ∷ []) (PairFits version schema k) b c rows) same pairs in
-    (more_lines (line_text (question_text schema question ∷ decimal (length rows) ∷ []) ∷ []) (map pair_line rows) a b c first rest, (head.1.0, g.fit, rises, subst (λ (k : ℕ). k ≤ 2 ^ 64 - 1) (sym count) head.1.1))
+    let asked : ℕ → List ℕ = λ k. line_text (question_text schema question ∷ decimal k ∷ []) in
+    let rest = subst (λ (k : ℕ). Took (pairs_to_come row reads k n None) (reads_to_come row reads) b c (map pair_line rows)) same pairs.0 in
+    let fit = subst (λ (k : ℕ). AllByRecursion (PairFits version schema k) rows) same pairs.1.0.0 in (
+      spelled (ap (λ (k : ℕ). asked k ∷ map pair_line rows) (sym pairs.1.0.1)) (both head.0 rest),
+      (head.1.0, fit, pairs.1.1, subst (λ (k : ℕ). k ≤ 2 ^ 64 - 1) (sym pairs.1.0.1) head.1.1),
+    )
+
+pub span_fails : (fault : ReadFault) (question : Question) (row : InRow) (reads n table : ℕ) {version : Version} {schema : Schema} {a b : Position} (c : Option (List ℕ)) → table ≡ table_asked question
+    → Took (ReadOf row reads) (pairs_to_come row reads (table_asked question) n None) a b (asked_text schema (AskedSpan question n) ∷ []) × AskedFits version schema (AskedSpan question n)
+    → FailsFrom fault (pairs_to_come row reads table n None) b c → FailsFrom fault (ReadOf row reads) a c
+span_fails fault question row reads n table {b = b} c same head t = fails fault c head.0 (subst (λ (k : ℕ). FailsFrom fault (pairs_to_come row reads k n None) b c) same t)
 
 -- ---- rows
 
@@ -118,30 +127,30 @@ head_line head reads writes row r w is =
     spelling head.place head.session head.number head.start head.finish head.reads head.writes head.standing
     ∙ (λ i. line_of (sym is.place i) (sym is.session i) (sym is.number i) (sym is.start i) (sym is.finish i) (rs i) (ws i) (stand_spelling head.standing row.standing is.stands i))
 
-pub row_taken : (version : Version) (schema : Schema) (sessions : ℕ) (head : Head) (reads : List Observation) (writes : List Write) (row : LogRow) (a b c d : Option (List ℕ))
-    → TakesLines a b (head_text head ∷ []) × HeadFits sessions head
-    → Gathered (read_lines schema) (ReadFits version schema) b c reads × (length reads ≡ head.reads)
-    → Gathered (λ (write : Write). write_line schema write ∷ []) (WriteFits version schema) c d writes × (length writes ≡ head.writes) × IsDistinctWrites writes
-    → IsRowOf head reads writes row → TakesLines a d (row_lines schema row) × LogRowFits version schema sessions row
-row_taken version schema sessions head reads writes row a b c d first read written is =
-    let first_line : TakesLines a b (row_line row ∷ []) = subst (λ (l : List ℕ). TakesLines a b (l ∷ [])) (head_line head reads writes row read.1 written.1 is) first.0 in
-    let of_reads : TakesLines b c (flat_map (read_lines schema) row.reads) = subst (λ (l : List Observation). TakesLines b c (flat_map (read_lines schema) l)) (sym is.read) read.0.taken in
-    let of_writes : TakesLines c d (map (write_line schema) row.writes) =
-    subst (λ (l : List Write). TakesLines c d (map (write_line schema) l)) (sym is.written) (subst (TakesLines c d) (single_lines (write_line schema) writes) written.0.taken) in (
-      more_lines (row_line row ∷ flat_map (read_lines schema) row.reads) (map (write_line schema) row.writes) a c d
-          (more_lines (row_line row ∷ []) (flat_map (read_lines schema) row.reads) a b c first_line of_reads) of_writes,
+pub row_taken : (version : Version) (schema : Schema) (sessions rows : ℕ) (head : Head) (reads : List Observation) (writes : List Write) (row : LogRow) {a b c d : Position}
+    → Took (places.LogRow (frame_of version schema sessions) rows) (reads_to_come (in_row (frame_of version schema sessions) rows head) head.reads) a b (head_text head ∷ []) × HeadFits sessions head
+    → Took (reads_to_come (in_row (frame_of version schema sessions) rows head) head.reads) (writes_to_come (in_row (frame_of version schema sessions) rows head) head.writes []) b c (flat_map (read_lines schema) reads)
+    × AllFit (ReadFits version schema) head.reads reads
+    → Took (writes_to_come (in_row (frame_of version schema sessions) rows head) head.writes []) (rows_to_come (frame_of version schema sessions) rows) c d (map (write_line schema) writes)
+    × (AllFit (WriteFits version schema) head.writes writes × IsDistinctWrites writes)
+    → IsRowOf head reads writes row → Took (places.LogRow (frame_of version schema sessions) rows) (rows_to_come (frame_of version schema sessions) rows) a d (row_lines schema row) × LogRowFits version schema sessions row
+row_taken version schema sessions rows head reads writes row first read written is =
+    let line = head_line head reads writes row read.1.1 written.1.0.1 is in
+    let lines : head_text head ∷ (flat_map (read_lines schema) reads ++ map (write_line schema) writes) ≡ row_lines schema row =
+    λ i. line i ∷ (flat_map (read_lines schema) (sym is.read i) ++ map (write_line schema) (sym is.written i)) in (
+      spelled lines (both first.0 (both read.0 written.0)),
       record {
         place = subst (λ (k : ℕ). k ≤ 2 ^ 64 - 1) (sym is.place) first.1.place;
         session = subst (IsSession sessions) (sym is.session) first.1.session;
         number = subst (λ (k : ℕ). k ≤ 2 ^ 64 - 1) (sym is.number) first.1.number;
         start = subst (λ (k : ℕ). k ≤ 2 ^ 64 - 1) (sym is.start) first.1.start;
         finish = subst (λ (k : ℕ). k ≤ 2 ^ 64 - 1) (sym is.finish) first.1.finish;
-        count_reads = subst (λ (k : ℕ). k ≤ 2 ^ 64 - 1) (sym (ap length is.read ∙ read.1)) first.1.reads;
-        count_writes = subst (λ (k : ℕ). k ≤ 2 ^ 64 - 1) (sym (ap length is.written ∙ written.1)) first.1.writes;
-        done = standing_fits (length row.writes) head.standing row.standing is.stands (subst (λ (k : ℕ). StandFits k head.standing) (sym (ap length is.written ∙ written.1)) first.1.stand);
-        reads = subst (AllByRecursion (ReadFits version schema)) (sym is.read) read.0.fit;
-        writes = subst (AllByRecursion (WriteFits version schema)) (sym is.written) written.0.fit;
-        distinct = subst IsDistinctWrites (sym is.written) written.2;
+        count_reads = subst (λ (k : ℕ). k ≤ 2 ^ 64 - 1) (sym (ap length is.read ∙ read.1.1)) first.1.reads;
+        count_writes = subst (λ (k : ℕ). k ≤ 2 ^ 64 - 1) (sym (ap length is.written ∙ written.1.0.1)) first.1.writes;
+        done = standing_fits (length row.writes) head.standing row.standing is.stands (subst (λ (k : ℕ). StandFits k head.standing) (sym (ap length is.written ∙ written.1.0.1)) first.1.stand);
+        reads = subst (AllByRecursion (ReadFits version schema)) (sym is.read) read.1.0;
+        writes = subst (AllByRecursion (WriteFits version schema)) (sym is.written) written.1.0.0;
+        distinct = subst IsDistinctWrites (sym is.written) written.1.1;
       },
     )
 

@@ -1,9 +1,8 @@
-pub mod Cursors
 pub mod SchemaReaders
 pub mod NumberLines
 pub mod RowLines
 pub mod Taking
 pub mod Places
 pub mod WholeBooks
-pub mod Untold
+pub mod PlainRows
 pub mod Cores

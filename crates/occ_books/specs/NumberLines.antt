@@ -1,11 +1,8 @@
 -- Lines that have numbers alone: the first one of the log or of its base, the first one of a row, that of a session, and the last one of a book.
-use Rattle.std.specs.Prelude.{◌≤◌, ◌^◌, ◌-◌, ◌==◌, ℕ, List, [], ◌∷◌, Option, Some, None, if◌then◌else◌, option_map, option_and_then, codes}
-use Rattle.std.specs.Str.{bytes_eq}
+use Rattle.std.specs.Prelude.{◌≤◌, ◌^◌, ◌-◌, ◌==◌, ℕ, List, [], ◌∷◌, Option, Some, None, not, option_map, option_and_then, codes}
 use Rattle.std.specs.Fmt.{decimal}
 use Rattle.occ_model.specs.declared.verdict.Cause.TheVariants.{Conflict, TooOld}
 use Rattle.occ_text.specs.Spelling.{line_text}
-use Rattle.occ_text.specs.Reading.{tokens_of, number_of}
-use Rattle.occ_text.specs.StepReading.{◌>>=◌}
 use Rattle.occ_text.specs.Headers.{count_text, Within}
 use Rattle.occ_text.specs.HeaderReading.{count_of_line}
 use Rattle.occ_print.specs.Books.{number_word, number_line, base_line, counter_line}
@@ -18,7 +15,7 @@ use Rattle.occ_books.specs.declared.number_lines.Counts.{Counts}
 use Rattle.occ_books.specs.declared.number_lines.BaseHead.{BaseHead}
 use Rattle.occ_books.specs.declared.number_lines.Began.{Began}
 use Rattle.occ_books.specs.declared.number_lines.Began.TheVariants as begun
-use Rattle.occ_books.specs.Cursors.{Tokens, next_word, next_number, at_end}
+use Rattle.occ_text.specs.Fields.{Tokens, Field, next_token, number, after, both, ◌⊗◌, tested, shaped, behind, alone, by_word, of_line}
 
 -- how far a row has come, as its first line says it: of an open one it tells nothing
 abbrev pub Stand : Type 0
@@ -98,66 +95,63 @@ pub record CountsFit (counts : Counts) : Type 0 where
 
 -- ---- reading
 
-unfoldable pub bare_stand : List ℕ → Option Stand
-bare_stand word = if bytes_eq word (codes "open") then Some (Open tt)
-    else (if bytes_eq word (codes "conflict") then Some (Back Conflict) else (if bytes_eq word (codes "tooold") then Some (Back TooOld) else None))
-
-unfoldable pub counted_stand : ℕ → List ℕ → List ℕ → Option Stand
-counted_stand writes word digits = if bytes_eq word (codes "writing") then option_map Writing (number_of writes digits)
-    else (if bytes_eq word (codes "done") then option_map Done (number_of (2 ^ 64 - 1) digits) else None)
-
-unfoldable pub stand_of : ℕ → Tokens → Option Stand
-stand_of writes [] = None
-stand_of writes (word ∷ []) = bare_stand word
-stand_of writes (word ∷ digits ∷ []) = counted_stand writes word digits
-stand_of writes (word ∷ digits ∷ other ∷ more) = None
+abbrev pub number64 : Field ℕ
+number64 = number (2 ^ 64 - 1)
 
 -- a session from 1 on
-abbrev pub unless_zero : ℕ × Tokens → Option (ℕ × Tokens)
-unless_zero read = if read.0 == 0 then None else Some read
-
 unfoldable pub next_session : ℕ → Tokens → Option (ℕ × Tokens)
-next_session sessions tokens = option_and_then unless_zero (next_number sessions tokens)
+next_session sessions tokens = (tested (λ n. not (n == 0)) (number sessions)).read tokens
 
-unfoldable pub head_of : ℕ → Tokens → Option Head
-head_of sessions tokens = do
-  word ← next_word (codes "row") tokens
-  place ← next_number (2 ^ 64 - 1) word.1
-  session ← next_session sessions place.1
-  number ← next_number (2 ^ 64 - 1) session.1
-  start ← next_number (2 ^ 64 - 1) number.1
-  finish ← next_number (2 ^ 64 - 1) start.1
-  reads ← next_number (2 ^ 64 - 1) finish.1
-  writes ← next_number (2 ^ 64 - 1) reads.1
-  stand ← stand_of writes.0 writes.1
-  Some (record { place = place.0; session = session.0; number = number.0; start = start.0; finish = finish.0; reads = reads.0; writes = writes.0; standing = stand })
+abbrev pub session : ℕ → Field ℕ
+session sessions = record { read = next_session sessions; spell = λ n. decimal n ∷ []; fits = IsSession sessions }
+
+unfoldable pub next_stand : ℕ → Tokens → Option (Stand × Tokens)
+next_stand writes tokens = option_and_then (by_word (
+    (codes "open", alone (Open tt))
+    ∷ (codes "writing", behind Writing (number writes))
+    ∷ (codes "done", behind Done number64)
+    ∷ (codes "conflict", alone (Back Conflict))
+    ∷ (codes "tooold", alone (Back TooOld))
+    ∷ [])) (next_token tokens)
+
+abbrev pub stand : ℕ → Field Stand
+stand writes = record { read = next_stand writes; spell = stand_tokens; fits = StandFits writes }
+
+abbrev HeadParts : Type 0
+HeadParts = ℕ × (ℕ × (ℕ × (ℕ × (ℕ × (ℕ × (ℕ × Stand))))))
+
+abbrev pub head_from : HeadParts → Head
+head_from (place, (session, (number, (start, (finish, (reads, (writes, standing))))))) =
+    record { place = place; session = session; number = number; start = start; finish = finish; reads = reads; writes = writes; standing = standing }
+
+abbrev pub head_parts : Head → HeadParts
+head_parts h = (h.place, (h.session, (h.number, (h.start, (h.finish, (h.reads, (h.writes, h.standing)))))))
+
+abbrev pub head_line : ℕ → Field Head
+head_line sessions = after (codes "row") (shaped head_from head_parts (HeadFits sessions)
+    (number64 ⊗ session sessions ⊗ number64 ⊗ number64 ⊗ number64 ⊗ number64 ⊗ both number64 stand))
 
 unfoldable pub head_of_line : ℕ → List ℕ → Option Head
-head_of_line sessions line = option_and_then (head_of sessions) (tokens_of line)
+head_of_line sessions line = of_line (head_line sessions) line
 
-unfoldable pub mark_of : Section → ℕ → Tokens → Option Mark
-mark_of section sessions tokens = do
-  word ← next_word (number_word section) tokens
-  session ← next_session sessions word.1
-  number ← next_number (2 ^ 64 - 1) session.1
-  end ← at_end number.1
-  Some (record { session = session.0; number = number.0 })
+abbrev pub mark_line : Section → ℕ → Field Mark
+mark_line section sessions = after (number_word section) (shaped (λ p. record { session = p.0; number = p.1 }) (λ m. (m.session, m.number)) (MarkFits sessions) (session sessions ⊗ number64))
 
 unfoldable pub mark_of_line : Section → ℕ → List ℕ → Option Mark
-mark_of_line section sessions line = option_and_then (mark_of section sessions) (tokens_of line)
+mark_of_line section sessions line = of_line (mark_line section sessions) line
 
 -- a base has a place behind it that is not 0
-unfoldable pub base_of : Tokens → Option BaseHead
-base_of tokens = do
-  word ← next_word (codes "base") tokens
-  place ← next_session (2 ^ 64 - 1) word.1
-  numbers ← next_number (2 ^ 64 - 1) place.1
-  rows ← next_number (2 ^ 64 - 1) numbers.1
-  end ← at_end rows.1
-  Some (record { place = place.0; numbers = numbers.0; rows = rows.0 })
+abbrev pub base_head_line : Field BaseHead
+base_head_line = after (codes "base") (shaped (λ p. record { place = p.0; numbers = p.1.0; rows = p.1.1 }) (λ h. (h.place, (h.numbers, h.rows))) BaseHeadFits (session (2 ^ 64 - 1) ⊗ number64 ⊗ number64))
 
 unfoldable pub base_of_line : List ℕ → Option BaseHead
-base_of_line line = option_and_then base_of (tokens_of line)
+base_of_line line = of_line base_head_line line
+
+abbrev pub counts_line : Field Counts
+counts_line = after (codes "counter") (shaped (λ p. record { counter = p.0; low = p.1 }) (λ c. (c.counter, c.low)) CountsFit (number64 ⊗ after (codes "low") number64))
+
+unfoldable pub counts_of_line : List ℕ → Option Counts
+counts_of_line line = of_line counts_line line
 
 -- the rows of the log where its count was read, and else the base
 abbrev pub began_unless : Option ℕ → Option BaseHead → Option Began
@@ -166,15 +160,3 @@ began_unless None head = option_map begun.Base head
 
 abbrev pub began_of_line : List ℕ → Option Began
 began_of_line line = began_unless (count_of_line (codes "log") 0 (2 ^ 64 - 1) line) (base_of_line line)
-
-unfoldable pub counts_of : Tokens → Option Counts
-counts_of tokens = do
-  word ← next_word (codes "counter") tokens
-  counter ← next_number (2 ^ 64 - 1) word.1
-  name ← next_word (codes "low") counter.1
-  low ← next_number (2 ^ 64 - 1) name.1
-  end ← at_end low.1
-  Some (record { counter = counter.0; low = low.0 })
-
-unfoldable pub counts_of_line : List ℕ → Option Counts
-counts_of_line line = option_and_then counts_of (tokens_of line)

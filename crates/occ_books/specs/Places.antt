@@ -1,18 +1,18 @@
 -- Where a book stands behind some of its lines, and which lines may come next there (our own choice; decided line by line, so that a count that doesn't fit is found at the first line that can't stand).
 use Rattle.std.specs.Prelude.{◌≡◌, ◌^◌, ◌-◌, ◌+◌, ◌<◌, ◌⊎◌, ℕ, zero, suc, true, false, List, [], ◌∷◌, ◌++◌, length, Option, Some, None, Result, Ok, Err, IfSome, codes}
 use Rattle.std.specs.List.{list_any}
-use Rattle.std.specs.Io.KnownBytes.{Consumes, IsAtEnd}
+use Rattle.std.specs.Io.KnownBytes.{Consumes, IsAtEnd, prepend_known}
 use Rattle.std.specs.Ordering.{eq_by_cmp, is_lt}
 use Rattle.occ_types.specs.Key.{Key, key_cmp}
 use Rattle.occ_types.specs.Object.{Object, object_cmp}
 use Rattle.occ_types.specs.Row.{Row}
 use Rattle.occ_types.specs.Schema.{Table, Schema, check_tables}
-use Rattle.occ_types.specs.Seen.{table_asked}
+use Rattle.occ_types.specs.PlainData.{table_asked}
 use Rattle.occ_model.specs.State.{Write}
 use Rattle.occ_text.specs.declared.versions.Version as versions
 use Rattle.occ_text.specs.declared.faults.ReadFault.{ReadFault}
 use Rattle.occ_text.specs.declared.faults.ReadFault.TheVariants as faults
-use Rattle.occ_text.specs.Line.{IsLine, CannotStand, lines_text}
+use Rattle.occ_text.specs.Line.{Source, IsLine, CannotStand, lines_text}
 use Rattle.occ_text.specs.Headers.{Within, version_text, count_text, table_text}
 use Rattle.occ_text.specs.HeaderTaking.{TablesSoFar}
 use Rattle.occ_print.specs.Books.{pair_line, write_line, entry_line}
@@ -44,6 +44,10 @@ frame_of version schema sessions = record { version = version; schema = schema; 
 
 abbrev pub in_row : Frame → ℕ → Head → InRow
 in_row frame rows head = record { frame = frame; rows = rows; head = head }
+
+-- the same in a text of this version and these tables
+abbrev pub framed : versions.Version → Schema → InRow → InRow
+framed version schema row = in_row (frame_of version schema row.frame.sessions) row.rows row.head
 
 -- what comes next; a number of lines, rows, reads or pairs is how many more come behind the next one
 pub data Place : Type 0 where
@@ -181,65 +185,78 @@ Unended rest place = IfSome rest (λ bytes. bytes ≡ [] → MayEnd place → �
 
 -- ---- what taking lines leaves
 
--- some lines lead from a place to another one, at which no line of a book stands next, so that the text is malformed at it; lines are numbered on from those before
-pub record Stopped (from : Place) (before : Option (List ℕ)) (first number : ℕ) : Type 0 where
-  pub lines : List (List ℕ)
+-- a position in a text: what is left of it, where that is known, and how many lines stand before it
+pub record Position : Type 0 where
+  pub left : Option (List ℕ)
+  pub number : ℕ
+
+abbrev pub point : Option (List ℕ) → ℕ → Position
+point left number = record { left = left; number = number }
+
+-- the beginning of a text
+abbrev pub start : Option (List ℕ) → Position
+start text = point text 0
+
+-- where an input is, of whose reader so much is still to come
+abbrev pub position_of : Source → Option (List ℕ) → Position
+position_of input coming = point (prepend_known input.unread coming) input.number
+
+-- these lines were taken, and lead from a place to another one
+pub record Took (from to : Place) (before after : Position) (lines : List (List ℕ)) : Type 0 where
+  pub taken : Consumes before.left after.left (lines_text lines)
+  pub leads : LeadOn from lines to
+  pub number : after.number ≡ before.number + length lines
+
+-- some lines lead from a place to another one, at which no line of a book stands next, so that the text is malformed at it
+pub record Stopped (from : Place) (before : Position) (number : ℕ) : Type 0 where
   pub place : Place
-  pub rest : Option (List ℕ)
-  pub taken : Consumes before rest (lines_text lines)
-  pub led : LeadOn from lines place
-  pub stuck : CannotStand (λ line. (next : Place) × Leads place line next) rest
-  pub unended : Unended rest place
-  pub here : number ≡ first + length lines + 1
+  pub rest : Position
+  pub lines : List (List ℕ)
+  pub took : Took from place before rest lines
+  pub stuck : CannotStand (λ line. (next : Place) × Leads place line next) rest.left
+  pub unended : Unended rest.left place
+  pub here : number ≡ rest.number + 1
 
 -- a read failed behind some lines that lead on and a part of another
-pub record Unread (from : Place) (before after : Option (List ℕ)) : Type 0 where
-  pub lines : List (List ℕ)
-  pub part : List ℕ
+pub record Unread (from : Place) (before : Position) (after : Option (List ℕ)) : Type 0 where
   pub place : Place
-  pub taken : Consumes before after (lines_text lines ++ part)
-  pub led : LeadOn from lines place
+  pub rest : Position
+  pub lines : List (List ℕ)
+  pub took : Took from place before rest lines
+  pub part : List ℕ
+  pub lost : Consumes rest.left after part
   pub torn : IsLine part
 
--- all lines that have a number of 64 bits lead from a place to another one; lines are numbered on from those before
-pub record Uncounted (from : Place) (before : Option (List ℕ)) (first : ℕ) : Type 0 where
-  pub lines : List (List ℕ)
+-- all lines that have a number of 64 bits lead from a place to another one
+pub record Uncounted (from : Place) (before : Position) : Type 0 where
   pub place : Place
-  pub rest : Option (List ℕ)
-  pub taken : Consumes before rest (lines_text lines)
-  pub led : LeadOn from lines place
-  pub here : first + length lines ≡ 2 ^ 64 - 1
-
--- lines were taken that lead to a place
-pub record Led (from to : Place) (before after : Option (List ℕ)) (first last : ℕ) : Type 0 where
+  pub rest : Position
   pub lines : List (List ℕ)
-  pub taken : Consumes before after (lines_text lines)
-  pub led : LeadOn from lines to
-  pub here : last ≡ first + length lines
+  pub took : Took from place before rest lines
+  pub here : rest.number ≡ 2 ^ 64 - 1
 
--- what is left of a text where its lines aren't taken from a place on, behind so many lines
-abbrev pub FailsFrom : ReadFault → Place → Option (List ℕ) → Option (List ℕ) → ℕ → Type 0
-FailsFrom (faults.Malformed number) from before after taken = Stopped from before taken number
-FailsFrom faults.Read from before after taken = Unread from before after
-FailsFrom faults.TooManyLines from before after taken = Uncounted from before taken
-FailsFrom faults.Memory from before after taken = Unit {0}
+-- what is left of a text where its lines aren't taken from a place on
+abbrev pub FailsFrom : ReadFault → Place → Position → Option (List ℕ) → Type 0
+FailsFrom (faults.Malformed number) from before after = Stopped from before number
+FailsFrom faults.Read from before after = Unread from before after
+FailsFrom faults.TooManyLines from before after = Uncounted from before
+FailsFrom faults.Memory from before after = Unit {0}
 
--- what taking lines from a place leaves, by its outcome, where first and last are how many lines were taken before and after
-abbrev pub TakesFrom : {X : Type 0} → Result X ReadFault → Place → (X → Place) → Option (List ℕ) → Option (List ℕ) → ℕ → ℕ → Type 0
-TakesFrom (Ok x) from to before after first last = Led from (to x) before after first last
-TakesFrom (Err fault) from to before after first last = FailsFrom fault from before after first
+-- what taking lines from a place leaves, by its outcome: the lines of what was read, which fits
+abbrev pub TakesFrom : {X : Type 0} → Result X ReadFault → Place → (X → Place) → (X → List (List ℕ)) → (X → Type 0) → Position → Position → Type 0
+TakesFrom (Ok x) from to lines fits before after = Took from (to x) before after (lines x) × fits x
+TakesFrom (Err fault) from to lines fits before after = FailsFrom fault from before after.left
 
 -- lines lead from a place to another one, where a text may end, and there the text ends
-pub record Ended (from : Place) (before : Option (List ℕ)) : Type 0 where
-  pub lines : List (List ℕ)
+pub record Ended (from : Place) (before : Position) : Type 0 where
   pub place : Place
-  pub rest : Option (List ℕ)
-  pub taken : Consumes before rest (lines_text lines)
-  pub led : LeadOn from lines place
+  pub rest : Position
+  pub lines : List (List ℕ)
+  pub took : Took from place before rest lines
   pub may : MayEnd place
-  pub whole : IsAtEnd rest
+  pub whole : IsAtEnd rest.left
 
 -- what taking all lines of a text from a place on leaves, by its outcome
-abbrev pub EndsFrom : {X : Type 0} → Result X ReadFault → Place → Option (List ℕ) → Option (List ℕ) → ℕ → Type 0
-EndsFrom (Ok x) from before after first = Ended from before
-EndsFrom (Err fault) from before after first = FailsFrom fault from before after first
+abbrev pub EndsFrom : {X : Type 0} → Result X ReadFault → Place → Position → Option (List ℕ) → Type 0
+EndsFrom (Ok x) from before after = Ended from before
+EndsFrom (Err fault) from before after = FailsFrom fault from before after

@@ -1,5 +1,5 @@
 -- Lines that have keys and rows: of a read, of a row that a range answered, of a write, and of a row of a state.
-use Rattle.std.specs.Prelude.{◌≡◌, ◌≤◌, ◌^◌, ◌-◌, ℕ, List, [], ◌∷◌, Option, Some, None, if◌then◌else◌, option_map, option_and_then, codes}
+use Rattle.std.specs.Prelude.{◌≡◌, ◌<◌, ◌≤◌, ◌^◌, ◌-◌, ℕ, length, List, [], ◌∷◌, Option, Some, None, if◌then◌else◌, option_map, option_and_then, codes}
 use Rattle.std.specs.Str.{bytes_eq}
 use Rattle.std.specs.Fmt.{decimal}
 use Rattle.occ_types.specs.Key.{Key}
@@ -7,21 +7,20 @@ use Rattle.occ_types.specs.Object.{Object}
 use Rattle.occ_types.specs.Question.{Question, One, Span}
 use Rattle.occ_types.specs.Row.{Row}
 use Rattle.occ_types.specs.Schema.{Schema, check_key, check_row, check_question}
-use Rattle.occ_types.specs.Seen.{key_of, object_of, question_of}
+use Rattle.occ_types.specs.PlainData.{key_of, object_of, question_of}
 use Rattle.occ_types.specs.declared.keys.Key as code_key
 use Rattle.occ_types.specs.declared.objects.Object as code_object
 use Rattle.occ_model.specs.State.{Write, Found}
 use Rattle.occ_text.specs.declared.versions.Version.{Version}
-use Rattle.occ_text.specs.Spelling.{line_text, KeyFits, EndFits, RowFits}
-use Rattle.occ_text.specs.Reading.{tokens_of}
-use Rattle.occ_text.specs.Escapes.{read_end}
-use Rattle.occ_text.specs.StepReading.{◌>>=◌}
-use Rattle.occ_print.specs.Books.{question_text, read_line, entry_word}
+use Rattle.occ_text.specs.Spelling.{line_text, key_text, end_text, row_text, KeyFits, EndFits, RowFits}
+use Rattle.occ_text.specs.StepReading.{◌>>=◌, next_end}
+use Rattle.occ_print.specs.Books.{table_name, question_text, answer_text, read_line, entry_word}
 use Rattle.occ_print.specs.declared.sections.Section.{Section}
 use Rattle.occ_books.specs.declared.row_lines.Asked as code_asked
 use Rattle.occ_books.specs.declared.row_lines.Asked.TheVariants as asked
-use Rattle.occ_books.specs.Cursors.{Tokens, before, next_token, next_word, next_number, at_end}
+use Rattle.occ_text.specs.Fields.{Tokens, Field, before, next_token, after, both, ◌⊗◌, behind, by_word, of_line}
 use Rattle.occ_books.specs.SchemaReaders.{unless_fault, row_in, next_table, next_key, next_row, next_object}
+use Rattle.occ_books.specs.NumberLines.{number64}
 
 -- the line of a read: a key and the row that it had, or a range and how many rows answered it
 pub data Asked : Type 0 where
@@ -47,6 +46,19 @@ module _ {Z : Type 0} where
 abbrev pub asked_text : Schema → Asked → List ℕ
 asked_text schema (AskedOne object row) = read_line schema (One object.0 object.1, Found row)
 asked_text schema (AskedSpan question count) = line_text (question_text schema question ∷ decimal count ∷ [])
+
+-- a row, or `none`
+abbrev pub found_text : Option Row → List ℕ
+found_text row = answer_text (Found row)
+
+abbrev pub asked_tokens : Schema → Asked → Tokens
+asked_tokens schema (AskedOne object row) = codes "one" ∷ table_name schema object.0 ∷ key_text object.1 ∷ found_text row ∷ []
+asked_tokens schema (AskedSpan (One table key) count) = []
+asked_tokens schema (AskedSpan (Span table lower upper) count) = codes "span" ∷ table_name schema table ∷ end_text lower ∷ end_text upper ∷ decimal count ∷ []
+
+abbrev pub write_tokens : Schema → Write → Tokens
+write_tokens schema (object, None) = codes "del" ∷ table_name schema object.0 ∷ key_text object.1 ∷ []
+write_tokens schema (object, Some row) = codes "put" ∷ table_name schema object.0 ∷ key_text object.1 ∷ row_text row ∷ []
 
 -- ---- what has a line
 
@@ -84,95 +96,90 @@ WriteFits version schema write = ObjectFits version schema write.0 × FoundFits 
 abbrev pub AtFits : Version → Schema → Object × Row → Type 0
 AtFits version schema entry = ObjectFits version schema entry.0 × RowFitsIn schema entry.0.0 entry.1
 
--- ---- reading
+-- ---- fields
 
--- a row, or `none`
+abbrev pub table_field : Schema → Field ℕ
+table_field schema = record { read = next_table schema; spell = λ table. table_name schema table ∷ []; fits = λ table. table < length schema }
+
+abbrev pub key_field : Version → Schema → ℕ → Field Key
+key_field version schema table = record { read = next_key version schema table; spell = λ key. key_text key ∷ []; fits = λ key. ObjectFits version schema (table, key) }
+
+abbrev pub object_field : Version → Schema → Field Object
+object_field version schema = record { read = next_object version schema; spell = λ object. table_name schema object.0 ∷ key_text object.1 ∷ []; fits = ObjectFits version schema }
+
+abbrev pub row_field : Schema → ℕ → Field Row
+row_field schema table = record { read = next_row schema table; spell = λ row. row_text row ∷ []; fits = RowFitsIn schema table }
+
 unfoldable pub found_in : Schema → ℕ → List ℕ → Option (Option Row)
 found_in schema table token = if bytes_eq token (codes "none") then Some None else option_map (λ row. Some row) (row_in schema table token)
 
 unfoldable pub next_found : Schema → ℕ → Tokens → Option (Option Row × Tokens)
 next_found schema table tokens = option_and_then (λ t. before t.1 (found_in schema table t.0)) (next_token tokens)
 
--- one NAME KEY none, one NAME KEY ROW
-unfoldable pub one_behind : Version → Schema → Tokens → Option Asked
-one_behind version schema tokens = do
-  object ← next_object version schema tokens
-  row ← next_found schema object.0.0 object.1
-  end ← at_end row.1
-  Some (AskedOne object.0 row.0)
+abbrev pub found_field : Schema → ℕ → Field (Option Row)
+found_field schema table = record { read = next_found schema table; spell = λ row. found_text row ∷ []; fits = FoundFits schema table }
 
--- a range, of which an end may be missing where the version has a word for that
-unfoldable pub next_span : Version → Schema → ℕ → Tokens → Option (Question × Tokens)
-next_span version schema table tokens = do
-  first ← next_token tokens
-  lower ← read_end version first.0
-  second ← next_token first.1
-  upper ← read_end version second.0
-  good ← unless_fault (check_question schema (Span table lower upper))
-  Some (Span table lower upper, second.1)
+-- a range of a table, of which an end may be missing where the version has a word for that
+unfoldable pub next_ends : Version → Schema → ℕ → Tokens → Option ((Option Key × Option Key) × Tokens)
+next_ends version schema table tokens = do
+  lower ← next_end version tokens
+  upper ← next_end version lower.1
+  good ← unless_fault (check_question schema (Span table lower.0 upper.0))
+  Some ((lower.0, upper.0), upper.1)
+
+abbrev pub ends_field : Version → Schema → ℕ → Field (Option Key × Option Key)
+ends_field version schema table = record {
+  read = next_ends version schema table;
+  spell = λ ends. end_text ends.0 ∷ end_text ends.1 ∷ [];
+  fits = λ ends. SpanFits version schema (Span table ends.0 ends.1);
+}
+
+-- ---- reading
+
+-- one NAME KEY none, one NAME KEY ROW
+unfoldable pub one_behind : Version → Schema → Tokens → Option (Asked × Tokens)
+one_behind version schema tokens = behind (λ p. AskedOne p.0 p.1) (both (object_field version schema) (λ object. found_field schema object.0)) tokens
 
 -- span NAME KEY KEY K, where `*` stands for a missing end
-unfoldable pub span_behind : Version → Schema → Tokens → Option Asked
-span_behind version schema tokens = do
-  table ← next_table schema tokens
-  question ← next_span version schema table.0 table.1
-  count ← next_number (2 ^ 64 - 1) question.1
-  end ← at_end count.1
-  Some (AskedSpan question.0 count.0)
+unfoldable pub span_behind : Version → Schema → Tokens → Option (Asked × Tokens)
+span_behind version schema tokens = behind (λ p. AskedSpan (Span p.0 p.1.0.0 p.1.0.1) p.1.1) (both (table_field schema) (λ table. ends_field version schema table ⊗ number64)) tokens
 
-abbrev pub asked_behind : Version → Schema → List ℕ × Tokens → Option Asked
-asked_behind version schema t = if bytes_eq t.0 (codes "one") then one_behind version schema t.1 else (if bytes_eq t.0 (codes "span") then span_behind version schema t.1 else None)
+unfoldable pub next_asked : Version → Schema → Tokens → Option (Asked × Tokens)
+next_asked version schema tokens = option_and_then (by_word ((codes "one", one_behind version schema) ∷ (codes "span", span_behind version schema) ∷ [])) (next_token tokens)
 
-unfoldable pub asked_in : Version → Schema → Tokens → Option Asked
-asked_in version schema tokens = option_and_then (asked_behind version schema) (next_token tokens)
+abbrev pub asked_line : Version → Schema → Field Asked
+asked_line version schema = record { read = next_asked version schema; spell = asked_tokens schema; fits = AskedFits version schema }
 
 unfoldable pub asked_of_line : Version → Schema → List ℕ → Option Asked
-asked_of_line version schema line = option_and_then (asked_in version schema) (tokens_of line)
+asked_of_line version schema line = of_line (asked_line version schema) line
 
 -- pair KEY ROW
-unfoldable pub pair_in : Version → Schema → ℕ → Tokens → Option (Key × Row)
-pair_in version schema table tokens = do
-  word ← next_word (codes "pair") tokens
-  key ← next_key version schema table word.1
-  row ← next_row schema table key.1
-  end ← at_end row.1
-  Some (key.0, row.0)
+abbrev pub pair_field : Version → Schema → ℕ → Field (Key × Row)
+pair_field version schema table = after (codes "pair") (key_field version schema table ⊗ row_field schema table)
 
 unfoldable pub pair_of_line : Version → Schema → ℕ → List ℕ → Option (Key × Row)
-pair_of_line version schema table line = option_and_then (pair_in version schema table) (tokens_of line)
+pair_of_line version schema table line = of_line (pair_field version schema table) line
 
 -- put NAME KEY ROW
-unfoldable pub put_behind : Version → Schema → Tokens → Option Write
-put_behind version schema tokens = do
-  object ← next_object version schema tokens
-  row ← next_row schema object.0.0 object.1
-  end ← at_end row.1
-  Some (object.0, Some row.0)
+unfoldable pub put_behind : Version → Schema → Tokens → Option (Write × Tokens)
+put_behind version schema tokens = behind (λ p. (p.0, Some p.1)) (both (object_field version schema) (λ object. row_field schema object.0)) tokens
 
 -- del NAME KEY
-unfoldable pub del_behind : Version → Schema → Tokens → Option Write
-del_behind version schema tokens = do
-  object ← next_object version schema tokens
-  end ← at_end object.1
-  Some (object.0, None)
+unfoldable pub del_behind : Version → Schema → Tokens → Option (Write × Tokens)
+del_behind version schema tokens = behind (λ object. (object, None)) (object_field version schema) tokens
 
-abbrev pub write_behind : Version → Schema → List ℕ × Tokens → Option Write
-write_behind version schema t = if bytes_eq t.0 (codes "put") then put_behind version schema t.1 else (if bytes_eq t.0 (codes "del") then del_behind version schema t.1 else None)
+unfoldable pub next_write : Version → Schema → Tokens → Option (Write × Tokens)
+next_write version schema tokens = option_and_then (by_word ((codes "put", put_behind version schema) ∷ (codes "del", del_behind version schema) ∷ [])) (next_token tokens)
 
-unfoldable pub write_in : Version → Schema → Tokens → Option Write
-write_in version schema tokens = option_and_then (write_behind version schema) (next_token tokens)
+abbrev pub write_field : Version → Schema → Field Write
+write_field version schema = record { read = next_write version schema; spell = write_tokens schema; fits = WriteFits version schema }
 
 unfoldable pub write_of_line : Version → Schema → List ℕ → Option Write
-write_of_line version schema line = option_and_then (write_in version schema) (tokens_of line)
+write_of_line version schema line = of_line (write_field version schema) line
 
 -- at NAME KEY ROW, from NAME KEY ROW
-unfoldable pub at_in : Version → Section → Schema → Tokens → Option (Object × Row)
-at_in version section schema tokens = do
-  word ← next_word (entry_word section) tokens
-  object ← next_object version schema word.1
-  row ← next_row schema object.0.0 object.1
-  end ← at_end row.1
-  Some (object.0, row.0)
+abbrev pub at_field : Version → Section → Schema → Field (Object × Row)
+at_field version section schema = after (entry_word section) (both (object_field version schema) (λ object. row_field schema object.0))
 
 unfoldable pub at_of_line : Version → Section → Schema → List ℕ → Option (Object × Row)
-at_of_line version section schema line = option_and_then (at_in version section schema) (tokens_of line)
+at_of_line version section schema line = of_line (at_field version section schema) line

@@ -1,5 +1,5 @@
 -- Reading what a line names under a schema: tables, and keys and rows that fit them.
-use Rattle.std.specs.Prelude.{ℕ, List, Option, Some, None, option_and_then}
+use Rattle.std.specs.Prelude.{ℕ, List, Option, Some, None, option_map, option_and_then}
 use Rattle.std.specs.List.{position}
 use Rattle.occ_types.specs.declared.fault.Fault.{Fault}
 use Rattle.occ_types.specs.Key.{Key}
@@ -11,7 +11,7 @@ use Rattle.occ_text.specs.declared.versions.Version.{Version}
 use Rattle.occ_text.specs.Reading.{name_of}
 use Rattle.occ_text.specs.Escapes.{read_key, read_row}
 use Rattle.occ_text.specs.StepReading.{◌>>=◌}
-use Rattle.occ_books.specs.Cursors.{Tokens, before, next_token}
+use Rattle.occ_text.specs.Fields.{Tokens, before, next_token}
 
 -- what has a fault is not read
 abbrev pub unless_fault : Option Fault → Option (Unit {0})
@@ -47,7 +47,4 @@ next_row schema table tokens = option_and_then (λ t. before t.1 (row_in schema 
 
 -- a table and a key in it
 unfoldable pub next_object : Version → Schema → Tokens → Option (Object × Tokens)
-next_object version schema tokens = do
-  table ← next_table schema tokens
-  key ← next_key version schema table.0 table.1
-  Some ((table.0, key.0), key.1)
+next_object version schema tokens = option_and_then (λ table. option_map (λ key. ((table.0, key.0), key.1)) (next_key version schema table.0 table.1)) (next_table schema tokens)

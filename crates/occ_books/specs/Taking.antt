@@ -1,7 +1,7 @@
 -- Taking the lines of a book from an input.
-use Rattle.std.specs.Prelude.{◌≡◌, ◌≤◌, ◌^◌, ◌-◌, ℕ, Bool, true, List, [], ◌∷◌, ◌++◌, map, length, Option, Some, None, codes}
-use Rattle.std.specs.List.{AllByRecursion, flat_map}
-use Rattle.std.specs.FinMap.{entries, len}
+use Rattle.std.specs.Prelude.{◌≡◌, ◌≤◌, ◌^◌, ◌-◌, ℕ, Bool, true, List, [], ◌∷◌, ◌++◌, length, Option, Some, None, codes}
+use Rattle.std.specs.List.{AllByRecursion}
+use Rattle.std.specs.FinMap.{len}
 use Rattle.std.specs.Io.KnownBytes.{Consumes}
 use Rattle.occ_types.specs.Key.{Key, key_cmp}
 use Rattle.std.specs.Ordering.{is_lt}
@@ -9,11 +9,10 @@ use Rattle.occ_types.specs.Object.{Object, object_cmp}
 use Rattle.occ_types.specs.Question.{One, Span}
 use Rattle.occ_types.specs.Row.{Row}
 use Rattle.occ_types.specs.Schema.{Table, Schema}
-use Rattle.occ_types.specs.Seen.{table_of}
+use Rattle.occ_types.specs.PlainData.{table_of}
 use Rattle.occ_model.specs.State.{Observation, Write, Found, Rows}
 use Rattle.occ_model.specs.RangeLaws.{IsDistinctWrites}
-use Rattle.occ_print.specs.Books.{number_line, entry_line, base_line, base_lines, row_count}
-use Rattle.occ_print.specs.declared.sections.Section.TheVariants as sections
+use Rattle.occ_print.specs.Books.{base_line, base_lines, row_count}
 use Rattle.occ_model.specs.Log.{Case, LogRow, Base, Standing, Open, Writing, Done, Back}
 use Rattle.occ_book.specs.declared.rows.Standing.TheVariants as stands
 use Rattle.occ_text.specs.declared.versions.Version.{Version}
@@ -75,10 +74,9 @@ pub record LogRowFits (version : Version) (schema : Schema) (sessions : ℕ) (ro
 
 -- ---- many of a kind
 
--- the lines of some values were taken, and each of them fits
-pub record Gathered {Y : Type 0} (lines : Y → List (List ℕ)) (fits : Y → Type 0) (before after : Option (List ℕ)) (ys : List Y) : Type 0 where
-  pub taken : TakesLines before after (flat_map lines ys)
-  pub fit : AllByRecursion fits ys
+-- so many, each of which fits
+abbrev pub AllFit : {Y : Type 0} → (Y → Type 0) → ℕ → List Y → Type 0
+AllFit fits count ys = AllByRecursion fits ys × (length ys ≡ count)
 
 -- what the line behind those of tables tells: one table more, or how the log begins
 pub data Further : Type 0 where
@@ -97,11 +95,6 @@ module _ {Z : Type 0} where
   abbrev pub further_of : code_behind.Behind Z → Further
   further_of (behind.Table table) = OneTable (table_of table)
   further_of (behind.Began began) = Begins began
-
-  -- the line behind those of tables
-  abbrev pub BehindTaken : Version → code_behind.Behind Z → List Table → Option (List ℕ) → Option (List ℕ) → Type 0
-  BehindTaken version (behind.Table table) tables before after = TakesLines before after (table_text (table_of table) ∷ []) × TablesSoFar version (tables ++ table_of table ∷ [])
-  BehindTaken version (behind.Began began) tables before after = TakesLines before after (began_text began ∷ []) × BeganFits began
 
 -- ---- rows of the log
 
@@ -125,14 +118,15 @@ pub record IsRowOf (head : Head) (reads : List Observation) (writes : List Write
 
 -- ---- a base
 
--- the lines behind the first one of a base were taken, and with it they are those of the base
-pub record FoldedTaken (schema : Schema) (head : BaseHead) (base : Base) (before after : Option (List ℕ)) : Type 0 where
-  pub taken : TakesLines before after (map (number_line sections.Base) (entries base.last) ++ map (entry_line sections.Base schema) (entries base.state))
+-- the base of a first line
+pub record IsBaseOf (head : BaseHead) (base : Base) : Type 0 where
   pub spelled : base_text head ≡ base_line base.place (len base.last) (row_count base.state)
   pub place : base.place ≡ head.place
 
--- behind the line with which the log begins all lines were taken that stand in front of its rows
-pub record FrontTaken (schema : Schema) (began : Began) (base : Base) (rows : ℕ) (before after : Option (List ℕ)) : Type 0 where
-  pub lines : List (List ℕ)
-  pub taken : TakesLines before after lines
-  pub told : ◌≡◌ {A = List (List ℕ)} (began_text began ∷ lines) (base_lines schema base ++ count_text (codes "log") rows ∷ [])
+-- what stands in front of the rows of a log: what was folded, and how many rows there are
+abbrev pub front_lines : Schema → Base → ℕ → List (List ℕ)
+front_lines schema base rows = base_lines schema base ++ count_text (codes "log") rows ∷ []
+
+abbrev pub but_first : List (List ℕ) → List (List ℕ)
+but_first [] = []
+but_first (line ∷ lines) = lines

@@ -3,7 +3,7 @@ use Rattle.std.specs.Prelude.{◌≡◌, ◌≤◌, ◌^◌, ◌-◌, ◌⊎◌,
 use Rattle.std.specs.Bool.{Decides}
 use Rattle.std.specs.List.{AllByRecursion}
 use Rattle.std.specs.FinMap.{entries, len}
-use Rattle.std.specs.Io.KnownBytes.{IsAtEnd, Appends, Keeps}
+use Rattle.std.specs.Io.KnownBytes.{Appends, Keeps}
 use Rattle.occ_types.specs.Schema.{Schema}
 use Rattle.occ_model.specs.Log.{Audited, Base}
 use Rattle.occ_model.specs.World.{empty_base}
@@ -19,21 +19,13 @@ use Rattle.occ_print.specs.Books.{Book, book_text, audit_line}
 use Rattle.occ_books.specs.declared.whole_books.PrintedBook as code_printed
 use Rattle.occ_books.specs.NumberLines.{IsSession, CountsFit}
 use Rattle.occ_books.specs.RowLines.{AtFits}
-use Rattle.occ_books.specs.Taking.{TakesLines, LogRowFits}
-use Rattle.occ_books.specs.Places.{Version, Stopped, Unread, Uncounted}
-use Rattle.occ_books.specs.Untold.{log_of}
+use Rattle.occ_books.specs.Taking.{LogRowFits}
+use Rattle.occ_books.specs.Places.{Version, start, Stopped, Unread, Uncounted}
+use Rattle.occ_books.specs.PlainRows.{log_of}
 
 -- what stands behind a book: nothing, or one audit line, whatever it says
 abbrev pub IsEnding : List (List ℕ) → Type 0
 IsEnding lines = (lines ≡ []) ⊎ ((lines ≡ codes "audit yes" ∷ []) ⊎ (lines ≡ codes "audit no" ∷ []))
-
--- what stands behind a book was taken, up to the end of the text
-pub record EndTaken (before : Option (List ℕ)) : Type 0 where
-  pub lines : List (List ℕ)
-  pub ending : IsEnding lines
-  pub rest : Option (List ℕ)
-  pub taken : TakesLines before rest lines
-  pub whole : IsAtEnd rest
 
 -- a session of the header, with a number of 64 bits
 abbrev pub EntryFits : ℕ → ℕ × ℕ → Type 0
@@ -69,18 +61,18 @@ pub record IsBookText (text : Option (List ℕ)) (book : Book) : Type 0 where
 abbrev pub verdict_text : Bool → List ℕ
 verdict_text verdict = lines_text (audit_line verdict ∷ [])
 
--- what telling a verdict leaves at the writer, where it fails: a beginning of its line, or nothing
-pub record ToldFront (verdict : Bool) (old new : Option (List ℕ)) : Type 0 where
+-- what writing a verdict leaves at the writer, where it fails: a beginning of its line, or nothing
+pub record VerdictFront (verdict : Bool) (old new : Option (List ℕ)) : Type 0 where
   pub front : List ℕ
   pub rest : List ℕ
   pub whole : verdict_text verdict ≡ front ++ rest
-  pub told : Appends old new front
+  pub written : Appends old new front
 
--- what telling a verdict leaves at the writer, by its outcome
-abbrev pub TellGives : {X : Type 0} → Result X WriteFault → Bool → Option (List ℕ) → Option (List ℕ) → Type 0
-TellGives (Ok done) verdict old new = Appends old new (verdict_text verdict)
-TellGives (Err faults.Write) verdict old new = ToldFront verdict old new
-TellGives (Err faults.Memory) verdict old new = Keeps old new
+-- what writing a verdict leaves at the writer, by its outcome
+abbrev pub VerdictGives : {X : Type 0} → Result X WriteFault → Bool → Option (List ℕ) → Option (List ℕ) → Type 0
+VerdictGives (Ok done) verdict old new = Appends old new (verdict_text verdict)
+VerdictGives (Err faults.Write) verdict old new = VerdictFront verdict old new
+VerdictGives (Err faults.Memory) verdict old new = Keeps old new
 
 -- a verdict is right, of the book whose text it is
 pub record Judged (verdict : Bool) (text : Option (List ℕ)) : Type 0 where
@@ -92,12 +84,12 @@ pub record Judged (verdict : Bool) (text : Option (List ℕ)) : Type 0 where
 abbrev pub AuditGives : Result Bool Trouble → Option (List ℕ) → Option (List ℕ) → Option (List ℕ) → Option (List ℕ) → Type 0
 AuditGives (Ok verdict) text after old new = Judged verdict text × Appends old new (verdict_text verdict)
 -- nothing was written, and the line is the first one that can't stand where it stands, or the last one that has a number of 64 bits
-AuditGives (Err (Malformed line)) text after old new = Keeps old new × (Stopped Version text 0 line ⊎ (Uncounted Version text 0 × (line ≡ 2 ^ 64 - 1)))
+AuditGives (Err (Malformed line)) text after old new = Keeps old new × (Stopped Version (start text) line ⊎ (Uncounted Version (start text) × (line ≡ 2 ^ 64 - 1)))
 -- nothing was written, and a read failed: all that the reader gave is lines that lead on and a part of another
-AuditGives (Err Read) text after old new = Keeps old new × Unread Version text after
+AuditGives (Err Read) text after old new = Keeps old new × Unread Version (start text) after
 AuditGives (Err Memory) text after old new = Keeps old new
 -- what was written is a beginning of the line of the right verdict, and of no other
-AuditGives (Err Write) text after old new = (verdict : Bool) × Judged verdict text × ToldFront verdict old new
+AuditGives (Err Write) text after old new = (verdict : Bool) × Judged verdict text × VerdictFront verdict old new
 
 module _ {Z : Type 0} where
   -- the plain book

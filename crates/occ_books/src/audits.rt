@@ -4,7 +4,7 @@ ghost use Rattle.std.specs.Prelude.{◌≡◌, IfOk, IfErr};
 ghost use Rattle.std.specs.Bool.{Decides};
 ghost use Rattle.occ_model.specs.Log.{Audited};
 ghost use Rattle.occ_text.specs.declared.trouble.Trouble.TheVariants.{Memory};
-ghost use Rattle.occ_books.specs.WholeBooks.{AuditGives, TellGives, printed_book, verdict_text};
+ghost use Rattle.occ_books.specs.WholeBooks.{AuditGives, VerdictGives, printed_book, verdict_text};
 
 use crate::whole_books::{PrintedBook, take_book};
 use occ_audit::audit_rows;
@@ -51,7 +51,7 @@ fn judge<A: Allocator + Copy>(alloc: A, printed: &PrintedBook<A>) -> Result<bool
 
 /// Writes the line of a verdict.
 fn tell<W: Write, A: Allocator>(alloc: A, writer: &mut W, verdict: bool) -> Result<(), WriteFault>
-    ensures { TellGives result verdict (W.contents writer.old) (W.contents writer.new) }
+    ensures { VerdictGives result verdict (W.contents writer.old) (W.contents writer.new) }
 {
     let mut output = Output::new(alloc);
     output.push(writer, verdict_line(verdict).as_bytes())?;

@@ -8,7 +8,7 @@ ghost use Rattle.occ_model.specs.World.{World, active_count};
 ghost use Rattle.occ_text.specs.Headers.{Header};
 ghost use Rattle.occ_text.specs.Line.{lines_text};
 ghost use Rattle.occ_print.specs.Books.{Book, book_lines, book_text};
-ghost use Rattle.occ_books.specs.Places.{Place, Version, Audit, LeadOn, MayEnd, Stopped};
+ghost use Rattle.occ_books.specs.Places.{Place, Version, Audit, LeadOn, MayEnd, start, Stopped};
 ghost use Rattle.occ_books.specs.WholeBooks.{BookFits, IsEnding};
 ghost use Rattle.occ_books.specs.Cores.{IsHeaderOf, IsToldBase, HasWords, book_in};
 
@@ -26,7 +26,7 @@ pub fn the_lines_of_a_book_lead_to_its_end()
 
 /// No text of a book that fits its header is malformed, at any line.
 pub fn no_text_of_a_book_is_malformed()
-    ensures { (book : Book) → BookFits book → (lines : List (List ℕ)) → IsEnding lines → (number : ℕ) → Stopped Version (Some (book_text book ++ lines_text lines)) 0 number → ⊥ }
+    ensures { (book : Book) → BookFits book → (lines : List (List ℕ)) → IsEnding lines → (number : ℕ) → Stopped Version (start (Some (book_text book ++ lines_text lines))) number → ⊥ }
 {}
 
 /// The book of a core fits its header where its keys and rows have words. All other premises are what the law of a core ensures, and

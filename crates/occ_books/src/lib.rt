@@ -2,7 +2,6 @@
 #![tactic(auto)]
 
 pub mod audits;
-mod cursors;
 pub mod laws;
 pub mod number_lines;
 pub mod row_lines;

@@ -2,16 +2,16 @@
 
 ghost use Rattle.std.specs.Prelude.{◌≡◌};
 ghost use Rattle.occ_text.specs.Reading.{Reads};
-ghost use Rattle.occ_books.specs.Cursors.{before};
-ghost use Rattle.occ_books.specs.NumberLines.{mark_text, counts_text, head_text, base_text, began_text, HeadFits, MarkFits, CountsFit, BaseHeadFits, BeganFits, bare_stand, counted_stand, stand_of, next_session, mark_of, mark_of_line, base_of, base_of_line, began_of_line, counts_of, counts_of_line, head_of, head_of_line};
+ghost use Rattle.occ_text.specs.Fields.{before};
+ghost use Rattle.occ_books.specs.NumberLines.{mark_text, counts_text, head_text, base_text, began_text, HeadFits, MarkFits, CountsFit, BaseHeadFits, BeganFits, next_stand, next_session, head_of_line, mark_of_line, base_of_line, began_of_line, counts_of_line};
 
-use crate::cursors::{at_end, next_number, next_word};
 use occ_book::Standing;
 use occ_model::Cause;
 use occ_print::sections::{Section, number_word};
+use occ_text::cursors::{at_end, next_number, next_token, next_word};
 use occ_text::headers::count;
-use occ_text::parts::Parts;
-use occ_text::tokens::{is_word, number, tokens};
+use occ_text::separated_parts::Parts;
+use occ_text::tokens::{is_word, tokens};
 
 /// The first line of a row of the log: `row PLACE S N START FINISH R W STANDING`.
 #[derive(Clone, Copy, Debug, PartialEq, Eq)]
@@ -72,49 +72,26 @@ pub struct Counts {
     pub low: u64,
 }
 
-/// A standing without a number.
-#[tactic(auto, unfolding(crate::specs::NumberLines::bare_stand))]
-fn bare_stand(word: &[u8]) -> Option<Standing<()>>
-    ensures { result ≡ bare_stand word.now }
+/// The standing that the next tokens say, of a row with so many writes.
+#[tactic(auto, unfolding(crate::specs::NumberLines::next_stand))]
+fn next_stand(writes: usize, parts: &mut Parts<'_>) -> Option<Standing<()>>
+    ensures { before parts.new result ≡ next_stand writes parts.old }
 {
+    let word = next_token(parts)?;
     if is_word(word, "open") {
         Some(Standing::Open(()))
+    } else if is_word(word, "writing") {
+        let done = next_number(parts, writes as u64)?;
+        Some(Standing::Writing(done as usize))
+    } else if is_word(word, "done") {
+        let number = next_number(parts, u64::MAX)?;
+        Some(Standing::Done(number))
     } else if is_word(word, "conflict") {
         Some(Standing::Back(Cause::Conflict))
     } else if is_word(word, "tooold") {
         Some(Standing::Back(Cause::TooOld))
     } else {
         None
-    }
-}
-
-/// A standing with a number, of a row with so many writes.
-#[tactic(auto, unfolding(crate::specs::NumberLines::counted_stand))]
-fn counted_stand(writes: usize, word: &[u8], digits: &[u8]) -> Option<Standing<()>>
-    ensures { result ≡ counted_stand writes word.now digits.now }
-{
-    if is_word(word, "writing") {
-        let done = number(digits, writes as u64)?;
-        Some(Standing::Writing(done as usize))
-    } else if is_word(word, "done") {
-        let number = number(digits, u64::MAX)?;
-        Some(Standing::Done(number))
-    } else {
-        None
-    }
-}
-
-/// The standing of the last tokens of a line.
-fn stand_of(writes: usize, parts: &mut Parts<'_>) -> Option<Standing<()>>
-    ensures { result ≡ stand_of writes parts.old }
-{
-    let word = parts.take_part()?;
-    let Some(digits) = parts.take_part() else {
-        return bare_stand(word);
-    };
-    match parts.take_part() {
-        None => counted_stand(writes, word, digits),
-        Some(_) => None,
     }
 }
 
@@ -130,20 +107,21 @@ fn next_session(sessions: usize, parts: &mut Parts<'_>) -> Option<usize>
     Some(session as usize)
 }
 
-// The first line of a row, from its tokens.
-#[tactic(auto, unfolding(crate::specs::NumberLines::head_of))]
-fn head_of(sessions: usize, parts: &mut Parts<'_>) -> Option<Head>
-    ensures { result ≡ head_of sessions parts.old }
+#[tactic(auto, unfolding(crate::specs::NumberLines::head_of_line))]
+fn head_of_line(sessions: usize, line: &[u8]) -> Option<Head>
+    ensures { result ≡ head_of_line sessions line.now }
 {
-    next_word(parts, "row")?;
-    let place = next_number(parts, u64::MAX)? as usize;
-    let session = next_session(sessions, parts)?;
-    let number = next_number(parts, u64::MAX)?;
-    let start = next_number(parts, u64::MAX)?;
-    let finish = next_number(parts, u64::MAX)?;
-    let reads = next_number(parts, u64::MAX)? as usize;
-    let writes = next_number(parts, u64::MAX)? as usize;
-    let standing = stand_of(writes, parts)?;
+    let mut parts = tokens(line)?;
+    next_word(&mut parts, "row")?;
+    let place = next_number(&mut parts, u64::MAX)? as usize;
+    let session = next_session(sessions, &mut parts)?;
+    let number = next_number(&mut parts, u64::MAX)?;
+    let start = next_number(&mut parts, u64::MAX)?;
+    let finish = next_number(&mut parts, u64::MAX)?;
+    let reads = next_number(&mut parts, u64::MAX)? as usize;
+    let writes = next_number(&mut parts, u64::MAX)? as usize;
+    let standing = next_stand(writes, &mut parts)?;
+    at_end(&mut parts)?;
     Some(Head {
         place,
         session,
@@ -157,47 +135,43 @@ fn head_of(sessions: usize, parts: &mut Parts<'_>) -> Option<Head>
 }
 
 /// The first line of a row of the log, under a header with so many sessions. None where the line is none.
-#[tactic(auto, unfolding(crate::specs::NumberLines::head_of_line))]
 pub fn read_head(line: &[u8], sessions: usize) -> Option<Head>
     ensures exact { result ≡ head_of_line sessions line.now }
     ensures grammar { Reads head_text (HeadFits sessions) line.now result }
 {
-    let mut parts = tokens(line)?;
-    head_of(sessions, &mut parts)
+    head_of_line(sessions, line)
 }
 
-// A session with its number, from the tokens of its line.
-#[tactic(auto, unfolding(crate::specs::NumberLines::mark_of))]
-fn mark_of(section: Section, sessions: usize, parts: &mut Parts<'_>) -> Option<Mark>
-    ensures { result ≡ mark_of section sessions parts.old }
+#[tactic(auto, unfolding(crate::specs::NumberLines::mark_of_line))]
+fn mark_of_line(section: Section, sessions: usize, line: &[u8]) -> Option<Mark>
+    ensures { result ≡ mark_of_line section sessions line.now }
 {
-    next_word(parts, number_word(section))?;
-    let session = next_session(sessions, parts)?;
-    let number = next_number(parts, u64::MAX)?;
-    at_end(parts)?;
+    let mut parts = tokens(line)?;
+    next_word(&mut parts, number_word(section))?;
+    let session = next_session(sessions, &mut parts)?;
+    let number = next_number(&mut parts, u64::MAX)?;
+    at_end(&mut parts)?;
     Some(Mark { session, number })
 }
 
 /// The line of a session in a section, under a header with so many sessions. None where the line is none.
-#[tactic(auto, unfolding(crate::specs::NumberLines::mark_of_line))]
 pub fn read_mark(line: &[u8], section: Section, sessions: usize) -> Option<Mark>
     ensures exact { result ≡ mark_of_line section sessions line.now }
     ensures grammar { Reads (mark_text section) (MarkFits sessions) line.now result }
 {
-    let mut parts = tokens(line)?;
-    mark_of(section, sessions, &mut parts)
+    mark_of_line(section, sessions, line)
 }
 
-// The first line of a base, from its tokens.
-#[tactic(auto, unfolding(crate::specs::NumberLines::base_of))]
-fn base_of(parts: &mut Parts<'_>) -> Option<BaseHead>
-    ensures { result ≡ base_of parts.old }
+#[tactic(auto, unfolding(crate::specs::NumberLines::base_of_line))]
+fn base_of_line(line: &[u8]) -> Option<BaseHead>
+    ensures { result ≡ base_of_line line.now }
 {
-    next_word(parts, "base")?;
-    let place = next_session(usize::MAX, parts)?;
-    let numbers = next_number(parts, u64::MAX)?;
-    let rows = next_number(parts, u64::MAX)?;
-    at_end(parts)?;
+    let mut parts = tokens(line)?;
+    next_word(&mut parts, "base")?;
+    let place = next_session(usize::MAX, &mut parts)?;
+    let numbers = next_number(&mut parts, u64::MAX)?;
+    let rows = next_number(&mut parts, u64::MAX)?;
+    at_end(&mut parts)?;
     Some(BaseHead {
         place,
         numbers,
@@ -206,13 +180,11 @@ fn base_of(parts: &mut Parts<'_>) -> Option<BaseHead>
 }
 
 /// The first line of a base. None where the line is none.
-#[tactic(auto, unfolding(crate::specs::NumberLines::base_of_line))]
 pub fn read_base(line: &[u8]) -> Option<BaseHead>
     ensures exact { result ≡ base_of_line line.now }
     ensures grammar { Reads base_text BaseHeadFits line.now result }
 {
-    let mut parts = tokens(line)?;
-    base_of(&mut parts)
+    base_of_line(line)
 }
 
 /// How the log of a book begins. None where the line is neither a count of its rows nor the first one of a base.
@@ -227,25 +199,23 @@ pub fn read_began(line: &[u8]) -> Option<Began>
     Some(Began::Base(head))
 }
 
-// The last line of a book, from its tokens.
-#[tactic(auto, unfolding(crate::specs::NumberLines::counts_of))]
-fn counts_of(parts: &mut Parts<'_>) -> Option<Counts>
-    ensures { result ≡ counts_of parts.old }
+#[tactic(auto, unfolding(crate::specs::NumberLines::counts_of_line))]
+fn counts_of_line(line: &[u8]) -> Option<Counts>
+    ensures { result ≡ counts_of_line line.now }
 {
-    next_word(parts, "counter")?;
-    let counter = next_number(parts, u64::MAX)?;
-    next_word(parts, "low")?;
-    let low = next_number(parts, u64::MAX)?;
-    at_end(parts)?;
+    let mut parts = tokens(line)?;
+    next_word(&mut parts, "counter")?;
+    let counter = next_number(&mut parts, u64::MAX)?;
+    next_word(&mut parts, "low")?;
+    let low = next_number(&mut parts, u64::MAX)?;
+    at_end(&mut parts)?;
     Some(Counts { counter, low })
 }
 
 /// The last line of a book. None where the line is none.
-#[tactic(auto, unfolding(crate::specs::NumberLines::counts_of_line))]
 pub fn read_counts(line: &[u8]) -> Option<Counts>
     ensures exact { result ≡ counts_of_line line.now }
     ensures grammar { Reads counts_text CountsFit line.now result }
 {
-    let mut parts = tokens(line)?;
-    counts_of(&mut parts)
+    counts_of_line(line)
 }

@@ -4,18 +4,16 @@ ghost use Rattle.std.specs.Prelude.{◌≡◌, IfOk, Some};
 ghost use Rattle.occ_types.specs.Key.{Key as PlainKey};
 ghost use Rattle.occ_types.specs.Object.{Object as PlainObject};
 ghost use Rattle.occ_types.specs.Row.{Row as PlainRow};
-ghost use Rattle.occ_types.specs.Seen.{question_of};
 ghost use Rattle.occ_model.specs.State.{Write as PlainWrite};
 ghost use Rattle.occ_text.specs.Escapes.{Gives};
 ghost use Rattle.occ_print.specs.Books.{pair_line, write_line, entry_line};
-ghost use Rattle.occ_books.specs.Cursors.{GivesNext};
-ghost use Rattle.occ_books.specs.RowLines.{Asked as PlainAsked, asked_text, AskedFits, PairFits, WriteFits, AtFits, asked_of, pair_of, write_of, at_of, found_in, next_found, one_behind, next_span, span_behind, asked_in, asked_of_line, pair_in, pair_of_line, put_behind, del_behind, write_in, write_of_line, at_in, at_of_line};
+ghost use Rattle.occ_text.specs.Fields.{GivesNext};
+ghost use Rattle.occ_books.specs.RowLines.{Asked as PlainAsked, asked_text, AskedFits, PairFits, WriteFits, AtFits, asked_of, pair_of, write_of, at_of, found_in, next_found, one_behind, span_behind, next_asked, asked_of_line, pair_of_line, put_behind, del_behind, next_write, write_of_line, at_of_line};
 
-use crate::cursors::{at_end, next_number, next_token, next_word};
 use crate::schema_readers::{next_key, next_object, next_row, next_table, row_in, unless_fault};
 use occ_print::sections::{Section, entry_word};
-use occ_text::parts::Parts;
-use occ_text::texts;
+use occ_text::cursors::{at_end, next_end, next_number, next_token, next_word};
+use occ_text::separated_parts::Parts;
 use occ_text::tokens::{Unread, is_word, tokens};
 use occ_text::versions::Version;
 use occ_types::{Key, Object, Question, Row, Schema};
@@ -79,63 +77,44 @@ fn one_behind<A: Allocator + Copy>(
     schema: &Schema<A>,
     parts: &mut Parts<'_>,
 ) -> Result<Asked<A>, Unread>
-    ensures { Gives asked_of result (one_behind version schema.now parts.old) }
+    ensures { GivesNext asked_of result (one_behind version schema.now parts.old) parts.new }
 {
     let object = next_object(alloc, version, schema, parts)?;
     let row = next_found(alloc, schema, object.table, parts)?;
-    at_end(parts).ok_or(Unread::Malformed)?;
     Ok(Asked::One { object, row })
 }
 
-/// A range of a table, from the next two tokens, of which one may say in version 2 that there is no end.
-#[tactic(auto, unfolding(crate::specs::RowLines::next_span))]
-fn next_span<A: Allocator + Copy>(
-    alloc: A,
-    version: Version,
-    schema: &Schema<A>,
-    table: usize,
-    parts: &mut Parts<'_>,
-) -> Result<Question<A>, Unread>
-    ensures { GivesNext question_of result (next_span version schema.now table parts.old) parts.new }
-{
-    let first = next_token(parts).ok_or(Unread::Malformed)?;
-    let lower = texts::end(alloc, version, first)?;
-    let second = next_token(parts).ok_or(Unread::Malformed)?;
-    let upper = texts::end(alloc, version, second)?;
-    let question = Question::Span {
-        table,
-        lower,
-        upper,
-    };
-    unless_fault(schema.check_question(&question)).ok_or(Unread::Malformed)?;
-    Ok(question)
-}
-
 /// What stands behind `span`.
-#[tactic(auto, unfolding(crate::specs::RowLines::span_behind))]
+#[tactic(auto, unfolding(crate::specs::RowLines::span_behind, crate::specs::RowLines::next_ends))]
 fn span_behind<A: Allocator + Copy>(
     alloc: A,
     version: Version,
     schema: &Schema<A>,
     parts: &mut Parts<'_>,
 ) -> Result<Asked<A>, Unread>
-    ensures { Gives asked_of result (span_behind version schema.now parts.old) }
+    ensures { GivesNext asked_of result (span_behind version schema.now parts.old) parts.new }
 {
     let table = next_table(schema, parts).ok_or(Unread::Malformed)?;
-    let question = next_span(alloc, version, schema, table, parts)?;
+    let lower = next_end(alloc, version, parts)?;
+    let upper = next_end(alloc, version, parts)?;
+    let question = Question::Span {
+        table,
+        lower,
+        upper,
+    };
+    unless_fault(schema.check_question(&question)).ok_or(Unread::Malformed)?;
     let count = next_number(parts, u64::MAX).ok_or(Unread::Malformed)?;
-    at_end(parts).ok_or(Unread::Malformed)?;
     Ok(Asked::Span { question, count })
 }
 
-#[tactic(auto, unfolding(crate::specs::RowLines::asked_in))]
-fn asked_in<A: Allocator + Copy>(
+#[tactic(auto, unfolding(crate::specs::RowLines::next_asked))]
+fn next_asked<A: Allocator + Copy>(
     alloc: A,
     version: Version,
     schema: &Schema<A>,
     parts: &mut Parts<'_>,
 ) -> Result<Asked<A>, Unread>
-    ensures { Gives asked_of result (asked_in version schema.now parts.old) }
+    ensures { GivesNext asked_of result (next_asked version schema.now parts.old) parts.new }
 {
     let word = next_token(parts).ok_or(Unread::Malformed)?;
     if is_word(word, "one") {
@@ -157,7 +136,9 @@ fn asked_value<A: Allocator + Copy>(
     ensures { Gives asked_of result (asked_of_line version schema.now line.now) }
 {
     let mut parts = tokens(line).ok_or(Unread::Malformed)?;
-    asked_in(alloc, version, schema, &mut parts)
+    let asked = next_asked(alloc, version, schema, &mut parts)?;
+    at_end(&mut parts).ok_or(Unread::Malformed)?;
+    Ok(asked)
 }
 
 /// A read, in a version and under a schema. `Malformed` where the line is none; `Memory` where it was refused.
@@ -176,23 +157,6 @@ pub fn read_asked<A: Allocator + Copy>(
     asked_value(alloc, version, schema, line)
 }
 
-#[tactic(auto, unfolding(crate::specs::RowLines::pair_in))]
-fn pair_in<A: Allocator + Copy>(
-    alloc: A,
-    version: Version,
-    schema: &Schema<A>,
-    table: usize,
-    parts: &mut Parts<'_>,
-) -> Result<(Key<A>, Row<A>), Unread>
-    ensures { Gives pair_of result (pair_in version schema.now table parts.old) }
-{
-    next_word(parts, "pair").ok_or(Unread::Malformed)?;
-    let key = next_key(alloc, version, schema, table, parts)?;
-    let row = next_row(alloc, schema, table, parts)?;
-    at_end(parts).ok_or(Unread::Malformed)?;
-    Ok((key, row))
-}
-
 #[tactic(auto, unfolding(crate::specs::RowLines::pair_of_line))]
 fn pair_value<A: Allocator + Copy>(
     alloc: A,
@@ -204,7 +168,11 @@ fn pair_value<A: Allocator + Copy>(
     ensures { Gives pair_of result (pair_of_line version schema.now table line.now) }
 {
     let mut parts = tokens(line).ok_or(Unread::Malformed)?;
-    pair_in(alloc, version, schema, table, &mut parts)
+    next_word(&mut parts, "pair").ok_or(Unread::Malformed)?;
+    let key = next_key(alloc, version, schema, table, &mut parts)?;
+    let row = next_row(alloc, schema, table, &mut parts)?;
+    at_end(&mut parts).ok_or(Unread::Malformed)?;
+    Ok((key, row))
 }
 
 /// A row that a range answered, of the table at a place, in a version: `pair KEY ROW`. `Malformed` where the line is none; `Memory` where it
@@ -220,6 +188,8 @@ pub fn read_pair<A: Allocator + Copy>(
     ensures found { IfOk result (λ x. (line.now ≡ pair_line (pair_of x)) × PairFits version schema.now table (pair_of x)) }
     ensures again { (pair : PlainKey × PlainRow) → PairFits version schema.now table pair → line.now ≡ pair_line pair → Gives pair_of result (Some pair) }
 {
+    // its tables make a schema, so a row of one is short
+    let _tables = schema.tables();
     pair_value(alloc, version, schema, table, line)
 }
 
@@ -231,11 +201,10 @@ fn put_behind<A: Allocator + Copy>(
     schema: &Schema<A>,
     parts: &mut Parts<'_>,
 ) -> Result<(Object<A>, Option<Row<A>>), Unread>
-    ensures { Gives write_of result (put_behind version schema.now parts.old) }
+    ensures { GivesNext write_of result (put_behind version schema.now parts.old) parts.new }
 {
     let object = next_object(alloc, version, schema, parts)?;
     let row = next_row(alloc, schema, object.table, parts)?;
-    at_end(parts).ok_or(Unread::Malformed)?;
     Ok((object, Some(row)))
 }
 
@@ -247,21 +216,20 @@ fn del_behind<A: Allocator + Copy>(
     schema: &Schema<A>,
     parts: &mut Parts<'_>,
 ) -> Result<(Object<A>, Option<Row<A>>), Unread>
-    ensures { Gives write_of result (del_behind version schema.now parts.old) }
+    ensures { GivesNext write_of result (del_behind version schema.now parts.old) parts.new }
 {
     let object = next_object(alloc, version, schema, parts)?;
-    at_end(parts).ok_or(Unread::Malformed)?;
     Ok((object, None))
 }
 
-#[tactic(auto, unfolding(crate::specs::RowLines::write_in))]
-fn write_in<A: Allocator + Copy>(
+#[tactic(auto, unfolding(crate::specs::RowLines::next_write))]
+fn next_write<A: Allocator + Copy>(
     alloc: A,
     version: Version,
     schema: &Schema<A>,
     parts: &mut Parts<'_>,
 ) -> Result<(Object<A>, Option<Row<A>>), Unread>
-    ensures { Gives write_of result (write_in version schema.now parts.old) }
+    ensures { GivesNext write_of result (next_write version schema.now parts.old) parts.new }
 {
     let word = next_token(parts).ok_or(Unread::Malformed)?;
     if is_word(word, "put") {
@@ -283,7 +251,9 @@ fn write_value<A: Allocator + Copy>(
     ensures { Gives write_of result (write_of_line version schema.now line.now) }
 {
     let mut parts = tokens(line).ok_or(Unread::Malformed)?;
-    write_in(alloc, version, schema, &mut parts)
+    let write = next_write(alloc, version, schema, &mut parts)?;
+    at_end(&mut parts).ok_or(Unread::Malformed)?;
+    Ok(write)
 }
 
 /// A write, in a version and under a schema: `put NAME KEY ROW`, or `del NAME KEY` with no row. `Malformed` where the line is none; `Memory`
@@ -303,23 +273,6 @@ pub fn read_write<A: Allocator + Copy>(
     write_value(alloc, version, schema, line)
 }
 
-#[tactic(auto, unfolding(crate::specs::RowLines::at_in))]
-fn at_in<A: Allocator + Copy>(
-    alloc: A,
-    version: Version,
-    section: Section,
-    schema: &Schema<A>,
-    parts: &mut Parts<'_>,
-) -> Result<(Object<A>, Row<A>), Unread>
-    ensures { Gives at_of result (at_in version section schema.now parts.old) }
-{
-    next_word(parts, entry_word(section)).ok_or(Unread::Malformed)?;
-    let object = next_object(alloc, version, schema, parts)?;
-    let row = next_row(alloc, schema, object.table, parts)?;
-    at_end(parts).ok_or(Unread::Malformed)?;
-    Ok((object, row))
-}
-
 #[tactic(auto, unfolding(crate::specs::RowLines::at_of_line))]
 fn at_value<A: Allocator + Copy>(
     alloc: A,
@@ -331,7 +284,11 @@ fn at_value<A: Allocator + Copy>(
     ensures { Gives at_of result (at_of_line version section schema.now line.now) }
 {
     let mut parts = tokens(line).ok_or(Unread::Malformed)?;
-    at_in(alloc, version, section, schema, &mut parts)
+    next_word(&mut parts, entry_word(section)).ok_or(Unread::Malformed)?;
+    let object = next_object(alloc, version, schema, &mut parts)?;
+    let row = next_row(alloc, schema, object.table, &mut parts)?;
+    at_end(&mut parts).ok_or(Unread::Malformed)?;
+    Ok((object, row))
 }
 
 /// A row of a state, in a version, a section and under a schema: `at NAME KEY ROW` or `from NAME KEY ROW`. `Malformed` where the line is none; `Memory` where it was refused.

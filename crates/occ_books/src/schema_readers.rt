@@ -2,13 +2,13 @@
 
 ghost use Rattle.std.specs.Prelude.{◌≡◌};
 ghost use Rattle.std.specs.Result.{result_err};
-ghost use Rattle.occ_types.specs.Seen.{key_of, object_of};
+ghost use Rattle.occ_types.specs.PlainData.{key_of, object_of};
 ghost use Rattle.occ_text.specs.Escapes.{Gives};
-ghost use Rattle.occ_books.specs.Cursors.{GivesNext, before};
+ghost use Rattle.occ_text.specs.Fields.{GivesNext, before};
 ghost use Rattle.occ_books.specs.SchemaReaders.{unless_fault, place_of, key_in, row_in, next_table, next_key, next_row, next_object};
 
-use crate::cursors::next_token;
-use occ_text::parts::Parts;
+use occ_text::cursors::next_token;
+use occ_text::separated_parts::Parts;
 use occ_text::texts;
 use occ_text::tokens::{Unread, name};
 use occ_text::versions::Version;

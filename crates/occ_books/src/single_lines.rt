@@ -1,16 +1,16 @@
 //! Taking single lines of a book from an input.
 
-ghost use Rattle.std.specs.Prelude.{◌≡◌, ◌<◌, ◌∷◌, ◌↔◌, [], true, IfOk, IfErr, IsTrue, option_map};
+ghost use Rattle.std.specs.Prelude.{◌≡◌, ◌<◌, ◌↔◌, true, IfOk, IfErr, IsTrue, option_map};
 ghost use Rattle.std.specs.Io.KnownBytes.{prepend_known};
-ghost use Rattle.occ_types.specs.Seen.{key_of, object_of};
-ghost use Rattle.occ_sets.specs.Seen.{rows_of};
+ghost use Rattle.occ_types.specs.PlainData.{key_of, object_of};
+ghost use Rattle.occ_sets.specs.PlainSets.{rows_of};
 ghost use Rattle.occ_text.specs.Faults.{widened};
 ghost use Rattle.occ_text.specs.Line.{HasFailed, IsLine, Taken};
 ghost use Rattle.occ_print.specs.Books.{pair_line, write_line, entry_line};
 ghost use Rattle.occ_books.specs.NumberLines.{head_text, mark_text, counts_text, HeadFits, MarkFits, CountsFit};
 ghost use Rattle.occ_books.specs.RowLines.{asked_of, pair_of, write_of, at_of, asked_text, AskedFits, PairFits, WriteFits, AtFits};
 ghost use Rattle.occ_books.specs.Places.{IsAbove, last_key};
-ghost use Rattle.occ_books.specs.Taking.{TakesLines, is_behind};
+ghost use Rattle.occ_books.specs.Taking.{is_behind};
 ghost use Rattle.occ_text.specs.declared.faults.LineFault.TheVariants as line_faults;
 ghost use Rattle.occ_text.specs.declared.faults.ReadFault.TheVariants as read_faults;
 
@@ -30,8 +30,7 @@ pub(crate) fn take_head<R: Read, A: Allocator>(
     reader: &mut R,
     sessions: usize,
 ) -> Result<Head, LineFault>
-    ensures taken { IfOk result (λ head. TakesLines (prepend_known input.old.unread (R.remaining reader.old)) (prepend_known input.new.unread (R.remaining reader.new)) (head_text head ∷ []) × HeadFits sessions head) }
-    ensures led { Taken (λ head. head) head_text (HeadFits sessions) (widened result) (prepend_known input.old.unread (R.remaining reader.old)) (prepend_known input.new.unread (R.remaining reader.new)) input.old.number input.new.number }
+    ensures taken { Taken (λ head. head) head_text (HeadFits sessions) (widened result) (prepend_known input.old.unread (R.remaining reader.old)) (prepend_known input.new.unread (R.remaining reader.new)) input.old.number input.new.number }
     ensures cause { IfErr result (λ fault. fault ≡ line_faults.Read → HasFailed input.new) }
 {
     input.take_line(reader)?;
@@ -46,8 +45,7 @@ pub(crate) fn take_asked<R: Read, A: Allocator + Copy>(
     version: Version,
     schema: &Schema<A>,
 ) -> Result<Asked<A>, ReadFault>
-    ensures taken { IfOk result (λ asked. TakesLines (prepend_known input.old.unread (R.remaining reader.old)) (prepend_known input.new.unread (R.remaining reader.new)) (asked_text schema.now (asked_of asked) ∷ []) × AskedFits version schema.now (asked_of asked)) }
-    ensures led { Taken asked_of (asked_text schema.now) (AskedFits version schema.now) result (prepend_known input.old.unread (R.remaining reader.old)) (prepend_known input.new.unread (R.remaining reader.new)) input.old.number input.new.number }
+    ensures taken { Taken asked_of (asked_text schema.now) (AskedFits version schema.now) result (prepend_known input.old.unread (R.remaining reader.old)) (prepend_known input.new.unread (R.remaining reader.new)) input.old.number input.new.number }
     ensures cause { IfErr result (λ fault. fault ≡ read_faults.Read → HasFailed input.new) }
 {
     input.take_line(reader)?;
@@ -77,8 +75,7 @@ pub(crate) fn take_pair<R: Read, A: Allocator + Copy>(
     table: usize,
     rows: &[(Key<A>, Row<A>)],
 ) -> Result<(Key<A>, Row<A>), ReadFault>
-    ensures taken { IfOk result (λ pair. TakesLines (prepend_known input.old.unread (R.remaining reader.old)) (prepend_known input.new.unread (R.remaining reader.new)) (pair_line (pair_of pair) ∷ []) × PairFits version schema.now table (pair_of pair)) }
-    ensures led { Taken pair_of pair_line (λ pair. PairFits version schema.now table pair × IsAbove (last_key (rows_of rows.now)) pair.0) result (prepend_known input.old.unread (R.remaining reader.old)) (prepend_known input.new.unread (R.remaining reader.new)) input.old.number input.new.number }
+    ensures taken { Taken pair_of pair_line (λ pair. PairFits version schema.now table pair × IsAbove (last_key (rows_of rows.now)) pair.0) result (prepend_known input.old.unread (R.remaining reader.old)) (prepend_known input.new.unread (R.remaining reader.new)) input.old.number input.new.number }
     ensures cause { IfErr result (λ fault. fault ≡ read_faults.Read → HasFailed input.new) }
 {
     input.take_line(reader)?;
@@ -100,9 +97,8 @@ pub(crate) fn take_write<R: Read, A: Allocator + Copy>(
     version: Version,
     schema: &Schema<A>,
 ) -> Result<(Object<A>, Option<Row<A>>), ReadFault>
-    ensures taken { IfOk result (λ write. TakesLines (prepend_known input.old.unread (R.remaining reader.old)) (prepend_known input.new.unread (R.remaining reader.new)) (write_line schema.now (write_of write) ∷ []) × WriteFits version schema.now (write_of write)) }
     ensures line { IfOk result (λ write. IsLine (write_line schema.now (write_of write))) }
-    ensures led { Taken write_of (write_line schema.now) (WriteFits version schema.now) result (prepend_known input.old.unread (R.remaining reader.old)) (prepend_known input.new.unread (R.remaining reader.new)) input.old.number input.new.number }
+    ensures taken { Taken write_of (write_line schema.now) (WriteFits version schema.now) result (prepend_known input.old.unread (R.remaining reader.old)) (prepend_known input.new.unread (R.remaining reader.new)) input.old.number input.new.number }
     ensures cause { IfErr result (λ fault. fault ≡ read_faults.Read → HasFailed input.new) }
 {
     input.take_line(reader)?;
@@ -120,8 +116,7 @@ pub(crate) fn take_mark<R: Read, A: Allocator>(
     sessions: usize,
     last: usize,
 ) -> Result<Mark, LineFault>
-    ensures taken { IfOk result (λ mark. TakesLines (prepend_known input.old.unread (R.remaining reader.old)) (prepend_known input.new.unread (R.remaining reader.new)) (mark_text section mark ∷ []) × MarkFits sessions mark × (last < mark.session)) }
-    ensures led { Taken (λ mark. mark) (mark_text section) (λ mark. MarkFits sessions mark × (last < mark.session)) (widened result) (prepend_known input.old.unread (R.remaining reader.old)) (prepend_known input.new.unread (R.remaining reader.new)) input.old.number input.new.number }
+    ensures taken { Taken (λ mark. mark) (mark_text section) (λ mark. MarkFits sessions mark × (last < mark.session)) (widened result) (prepend_known input.old.unread (R.remaining reader.old)) (prepend_known input.new.unread (R.remaining reader.new)) input.old.number input.new.number }
     ensures cause { IfErr result (λ fault. fault ≡ line_faults.Read → HasFailed input.new) }
 {
     input.take_line(reader)?;
@@ -154,9 +149,7 @@ pub(crate) fn take_at<R: Read, A: Allocator + Copy>(
     schema: &Schema<A>,
     last: &Option<Object<A>>,
 ) -> Result<(Object<A>, Row<A>), ReadFault>
-    ensures taken { IfOk result (λ entry. TakesLines (prepend_known input.old.unread (R.remaining reader.old)) (prepend_known input.new.unread (R.remaining reader.new)) (entry_line section schema.now (at_of entry) ∷ []) × AtFits version schema.now (at_of entry)) }
-    ensures behind { IfOk result (λ entry. is_behind (option_map object_of last.now) (object_of entry.0) ≡ true) }
-    ensures led { Taken at_of (entry_line section schema.now) (λ entry. AtFits version schema.now entry × (is_behind (option_map object_of last.now) entry.0 ≡ true)) result (prepend_known input.old.unread (R.remaining reader.old)) (prepend_known input.new.unread (R.remaining reader.new)) input.old.number input.new.number }
+    ensures taken { Taken at_of (entry_line section schema.now) (λ entry. AtFits version schema.now entry × (is_behind (option_map object_of last.now) entry.0 ≡ true)) result (prepend_known input.old.unread (R.remaining reader.old)) (prepend_known input.new.unread (R.remaining reader.new)) input.old.number input.new.number }
     ensures cause { IfErr result (λ fault. fault ≡ read_faults.Read → HasFailed input.new) }
 {
     input.take_line(reader)?;
@@ -175,8 +168,7 @@ pub(crate) fn take_counts<R: Read, A: Allocator>(
     input: &mut Input<A>,
     reader: &mut R,
 ) -> Result<Counts, LineFault>
-    ensures taken { IfOk result (λ counts. TakesLines (prepend_known input.old.unread (R.remaining reader.old)) (prepend_known input.new.unread (R.remaining reader.new)) (counts_text counts ∷ []) × CountsFit counts) }
-    ensures led { Taken (λ counts. counts) counts_text CountsFit (widened result) (prepend_known input.old.unread (R.remaining reader.old)) (prepend_known input.new.unread (R.remaining reader.new)) input.old.number input.new.number }
+    ensures taken { Taken (λ counts. counts) counts_text CountsFit (widened result) (prepend_known input.old.unread (R.remaining reader.old)) (prepend_known input.new.unread (R.remaining reader.new)) input.old.number input.new.number }
     ensures cause { IfErr result (λ fault. fault ≡ line_faults.Read → HasFailed input.new) }
 {
     input.take_line(reader)?;

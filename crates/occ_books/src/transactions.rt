@@ -1,17 +1,17 @@
 //! Taking the rows of the log, each with its reads and writes.
 
-ghost use Rattle.std.specs.Prelude.{◌≡◌, ◌++◌, ◌∷◌, ℕ, true, false, None, [], length, is_some, IfOk, IfErr, OnOk};
-ghost use Rattle.std.specs.Io.KnownBytes.{prepend_known};
-ghost use Rattle.occ_types.specs.Seen.{object_of};
+ghost use Rattle.std.specs.Prelude.{◌≡◌, ◌++◌, ◌∷◌, ℕ, true, false, None, [], map, is_some, IfOk, IfErr, OnOk};
+ghost use Rattle.std.specs.List.{flat_map};
+ghost use Rattle.occ_types.specs.PlainData.{object_of};
 ghost use Rattle.occ_model.specs.Overlay.{own};
 ghost use Rattle.occ_model.specs.RangeLaws.{IsDistinctWrites};
-ghost use Rattle.occ_sets.specs.Seen.{rows_of, observation_of};
+ghost use Rattle.occ_sets.specs.PlainSets.{rows_of, observation_of};
 ghost use Rattle.occ_print.specs.Books.{pair_line, read_lines, write_line, row_lines};
 ghost use Rattle.occ_books.specs.RowLines.{PairFits, WriteFits};
 ghost use Rattle.occ_books.specs.Places as places;
-ghost use Rattle.occ_books.specs.Places.{InRow, ReadOf, Marks, frame_of, rows_to_come, writes_to_come, reads_to_come, pairs_to_come, TakesFrom};
-ghost use Rattle.occ_books.specs.Taking.{TakesLines, Gathered, RisesFrom, ReadFits, LogRowFits, IsRowOf};
-ghost use Rattle.occ_books.specs.Untold.{log_row_of, log_of};
+ghost use Rattle.occ_books.specs.Places.{InRow, ReadOf, Marks, frame_of, framed, position_of, rows_to_come, writes_to_come, reads_to_come, pairs_to_come, TakesFrom};
+ghost use Rattle.occ_books.specs.Taking.{AllFit, RisesFrom, ReadFits, LogRowFits, IsRowOf};
+ghost use Rattle.occ_books.specs.PlainRows.{log_row_of, log_of};
 ghost use Rattle.occ_text.specs.declared.faults.ReadFault.TheVariants as read_faults;
 ghost use Rattle.occ_text.specs.Line.{HasFailed};
 
@@ -38,8 +38,7 @@ fn take_pairs<R: Read, A: Allocator + Copy>(
     table: usize,
     count: u64,
 ) -> Result<Vec<(Key<A>, Row<A>), A>, ReadFault>
-    ensures taken { IfOk result (λ rows. Gathered (λ pair. pair_line pair ∷ []) (PairFits version schema.now table) (prepend_known input.old.unread (R.remaining reader.old)) (prepend_known input.new.unread (R.remaining reader.new)) (rows_of rows.items) × (length rows.items ≡ count) × RisesFrom None (rows_of rows.items)) }
-    ensures led { (row : InRow) → row.frame ≡ frame_of version schema.now row.frame.sessions → (reads : ℕ) → TakesFrom result (pairs_to_come row reads table count None) (λ _. reads_to_come row reads) (prepend_known input.old.unread (R.remaining reader.old)) (prepend_known input.new.unread (R.remaining reader.new)) input.old.number input.new.number }
+    ensures taken { (row : InRow) → (reads : ℕ) → TakesFrom result (pairs_to_come (framed version schema.now row) reads table count None) (λ _. reads_to_come (framed version schema.now row) reads) (λ pairs. map pair_line (rows_of pairs.items)) (λ pairs. AllFit (PairFits version schema.now table) count (rows_of pairs.items) × RisesFrom None (rows_of pairs.items)) (position_of input.old (R.remaining reader.old)) (position_of input.new (R.remaining reader.new)) }
     ensures cause { IfErr result (λ fault. fault ≡ read_faults.Read → HasFailed input.new) }
 {
     let mut rows = Vec::new(alloc);
@@ -66,8 +65,7 @@ fn take_read<R: Read, A: Allocator + Copy>(
     version: Version,
     schema: &Schema<A>,
 ) -> Result<Observation<A>, ReadFault>
-    ensures taken { IfOk result (λ read. TakesLines (prepend_known input.old.unread (R.remaining reader.old)) (prepend_known input.new.unread (R.remaining reader.new)) (read_lines schema.now (observation_of read)) × ReadFits version schema.now (observation_of read)) }
-    ensures led { (row : InRow) → row.frame ≡ frame_of version schema.now row.frame.sessions → (reads : ℕ) → TakesFrom result (ReadOf row reads) (λ _. reads_to_come row reads) (prepend_known input.old.unread (R.remaining reader.old)) (prepend_known input.new.unread (R.remaining reader.new)) input.old.number input.new.number }
+    ensures taken { (row : InRow) → (reads : ℕ) → TakesFrom result (ReadOf (framed version schema.now row) reads) (λ _. reads_to_come (framed version schema.now row) reads) (λ read. read_lines schema.now (observation_of read)) (λ read. ReadFits version schema.now (observation_of read)) (position_of input.old (R.remaining reader.old)) (position_of input.new (R.remaining reader.new)) }
     ensures cause { IfErr result (λ fault. fault ≡ read_faults.Read → HasFailed input.new) }
 {
     match take_asked(alloc, input, reader, version, schema)? {
@@ -129,8 +127,7 @@ fn take_reads<R: Read, A: Allocator + Copy>(
     schema: &Schema<A>,
     count: usize,
 ) -> Result<ReadSet<A>, ReadFault>
-    ensures taken { IfOk result (λ reads. Gathered (read_lines schema.now) (ReadFits version schema.now) (prepend_known input.old.unread (R.remaining reader.old)) (prepend_known input.new.unread (R.remaining reader.new)) reads × (length reads ≡ count)) }
-    ensures led { (row : InRow) → row.frame ≡ frame_of version schema.now row.frame.sessions → TakesFrom result (reads_to_come row count) (λ _. writes_to_come row row.head.writes []) (prepend_known input.old.unread (R.remaining reader.old)) (prepend_known input.new.unread (R.remaining reader.new)) input.old.number input.new.number }
+    ensures taken { (row : InRow) → TakesFrom result (reads_to_come (framed version schema.now row) count) (λ _. writes_to_come (framed version schema.now row) row.head.writes []) (flat_map (read_lines schema.now)) (AllFit (ReadFits version schema.now) count) (position_of input.old (R.remaining reader.old)) (position_of input.new (R.remaining reader.new)) }
     ensures cause { IfErr result (λ fault. fault ≡ read_faults.Read → HasFailed input.new) }
 {
     let mut reads = no_reads(alloc, count)?;
@@ -170,8 +167,7 @@ fn take_writes<R: Read, A: Allocator + Copy>(
     schema: &Schema<A>,
     count: usize,
 ) -> Result<WriteSet<A>, ReadFault>
-    ensures taken { IfOk result (λ writes. Gathered (λ write. write_line schema.now write ∷ []) (WriteFits version schema.now) (prepend_known input.old.unread (R.remaining reader.old)) (prepend_known input.new.unread (R.remaining reader.new)) writes × (length writes ≡ count) × IsDistinctWrites writes) }
-    ensures led { (row : InRow) → row.frame ≡ frame_of version schema.now row.frame.sessions → TakesFrom result (writes_to_come row count []) (λ _. rows_to_come row.frame row.rows) (prepend_known input.old.unread (R.remaining reader.old)) (prepend_known input.new.unread (R.remaining reader.new)) input.old.number input.new.number }
+    ensures taken { (row : InRow) → TakesFrom result (writes_to_come (framed version schema.now row) count []) (λ _. rows_to_come (framed version schema.now row).frame row.rows) (map (write_line schema.now)) (λ writes. AllFit (WriteFits version schema.now) count writes × IsDistinctWrites writes) (position_of input.old (R.remaining reader.old)) (position_of input.new (R.remaining reader.new)) }
     ensures cause { IfErr result (λ fault. fault ≡ read_faults.Read → HasFailed input.new) }
 {
     // its tables make a schema, so no other write has the line of one
@@ -209,8 +205,7 @@ fn take_row<R: Read, A: Allocator + Copy>(
     schema: &Schema<A>,
     sessions: usize,
 ) -> Result<LogRow<A, ()>, ReadFault>
-    ensures taken { IfOk result (λ row. TakesLines (prepend_known input.old.unread (R.remaining reader.old)) (prepend_known input.new.unread (R.remaining reader.new)) (row_lines schema.now (log_row_of row)) × LogRowFits version schema.now sessions (log_row_of row)) }
-    ensures led { (rows : ℕ) → TakesFrom result (places.LogRow (frame_of version schema.now sessions) rows) (λ _. rows_to_come (frame_of version schema.now sessions) rows) (prepend_known input.old.unread (R.remaining reader.old)) (prepend_known input.new.unread (R.remaining reader.new)) input.old.number input.new.number }
+    ensures taken { (rows : ℕ) → TakesFrom result (places.LogRow (frame_of version schema.now sessions) rows) (λ _. rows_to_come (frame_of version schema.now sessions) rows) (λ row. row_lines schema.now (log_row_of row)) (λ row. LogRowFits version schema.now sessions (log_row_of row)) (position_of input.old (R.remaining reader.old)) (position_of input.new (R.remaining reader.new)) }
     ensures cause { IfErr result (λ fault. fault ≡ read_faults.Read → HasFailed input.new) }
 {
     let head = take_head(input, reader, sessions)?;
@@ -229,8 +224,7 @@ pub(crate) fn take_rows<R: Read, A: Allocator + Copy>(
     sessions: usize,
     count: u64,
 ) -> Result<Vec<LogRow<A, ()>, A>, ReadFault>
-    ensures taken { IfOk result (λ log. Gathered (row_lines schema.now) (LogRowFits version schema.now sessions) (prepend_known input.old.unread (R.remaining reader.old)) (prepend_known input.new.unread (R.remaining reader.new)) (log_of log.items) × (length log.items ≡ count)) }
-    ensures led { TakesFrom result (rows_to_come (frame_of version schema.now sessions) count) (λ _. Marks (frame_of version schema.now sessions)) (prepend_known input.old.unread (R.remaining reader.old)) (prepend_known input.new.unread (R.remaining reader.new)) input.old.number input.new.number }
+    ensures taken { TakesFrom result (rows_to_come (frame_of version schema.now sessions) count) (λ _. Marks (frame_of version schema.now sessions)) (λ log. flat_map (row_lines schema.now) (log_of log.items)) (λ log. AllFit (LogRowFits version schema.now sessions) count (log_of log.items)) (position_of input.old (R.remaining reader.old)) (position_of input.new (R.remaining reader.new)) }
     ensures cause { IfErr result (λ fault. fault ≡ read_faults.Read → HasFailed input.new) }
 {
     let mut log = Vec::new(alloc);

@@ -1,13 +1,13 @@
 //! Taking a whole book from an input.
 
-ghost use Rattle.std.specs.Prelude.{ℕ, List, ◌≡◌, ◌≤◌, ◌^◌, ◌-◌, ◌++◌, ◌∷◌, [], ◌||◌, length, IfOk, IfErr, IsOkUnless, Ok, None, map, codes};
+ghost use Rattle.std.specs.Prelude.{ℕ, List, ◌≡◌, ◌≤◌, ◌^◌, ◌-◌, ◌++◌, ◌∷◌, [], ◌||◌, IfOk, IfErr, IsOkUnless, Ok, None, map, codes};
 ghost use Rattle.std.specs.FinMap as finite;
 ghost use Rattle.std.specs.List.{AllByRecursion};
 ghost use Rattle.std.specs.Str.{bytes_eq};
 ghost use Rattle.std.specs.Io.KnownBytes.{prepend_known};
 ghost use Rattle.occ_types.specs.declared.fault.Fault.TheVariants.{Memory};
 ghost use Rattle.occ_types.specs.Schema.{Table, check_tables};
-ghost use Rattle.occ_types.specs.Seen.{tables_of};
+ghost use Rattle.occ_types.specs.PlainData.{tables_of};
 ghost use Rattle.occ_text.specs.Headers.{table_text, KindsFit};
 ghost use Rattle.occ_text.specs.Faults.{widened};
 ghost use Rattle.occ_text.specs.declared.versions.Version as versions;
@@ -19,9 +19,9 @@ ghost use Rattle.occ_print.specs.Books.{number_line, entry_line, mark_lines, sta
 ghost use Rattle.occ_print.specs.declared.sections.Section.TheVariants as sections;
 ghost use Rattle.occ_books.specs.NumberLines.{BaseHeadFits, BeganFits, began_text};
 ghost use Rattle.occ_books.specs.RowLines.{AtFits};
-ghost use Rattle.occ_books.specs.Taking.{TakesLines, Gathered, BehindTaken, FoldedTaken, FrontTaken, FurtherFits, further_of, further_text};
-ghost use Rattle.occ_books.specs.Places.{Version as VersionAt, Tables as TablesAt, Log, Marks as MarksAt, State, Counter, Audit, frame_of, rows_to_come, behind_began, numbers_to_come, behind_numbers, entries_to_come, behind_entries, TakesFrom, EndsFrom};
-ghost use Rattle.occ_books.specs.WholeBooks.{EntryFits, BaseFits, EndTaken, IsBookText, printed_book};
+ghost use Rattle.occ_books.specs.Taking.{AllFit, IsBaseOf, front_lines, but_first, FurtherFits, further_of, further_text};
+ghost use Rattle.occ_books.specs.Places.{Version as VersionAt, Tables as TablesAt, Log, Marks as MarksAt, State, Counter, Audit, frame_of, rows_to_come, behind_began, numbers_to_come, behind_numbers, entries_to_come, behind_entries, position_of, TakesFrom, EndsFrom};
+ghost use Rattle.occ_books.specs.WholeBooks.{EntryFits, BaseFits, IsBookText, printed_book};
 
 use crate::number_lines::{BaseHead, Began, read_began};
 use crate::single_lines::{take_at, take_counts, take_mark};
@@ -78,8 +78,7 @@ fn take_behind<R: Read, A: Allocator + Copy>(
     tables: &[TableDef<A>],
 ) -> Result<Behind<A>, ReadFault>
     requires { TablesSoFar version (tables_of tables.now) }
-    ensures taken { IfOk result (λ behind. BehindTaken version behind (tables_of tables.now) (prepend_known input.old.unread (R.remaining reader.old)) (prepend_known input.new.unread (R.remaining reader.new))) }
-    ensures led { Taken further_of further_text (FurtherFits version (tables_of tables.now)) result (prepend_known input.old.unread (R.remaining reader.old)) (prepend_known input.new.unread (R.remaining reader.new)) input.old.number input.new.number }
+    ensures taken { Taken further_of further_text (FurtherFits version (tables_of tables.now)) result (prepend_known input.old.unread (R.remaining reader.old)) (prepend_known input.new.unread (R.remaining reader.new)) input.old.number input.new.number }
     ensures cause { IfErr result (λ fault. fault ≡ read_faults.Read → HasFailed input.new) }
 {
     input.take_line(reader)?;
@@ -100,8 +99,7 @@ fn take_opening<R: Read, A: Allocator + Copy>(
     reader: &mut R,
     version: Version,
 ) -> Result<Opening<A>, ReadFault>
-    ensures taken { IfOk result (λ opening. TakesLines (prepend_known input.old.unread (R.remaining reader.old)) (prepend_known input.new.unread (R.remaining reader.new)) (map table_text opening.schema ++ began_text opening.began ∷ []) × (check_tables opening.schema ≡ None) × KindsFit version opening.schema × BeganFits opening.began) }
-    ensures led { (sessions : ℕ) → TakesFrom result (TablesAt version sessions []) (λ opening. behind_began (frame_of version opening.schema sessions) opening.began) (prepend_known input.old.unread (R.remaining reader.old)) (prepend_known input.new.unread (R.remaining reader.new)) input.old.number input.new.number }
+    ensures taken { (sessions : ℕ) → TakesFrom result (TablesAt version sessions []) (λ opening. behind_began (frame_of version opening.schema sessions) opening.began) (λ opening. map table_text opening.schema ++ began_text opening.began ∷ []) (λ opening. (check_tables opening.schema ≡ None) × KindsFit version opening.schema × BeganFits opening.began) (position_of input.old (R.remaining reader.old)) (position_of input.new (R.remaining reader.new)) }
     ensures cause { IfErr result (λ fault. fault ≡ read_faults.Read → HasFailed input.new) }
 {
     let mut tables = Vec::new(alloc);
@@ -137,9 +135,8 @@ fn take_numbers<R: Read, A: Allocator + Copy>(
     sessions: usize,
     count: u64,
 ) -> Result<Marks<A>, ReadFault>
-    ensures taken { IfOk result (λ marks. Gathered (λ mark. number_line section mark ∷ []) (EntryFits sessions) (prepend_known input.old.unread (R.remaining reader.old)) (prepend_known input.new.unread (R.remaining reader.new)) (finite.entries marks.marks) × (length (finite.entries marks.marks) ≡ count)) }
     ensures sessions { IfOk result (λ marks. marks.sessions ≡ sessions) }
-    ensures led { (version : versions.Version) → (schema : List Table) → (rows : ℕ) → TakesFrom result (numbers_to_come section (frame_of version schema sessions) rows count 0) (λ _. behind_numbers section (frame_of version schema sessions) rows) (prepend_known input.old.unread (R.remaining reader.old)) (prepend_known input.new.unread (R.remaining reader.new)) input.old.number input.new.number }
+    ensures taken { (version : versions.Version) → (schema : List Table) → (rows : ℕ) → TakesFrom result (numbers_to_come section (frame_of version schema sessions) rows count 0) (λ _. behind_numbers section (frame_of version schema sessions) rows) (λ marks. map (number_line section) (finite.entries marks.marks)) (λ marks. AllFit (EntryFits sessions) count (finite.entries marks.marks)) (position_of input.old (R.remaining reader.old)) (position_of input.new (R.remaining reader.new)) }
     ensures cause { IfErr result (λ fault. fault ≡ read_faults.Read → HasFailed input.new) }
 {
     let mut marks = unless_refused(Marks::new(alloc, sessions))?;
@@ -162,8 +159,7 @@ fn take_entries<R: Read, A: Allocator + Copy>(
     schema: &Schema<A>,
     count: u64,
 ) -> Result<Tables<A>, ReadFault>
-    ensures taken { IfOk result (λ tables. Gathered (λ entry. entry_line section schema.now entry ∷ []) (AtFits version schema.now) (prepend_known input.old.unread (R.remaining reader.old)) (prepend_known input.new.unread (R.remaining reader.new)) (finite.entries tables.state) × (length (finite.entries tables.state) ≡ count)) }
-    ensures led { (sessions : ℕ) → TakesFrom result (entries_to_come section (frame_of version schema.now sessions) count None) (λ _. behind_entries section (frame_of version schema.now sessions)) (prepend_known input.old.unread (R.remaining reader.old)) (prepend_known input.new.unread (R.remaining reader.new)) input.old.number input.new.number }
+    ensures taken { (sessions : ℕ) → TakesFrom result (entries_to_come section (frame_of version schema.now sessions) count None) (λ _. behind_entries section (frame_of version schema.now sessions)) (λ tables. map (entry_line section schema.now) (finite.entries tables.state)) (λ tables. AllFit (AtFits version schema.now) count (finite.entries tables.state)) (position_of input.old (R.remaining reader.old)) (position_of input.new (R.remaining reader.new)) }
     ensures cause { IfErr result (λ fault. fault ≡ read_faults.Read → HasFailed input.new) }
 {
     let mut tables = unless_refused(Tables::new(alloc, schema.tables().len()))?;
@@ -187,8 +183,7 @@ fn take_folded<R: Read, A: Allocator + Copy>(
     head: BaseHead,
 ) -> Result<Base<A>, ReadFault>
     requires { BaseHeadFits head }
-    ensures taken { IfOk result (λ base. FoldedTaken schema.now head base.base (prepend_known input.old.unread (R.remaining reader.old)) (prepend_known input.new.unread (R.remaining reader.new)) × BaseFits version schema.now sessions base.base) }
-    ensures led { TakesFrom result (numbers_to_come sections.Base (frame_of version schema.now sessions) head.rows head.numbers 0) (λ _. Log (frame_of version schema.now sessions)) (prepend_known input.old.unread (R.remaining reader.old)) (prepend_known input.new.unread (R.remaining reader.new)) input.old.number input.new.number }
+    ensures taken { TakesFrom result (numbers_to_come sections.Base (frame_of version schema.now sessions) head.rows head.numbers 0) (λ _. Log (frame_of version schema.now sessions)) (λ base. map (number_line sections.Base) (finite.entries base.base.last) ++ map (entry_line sections.Base schema.now) (finite.entries base.base.state)) (λ base. BaseFits version schema.now sessions base.base × IsBaseOf head base.base) (position_of input.old (R.remaining reader.old)) (position_of input.new (R.remaining reader.new)) }
     ensures cause { IfErr result (λ fault. fault ≡ read_faults.Read → HasFailed input.new) }
 {
     let last = take_numbers(alloc, input, reader, Section::Base, sessions, head.numbers)?;
@@ -215,8 +210,7 @@ fn take_front<R: Read, A: Allocator + Copy>(
     began: Began,
 ) -> Result<Front<A>, ReadFault>
     requires { BeganFits began }
-    ensures taken { IfOk result (λ front. FrontTaken schema.now began front.base.base front.rows (prepend_known input.old.unread (R.remaining reader.old)) (prepend_known input.new.unread (R.remaining reader.new)) × BaseFits version schema.now sessions front.base.base) }
-    ensures led { TakesFrom result (behind_began (frame_of version schema.now sessions) began) (λ front. rows_to_come (frame_of version schema.now sessions) front.rows) (prepend_known input.old.unread (R.remaining reader.old)) (prepend_known input.new.unread (R.remaining reader.new)) input.old.number input.new.number }
+    ensures taken { TakesFrom result (behind_began (frame_of version schema.now sessions) began) (λ front. rows_to_come (frame_of version schema.now sessions) front.rows) (λ front. but_first (front_lines schema.now front.base.base front.rows)) (λ front. BaseFits version schema.now sessions front.base.base × (front_lines schema.now front.base.base front.rows ≡ began_text began ∷ but_first (front_lines schema.now front.base.base front.rows))) (position_of input.old (R.remaining reader.old)) (position_of input.new (R.remaining reader.new)) }
     ensures cause { IfErr result (λ fault. fault ≡ read_faults.Read → HasFailed input.new) }
 {
     match began {
@@ -239,9 +233,8 @@ fn take_marks<R: Read, A: Allocator + Copy>(
     reader: &mut R,
     sessions: usize,
 ) -> Result<Marks<A>, ReadFault>
-    ensures taken { IfOk result (λ marks. TakesLines (prepend_known input.old.unread (R.remaining reader.old)) (prepend_known input.new.unread (R.remaining reader.new)) (mark_lines marks.marks) × AllByRecursion (EntryFits sessions) (finite.entries marks.marks)) }
     ensures sessions { IfOk result (λ marks. marks.sessions ≡ sessions) }
-    ensures led { (version : versions.Version) → (schema : List Table) → TakesFrom result (MarksAt (frame_of version schema sessions)) (λ _. State (frame_of version schema sessions)) (prepend_known input.old.unread (R.remaining reader.old)) (prepend_known input.new.unread (R.remaining reader.new)) input.old.number input.new.number }
+    ensures taken { (version : versions.Version) → (schema : List Table) → TakesFrom result (MarksAt (frame_of version schema sessions)) (λ _. State (frame_of version schema sessions)) (λ marks. mark_lines marks.marks) (λ marks. AllByRecursion (EntryFits sessions) (finite.entries marks.marks)) (position_of input.old (R.remaining reader.old)) (position_of input.new (R.remaining reader.new)) }
     ensures cause { IfErr result (λ fault. fault ≡ read_faults.Read → HasFailed input.new) }
 {
     let count = take_count(input, reader, "marks", 0, u64::MAX)?;
@@ -257,8 +250,7 @@ fn take_state<R: Read, A: Allocator + Copy>(
     version: Version,
     schema: &Schema<A>,
 ) -> Result<Tables<A>, ReadFault>
-    ensures taken { IfOk result (λ tables. TakesLines (prepend_known input.old.unread (R.remaining reader.old)) (prepend_known input.new.unread (R.remaining reader.new)) (state_lines schema.now tables.state) × AllByRecursion (AtFits version schema.now) (finite.entries tables.state) × (finite.len tables.state ≤ 2 ^ 64 - 1)) }
-    ensures led { (sessions : ℕ) → TakesFrom result (State (frame_of version schema.now sessions)) (λ _. Counter) (prepend_known input.old.unread (R.remaining reader.old)) (prepend_known input.new.unread (R.remaining reader.new)) input.old.number input.new.number }
+    ensures taken { (sessions : ℕ) → TakesFrom result (State (frame_of version schema.now sessions)) (λ _. Counter) (λ tables. state_lines schema.now tables.state) (λ tables. AllByRecursion (AtFits version schema.now) (finite.entries tables.state) × (finite.len tables.state ≤ 2 ^ 64 - 1)) (position_of input.old (R.remaining reader.old)) (position_of input.new (R.remaining reader.new)) }
     ensures cause { IfErr result (λ fault. fault ≡ read_faults.Read → HasFailed input.new) }
 {
     let count = take_count(input, reader, "state", 0, u64::MAX)?;
@@ -268,8 +260,7 @@ fn take_state<R: Read, A: Allocator + Copy>(
 
 /// Takes what may stand behind a book: one audit line, whatever it says, and then the end.
 fn take_end<R: Read, A: Allocator>(input: &mut Input<A>, reader: &mut R) -> Result<(), LineFault>
-    ensures taken { IfOk result (λ _. EndTaken (prepend_known input.old.unread (R.remaining reader.old))) }
-    ensures led { EndsFrom (widened result) Audit (prepend_known input.old.unread (R.remaining reader.old)) (prepend_known input.new.unread (R.remaining reader.new)) input.old.number }
+    ensures taken { EndsFrom (widened result) Audit (position_of input.old (R.remaining reader.old)) (prepend_known input.new.unread (R.remaining reader.new)) }
     ensures cause { IfErr result (λ fault. fault ≡ line_faults.Read → HasFailed input.new) }
 {
     match input.next_line(reader)? {
@@ -304,7 +295,7 @@ pub fn take_book<R: Read, A: Allocator + Copy>(
     requires { input.old.number ≡ 0 }
     ensures taken { IfOk result (λ printed. IsBookText (prepend_known input.old.unread (R.remaining reader.old)) (printed_book printed)) }
     ensures sessions { IfOk result (λ printed. printed.book.marks.sessions ≡ printed.header.limits.sessions) }
-    ensures led { EndsFrom result VersionAt (prepend_known input.old.unread (R.remaining reader.old)) (prepend_known input.new.unread (R.remaining reader.new)) input.old.number }
+    ensures led { EndsFrom result VersionAt (position_of input.old (R.remaining reader.old)) (prepend_known input.new.unread (R.remaining reader.new)) }
     ensures cause { IfErr result (λ fault. fault ≡ read_faults.Read → HasFailed input.new) }
 {
     let limits = take_limits(input, reader)?;

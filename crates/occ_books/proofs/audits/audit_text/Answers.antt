@@ -3,7 +3,7 @@ use Rattle.std.specs.Result.{IsErrAnd}
 use Rattle.occ_text.specs.declared.trouble.Trouble.{Trouble}
 use Rattle.occ_text.specs.Line.{Source}
 use Rattle.occ_books.specs.WholeBooks.{printed_book}
-use Rattle.occ_books.proofs.Telling.{refused, stopped, told, judged}
+use Rattle.occ_books.proofs.VerdictWriting.{refused, stopped, write_failed, judged}
 use Rattle.occ_books.proofs.audits.audit_text.Goals as goal
 
 pub returns-in_err-input : goal.returns-in_err-input
@@ -20,7 +20,7 @@ returns-in_err-verdict g c =
 
 pub returns-in_err-tell : goal.returns-in_err-tell
 returns-in_err-tell g c =
-    told c.in_err-tell.field-0.0 c.from_residual-in_err-tell.result c.in_ok-verdict.verdict _ _ _ _
+    write_failed c.in_err-tell.field-0.0 c.from_residual-in_err-tell.result c.in_ok-verdict.verdict _ _ _ _
     (judged c.in_ok-verdict.verdict c.in_ok-input.input.unread _ (printed_book c.in_ok-printed.printed) (ap (λ (s : Source). s.unread) c.in_ok-input.ensures) c.in_ok-printed.ensures.taken c.in_ok-verdict.ensures.ok)
     c.from_residual-in_err-tell.ensures.1 c.in_err-tell.ensures
 

@@ -2,10 +2,10 @@ use Rattle.std.proofs.Common.{List, subst}
 use Rattle.std.specs.Bool.{Decides}
 use Rattle.occ_model.specs.Log.{Audited}
 use Rattle.occ_book.specs.Base.{BaseContent}
-use Rattle.occ_book.specs.Kept.{Content}
+use Rattle.occ_book.specs.Content.{Content}
 use Rattle.occ_book.specs.Marks.{Marked}
 use Rattle.occ_book.specs.declared.rows.LogRow.{LogRow}
-use Rattle.occ_books.specs.Untold.{untold, log_of}
+use Rattle.occ_books.specs.PlainRows.{without_case, log_of}
 use Rattle.occ_books.proofs.audits.judge.Goals as goal
 
 pub returns-in-Ok-clause-ok : goal.returns-in-Ok-clause-ok
@@ -16,4 +16,4 @@ returns-in-Ok-clause-ok g c =
     subst (λ (base : BaseContent). Decides verdict (Audited base.base book.marks.marks book.table.state (log_of book.log.items))) c.view.ensures.base
     (subst (λ (marks : Marked). Decides verdict (Audited lent.base.now.base marks.marks book.table.state (log_of book.log.items))) c.view.ensures.marks
     (subst (λ (table : Content). Decides verdict (Audited lent.base.now.base lent.marks.now.marks table.state (log_of book.log.items))) c.view.ensures.table
-    (subst (λ (log : List (LogRow g.row.A.Denot (Unit {0}))). Decides verdict (Audited lent.base.now.base lent.marks.now.marks lent.table.now.state (log_of log))) c.view.ensures.log (c.in-Ok.ensures.ok untold))))
+    (subst (λ (log : List (LogRow g.row.A.Denot (Unit {0}))). Decides verdict (Audited lent.base.now.base lent.marks.now.marks lent.table.now.state (log_of log))) c.view.ensures.log (c.in-Ok.ensures.ok without_case))))

@@ -1,6 +1,6 @@
 use Rattle.std.proofs.Common.{ap, ◌∙◌}
 use Rattle.occ_text.specs.Sending.{Outgoing}
-use Rattle.occ_books.proofs.Telling.{push_failed, flush_failed, all_told}
+use Rattle.occ_books.proofs.VerdictWriting.{push_failed, flush_failed, all_written}
 use Rattle.occ_books.proofs.audits.tell.Goals as goal
 
 pub returns-in_err-push : goal.returns-in_err-push
@@ -14,4 +14,4 @@ returns-in_err-flush g c =
 
 pub returns : goal.returns
 returns g c =
-    all_told c.args.verdict _ _ _ c.as_bytes.result.now c.new-output.result.held c.push.new.self.held (c.as_bytes.ensures.value ∙ c.verdict_line.ensures) (ap (λ (o : Outgoing). o.held) c.new-output.ensures) c.in_ok-push.ensures.gives.0 c.in_ok-flush.ensures.gives.0
+    all_written c.args.verdict _ _ _ c.as_bytes.result.now c.new-output.result.held c.push.new.self.held (c.as_bytes.ensures.value ∙ c.verdict_line.ensures) (ap (λ (o : Outgoing). o.held) c.new-output.ensures) c.in_ok-push.ensures.gives.0 c.in_ok-flush.ensures.gives.0

@@ -1,6 +1,6 @@
-use Rattle.occ_types.specs.Seen.{key_of}
+use Rattle.occ_types.specs.PlainData.{key_of}
 use Rattle.occ_books.specs.RowLines.{pair_of}
-use Rattle.occ_books.proofs.RowLeading.{above_last}
+use Rattle.occ_books.proofs.RowPlaces.{above_last}
 use Rattle.occ_books.proofs.single_lines.is_above.Goals as goal
 
 pub returns-in-Some : goal.returns-in-Some

@@ -1,38 +1,33 @@
-use Rattle.std.proofs.Common.{Ok, Err, ◌∙◌}
-use Rattle.std.proofs.lemmas.List.{length-map}
-use Rattle.occ_types.specs.Seen.{question_of, object_of}
-use Rattle.occ_sets.specs.Seen.{rows_of}
-use Rattle.occ_books.specs.RowLines.{AskedOne}
-use Rattle.occ_books.specs.Places.{ReadOf, reads_to_come}
-use Rattle.occ_books.proofs.RowTaking.{span_taken}
-use Rattle.occ_books.proofs.Leading.{failed}
-use Rattle.occ_books.proofs.RowLeading.{asked_fails, asked_led, span_led}
+use Rattle.occ_types.specs.PlainData.{question_of, object_of}
+use Rattle.occ_sets.specs.PlainSets.{rows_of}
+use Rattle.occ_books.specs.RowLines.{AskedOne, AskedSpan}
+use Rattle.occ_books.specs.Places.{framed}
+use Rattle.occ_books.proofs.RowTaking.{span_taken, span_fails}
+use Rattle.occ_books.proofs.LinesTaken.{failed, next_taken, next_fails}
+use Rattle.occ_books.proofs.RowPlaces.{asked_stands}
 use Rattle.occ_books.proofs.transactions.take_read.Goals as goal
 
+pub returns-in_err-object-clause-taken : goal.returns-in_err-object-clause-taken
+returns-in_err-object-clause-taken g c = λ row reads.
+    let here = framed c.args.version c.args.schema.now row in
+    failed c.in_err-object.field-0.0 c.from_residual.result _ _ _ _ _ _ c.from_residual.ensures.1
+    (next_fails (asked_stands here reads) c.in_err-object.field-0.0 _ _ _ c.in_err-object.ensures.taken)
+
+pub returns-in-One-clause-taken : goal.returns-in-One-clause-taken
+returns-in-One-clause-taken g c = λ row reads.
+    let here = framed c.args.version c.args.schema.now row in
+    let asked = rw c.in-One.is at c.in_ok-object.ensures.taken in
+    next_taken (asked_stands here reads) (AskedOne (object_of c.in-One.object) c.in-One.row) asked
+
 pub returns-in_ok-rows-in-Span-clause-taken : goal.returns-in_ok-rows-in-Span-clause-taken
-returns-in_ok-rows-in-Span-clause-taken g c =
-    let head = rw c.in-Span.is at c.in_ok-object.ensures.taken in
-    let rows = c.in_ok-rows-in-Span.rows.items in
-    span_taken c.args.version c.args.schema.now (question_of c.in-Span.question) (rows_of rows) c.in-Span.count c.table-table.result _ _ _ head c.table-table.ensures c.in_ok-rows-in-Span.ensures.taken.0 (length-map rows _ ∙ c.in_ok-rows-in-Span.ensures.taken.1) c.in_ok-rows-in-Span.ensures.taken.2
+returns-in_ok-rows-in-Span-clause-taken g c = λ row reads.
+    let here = framed c.args.version c.args.schema.now row in
+    let asked = rw c.in-Span.is at c.in_ok-object.ensures.taken in
+    span_taken c.args.version c.args.schema.now (question_of c.in-Span.question) (rows_of c.in_ok-rows-in-Span.rows.items) here reads c.in-Span.count c.table-table.result c.table-table.ensures (next_taken (asked_stands here reads) (AskedSpan (question_of c.in-Span.question) c.in-Span.count) asked) (c.in_ok-rows-in-Span.ensures.taken row reads)
 
-pub returns-in_err-object-clause-led : goal.returns-in_err-object-clause-led
-returns-in_err-object-clause-led g c = λ row same reads.
-    failed c.in_err-object.field-0.0 c.from_residual.result (ReadOf row reads) (λ _. reads_to_come row reads) _ _ _ _ c.from_residual.ensures.1
-    (asked_fails c.in_err-object.field-0.0 row c.args.version c.args.schema.now reads _ _ _ same c.in_err-object.ensures.led)
-
-pub returns-in-One-clause-led : goal.returns-in-One-clause-led
-returns-in-One-clause-led g c = λ row same reads.
-    let head = rw c.in-One.is at c.in_ok-object.ensures.led in
-    asked_led (AskedOne (object_of c.in-One.object) c.in-One.row) row c.args.version c.args.schema.now reads _ _ _ _ same head
-
-pub returns-in_ok-rows-in-Span-clause-led : goal.returns-in_ok-rows-in-Span-clause-led
-returns-in_ok-rows-in-Span-clause-led g c = λ row same reads.
-    let head = rw c.in-Span.is at c.in_ok-object.ensures.led in
-    span_led (Ok c.in_ok-rows-in-Span.rows) (question_of c.in-Span.question) c.in-Span.count c.table-table.result row c.args.version c.args.schema.now reads _ _ _ _ _ _ same c.table-table.ensures head (c.in_ok-rows-in-Span.ensures.led row same reads)
-
-pub returns-in_err-rows-in-Span-clause-led : goal.returns-in_err-rows-in-Span-clause-led
-returns-in_err-rows-in-Span-clause-led g c = λ row same reads.
-    let head = rw c.in-Span.is at c.in_ok-object.ensures.led in
-    failed c.in_err-rows-in-Span.field-0.0 c.from_residual-in_err-rows-in-Span.result (ReadOf row reads) (λ _. reads_to_come row reads) _ _ _ _ c.from_residual-in_err-rows-in-Span.ensures.1
-    (span_led {X = Unit {0}} (Err c.in_err-rows-in-Span.field-0.0) (question_of c.in-Span.question) c.in-Span.count c.table-table.result row c.args.version c.args.schema.now reads _ _ _ _ _ c.take_pairs.new.input.number same c.table-table.ensures head
-    (c.in_err-rows-in-Span.ensures.led row same reads))
+pub returns-in_err-rows-in-Span-clause-taken : goal.returns-in_err-rows-in-Span-clause-taken
+returns-in_err-rows-in-Span-clause-taken g c = λ row reads.
+    let here = framed c.args.version c.args.schema.now row in
+    let asked = rw c.in-Span.is at c.in_ok-object.ensures.taken in
+    failed c.in_err-rows-in-Span.field-0.0 c.from_residual-in_err-rows-in-Span.result _ _ _ _ _ _ c.from_residual-in_err-rows-in-Span.ensures.1
+    (span_fails c.in_err-rows-in-Span.field-0.0 (question_of c.in-Span.question) here reads c.in-Span.count c.table-table.result _ c.table-table.ensures (next_taken (asked_stands here reads) (AskedSpan (question_of c.in-Span.question) c.in-Span.count) asked) (c.in_err-rows-in-Span.ensures.taken row reads))

@@ -1,42 +1,38 @@
-use Rattle.std.proofs.Common.{◌+◌, ◌-◌, [], Ok, length, ap}
+use Rattle.std.proofs.Common.{◌+◌, ◌-◌, length, ap, arith}
 use Rattle.occ_text.specs.declared.faults.ReadFault.TheVariants.{Memory}
-use Rattle.occ_sets.specs.Seen.{observation_of}
+use Rattle.occ_sets.specs.PlainSets.{observation_of}
 use Rattle.occ_print.specs.Books.{read_lines}
 use Rattle.occ_books.specs.Taking.{ReadFits}
-use Rattle.occ_books.specs.Places.{reads_to_come, writes_to_come}
-use Rattle.occ_books.proofs.Gathering.{nothing_yet, gathered_next, count_more}
-use Rattle.occ_books.proofs.Leading.{failed, begun, turn, turn_fails, turned}
+use Rattle.occ_books.specs.Places.{framed, reads_to_come}
+use Rattle.occ_books.proofs.LinesTaken.{failed, gathered_none, gathered_more, gathered_fails, gathered_all, count_more}
 use Rattle.occ_text.specs.declared.faults.ReadFault.TheVariants as read_faults
 use Rattle.occ_text.proofs.Causes.{caused}
 use Rattle.occ_books.proofs.transactions.take_reads.Goals as goal
 
 pub loop-init : goal.loop-init
 loop-init g c = record {
-  taken = nothing_yet (read_lines c.args.schema.now) (ReadFits c.args.version c.args.schema.now) c.in_ok-reads.reads _ c.in_ok-reads.ensures;
   count = ap length c.in_ok-reads.ensures;
-  led = λ row same. begun (reads_to_come row) _ c.args.input.now.number c.args.count;
+  taken = λ row. gathered_none (read_lines c.args.schema.now) (ReadFits c.args.version c.args.schema.now) (λ _. reads_to_come (framed c.args.version c.args.schema.now row)) c.in_ok-reads.reads c.args.count c.in_ok-reads.ensures;
 }
 
 pub loop-preserved : goal.loop-preserved
 loop-preserved g c = record {
-  taken = gathered_next (read_lines c.args.schema.now) (ReadFits c.args.version c.args.schema.now) c.loop.reads c.note.new.reads (observation_of c.in_ok-read.read) _ _ _ c.in_ok-note.ensures c.loop.invariant.taken c.in_ok-read.ensures.taken;
   count = count_more c.loop.reads c.note.new.reads (observation_of c.in_ok-read.read) c.loop.counter c.in_ok-note.ensures c.loop.invariant.count;
-  led = λ row same.
-      let more = c.args.count - (c.loop.counter + 1) in
-      turn (reads_to_come row) (Ok c.in_ok-read.read) (reads_to_come row c.args.count) (λ _. reads_to_come row more) _ _ _ _ _ _ c.args.count c.loop.counter c.loop-test.true (c.loop.invariant.led row same) (c.in_ok-read.ensures.led row same more);
+  taken = λ row.
+      gathered_more (reads_to_come (framed c.args.version c.args.schema.now row)) c.loop.reads c.note.new.reads (observation_of c.in_ok-read.read) c.args.count c.loop.counter c.loop-test.true c.in_ok-note.ensures (c.loop.invariant.taken row)
+      (c.in_ok-read.ensures.taken row (c.args.count - (c.loop.counter + 1)));
 }
 
-pub returns-in_err-read-clause-led : goal.returns-in_err-read-clause-led
-returns-in_err-read-clause-led g c = λ row same.
-    failed c.in_err-read.field-0.0 c.from_residual-in_err-read.result (reads_to_come row c.args.count) (λ _. writes_to_come row row.head.writes []) _ _ _ _ c.from_residual-in_err-read.ensures.1
-    (turn_fails (reads_to_come row) c.in_err-read.field-0.0 (reads_to_come row c.args.count) _ _ _ _ _ c.args.count c.loop.counter c.loop-test.true (c.loop.invariant.led row same) (c.in_err-read.ensures.led row same (c.args.count - (c.loop.counter + 1))))
+pub returns-in_err-read-clause-taken : goal.returns-in_err-read-clause-taken
+returns-in_err-read-clause-taken g c = λ row.
+    failed c.in_err-read.field-0.0 c.from_residual-in_err-read.result _ _ _ _ _ _ c.from_residual-in_err-read.ensures.1
+    (gathered_fails c.in_err-read.field-0.0 _ (reads_to_come (framed c.args.version c.args.schema.now row)) c.args.count c.loop.counter c.loop-test.true (c.loop.invariant.taken row) (c.in_err-read.ensures.taken row (c.args.count - (c.loop.counter + 1))))
 
-pub returns-clause-led : goal.returns-clause-led
-returns-clause-led g c = λ row same. turned (reads_to_come row) (reads_to_come row c.args.count) _ _ _ _ c.args.count c.loop.counter c.loop-test.false (c.loop.invariant.led row same)
+pub returns-clause-taken : goal.returns-clause-taken
+returns-clause-taken g c = λ row. gathered_all (reads_to_come (framed c.args.version c.args.schema.now row)) c.args.count c.loop.counter (omega arith) c.loop.invariant.count (c.loop.invariant.taken row)
 
-pub returns-in_err-note-clause-led : goal.returns-in_err-note-clause-led
-returns-in_err-note-clause-led g c = λ row same.
-    failed Memory c.from_residual-in_err-note.result (reads_to_come row c.args.count) (λ _. writes_to_come row row.head.writes []) _ _ _ _ c.from_residual-in_err-note.ensures.1 tt
+pub returns-in_err-note-clause-taken : goal.returns-in_err-note-clause-taken
+returns-in_err-note-clause-taken g c = λ row. failed Memory c.from_residual-in_err-note.result _ _ _ _ _ _ c.from_residual-in_err-note.ensures.1 tt
 
 pub returns-in_err-read-clause-cause : goal.returns-in_err-read-clause-cause
 returns-in_err-read-clause-cause g c = caused c.in_err-read.field-0.0 read_faults.Read c.from_residual-in_err-read.result _ c.from_residual-in_err-read.ensures.1 c.in_err-read.ensures.cause

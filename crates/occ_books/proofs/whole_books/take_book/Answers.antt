@@ -1,13 +1,15 @@
-use Rattle.std.proofs.Common.{◌≤◌, ◌^◌, ◌-◌, [], length, arith}
-use Rattle.std.proofs.lemmas.List.{length-map}
+use Rattle.std.proofs.Common.{◌≤◌, ◌^◌, ◌-◌, refl, arith}
 use Rattle.occ_text.specs.Faults.{read_fault}
-use Rattle.occ_books.specs.Untold.{log_of, log_row_of}
-use Rattle.occ_books.specs.Places.{Version, Tables, Marks, State, Counter, Audit, frame_of, rows_to_come, behind_began}
-use Rattle.occ_books.proofs.Leading.{led_nothing}
-use Rattle.occ_books.proofs.Sections.{whole_book}
-use Rattle.occ_books.proofs.PartsLeading.{limits_led, limits_fail, part_failed, led_ended, counts_fail}
-use Rattle.occ_books.proofs.PartsJoined.{opened_led, upto_front, upto_log, upto_marks, upto_state, upto_counter, upto_audit}
+use Rattle.std.proofs.lemmas.List.{length-map}
+use Rattle.occ_books.specs.PlainRows.{log_of, log_row_of}
+use Rattle.occ_books.specs.Places.{Version}
+use Rattle.occ_books.proofs.LinesTaken.{none, both, ended, part_failed, next_taken, next_fails}
+use Rattle.occ_books.proofs.Sections.{whole_book, book_text_is}
+use Rattle.occ_books.proofs.PartPlaces.{limits_taken, limits_fail, counts_stand}
 use Rattle.occ_books.proofs.whole_books.take_book.Goals as goal
+
+pub take_front-requires : goal.take_front-requires
+take_front-requires g c = (c.in_ok-opening.ensures.taken c.in_ok-limits.limits.sessions).1.2
 
 pub returns-clause-taken : goal.returns-clause-taken
 returns-clause-taken g c =
@@ -15,71 +17,89 @@ returns-clause-taken g c =
     let counted = rows.ok.0 in
     let within = rows.ok.1 in
     let small = rows.small in
-    let all = c.in_ok-log.ensures.taken.1 in
-    let few : c.in_ok-front.front.rows ≤ 2 ^ 64 - 1 = omega arith in
-    whole_book c.in_ok-limits.limits c.in_ok-opening.opening.schema c.in_ok-opening.opening.began c.in_ok-front.front.base.base c.in_ok-front.front.rows (length c.in_ok-log.log.items) (log_of c.in_ok-log.log.items) c.in_ok-marks.marks.marks c.in_ok-table.table.state c.in_ok-counts.counts
-    _ _ _ _ _ _ _ _ _ _ c.in_ok-limits.ensures.gives c.in_ok-opening.ensures.taken c.in_ok-front.ensures.taken c.in_ok-log.ensures.taken.0 (length-map c.in_ok-log.log.items log_row_of) c.in_ok-log.ensures.taken.1 few
-    c.in_ok-marks.ensures.taken c.in_ok-table.ensures.taken c.in_ok-counts.ensures.taken c.in_ok-take_end.ensures.taken
+    let all = c.in_ok-log.ensures.taken.1.1 in
+    let few : c.in_ok-front.front.rows ≤ 2 ^ 64 - 1 = omega (arith, length-map rows.items log_row_of) in
+    let s = c.in_ok-limits.limits in
+    let book = whole_book s c.in_ok-opening.opening.schema c.in_ok-opening.opening.began c.in_ok-front.front.base.base c.in_ok-front.front.rows (log_of rows.items) c.in_ok-marks.marks.marks c.in_ok-table.table.state c.in_ok-counts.counts
+    (limits_taken s c.in_ok-limits.ensures.gives) c.in_ok-limits.ensures.gives.1 (c.in_ok-opening.ensures.taken s.sessions) c.in_ok-front.ensures.taken c.in_ok-log.ensures.taken few
+    (c.in_ok-marks.ensures.taken s.version c.in_ok-opening.opening.schema) (c.in_ok-table.ensures.taken s.sessions) (next_taken counts_stand c.in_ok-counts.counts c.in_ok-counts.ensures.taken) _ refl in
+    book_text_is _ book c.in_ok-take_end.ensures.taken
 
 pub returns-in_err-limits-clause-led : goal.returns-in_err-limits-clause-led
 returns-in_err-limits-clause-led g c =
-    let fault = read_fault c.in_err-limits.field-0.0 in
-    part_failed fault c.from_residual.result Version Version _ _ _ _ _ c.from_residual.ensures.1 (led_nothing Version _ _) (limits_fail c.in_err-limits.field-0.0 _ _ _ c.take_limits.new.input.number c.in_err-limits.ensures.gives)
+    part_failed (read_fault c.in_err-limits.field-0.0) c.from_residual.result _ c.from_residual.ensures.1 (none {p = Version}) (limits_fail c.in_err-limits.field-0.0 _ _ _ c.take_limits.new.input.number c.in_err-limits.ensures.gives)
 
 pub returns-in_err-opening-clause-led : goal.returns-in_err-opening-clause-led
 returns-in_err-opening-clause-led g c =
     let s = c.in_ok-limits.limits in
-    part_failed c.in_err-opening.field-0.0 c.from_residual-in_err-opening.result Version (Tables s.version s.sessions []) _ _ _ _ _ c.from_residual-in_err-opening.ensures.1 (limits_led s _ _ _ _ c.in_ok-limits.ensures.gives) (c.in_err-opening.ensures.led s.sessions)
+    let limits = limits_taken s c.in_ok-limits.ensures.gives in
+    part_failed c.in_err-opening.field-0.0 c.from_residual-in_err-opening.result _ c.from_residual-in_err-opening.ensures.1 limits (c.in_err-opening.ensures.taken s.sessions)
 
 pub returns-in_err-front-clause-led : goal.returns-in_err-front-clause-led
 returns-in_err-front-clause-led g c =
     let s = c.in_ok-limits.limits in
-    let frame = frame_of s.version c.in_ok-opening.opening.schema s.sessions in
-    part_failed c.in_err-front.field-0.0 c.from_residual-in_err-front.result Version (behind_began frame c.in_ok-opening.opening.began) _ _ _ _ _ c.from_residual-in_err-front.ensures.1
-    (upto_front s.version s.sessions frame c.in_ok-opening.opening.began _ _ _ _ _ _ (limits_led s _ _ _ _ c.in_ok-limits.ensures.gives) (c.in_ok-opening.ensures.led s.sessions)) c.in_err-front.ensures.led
+    let limits = limits_taken s c.in_ok-limits.ensures.gives in
+    let opening = both limits (c.in_ok-opening.ensures.taken s.sessions).0 in
+    part_failed c.in_err-front.field-0.0 c.from_residual-in_err-front.result _ c.from_residual-in_err-front.ensures.1 opening c.in_err-front.ensures.taken
 
 pub returns-in_err-log-clause-led : goal.returns-in_err-log-clause-led
 returns-in_err-log-clause-led g c =
     let s = c.in_ok-limits.limits in
-    let frame = frame_of s.version c.in_ok-opening.opening.schema s.sessions in
-    part_failed c.in_err-log.field-0.0 c.from_residual-in_err-log.result Version (rows_to_come frame c.in_ok-front.front.rows) _ _ _ _ _ c.from_residual-in_err-log.ensures.1
-    (upto_log s.version s.sessions frame c.in_ok-front.front.rows _ _ _ _ _ _ (limits_led s _ _ _ _ c.in_ok-limits.ensures.gives) (opened_led s.version s.sessions frame c.in_ok-opening.opening.began c.in_ok-front.front.rows _ _ _ _ _ _ (c.in_ok-opening.ensures.led s.sessions) c.in_ok-front.ensures.led)) c.in_err-log.ensures.led
+    let limits = limits_taken s c.in_ok-limits.ensures.gives in
+    let opening = both limits (c.in_ok-opening.ensures.taken s.sessions).0 in
+    let front = both opening c.in_ok-front.ensures.taken.0 in
+    part_failed c.in_err-log.field-0.0 c.from_residual-in_err-log.result _ c.from_residual-in_err-log.ensures.1 front c.in_err-log.ensures.taken
 
 pub returns-in_err-marks-clause-led : goal.returns-in_err-marks-clause-led
 returns-in_err-marks-clause-led g c =
     let s = c.in_ok-limits.limits in
-    let frame = frame_of s.version c.in_ok-opening.opening.schema s.sessions in
-    part_failed c.in_err-marks.field-0.0 c.from_residual-in_err-marks.result Version (Marks frame) _ _ _ _ _ c.from_residual-in_err-marks.ensures.1
-    (upto_marks s.version s.sessions frame c.in_ok-front.front.rows _ _ _ _ _ _ _ _ (limits_led s _ _ _ _ c.in_ok-limits.ensures.gives) (opened_led s.version s.sessions frame c.in_ok-opening.opening.began c.in_ok-front.front.rows _ _ _ _ _ _ (c.in_ok-opening.ensures.led s.sessions) c.in_ok-front.ensures.led) c.in_ok-log.ensures.led) (c.in_err-marks.ensures.led s.version c.in_ok-opening.opening.schema)
+    let limits = limits_taken s c.in_ok-limits.ensures.gives in
+    let opening = both limits (c.in_ok-opening.ensures.taken s.sessions).0 in
+    let front = both opening c.in_ok-front.ensures.taken.0 in
+    let log = both front c.in_ok-log.ensures.taken.0 in
+    part_failed c.in_err-marks.field-0.0 c.from_residual-in_err-marks.result _ c.from_residual-in_err-marks.ensures.1 log (c.in_err-marks.ensures.taken s.version c.in_ok-opening.opening.schema)
 
 pub returns-in_err-table-clause-led : goal.returns-in_err-table-clause-led
 returns-in_err-table-clause-led g c =
     let s = c.in_ok-limits.limits in
-    let frame = frame_of s.version c.in_ok-opening.opening.schema s.sessions in
-    part_failed c.in_err-table.field-0.0 c.from_residual-in_err-table.result Version (State frame) _ _ _ _ _ c.from_residual-in_err-table.ensures.1
-    (upto_state s.version s.sessions frame c.in_ok-front.front.rows _ _ _ _ _ _ _ _ _ _ (limits_led s _ _ _ _ c.in_ok-limits.ensures.gives) (opened_led s.version s.sessions frame c.in_ok-opening.opening.began c.in_ok-front.front.rows _ _ _ _ _ _ (c.in_ok-opening.ensures.led s.sessions) c.in_ok-front.ensures.led) c.in_ok-log.ensures.led (c.in_ok-marks.ensures.led s.version c.in_ok-opening.opening.schema)) (c.in_err-table.ensures.led s.sessions)
+    let limits = limits_taken s c.in_ok-limits.ensures.gives in
+    let opening = both limits (c.in_ok-opening.ensures.taken s.sessions).0 in
+    let front = both opening c.in_ok-front.ensures.taken.0 in
+    let log = both front c.in_ok-log.ensures.taken.0 in
+    let marks = both log (c.in_ok-marks.ensures.taken s.version c.in_ok-opening.opening.schema).0 in
+    part_failed c.in_err-table.field-0.0 c.from_residual-in_err-table.result _ c.from_residual-in_err-table.ensures.1 marks (c.in_err-table.ensures.taken s.sessions)
 
 pub returns-in_err-counts-clause-led : goal.returns-in_err-counts-clause-led
 returns-in_err-counts-clause-led g c =
     let s = c.in_ok-limits.limits in
-    let frame = frame_of s.version c.in_ok-opening.opening.schema s.sessions in
-    let fault = read_fault c.in_err-counts.field-0.0 in
-    part_failed fault c.from_residual-in_err-counts.result Version Counter _ _ _ _ _ c.from_residual-in_err-counts.ensures.1
-    (upto_counter s.version s.sessions frame c.in_ok-front.front.rows _ _ _ _ _ _ _ _ _ _ _ _ (limits_led s _ _ _ _ c.in_ok-limits.ensures.gives) (opened_led s.version s.sessions frame c.in_ok-opening.opening.began c.in_ok-front.front.rows _ _ _ _ _ _ (c.in_ok-opening.ensures.led s.sessions) c.in_ok-front.ensures.led) c.in_ok-log.ensures.led (c.in_ok-marks.ensures.led s.version c.in_ok-opening.opening.schema) (c.in_ok-table.ensures.led s.sessions))
-    (counts_fail fault _ _ _ c.in_err-counts.ensures.led)
+    let limits = limits_taken s c.in_ok-limits.ensures.gives in
+    let opening = both limits (c.in_ok-opening.ensures.taken s.sessions).0 in
+    let front = both opening c.in_ok-front.ensures.taken.0 in
+    let log = both front c.in_ok-log.ensures.taken.0 in
+    let marks = both log (c.in_ok-marks.ensures.taken s.version c.in_ok-opening.opening.schema).0 in
+    let state = both marks (c.in_ok-table.ensures.taken s.sessions).0 in
+    part_failed (read_fault c.in_err-counts.field-0.0) c.from_residual-in_err-counts.result _ c.from_residual-in_err-counts.ensures.1 state (next_fails counts_stand (read_fault c.in_err-counts.field-0.0) _ _ _ c.in_err-counts.ensures.taken)
 
 pub returns-in_err-take_end-clause-led : goal.returns-in_err-take_end-clause-led
 returns-in_err-take_end-clause-led g c =
     let s = c.in_ok-limits.limits in
-    let frame = frame_of s.version c.in_ok-opening.opening.schema s.sessions in
-    part_failed (read_fault c.in_err-take_end.field-0.0) c.from_residual-in_err-take_end.result Version Audit _ _ _ _ _ c.from_residual-in_err-take_end.ensures.1
-    (upto_audit s.version s.sessions frame c.in_ok-front.front.rows c.in_ok-counts.counts _ _ _ _ _ _ _ _ _ _ _ _ _ _ (limits_led s _ _ _ _ c.in_ok-limits.ensures.gives) (opened_led s.version s.sessions frame c.in_ok-opening.opening.began c.in_ok-front.front.rows _ _ _ _ _ _ (c.in_ok-opening.ensures.led s.sessions) c.in_ok-front.ensures.led) c.in_ok-log.ensures.led (c.in_ok-marks.ensures.led s.version c.in_ok-opening.opening.schema)
-    (c.in_ok-table.ensures.led s.sessions) c.in_ok-counts.ensures.led) c.in_err-take_end.ensures.led
+    let limits = limits_taken s c.in_ok-limits.ensures.gives in
+    let opening = both limits (c.in_ok-opening.ensures.taken s.sessions).0 in
+    let front = both opening c.in_ok-front.ensures.taken.0 in
+    let log = both front c.in_ok-log.ensures.taken.0 in
+    let marks = both log (c.in_ok-marks.ensures.taken s.version c.in_ok-opening.opening.schema).0 in
+    let state = both marks (c.in_ok-table.ensures.taken s.sessions).0 in
+    let counts = both state (next_taken counts_stand c.in_ok-counts.counts c.in_ok-counts.ensures.taken).0 in
+    part_failed (read_fault c.in_err-take_end.field-0.0) c.from_residual-in_err-take_end.result _ c.from_residual-in_err-take_end.ensures.1 counts c.in_err-take_end.ensures.taken
 
 pub returns-clause-led : goal.returns-clause-led
 returns-clause-led g c =
     let s = c.in_ok-limits.limits in
-    let frame = frame_of s.version c.in_ok-opening.opening.schema s.sessions in
-    led_ended Version Audit _ _ _ _
-    (upto_audit s.version s.sessions frame c.in_ok-front.front.rows c.in_ok-counts.counts _ _ _ _ _ _ _ _ _ _ _ _ _ _ (limits_led s _ _ _ _ c.in_ok-limits.ensures.gives) (opened_led s.version s.sessions frame c.in_ok-opening.opening.began c.in_ok-front.front.rows _ _ _ _ _ _ (c.in_ok-opening.ensures.led s.sessions) c.in_ok-front.ensures.led) c.in_ok-log.ensures.led (c.in_ok-marks.ensures.led s.version c.in_ok-opening.opening.schema)
-    (c.in_ok-table.ensures.led s.sessions) c.in_ok-counts.ensures.led) c.in_ok-take_end.ensures.led
+    let limits = limits_taken s c.in_ok-limits.ensures.gives in
+    let opening = both limits (c.in_ok-opening.ensures.taken s.sessions).0 in
+    let front = both opening c.in_ok-front.ensures.taken.0 in
+    let log = both front c.in_ok-log.ensures.taken.0 in
+    let marks = both log (c.in_ok-marks.ensures.taken s.version c.in_ok-opening.opening.schema).0 in
+    let state = both marks (c.in_ok-table.ensures.taken s.sessions).0 in
+    let counts = both state (next_taken counts_stand c.in_ok-counts.counts c.in_ok-counts.ensures.taken).0 in
+    ended counts c.in_ok-take_end.ensures.taken
