@@ -1,24 +1,10 @@
 -- What stands behind the answers of a replay: its book and the audit of it.
-use Rattle.std.proofs.Common.{◌≡◌, ℕ, Bool, true, List, [], ◌∷◌, Option, Result, Ok, Err, refl, sym, subst, ◌∙◌, inl, inr, append-nil}
-use Rattle.std.specs.Bool.{Decides}
-use Rattle.std.specs.Result.{IsErrAnd}
-use Rattle.std.specs.Io.KnownBytes.{Keeps}
+use Rattle.std.proofs.Common.{◌≡◌, ℕ, Bool, true, List, [], ◌∷◌, Option, Result, Ok, Err, refl, sym, subst, ◌∙◌, inl, inr, append-nil, Decides, IsErrAnd, nat_cmp}
+use Rattle.occ_cli.proofs.Common.{Keeps, Appends-nil, Appends-kept, Schema, Base, LogRow, State, WriteFault, lines_text, Pushed, PushedFront, IsAudited, PushGives, AuditGives, ClosingGives, lines_then, front_before, front_behind}
 use Rattle.std.specs.FinMap.{FinMap}
-use Rattle.std.specs.Ordering.{nat_cmp}
-use Rattle.std.proofs.KnownBytes.{Appends-nil, Appends-kept}
-use Rattle.occ_types.specs.Schema.{Schema}
-use Rattle.occ_model.specs.Log.{Base, LogRow}
-use Rattle.occ_model.specs.State.{State}
 use Rattle.occ_text.specs.declared.headers.Limits.{Limits}
-use Rattle.occ_text.specs.declared.faults.WriteFault.{WriteFault}
 use Rattle.occ_text.specs.declared.faults.WriteFault.TheVariants as faults
 use Rattle.occ_print.specs.Books.{Book, book_lines, book_text, audit_line}
-use Rattle.occ_text.specs.Line.{lines_text}
-use Rattle.occ_text.specs.Printing.{Pushed, PushedFront}
-use Rattle.occ_cli.specs.Schedules.{IsAudited}
-use Rattle.occ_text.specs.Sending.{PushGives}
-use Rattle.occ_cli.specs.Turns.{AuditGives, ClosingGives}
-use Rattle.occ_print.proofs.Printing.{lines_then, front_before, front_behind}
 use Rattle.occ_cli.proofs.Schedules.{front_no_more}
 
 nothing_pushed : (a b : Option (List ℕ)) (old new : List ℕ) → Keeps a b → new ≡ old → PushedFront a b old new []

@@ -1,30 +1,17 @@
 -- Operations that are handed in to run alone, over plain data.
-use Rattle.std.proofs.Common.{◌≡◌, ℕ, List, [], ◌∷◌, ◌++◌, length, map, Option, Some, None, Result, Err, refl, sym, ap, subst, ◌∙◌, inl, inr}
-use Rattle.std.proofs.lemmas.List.{map-append}
-use Rattle.std.specs.Prelude.{MatchResult, true, false, not, is_some, nat_le, nat_lt, ◌==◌}
-use Rattle.std.proofs.lemmas.Bool.{eq-eqb}
+use Rattle.std.proofs.Common.{◌≡◌, ℕ, List, [], ◌∷◌, ◌++◌, length, map, Option, Some, None, Result, Err, refl, sym, ap, subst, ◌∙◌, inl, inr, MatchResult, true, false, not, is_some, nat_le, nat_lt, ◌==◌}
+use Rattle.occ_cli.proofs.Common.{map-append, eq-eqb, Fault, Schema, first_fault, Operation, check_operation, check_operations, op_of, ops_of, operation_of, numbers_exhausted, fault_if, MAX_NUMBER, MAX_OPERATIONS, next, with_item, is_full, refusal_of_submit, Client, Given, and_then, unless, unfit, handed_in, HandsIn, IsUnlisted, WantsList, PlayedIn, operation_named, operations_named}
 use Rattle.std.specs.Vec.Iter.{into_iter_items, into_iter_steps}
 use Rattle.std.specs.declared.vec.IntoIter.{IntoIter}
 use Rattle.std.specs.Iterator.{Yields}
-use Rattle.occ_types.specs.declared.fault.Fault.{Fault}
-use Rattle.occ_types.specs.Schema.{Schema, first_fault}
-use Rattle.occ_model.specs.Operations.{Operation}
-use Rattle.occ_model.specs.Refusal.{check_operation, check_operations}
 use Rattle.occ_model.proofs.Admitted.{passed}
 use Rattle.occ_sets.specs.declared.operations.Op as code_op
-use Rattle.occ_sets.specs.Operations.{op_of, ops_of}
 use Rattle.occ_text.specs.declared.operations.Operation as code_operation
-use Rattle.occ_text.specs.Operations.{operation_of}
 use Rattle.occ_model.specs.Event as events
-use Rattle.occ_model.specs.Refusal.{numbers_exhausted}
-use Rattle.occ_types.specs.Schema.{fault_if}
 use Rattle.occ_types.specs.declared.fault.Fault.TheVariants as faults
-use Rattle.occ_types.specs.declared.limits.TheConstants.{MAX_NUMBER, MAX_OPERATIONS}
-use Rattle.occ_queue.specs.Numbering.{next, with_item, is_full, refusal_of_submit}
 use Rattle.occ_cli.specs.declared.answers.Answer as code_answer
 use Rattle.occ_cli.specs.Answers.{Answer}
 use Rattle.occ_cli.specs.Answers as says
-use Rattle.occ_cli.specs.Replaying.{Client, Given, and_then, unless, unfit, handed_in, HandsIn, IsUnlisted, WantsList, PlayedIn, operation_named, operations_named}
 
 -- one test alone is its own first fault
 single : (test : Option Fault) → first_fault (test ∷ []) ≡ test

@@ -1,7 +1,6 @@
 -- What is written of a list, one value after another.
-use Rattle.std.proofs.Common.{◌≡◌, ℕ, ◌+◌, ◌<◌, List, [], ◌∷◌, ◌++◌, length, map, take, get_or, sym, ap, ◌∙◌, append_assoc}
-use Rattle.std.specs.List.{flat_map}
-use Rattle.std.proofs.lemmas.List.{map-append, take_more, append-nil}
+use Rattle.std.proofs.Common.{◌≡◌, ℕ, ◌+◌, ◌<◌, List, [], ◌∷◌, ◌++◌, length, map, take, get_or, sym, ap, ◌∙◌, append_assoc, flat_map}
+use Rattle.occ_cli.proofs.Common.{map-append, take_more, append-nil}
 use Rattle.std.proofs.lemmas.List.Concat.{flat_map-append}
 
 -- one more value behind those that were written

@@ -1,30 +1,13 @@
 -- No refusal of the store or of a client is a want of memory: that comes after all of them.
-use Rattle.std.proofs.Common.{◌≡◌, ℕ, zero, suc, ◌+◌, List, [], ◌∷◌, length, Option, Some, None, Result, Ok, Err, refl}
-use Rattle.std.specs.Prelude.{Bool, true, false, not, ◌==◌, is_some, slice_get, nat_le, nat_lt, nat_eq, ◌||◌}
+use Rattle.std.proofs.Common.{◌≡◌, ℕ, zero, suc, ◌+◌, List, [], ◌∷◌, length, Option, Some, None, Result, Ok, Err, refl, Bool, true, false, not, ◌==◌, is_some, slice_get, nat_le, nat_lt, nat_eq, ◌||◌, position, ok_or}
+use Rattle.occ_cli.proofs.Common.{list_any, Fault, Key, Question, One, Span, Row, Schema, Table, fault_if, first_fault, in_table, key_has_kind, key_is_too_long, cell_has_kind, cell_is_too_long, check_key, check_key_in, check_cells, check_row, check_row_in, check_end, is_empty_range, check_question, MAX_QUESTIONS, MAX_OPERATIONS, MAX_ANSWER_ROWS, MAX_LOG_ROWS, MAX_COUNTER, MAX_NUMBER, READ_AHEAD, Write, answer, answer_size, is_open, is_active, Operation, Get, Scan, Put, Delete, Add, World, ReadPhase, due, reads_under, active_count, has_session, has_mark, has_phase, is_held, Request, Alone, Close, Event, Read, Forget, Enter, Decide, WriteOne, Finish, BackUp, SerialEnd, RunAlone, Checkpoint, refusal, row_is_open, row_is_back, has_writes_left, wrong_start, check_writes, check_number, check_operation, check_operations, refusal_of_request, refusal_of_close, refusal_of_alone, Numbered, next, is_full, Copied, is_full_for, Client, and_then, unless, client_of, copy_of, table_named, object_named, span_named, next_number, submitted, mark_of, unfit, handed_in, check_written, write_named}
 use Rattle.std.specs.FinMap as finite
-use Rattle.std.specs.List.{list_any, position}
-use Rattle.std.specs.Option.{ok_or}
-use Rattle.occ_types.specs.declared.fault.Fault.{Fault}
 use Rattle.occ_types.specs.declared.fault.Fault.TheVariants as faults
 use Rattle.occ_types.specs.declared.kind.Kind.{Kind}
 use Rattle.occ_types.specs.declared.kind.Kind.TheVariants as cells
 use Rattle.occ_types.specs.Fits.{has_name}
-use Rattle.occ_types.specs.Key.{Key}
-use Rattle.occ_types.specs.Question.{Question, One, Span}
-use Rattle.occ_types.specs.Row.{Row}
-use Rattle.occ_types.specs.Schema.{Schema, Table, fault_if, first_fault, in_table, key_has_kind, key_is_too_long, cell_has_kind, cell_is_too_long, check_key, check_key_in, check_cells, check_row, check_row_in, check_end, is_empty_range, check_question}
-use Rattle.occ_types.specs.declared.limits.TheConstants.{MAX_QUESTIONS, MAX_OPERATIONS, MAX_ANSWER_ROWS, MAX_LOG_ROWS, MAX_COUNTER, MAX_NUMBER, READ_AHEAD}
-use Rattle.occ_model.specs.State.{Write, answer, answer_size}
-use Rattle.occ_model.specs.Log.{is_open, is_active}
-use Rattle.occ_model.specs.Operations.{Operation, Get, Scan, Put, Delete, Add}
-use Rattle.occ_model.specs.World.{World, ReadPhase, due, reads_under, active_count, has_session, has_mark, has_phase, is_held}
-use Rattle.occ_model.specs.Event.{Request, Alone, Close, Event, Read, Forget, Enter, Decide, WriteOne, Finish, BackUp, SerialEnd, RunAlone, Checkpoint}
 use Rattle.occ_model.specs.Refusal as refusals
-use Rattle.occ_model.specs.Refusal.{refusal, row_is_open, row_is_back, has_writes_left, wrong_start, check_writes, check_number, check_operation, check_operations, refusal_of_request, refusal_of_close, refusal_of_alone}
 use Rattle.occ_queue.specs.Numbering as queues
-use Rattle.occ_queue.specs.Numbering.{Numbered, next, is_full}
-use Rattle.occ_sets.specs.Sets.{Copied, is_full_for}
-use Rattle.occ_cli.specs.Replaying.{Client, and_then, unless, client_of, copy_of, table_named, object_named, span_named, next_number, submitted, mark_of, unfit, handed_in, check_written, write_named}
 
 -- whether a fault is the want of memory
 abbrev is_memory : Fault → Bool

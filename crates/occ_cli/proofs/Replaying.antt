@@ -1,16 +1,10 @@
 -- Exits and calls of a replay, over plain data.
-use Rattle.std.proofs.Common.{◌≡◌, ℕ, zero, suc, ◌-◌, ◌<◌, ◌⊎◌, ◌≤◌, List, [], ◌∷◌, length, get_or, Option, Some, None, Result, Ok, Err, refl, sym, ap, subst, ◌∙◌, inl, inr, arith}
-use Rattle.std.specs.Prelude.{◌≢◌, slice_get, slice_set, MatchOption, MatchResult, IsOkAnd, IfOk, OnErr}
-use Rattle.std.specs.Option.{ok_or}
-use Rattle.std.proofs.lemmas.List.{set-get_or}
+use Rattle.std.proofs.Common.{IsErrAnd, ◌≡◌, ℕ, zero, suc, ◌-◌, ◌<◌, ◌⊎◌, List, length, get_or, Option, Some, Result, Ok, Err, refl, sym, ap, subst, ◌∙◌, inl, inr, arith, ◌≢◌, slice_get, slice_set, MatchOption, MatchResult, IsOkAnd, IfOk, OnErr, ok_or}
+use Rattle.std.proofs.lemmas.Option.{slice_get_past, slice_get_read}
+use Rattle.occ_cli.proofs.Common.{err_from_is_err_and, set-get_or, Key, Fault, World, Event, Item, Reply, Step, item_of, Question, Copied, Played, PlayedIn, PutOff, Starved, CopyWantsScan, Plays, Abandons, next_item, still_waiting, kept_after, open_after, Client, Replayed, Given, client_of, span_named, Tells, ScansIn, ByStore, ByClient, ByBoth, ByAsking, Enters, overlaid, replied, played}
 use Rattle.occ_types.specs.declared.fault.Refused as code_refused
-use Rattle.occ_types.specs.Key.{Key}
-use Rattle.occ_types.specs.declared.fault.Fault.{Fault}
 use Rattle.occ_types.specs.declared.fault.Fault.TheVariants as faults
-use Rattle.occ_model.specs.World.{World}
-use Rattle.occ_model.specs.Event.{Event, Item, Reply}
 use Rattle.occ_model.specs.Event as events
-use Rattle.occ_model.specs.Step.{Step}
 use Rattle.occ_core.specs.declared.steps.Step as code_step
 use Rattle.occ_core.specs.declared.steps.Step.TheVariants as calls
 use Rattle.occ_core.specs.declared.replies.Reply as code_reply
@@ -18,18 +12,13 @@ use Rattle.occ_core.specs.declared.replies.Reply.TheVariants as replies
 use Rattle.occ_core.specs.Core.{Seen}
 use Rattle.occ_core.specs.Runs.{Answers, IsPutOff, event_of, reply_of, handed_back, owed}
 use Rattle.occ_queue.specs.declared.items.Item as code_item
-use Rattle.occ_queue.specs.Items.{item_of}
-use Rattle.occ_types.specs.Question.{Question}
 use Rattle.occ_text.specs.Steps as steps
-use Rattle.occ_sets.specs.Sets.{Copied}
-use Rattle.occ_sets.specs.Operations.{ops_of}
 use Rattle.occ_sets.specs.declared.reads.Answer as code_seen
 use Rattle.occ_cli.specs.declared.answers.Answer as code_answer
 use Rattle.occ_cli.specs.declared.answers.Answer.TheVariants as answers
 use Rattle.occ_cli.specs.Answers.{Answer, answer_of}
 use Rattle.occ_cli.specs.Answers as says
 use Rattle.occ_cli.proofs.Starving.{plays_starved}
-use Rattle.occ_cli.specs.Replaying.{Played, PlayedIn, PutOff, Starved, CopyWantsScan, Plays, Abandons, next_item, still_waiting, kept_after, open_after, Client, Replayed, Given, client_of, span_named, Tells, ScansIn, ByStore, ByClient, ByBoth, ByAsking, Enters, overlaid, replied, played}
 use Rattle.occ_cli.proofs.StoreSteps.{refused_stays}
 
 -- the store answered what was asked
@@ -103,29 +92,12 @@ module _ {Z : Type 0} where
   ends_err old step new r (Ok answer) is so = tt
   ends_err old step new r (Err e) is so = starves old step new r is so
 
--- an element stands at its place
-pub found_at : {X : Type 0} (xs : List X) (place : ℕ) (x : X) → place < length xs → x ≡ get_or xs place x → slice_get xs place ≡ Some x
-found_at [] place x lt is = absurd (omega arith)
-found_at (y ∷ ys) zero x lt is = ap Some (sym is)
-found_at (y ∷ ys) (suc place) x lt is = found_at ys place x (omega arith) is
-
 module _ {Z : Type 0} where
   -- an item that an entry or a serial end hands back is kept
   owed_kept : (session : ℕ) (item : code_item.Item Z) (reply : Reply)
       → (owed (calls.Enter session item) reply ≡ kept_after (item_of item) reply) × (owed (calls.SerialEnd session item) reply ≡ kept_after (item_of item) reply)
   owed_kept session item (events.Refused fault) = (refl, refl)
-  owed_kept session item (events.Answered given) = (refl, refl)
-  owed_kept session item (events.Forgotten known) = (refl, refl)
-  owed_kept session item (events.Entered place index) = (refl, refl)
-  owed_kept session item events.Closed = (refl, refl)
-  owed_kept session item (events.Decided verdict) = (refl, refl)
-  owed_kept session item (events.Wrote object) = (refl, refl)
-  owed_kept session item events.NoMore = (refl, refl)
-  owed_kept session item (events.Finished number) = (refl, refl)
-  owed_kept session item (events.BackedUp number) = (refl, refl)
-  owed_kept session item (events.EndedBack cause) = (refl, refl)
-  owed_kept session item (events.RanAlone number answers) = (refl, refl)
-  owed_kept session item (events.Folded rows) = (refl, refl)
+  owed_kept session item reply = (refl, refl)
 
   -- what the store replied to an item that it was handed
   pub record IsHandedOver (asks : Item → Event) (item : code_item.Item Z) (old : World) (reply : code_reply.Reply Z) (new : World) : Type 0 where
@@ -172,26 +144,20 @@ abandon_refused old session client copy fault new is step =
     (λ c. (reply : Reply) × Step old (events.Forget session c.number) reply new × (says.refused fault ≡ says.Replied reply) × (client ≡ record client { copy = open_after c reply })))
     (sym is) (events.Refused fault, step, refl, ap (λ (o : Option Copied). record client { copy = o }) is)
 
--- no element stands behind the end
-pub none_at : {X : Type 0} (xs : List X) (place : ℕ) → length xs ≤ place → slice_get xs place ≡ None
-none_at [] place le = refl
-none_at (y ∷ ys) zero le = absurd (omega arith)
-none_at (y ∷ ys) (suc place) le = none_at ys place (omega arith)
-
 -- a session that doesn't exist has no client
 pub no_client : (clients : List Client) (session : ℕ) → (session ≡ 0) ⊎ ((session ≡ 0 → ⊥) × (length clients < session)) → client_of clients session ≡ Err faults.NoSession
 no_client clients zero _ = refl
 no_client clients (suc place) (inl none) = absurd (omega (arith, none))
 no_client clients (suc place) (inr above) =
     let behind : length clients < suc place = above.1 in
-    ap (λ (o : Option Client). ok_or o faults.NoSession) (none_at clients place (omega arith))
+    ap (λ (o : Option Client). ok_or o faults.NoSession) (slice_get_past clients place (omega arith))
 
 -- the client of a session stands at its place
 pub client_at : (clients : List Client) (session place : ℕ) (client : Client) → session ≡ suc place → place < length clients → client ≡ get_or clients place client → client_of clients session ≡ Ok client
 client_at clients zero place client is lt at = absurd (omega arith)
 client_at clients (suc p) place client is lt at =
     let same : p ≡ place = omega arith in
-    ap (λ (k : ℕ). ok_or (slice_get clients k) faults.NoSession) same ∙ ap (λ (o : Option Client). ok_or o faults.NoSession) (found_at clients place client lt at)
+    ap (λ (k : ℕ). ok_or (slice_get clients k) faults.NoSession) same ∙ ap (λ (o : Option Client). ok_or o faults.NoSession) (slice_get_read clients (length clients) place client refl lt at)
 
 -- a client in its own place changes nothing
 set_same : (clients : List Client) (place : ℕ) (client next : Client) → client ≡ get_or clients place client → next ≡ client → slice_set clients place next ≡ clients
@@ -214,33 +180,11 @@ module _ {Z : Type 0} where
       → CalledBy (PutOff {Z = Z} (calls.WriteOne session) old (record old { world = next })) old (events.WriteOne session) reply (record old { world = next })
   write_stepped old session reply next (inl step) = inr ((reply_of reply, step, refl), refl)
   write_stepped old session (replies.Refused fault) next (inr off) = inl (ap says.refused off.2, ((off.0, off.1), ap (λ (s : Seen). record old { world = s.world }) off.3))
-  write_stepped old session (replies.Found row) next (inr off) = absurd off
-  write_stepped old session (replies.Rows rows) next (inr off) = absurd off
-  write_stepped old session (replies.Forgotten there) next (inr off) = absurd off
-  write_stepped old session (replies.Entered place index) next (inr off) = absurd off
-  write_stepped old session replies.Closed next (inr off) = absurd off
-  write_stepped old session (replies.Decided verdict) next (inr off) = absurd off
-  write_stepped old session (replies.Wrote object) next (inr off) = absurd off
-  write_stepped old session replies.NoMore next (inr off) = absurd off
-  write_stepped old session (replies.Finished number) next (inr off) = absurd off
-  write_stepped old session (replies.BackedUp number) next (inr off) = absurd off
-  write_stepped old session (replies.EndedBack cause) next (inr off) = absurd off
-  write_stepped old session (replies.RanAlone number given) next (inr off) = absurd off
-  write_stepped old session (replies.Folded rows) next (inr off) = absurd off
-  write_stepped old session (replies.RefusedItem given) next (inr off) = absurd off
+  write_stepped old session reply next (inr off) = absurd off
 
   by_call : (old : Replayed) (call : code_step.Step Z) (reply : code_reply.Reply Z) (next : World) → Answers (record { world = old.world }) call reply (record { world = next }) → CalledBy (PutOff call old (record old { world = next })) old (event_of call) reply (record old { world = next })
-  by_call old (calls.Read session number start table key) reply next h = stepped _ old (event_of (calls.Read session number start table key)) reply next h.0
-  by_call old (calls.Scan session number start table lower upper) reply next h = stepped _ old (event_of (calls.Scan session number start table lower upper)) reply next h.0
-  by_call old (calls.Forget session number) reply next h = stepped _ old (events.Forget session number) reply next h.0
-  by_call old (calls.Enter session item) reply next h = stepped _ old (events.Enter session (item_of item)) reply next h.0
-  by_call old (calls.Decide session) reply next h = stepped _ old (events.Decide session) reply next h.0
   by_call old (calls.WriteOne session) reply next h = write_stepped old session reply next h.0
-  by_call old (calls.Finish session) reply next h = stepped _ old (events.Finish session) reply next h.0
-  by_call old (calls.BackUp session) reply next h = stepped _ old (events.BackUp session) reply next h.0
-  by_call old (calls.SerialEnd session item) reply next h = stepped _ old (events.SerialEnd session (item_of item)) reply next h.0
-  by_call old (calls.RunAlone session number operations) reply next h = stepped _ old (events.RunAlone session number (ops_of operations.items)) reply next h.0
-  by_call old calls.Checkpoint reply next h = stepped _ old events.Checkpoint reply next h.0
+  by_call old call reply next h = stepped _ old (event_of call) reply next h.0
 
   -- the same of a replay that is seen so
   pub by_calling : (world : World) (clients : List Client) (self : Replayed) → record { world = world; clients = clients } ≡ self → (call : code_step.Step Z) (reply : code_reply.Reply Z) (next : World) → Answers (record { world = world }) call reply (record { world = next })
@@ -255,31 +199,32 @@ module _ {Z : Type 0} (world : World) (clients : List Client) (self : Replayed) 
   before = record { world = world; clients = clients }
 
   -- there is no such session
-  no_seat : (shown : List Client) (session : ℕ) (e f : Fault) (P : Answer → Client → Type 0) → shown ≡ clients → r ≡ Err e → e ≡ f → client_of shown session ≡ Err f
+  no_seat : (shown : List Client) (session : ℕ) (f : Fault) (P : Answer → Client → Type 0) → shown ≡ clients → IsErrAnd r (λ e. e ≡ f) → client_of shown session ≡ Err f
       → Given (client_of self.clients session) self (played r) self (P (played r))
-  no_seat shown session e f P showing is same none =
+  no_seat shown session f P showing is none =
+      let told = err_from_is_err_and r is in
       let seen : shown ≡ self.clients = showing ∙ ap (λ (s : Replayed). s.clients) view in
       let at : client_of self.clients session ≡ Err f = sym (ap (λ (l : List Client). client_of l session) seen) ∙ none in
       let refused : Given (client_of self.clients session) self (says.refused f) self (P (says.refused f)) =
       subst (λ (g : Result Client Fault). Given g self (says.refused f) self (P (says.refused f))) (sym at) (refl, refl) in
-      subst (λ (x : Result (code_answer.Answer Z) Fault). Given (client_of self.clients session) self (played x) self (P (played x))) (sym (is ∙ ap Err same)) refused
+      subst (λ (x : Result (code_answer.Answer Z) Fault). Given (client_of self.clients session) self (played x) self (P (played x))) (sym (told.1 ∙ ap Err told.2)) refused
 
   -- a client that asks the store isn't there
-  pub no_asker : (shown : List Client) (session : ℕ) (e f : Fault) (Asks : Answer → Client → Type 0) → shown ≡ clients → r ≡ Err e → e ≡ f → client_of shown session ≡ Err f
+  pub no_asker : (shown : List Client) (session : ℕ) (f : Fault) (Asks : Answer → Client → Type 0) → shown ≡ clients → IsErrAnd r (λ e. e ≡ f) → client_of shown session ≡ Err f
       → ByAsking self session (played r) self (Asks (played r))
-  no_asker shown session e f Asks showing is same none = no_seat shown session e f (λ answer c. Asks answer c × (self.clients ≡ self.clients)) showing is same none
+  no_asker shown session f Asks showing is none = no_seat shown session f (λ answer c. Asks answer c × (self.clients ≡ self.clients)) showing is none
 
   -- a client that moves alone isn't there
-  pub no_mover : (shown : List Client) (session : ℕ) (e f : Fault) (Moves : Answer → Client → Client → Type 0) → shown ≡ clients → r ≡ Err e → e ≡ f → client_of shown session ≡ Err f
+  pub no_mover : (shown : List Client) (session : ℕ) (f : Fault) (Moves : Answer → Client → Client → Type 0) → shown ≡ clients → IsErrAnd r (λ e. e ≡ f) → client_of shown session ≡ Err f
       → ByClient self session (played r) self (Moves (played r))
-  no_mover shown session e f Moves showing is same none =
-      no_seat shown session e f (λ answer c. (n : Client) × Moves answer c n × (self ≡ record self { clients = slice_set self.clients (session - 1) n })) showing is same none
+  no_mover shown session f Moves showing is none =
+      no_seat shown session f (λ answer c. (n : Client) × Moves answer c n × (self ≡ record self { clients = slice_set self.clients (session - 1) n })) showing is none
 
   -- a client that moves with the store isn't there
-  pub no_partner : (shown : List Client) (session : ℕ) (e f : Fault) (Moves : Answer → Client → Client → Type 0) → shown ≡ clients → r ≡ Err e → e ≡ f → client_of shown session ≡ Err f
+  pub no_partner : (shown : List Client) (session : ℕ) (f : Fault) (Moves : Answer → Client → Client → Type 0) → shown ≡ clients → IsErrAnd r (λ e. e ≡ f) → client_of shown session ≡ Err f
       → ByBoth self session (played r) self (Moves (played r))
-  no_partner shown session e f Moves showing is same none =
-      no_seat shown session e f (λ answer c. (n : Client) × Moves answer c n × (self.clients ≡ slice_set self.clients (session - 1) n)) showing is same none
+  no_partner shown session f Moves showing is none =
+      no_seat shown session f (λ answer c. (n : Client) × Moves answer c n × (self.clients ≡ slice_set self.clients (session - 1) n)) showing is none
 
   module _ (shown : List Client) (showing : shown ≡ clients) (session place : ℕ) (there : (session ≡ suc place) × (place < length shown)) (client : Client) (at : client ≡ get_or clients place client) where
     is_seated : client_of clients session ≡ Ok client

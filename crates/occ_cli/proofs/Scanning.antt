@@ -1,24 +1,15 @@
 -- What the store answers to a range that was named, and what is shown of it.
 use Rattle.std.proofs.Common.{◌≡◌, ℕ, ◌≤◌, Bool, true, false, nat_lt, List, Option, Some, None, Result, Ok, Err, refl, sym, ap, subst, ◌∙◌, inr, arith}
+use Rattle.occ_cli.proofs.Common.{Key, Question, Span, Schema, fault_if, check_question, Fault, MAX_ANSWER_ROWS, answer, answer_size, overlay, World, Reply, Read, Answered, Refused, Step, starved, taken, Copied, CopyWantsScan, Given, MayAnswer, PlayedIn, ScansIn, and_then, overlaid, span_named, table_named, unless}
 use Rattle.std.proofs.lemmas.Bool.Decides.{nat_tests}
-use Rattle.occ_types.specs.Key.{Key}
-use Rattle.occ_types.specs.Question.{Question, Span}
-use Rattle.occ_types.specs.Schema.{Schema, fault_if, check_question}
-use Rattle.occ_types.specs.declared.fault.Fault.{Fault}
 use Rattle.occ_types.specs.declared.fault.Fault.TheVariants as faults
-use Rattle.occ_types.specs.declared.limits.TheConstants.{MAX_ANSWER_ROWS}
-use Rattle.occ_model.specs.State.{Answer, answer, answer_size}
-use Rattle.occ_model.specs.Overlay.{overlay}
-use Rattle.occ_model.specs.World.{World}
-use Rattle.occ_model.specs.Event.{Reply, Read, Answered, Refused}
+use Rattle.occ_model.specs.State.{Answer}
 use Rattle.occ_model.specs.Refusal as refusals
-use Rattle.occ_model.specs.Step.{Step, refused, starved, taken}
+use Rattle.occ_model.specs.Step.{refused}
 use Rattle.occ_model.proofs.Admitted.{passed}
-use Rattle.occ_sets.specs.Sets.{Copied}
 use Rattle.occ_cli.specs.declared.answers.Answer as code_answer
 use Rattle.occ_cli.specs.Answers.{answer_of}
 use Rattle.occ_cli.specs.Answers as says
-use Rattle.occ_cli.specs.Replaying.{CopyWantsScan, Given, MayAnswer, PlayedIn, ScansIn, and_then, overlaid, span_named, table_named, unless}
 
 -- a range that is named is a range
 abbrev pub IsRange : Question → Option Key → Option Key → Type 0

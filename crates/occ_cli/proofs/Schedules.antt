@@ -1,11 +1,7 @@
 -- A schedule, turn by turn, and what was written of its text.
-use Rattle.std.proofs.Common.{◌≡◌, ◌≢◌, ℕ, ◌+◌, Bool, true, false, List, [], ◌∷◌, ◌++◌, length, Option, Some, Result, Ok, Err, refl, sym, ap, subst, ◌∙◌, inl, inr, arith, append-nil, length-append}
-use Rattle.std.specs.Io.KnownBytes.{Consumes, Keeps, IsAtEnd}
-use Rattle.std.specs.Result.{IsErrAnd}
-use Rattle.std.proofs.KnownBytes.{Consumes-nil, Consumes-trans}
-use Rattle.std.proofs.lemmas.List.{map-append}
+use Rattle.std.proofs.Common.{◌≡◌, ◌≢◌, ℕ, ◌+◌, Bool, true, false, List, [], ◌∷◌, ◌++◌, length, Option, Some, Result, Ok, Err, refl, sym, ap, subst, ◌∙◌, inl, inr, arith, append-nil, length-append, IsErrAnd}
+use Rattle.occ_cli.proofs.Common.{Consumes, Keeps, IsAtEnd, Consumes-nil, Consumes-trans, map-append, Schema, WriteFault, answer_text, Source, IsLine, LineGives, lines_text, Pushed, PushedFront, PrintGives, Settings, Replayed, Plays, Turn, PlaysAll, step_lines, answer_lines, NoLineThere, LineOfNoStep, IsNoTurn, StepFits, step_text, IsTurn, IsHalfTurn, AreTurns, AreHalfSaid, AnswerGives, TurnGives, TurnsGive, Pushed-nothing, Pushed-then, front_none, front_then, front_behind, lines_text-append, lines_then}
 use Rattle.std.proofs.lemmas.List.Elements.{All-nil, All-cons, All-append}
-use Rattle.occ_types.specs.Schema.{Schema}
 use Rattle.occ_types.specs.declared.fault.Fault.TheVariants as faults
 use Rattle.occ_text.specs.declared.tokens.Unread.{Unread}
 use Rattle.occ_text.specs.declared.tokens.Unread.TheVariants as unread
@@ -15,22 +11,14 @@ use Rattle.occ_text.specs.declared.faults.ReadFault.{ReadFault}
 use Rattle.occ_text.specs.declared.faults.ReadFault.TheVariants as read_faults
 use Rattle.occ_text.specs.Escapes.{Gives}
 use Rattle.occ_text.specs.Faults.{read_fault, read_trouble, told}
-use Rattle.occ_text.specs.declared.faults.WriteFault.{WriteFault}
 use Rattle.occ_text.specs.declared.faults.WriteFault.TheVariants as write_faults
 use Rattle.occ_text.specs.declared.trouble.Trouble.{Trouble}
 use Rattle.occ_text.specs.declared.trouble.Trouble.TheVariants as troubles
 use Rattle.occ_cli.specs.Answers as says
-use Rattle.occ_cli.specs.Answers.{Answer, answer_text}
-use Rattle.occ_text.specs.Line.{Source, IsLine, LineGives, lines_text}
-use Rattle.occ_text.specs.Printing.{Pushed, PushedFront, PrintGives}
-use Rattle.occ_model.specs.World.{Settings}
-use Rattle.occ_cli.specs.Replaying.{Replayed, Plays}
-use Rattle.occ_cli.specs.Schedules.{Turn, PlaysAll, step_lines, answer_lines, NoLineThere, LineOfNoStep, IsNoTurn}
+use Rattle.occ_cli.specs.Answers.{Answer}
 use Rattle.occ_text.specs.declared.versions.Version.{Version}
-use Rattle.occ_text.specs.Steps.{Step, StepFits, step_text}
-use Rattle.occ_cli.specs.Turns.{IsTurn, IsHalfTurn, AreTurns, AreHalfSaid, AnswerGives, TurnGives, TurnsGive}
+use Rattle.occ_text.specs.Steps.{Step}
 use Rattle.occ_cli.proofs.Settings.{plays_keep, plays_all_keep}
-use Rattle.occ_print.proofs.Printing.{Pushed-nothing, Pushed-then, front_none, front_then, front_behind, lines_text-append, lines_then}
 
 -- ---- one turn more
 

@@ -1,17 +1,11 @@
 -- No step of a store changes how it was opened.
-use Rattle.std.proofs.Common.{◌≡◌, ℕ, ◌+◌, List, [], ◌∷◌, Option, Some, None, refl, ap, ◌∙◌, inl, inr}
-use Rattle.std.specs.Prelude.{MatchOption, slice_get}
-use Rattle.occ_model.specs.State.{Write, put}
-use Rattle.occ_model.specs.Log.{Writing}
-use Rattle.occ_model.specs.World.{World, turn}
-use Rattle.occ_model.specs.Event.{Request, Alone, Close, Event, Read, Forget, Enter, Decide, WriteOne, Finish, BackUp, SerialEnd, RunAlone, Checkpoint, Reply, Wrote, NoMore}
-use Rattle.occ_model.specs.Step.{Step, Taken, EndsSerially, refused, starved, taken, validity_of}
+use Rattle.std.proofs.Common.{◌≡◌, ℕ, ◌+◌, List, [], ◌∷◌, Option, Some, None, refl, ap, ◌∙◌, inl, inr, MatchOption, slice_get}
+use Rattle.occ_cli.proofs.Common.{Write, put, Writing, World, turn, Request, Event, Enter, Decide, WriteOne, Finish, BackUp, SerialEnd, Reply, Wrote, NoMore, Step, Taken, EndsSerially, starved, taken, validity_of, Replayed, AtMostOneStep, Plays, Turn, PlaysAll}
+use Rattle.occ_model.specs.Step.{refused}
 use Rattle.occ_model.specs.declared.verdict.Verdict.{Verdict}
 use Rattle.occ_model.specs.declared.verdict.Verdict.TheVariants as verdicts
 use Rattle.occ_text.specs.Steps as steps
 use Rattle.occ_cli.specs.Answers.{Answer}
-use Rattle.occ_cli.specs.Replaying.{Replayed, AtMostOneStep, Plays}
-use Rattle.occ_cli.specs.Schedules.{Turn, PlaysAll}
 use Rattle.occ_cli.proofs.StoreSteps.{plays_steps}
 
 abbrev AreKept : World → World → Type 0
@@ -31,20 +25,12 @@ ends_keep old session number start writes verdicts.Commit reply new h = ap (λ (
 ends_keep old session number start writes (verdicts.BackUp cause) reply new h = ap (λ (w : World). w.settings) h.1
 
 taken_keeps : (old : World) (event : Event) (reply : Reply) (new : World) → Taken old event reply new → AreKept old new
-taken_keeps old (Read session number start question) reply new h = ap (λ (w : World). w.settings) h.1
-taken_keeps old (Forget session number) reply new h = ap (λ (w : World). w.settings) h.1
 taken_keeps old (Enter session (Request number start writes)) reply new h = ap (λ (w : World). w.settings) h.4
-taken_keeps old (Enter session (Alone number operations)) reply new h = ap (λ (w : World). w.settings) h.1
-taken_keeps old (Enter session (Close number)) reply new h = ap (λ (w : World). w.settings) h.1
 taken_keeps old (Decide session) reply new h = ap (λ (w : World). w.settings) h.6
 taken_keeps old (WriteOne session) reply new h = writes_keep old session h.1 reply new (slice_get h.0.writes h.1) h.4
 taken_keeps old (Finish session) reply new h = ap (λ (w : World). w.settings) h.5
-taken_keeps old (BackUp session) reply new h = ap (λ (w : World). w.settings) h.1
 taken_keeps old (SerialEnd session (Request number start writes)) reply new h = ends_keep old session number start writes (validity_of old session number start writes) reply new h
-taken_keeps old (SerialEnd session (Alone number operations)) reply new h = ap (λ (w : World). w.settings) h.1
-taken_keeps old (SerialEnd session (Close number)) reply new h = ap (λ (w : World). w.settings) h.1
-taken_keeps old (RunAlone session number operations) reply new h = ap (λ (w : World). w.settings) h.1
-taken_keeps old Checkpoint reply new h = ap (λ (w : World). w.settings) h.1
+taken_keeps old event reply new h = ap (λ (w : World). w.settings) h.1
 
 step_keeps : (old : World) (event : Event) (reply : Reply) (new : World) → Step old event reply new → AreKept old new
 step_keeps old event reply new (refused fault first is same) = same_world old old new refl same

@@ -1,30 +1,15 @@
 -- A step that is played as a want of memory is one that may want it.
-use Rattle.std.proofs.Common.{◌≡◌, ℕ, List, Option, Some, None, Result, Ok, Err, refl, sym, ap, subst, ◌∙◌, arith}
-use Rattle.std.proofs.lemmas.Bool.{lt-ltb}
-use Rattle.std.specs.Prelude.{Bool, true, false, is_some, IsSomeAnd, IsOk, IsOkAnd, nat_lt, length, slice_set, ◌-◌, MatchOption, [], ◌∷◌}
-use Rattle.occ_types.specs.Key.{Key}
-use Rattle.occ_types.specs.Question.{One}
-use Rattle.occ_types.specs.Row.{Row}
-use Rattle.occ_types.specs.Schema.{Schema}
-use Rattle.occ_types.specs.declared.fault.Fault.{Fault}
+use Rattle.std.proofs.Common.{◌≡◌, ℕ, List, Option, Some, None, Result, Ok, Err, refl, sym, ap, subst, ◌∙◌, arith, Bool, true, false, is_some, IsSomeAnd, IsOk, IsOkAnd, nat_lt, length, slice_set, ◌-◌, MatchOption, [], ◌∷◌}
+use Rattle.occ_cli.proofs.Common.{lt-ltb, Key, One, Row, Schema, Fault, LogRow, rest, own, Write, World, latest, Event, Item, Reply, Operation, takes_memory, puts_next, has_writes_left, Step, starved, taken, Copied, Replayed, Client, Given, Wants, WantsGet, CopyWantsGet, WantsScan, Starved, Plays, ByBoth, Enters, StarvesItem, HandsIn, handed_in, operations_named, Begins, Submits, Closes, Writes, Gets, Scans, Tells, next_item, still_waiting, kept_after, client_of, copy_of, open_after, object_named, place_named, span_named, next_number, submitted, mark_of, write_named}
 use Rattle.occ_types.specs.declared.fault.Fault.TheVariants as faults
-use Rattle.occ_model.specs.Log.{LogRow, rest}
-use Rattle.occ_model.specs.Overlay.{own}
-use Rattle.occ_model.specs.State.{Write}
 use Rattle.occ_model.specs.State as states
-use Rattle.occ_model.specs.World.{World, latest}
-use Rattle.occ_model.specs.Event.{Event, Item, Reply}
 use Rattle.occ_model.specs.Event as events
-use Rattle.occ_model.specs.Operations.{Operation}
-use Rattle.occ_model.specs.Refusal.{takes_memory, puts_next, has_writes_left}
-use Rattle.occ_model.specs.Step.{Step, refused, starved, taken}
+use Rattle.occ_model.specs.Step.{refused}
 use Rattle.occ_model.proofs.Headlines.{not_told}
-use Rattle.occ_sets.specs.Sets.{Copied}
 use Rattle.occ_text.specs.Steps as steps
 use Rattle.occ_text.specs.declared.steps.Act.TheVariants as acts
 use Rattle.occ_cli.specs.Answers.{Answer}
 use Rattle.occ_cli.specs.Answers as says
-use Rattle.occ_cli.specs.Replaying.{Replayed, Client, Given, Wants, WantsGet, CopyWantsGet, WantsScan, Starved, Plays, ByBoth, Enters, StarvesItem, HandsIn, handed_in, operations_named, Begins, Submits, Closes, Writes, Gets, Scans, Tells, next_item, still_waiting, kept_after, client_of, copy_of, open_after, object_named, place_named, span_named, next_number, submitted, mark_of, write_named}
 use Rattle.occ_cli.proofs.OtherFaults.{is_want, wants, refusal_other, client_other, copy_other, object_other, span_other, number_other, submitted_other, mark_other, write_other, handed_in_other}
 
 -- the answer that tells of it
@@ -60,9 +45,9 @@ module _ {X : Type 0} where
   and_so (Ok x) P Q so is = so x is
   and_so (Err fault) P Q so is = absurd is
 
-  and_none : (r : Result X Fault) (P : X → Type 0) → ((x : X) → P x → ⊥) → IsOkAnd r P → ⊥
-  and_none (Ok x) P so is = so x is
-  and_none (Err fault) P so is = absurd is
+  out_of : {Q : Type 0} (r : Result X Fault) (P : X → Type 0) → ((x : X) → P x → Q) → IsOkAnd r P → Q
+  out_of (Ok x) P so is = so x is
+  out_of (Err fault) P so is = absurd is
 
   is_there : (r : Result X Fault) (P : X → Type 0) → IsOkAnd r P → IsOk r
   is_there (Ok x) P is = refl
@@ -75,20 +60,20 @@ unchanged old new world clients = λ i. record { world = world i; clients = clie
 -- of the clients alone
 
 no_begin : (counter : ℕ) (old new : Client) → Begins counter old hungry new → ⊥
-no_begin counter old new begins = and_none (next_number old) _ (λ number said. let is = said.0 in cc is) (met (next_number old) old new _ (number_other old) begins)
+no_begin counter old new begins = out_of (next_number old) _ (λ number said. let is = said.0 in cc is) (met (next_number old) old new _ (number_other old) begins)
 
 no_submit : (old new : Client) → Submits old hungry new → ⊥
-no_submit old new submits = and_none (submitted old) _ (λ copy said. let is = said.0 in cc is) (met (submitted old) old new _ (submitted_other old) submits)
+no_submit old new submits = out_of (submitted old) _ (λ copy said. let is = said.0 in cc is) (met (submitted old) old new _ (submitted_other old) submits)
 
 no_close : (old new : Client) → Closes old hungry new → ⊥
-no_close old new closes = and_none (mark_of old) _ (λ number said. let is = said.0 in cc is) (met (mark_of old) old new _ (mark_other old) closes)
+no_close old new closes = out_of (mark_of old) _ (λ number said. let is = said.0 in cc is) (met (mark_of old) old new _ (mark_other old) closes)
 
 no_list : (schema : Schema) (list : List Operation) (old new : Client) → HandsIn schema list old hungry new → ⊥
-no_list schema list old new hands = and_none (handed_in schema list old) _ (λ number said. let is = said.0 in cc is) (met (handed_in schema list old) old new _ (handed_in_other schema list old) hands)
+no_list schema list old new hands = out_of (handed_in schema list old) _ (λ number said. let is = said.0 in cc is) (met (handed_in schema list old) old new _ (handed_in_other schema list old) hands)
 
 no_write : (schema : Schema) (name : List ℕ) (key : Key) (row : Option Row) (old new : Client) → Writes schema name key row old hungry new → ⊥
-no_write schema name key row old new writes = and_none (copy_of old) _
-    (λ copy m. and_none (write_named schema name key row copy) _ (λ write said. let is = said.0 in cc is)
+no_write schema name key row old new writes = out_of (copy_of old) _
+    (λ copy m. out_of (write_named schema name key row copy) _ (λ write said. let is = said.0 in cc is)
     (met (write_named schema name key row copy) copy m.0 _ (write_other schema name key row copy) m.1))
     (met (copy_of old) old new _ (copy_other old) writes)
 
@@ -155,10 +140,10 @@ no_abandon old new session client next (Some c) h = never old new (events.Forget
 
 -- whatever is played so is a step that may want memory
 pub plays_starved : (old : Replayed) (step : steps.Step) (new : Replayed) → new.world ≡ old.world → Plays old step (says.refused faults.Memory) new → Starved old step new
-plays_starved old (steps.Does acts.Begin session) new same h = and_none (client_of old.clients session) _ (λ client m. no_begin old.world.counter client m.0 m.1) (met (client_of old.clients session) old new _ (client_other old.clients session) h)
-plays_starved old (steps.Does acts.Abandon session) new same h = and_none (client_of old.clients session) _ (λ client m. no_abandon old.world new.world session client m.0 client.copy m.1) (met (client_of old.clients session) old new _ (client_other old.clients session) h)
-plays_starved old (steps.Does acts.Submit session) new same h = and_none (client_of old.clients session) _ (λ client m. no_submit client m.0 m.1) (met (client_of old.clients session) old new _ (client_other old.clients session) h)
-plays_starved old (steps.Does acts.Close session) new same h = and_none (client_of old.clients session) _ (λ client m. no_close client m.0 m.1) (met (client_of old.clients session) old new _ (client_other old.clients session) h)
+plays_starved old (steps.Does acts.Begin session) new same h = out_of (client_of old.clients session) _ (λ client m. no_begin old.world.counter client m.0 m.1) (met (client_of old.clients session) old new _ (client_other old.clients session) h)
+plays_starved old (steps.Does acts.Abandon session) new same h = out_of (client_of old.clients session) _ (λ client m. no_abandon old.world new.world session client m.0 client.copy m.1) (met (client_of old.clients session) old new _ (client_other old.clients session) h)
+plays_starved old (steps.Does acts.Submit session) new same h = out_of (client_of old.clients session) _ (λ client m. no_submit client m.0 m.1) (met (client_of old.clients session) old new _ (client_other old.clients session) h)
+plays_starved old (steps.Does acts.Close session) new same h = out_of (client_of old.clients session) _ (λ client m. no_close client m.0 m.1) (met (client_of old.clients session) old new _ (client_other old.clients session) h)
 plays_starved old (steps.Does acts.Enter session) new same h = starves_both (events.Enter session) old session new same h
 plays_starved old (steps.Does acts.Serial session) new same h = starves_both (events.SerialEnd session) old session new same h
 plays_starved old (steps.Does acts.Decide session) new same h = never old.world new.world (events.Decide session) refl h.0
@@ -169,24 +154,16 @@ plays_starved old (steps.Does acts.Finish session) new same h = never old.world 
 plays_starved old (steps.Does acts.BackUp session) new same h = never old.world new.world (events.BackUp session) refl h.0
 plays_starved old (steps.Get session name key) new same h =
     let asks = met (client_of old.clients session) old new _ (client_other old.clients session) h in
-    (and_so (client_of old.clients session) _ _ (λ client m. wants_get old.world new.world session name key client m.0) asks, unchanged old new same (kept (client_of old.clients session) asks))
-  where
-    kept : (r : Result Client Fault) → IsOkAnd r (λ client. Gets old.world session name key client hungry new.world × (new.clients ≡ old.clients)) → new.clients ≡ old.clients
-    kept (Ok client) is = is.1
-    kept (Err fault) is = absurd is
+    (and_so (client_of old.clients session) _ _ (λ client m. wants_get old.world new.world session name key client m.0) asks, unchanged old new same (out_of (client_of old.clients session) _ (λ client m. m.1) asks))
 plays_starved old (steps.Scan session name lower upper) new same h =
     let asks = met (client_of old.clients session) old new _ (client_other old.clients session) h in
-    (and_so (client_of old.clients session) _ _ (λ client m. wants_scan old.world new.world session name lower upper client m.0) asks, unchanged old new same (kept (client_of old.clients session) asks))
-  where
-    kept : (r : Result Client Fault) → IsOkAnd r (λ client. Scans old.world session name lower upper client hungry new.world × (new.clients ≡ old.clients)) → new.clients ≡ old.clients
-    kept (Ok client) is = is.1
-    kept (Err fault) is = absurd is
-plays_starved old (steps.Put session name key row) new same h = absurd (and_none (client_of old.clients session) _ (λ client m. no_write old.world.settings.schema name key (Some row) client m.0 m.1) (met (client_of old.clients session) old new _ (client_other old.clients session) h))
-plays_starved old (steps.Delete session name key) new same h = absurd (and_none (client_of old.clients session) _ (λ client m. no_write old.world.settings.schema name key None client m.0 m.1) (met (client_of old.clients session) old new _ (client_other old.clients session) h))
+    (and_so (client_of old.clients session) _ _ (λ client m. wants_scan old.world new.world session name lower upper client m.0) asks, unchanged old new same (out_of (client_of old.clients session) _ (λ client m. m.1) asks))
+plays_starved old (steps.Put session name key row) new same h = absurd (out_of (client_of old.clients session) _ (λ client m. no_write old.world.settings.schema name key (Some row) client m.0 m.1) (met (client_of old.clients session) old new _ (client_other old.clients session) h))
+plays_starved old (steps.Delete session name key) new same h = absurd (out_of (client_of old.clients session) _ (λ client m. no_write old.world.settings.schema name key None client m.0 m.1) (met (client_of old.clients session) old new _ (client_other old.clients session) h))
 plays_starved old (steps.Forge session number start) new same h =
     ((starved_told old.world new.world (events.Enter session (events.Request number start [])) h.0).0, unchanged old new same h.1)
 plays_starved old (steps.RawRead session number start name key) new same h =
     ((starved_told old.world new.world (events.Read session number start (One (place_named old.world.settings.schema name) key)) h.0).0, unchanged old new same h.1)
-plays_starved old (steps.Alone session list) new same h = absurd (and_none (client_of old.clients session) _ (λ client m. no_list old.world.settings.schema (operations_named old.world.settings.schema list) client m.0 m.1) (met (client_of old.clients session) old new _ (client_other old.clients session) h))
+plays_starved old (steps.Alone session list) new same h = absurd (out_of (client_of old.clients session) _ (λ client m. no_list old.world.settings.schema (operations_named old.world.settings.schema list) client m.0 m.1) (met (client_of old.clients session) old new _ (client_other old.clients session) h))
 plays_starved old steps.Show new same h = let is = h.0 in cc is
 plays_starved old steps.Checkpoint new same h = ((starved_told old.world new.world events.Checkpoint h.0).0, unchanged old new same h.1)

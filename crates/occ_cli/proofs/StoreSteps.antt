@@ -1,25 +1,15 @@
 -- What a step of a replay does to the store: nothing, or one step of it.
-use Rattle.std.proofs.Common.{◌≡◌, ℕ, ◌-◌, List, [], Option, Some, None, Result, Ok, Err, refl, ap, subst, inl, inr}
-use Rattle.std.specs.Prelude.{slice_set, MatchOption}
-use Rattle.occ_types.specs.Key.{Key}
-use Rattle.occ_types.specs.declared.fault.Fault.{Fault}
+use Rattle.std.proofs.Common.{◌≡◌, ℕ, ◌-◌, List, [], Option, Some, None, Result, Ok, Err, refl, ap, subst, inl, inr, slice_set, MatchOption}
+use Rattle.occ_cli.proofs.Common.{Key, Fault, Write, Event, Item, Reply, Step, Question, One, Row, own, Copied, AtMostOneStep, Plays, Begins, Abandons, Submits, Closes, HandsIn, operations_named, Writes, Gets, GetsIn, Scans, next_item, still_waiting, kept_after, copy_of, open_after, object_named, place_named, Client, Replayed, Given, client_of, span_named, Tells, ScansIn, ByClient, ByBoth, ByAsking, Enters, overlaid}
 use Rattle.occ_types.specs.declared.fault.Fault.TheVariants as faults
-use Rattle.occ_model.specs.State.{Write}
 use Rattle.occ_model.specs.State as states
-use Rattle.occ_model.specs.Event.{Event, Item, Reply}
 use Rattle.occ_model.specs.Event as events
-use Rattle.occ_model.specs.Step.{Step}
 use Rattle.occ_model.proofs.Headlines.{refusals_leave}
-use Rattle.occ_types.specs.Question.{Question, One}
-use Rattle.occ_types.specs.Row.{Row}
-use Rattle.occ_model.specs.Overlay.{own}
 use Rattle.occ_text.specs.Steps as steps
 use Rattle.occ_text.specs.declared.steps.Act.TheVariants as acts
-use Rattle.occ_sets.specs.Sets.{Copied}
 use Rattle.occ_cli.specs.declared.answers.Answer.TheVariants as answers
 use Rattle.occ_cli.specs.Answers.{Answer}
 use Rattle.occ_cli.specs.Answers as says
-use Rattle.occ_cli.specs.Replaying.{AtMostOneStep, Plays, Begins, Abandons, Submits, Closes, HandsIn, operations_named, Writes, Gets, GetsIn, Scans, next_item, still_waiting, kept_after, copy_of, open_after, object_named, place_named, Client, Replayed, Given, client_of, span_named, Tells, ScansIn, ByClient, ByBoth, ByAsking, Enters, overlaid}
 
 -- where a refusal is answered, the store replied it
 abbrev pub IsSaid : Answer → Reply → Type 0
@@ -30,19 +20,8 @@ told_said reply answer tells fault is = cc
 
 -- the own writes leave a refusal as it is
 overlaid_refused : (question : Question) (writes : List Write) (reply : Reply) (fault : Fault) → overlaid question writes reply ≡ events.Refused fault → reply ≡ events.Refused fault
-overlaid_refused question writes (events.Refused known) fault is = is
 overlaid_refused question writes (events.Answered given) fault is = cc
-overlaid_refused question writes (events.Forgotten known) fault is = is
-overlaid_refused question writes (events.Entered place index) fault is = is
-overlaid_refused question writes events.Closed fault is = is
-overlaid_refused question writes (events.Decided verdict) fault is = is
-overlaid_refused question writes (events.Wrote object) fault is = is
-overlaid_refused question writes events.NoMore fault is = is
-overlaid_refused question writes (events.Finished number) fault is = is
-overlaid_refused question writes (events.BackedUp number) fault is = is
-overlaid_refused question writes (events.EndedBack cause) fault is = is
-overlaid_refused question writes (events.RanAlone number answers) fault is = is
-overlaid_refused question writes (events.Folded rows) fault is = is
+overlaid_refused question writes reply fault is = is
 
 -- whatever is played, the store stands as it was, or it did one step, whose refusal is answered as such
 module _ {C : Type 0} (old new : Replayed) (answer : Answer) (stays : new.world ≡ old.world → C) (does : (event : Event) (reply : Reply) → Step old.world event reply new.world → IsSaid answer reply → C) where

@@ -1,29 +1,14 @@
 -- A whole replay, put together from its parts.
-use Rattle.std.proofs.Common.{◌≡◌, ℕ, ◌+◌, arith, refl, Bool, true, List, [], ◌∷◌, ◌++◌, length, Option, None, Some, Result, Ok, Err, sym, ap, subst, ◌∙◌, inl, inr, append_assoc, append-nil, length-append}
-use Rattle.std.specs.Prelude.{IfErr}
-use Rattle.std.specs.Result.{IsErrAnd}
-use Rattle.std.specs.Io.KnownBytes.{Consumes, Appends, Keeps, IsAtEnd, prepend_known}
-use Rattle.std.proofs.KnownBytes.{Consumes-trans, Appends-trans, prepend_known-nil}
-use Rattle.std.proofs.lemmas.List.{length-map}
-use Rattle.occ_types.specs.Schema.{Schema}
-use Rattle.occ_model.specs.World.{Settings}
+use Rattle.std.proofs.Common.{◌≡◌, ℕ, ◌+◌, arith, refl, Bool, true, List, [], ◌∷◌, ◌++◌, length, Option, None, Some, Result, Ok, Err, sym, ap, subst, ◌∙◌, inl, inr, append_assoc, append-nil, length-append, IfErr, IsErrAnd}
+use Rattle.occ_cli.proofs.Common.{Consumes, Appends, Keeps, IsAtEnd, prepend_known, Consumes-trans, Appends-trans, prepend_known-nil, length-map, Schema, Settings, WriteFault, Source, HasFailed, NoneTaken, lines_text, Pushed, PushedFront, Replayed, Turn, Schedule, IsReplayed, opened_by, step_lines, schedule_lines, answer_lines, book_at, book_after, IsAudited, closing_lines, replay_lines, IsNoTurn, IsMalformedAt, MalformedHeader, MalformedStep, MalformedUncounted, IsUnreadable, UnreadHeader, UnreadStep, IsUncounted, IsCutShort, CutBefore, CutAmid, CutAtEnd, ReplayGives, AppendsFront, Sends, step_text, AreTurns, TurnsGive, ClosingGives, is_cut_short, Pushed-nothing, front_none, front_behind, lines_text-append, lines_then}
 use Rattle.occ_text.specs.declared.faults.ReadFault.{ReadFault}
 use Rattle.occ_text.specs.declared.faults.ReadFault.TheVariants as faults
-use Rattle.occ_text.specs.declared.faults.WriteFault.{WriteFault}
 use Rattle.occ_text.specs.declared.faults.WriteFault.TheVariants as write_faults
 use Rattle.occ_text.specs.Faults.{read_trouble, write_trouble}
 use Rattle.occ_text.specs.declared.trouble.Trouble.{Trouble}
 use Rattle.occ_text.specs.declared.trouble.Trouble.TheVariants as troubles
 use Rattle.occ_text.specs.Headers.{Header, HeaderFits, header_text}
 use Rattle.occ_text.specs.HeaderTaking.{BeginsHeader, HeaderTaken}
-use Rattle.occ_text.specs.Line.{Source, HasFailed, NoneTaken, lines_text}
-use Rattle.occ_text.specs.Printing.{Pushed, PushedFront}
-use Rattle.occ_cli.specs.Replaying.{Replayed}
-use Rattle.occ_cli.specs.Schedules.{Turn, Schedule, IsReplayed, opened_by, step_lines, schedule_lines, answer_lines, book_at, book_after, IsAudited, closing_lines, replay_lines, IsNoTurn, IsMalformedAt, MalformedHeader, MalformedStep, MalformedUncounted, IsUnreadable, UnreadHeader, UnreadStep, IsUncounted, IsCutShort, CutBefore, CutAmid, CutAtEnd, ReplayGives, AppendsFront}
-use Rattle.occ_text.specs.Sending.{Sends}
-use Rattle.occ_text.specs.Steps.{step_text}
-use Rattle.occ_cli.specs.Turns.{AreTurns, TurnsGive, ClosingGives, is_cut_short}
-use Rattle.occ_print.proofs.Printing.{Pushed-nothing, front_none, front_behind, lines_text-append, lines_then}
 use Rattle.occ_cli.proofs.Settings.{plays_all_keep}
 
 -- ---- a header and the steps behind it
@@ -79,10 +64,7 @@ stopped_with result (troubles.Malformed n) quiet header a b c w v held keeps fir
 stopped_with result troubles.Read quiet header a b c w v held keeps first new is taken fits number t =
     subst (λ (r : Result _ Trouble). ReplayGives quiet a (Pushed w v held keeps) (PushedFront w v held keeps) r c) (sym is)
     (UnreadStep (of_turns header t.0 t.3) t.1 (is_replayed header t.0 t.3 b t.2 fits t.4) (part_taken a b t.2 c (header_text header) (step_lines t.0) t.1 taken t.4.taken t.6) t.5 t.7)
-stopped_with result troubles.Write quiet header a b c w v held keeps first new is taken fits number t =
-    subst (λ (r : Result _ Trouble). ReplayGives quiet a (Pushed w v held keeps) (PushedFront w v held keeps) r c) (sym is)
-    (CutAmid (of_turns header t.turns t.new) t.rest (is_replayed header t.turns t.new b t.rest fits t.are) (lines_taken a b t.rest (header_text header) (step_lines t.turns) taken t.are.taken) t.wrote)
-stopped_with result troubles.Memory quiet header a b c w v held keeps first new is taken fits number t =
+stopped_with result trouble quiet header a b c w v held keeps first new is taken fits number t =
     subst (λ (r : Result _ Trouble). ReplayGives quiet a (Pushed w v held keeps) (PushedFront w v held keeps) r c) (sym is)
     (CutAmid (of_turns header t.turns t.new) t.rest (is_replayed header t.turns t.new b t.rest fits t.are) (lines_taken a b t.rest (header_text header) (step_lines t.turns) taken t.are.taken) t.wrote)
 
@@ -247,8 +229,7 @@ module _ (quiet : Bool) (before : Option (List ℕ)) (Wrote WroteFront Writes Wr
   gives_so (Err (troubles.Malformed n)) known unread emptied h = malformed_so n h
   gives_so (Err troubles.Read) known unread emptied h =
       unreadable_so known (subst (IsUnreadable quiet before Wrote WroteFront) (ap (λ (u : List ℕ). prepend_known u known) (emptied refl) ∙ prepend_known-nil known) h)
-  gives_so (Err troubles.Write) known unread emptied h = cut_so quiet before Wrote WroteFront Writes WritesFront front h
-  gives_so (Err troubles.Memory) known unread emptied h = cut_so quiet before Wrote WroteFront Writes WritesFront front h
+  gives_so (Err trouble) known unread emptied h = cut_so quiet before Wrote WroteFront Writes WritesFront front h
 
 -- all was flushed
 flushed : {T : Type 0} (result : Result T Trouble) (quiet : Bool) (before known : Option (List ℕ)) (unread : List ℕ) (a b c : Option (List ℕ)) (held : List ℕ) → Appends b c held → IfErr result (λ e. e ≡ troubles.Read → unread ≡ [])
@@ -280,9 +261,7 @@ flush_failed (Err troubles.Read) quiet before after a b c held holds sent (Unrea
 flush_failed (Err troubles.Read) quiet before after a b c held holds sent (UnreadStep s part is taken line said) =
     let front = before_part before after (lines_text (schedule_lines s)) part taken in
     CutAmid s front.0 is front.1 (part_of_all a b c held holds (lines_text (answer_lines quiet s.header.tables s.turns)) said sent)
-flush_failed (Err troubles.Write) quiet before after a b c held holds sent h =
-    cut_so quiet before (Pushed a b [] held) (PushedFront a b [] held) (Appends a c) (AppendsFront a c) (λ text said. part_written a b c held holds text said sent) h
-flush_failed (Err troubles.Memory) quiet before after a b c held holds sent h =
+flush_failed (Err trouble) quiet before after a b c held holds sent h =
     cut_so quiet before (Pushed a b [] held) (PushedFront a b [] held) (Appends a c) (AppendsFront a c) (λ text said. part_written a b c held holds text said sent) h
 
 -- ---- from an input and an output that are new
@@ -298,11 +277,9 @@ unflushed quiet known unread old a b held nothing none h =
 
 pub ended_unflushed : {T : Type 0} (result : Result T Trouble) (quiet : Bool) (known mid after : Option (List ℕ)) (unread old : List ℕ) (a b : Option (List ℕ)) (held : List ℕ) → is_cut_short result ≡ true → unread ≡ [] → old ≡ []
     → ReplayGives quiet (prepend_known unread known) (Pushed a b old held) (PushedFront a b old held) result mid → ReplayGives quiet known (Appends a b) (AppendsFront a b) result after
-ended_unflushed (Ok done) quiet known mid after unread old a b held is nothing none h = cc
-ended_unflushed (Err (troubles.Malformed n)) quiet known mid after unread old a b held is nothing none h = cc
-ended_unflushed (Err troubles.Read) quiet known mid after unread old a b held is nothing none h = cc
 ended_unflushed (Err troubles.Write) quiet known mid after unread old a b held is nothing none h = unflushed quiet known unread old a b held nothing none h
 ended_unflushed (Err troubles.Memory) quiet known mid after unread old a b held is nothing none h = unflushed quiet known unread old a b held nothing none h
+ended_unflushed result quiet known mid after unread old a b held is nothing none h = cc
 
 pub ended_flushed : {T : Type 0} (result : Result T Trouble) (quiet : Bool) (known last : Option (List ℕ)) (unread old left : List ℕ) (a b c : Option (List ℕ)) (held : List ℕ) → unread ≡ [] → old ≡ [] → Appends b c held
     → IfErr result (λ e. e ≡ troubles.Read → left ≡ []) → ReplayGives quiet (prepend_known unread known) (Pushed a b old held) (PushedFront a b old held) result (prepend_known left last) → ReplayGives quiet known (Appends a c) (AppendsFront a c) result last

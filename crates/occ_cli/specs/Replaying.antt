@@ -24,7 +24,7 @@ use Rattle.occ_model.specs.Event as events
 use Rattle.occ_model.specs.Step as model
 use Rattle.occ_queue.specs.Numbering.{Numbered, unused, next, with_item, is_full, refusal_of_request}
 use Rattle.occ_sets.specs.Sets.{Copied, is_full_for}
-use Rattle.occ_sets.specs.Seen as sets
+use Rattle.occ_sets.specs.PlainSets as sets
 use Rattle.occ_sets.specs.declared.reads.Answer as code_seen
 use Rattle.occ_text.specs.declared.steps.Act.TheVariants as acts
 use Rattle.occ_core.specs.declared.steps.Step as code_step

@@ -3,8 +3,8 @@
 ghost use Rattle.std.specs.Fmt.{decimal};
 ghost use Rattle.std.specs.Prelude.{◌≡◌, ◌≢◌, ◌++◌, OnOk, MatchResult, codes, string_bytes};
 ghost use Rattle.std.specs.List.{flat_map};
-ghost use Rattle.occ_sets.specs.Seen.{rows_of};
-ghost use Rattle.occ_types.specs.Seen.{key_of, object_of};
+ghost use Rattle.occ_sets.specs.PlainSets.{rows_of};
+ghost use Rattle.occ_types.specs.PlainData.{key_of, object_of};
 ghost use Rattle.occ_types.specs.declared.fault.Fault.TheVariants as faults;
 ghost use Rattle.occ_core.specs.Runs.{reply_of};
 ghost use Rattle.occ_cli.specs.Answers as says;

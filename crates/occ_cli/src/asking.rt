@@ -3,11 +3,11 @@
 ghost use Rattle.std.specs.Prelude.{◌≡◌, is_some, true};
 ghost use Rattle.std.specs.Option.{option_copied};
 ghost use Rattle.occ_types.specs.Question.{One};
-ghost use Rattle.occ_types.specs.Seen.{key_of, end_of, object_of, question_of};
+ghost use Rattle.occ_types.specs.PlainData.{key_of, end_of, object_of, question_of};
 ghost use Rattle.occ_model.specs.Event as events;
 ghost use Rattle.occ_model.specs.Overlay.{overlay};
 ghost use Rattle.occ_model.specs.Step.{Step};
-ghost use Rattle.occ_sets.specs.Seen as sets;
+ghost use Rattle.occ_sets.specs.PlainSets as sets;
 ghost use Rattle.occ_model.specs.State.{Found};
 ghost use Rattle.occ_cli.specs.Answers.{answer_of};
 ghost use Rattle.occ_cli.specs.Answers as says;

@@ -1,7 +1,7 @@
 //! The clients of a replay, one for each session.
 ghost use Rattle.std.specs.Prelude.{◌≡◌, ◌<◌, suc, None, Some, Err, length, map, replicate, IfOk, IsOkUnless, MatchResult};
 ghost use Rattle.std.specs.Option.{option_map};
-ghost use Rattle.occ_types.specs.Seen.{key_of, end_of};
+ghost use Rattle.occ_types.specs.PlainData.{key_of, end_of};
 ghost use Rattle.occ_types.specs.declared.fault.Fault.TheVariants as faults;
 ghost use Rattle.occ_model.specs.Event as events;
 ghost use Rattle.occ_queue.specs.Items.{item_of};

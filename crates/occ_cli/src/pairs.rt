@@ -1,8 +1,8 @@
 //! Keys with their rows, as a line has them.
 ghost use Rattle.std.specs.Prelude.{◌≡◌, ◌++◌, OnOk, string_bytes};
 ghost use Rattle.std.specs.List.{flat_map};
-ghost use Rattle.occ_sets.specs.Seen.{rows_of};
-ghost use Rattle.occ_types.specs.Seen.{key_of};
+ghost use Rattle.occ_sets.specs.PlainSets.{rows_of};
+ghost use Rattle.occ_types.specs.PlainData.{key_of};
 ghost use Rattle.occ_cli.specs.Answers.{pair_text};
 
 use occ_text::writers::{write_key, write_row};

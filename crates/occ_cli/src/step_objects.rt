@@ -1,7 +1,7 @@
 //! What a step names: keys and ranges of the table with a name.
 ghost use Rattle.std.specs.Prelude.{◌≡◌};
 ghost use Rattle.std.specs.Result.{result_map_both};
-ghost use Rattle.occ_types.specs.Seen.{key_of, end_of, object_of, question_of};
+ghost use Rattle.occ_types.specs.PlainData.{key_of, end_of, object_of, question_of};
 ghost use Rattle.occ_cli.specs.Replaying.{object_named, place_named, span_named};
 
 use occ_types::{Fault, Key, Object, Question, Schema};

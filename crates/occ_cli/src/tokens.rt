@@ -2,8 +2,8 @@
 ghost use Rattle.std.specs.Fmt.{decimal};
 ghost use Rattle.std.specs.Prelude.{◌≡◌, ◌++◌, OnOk, codes, length, map, string_bytes};
 ghost use Rattle.std.specs.List.{flat_map};
-ghost use Rattle.occ_sets.specs.Seen.{answer_of, rows_of};
-ghost use Rattle.occ_types.specs.Seen.{key_of};
+ghost use Rattle.occ_sets.specs.PlainSets.{answer_of, rows_of};
+ghost use Rattle.occ_types.specs.PlainData.{key_of};
 ghost use Rattle.occ_cli.specs.Answers.{answer_token, pair_text};
 
 use crate::pairs::write_pairs;

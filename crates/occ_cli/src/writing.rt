@@ -2,7 +2,7 @@
 ghost use Rattle.std.specs.Prelude.{◌≡◌};
 ghost use Rattle.std.specs.Result.{result_err};
 ghost use Rattle.occ_types.specs.Schema.{fault_if};
-ghost use Rattle.occ_types.specs.Seen.{key_of};
+ghost use Rattle.occ_types.specs.PlainData.{key_of};
 ghost use Rattle.occ_types.specs.declared.fault.Fault.TheVariants as faults;
 ghost use Rattle.occ_model.specs.Overlay.{set};
 ghost use Rattle.occ_sets.specs.Sets.{is_full_for};

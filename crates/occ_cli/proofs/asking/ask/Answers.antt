@@ -1,6 +1,5 @@
 use Rattle.std.proofs.Common.{ap}
-use Rattle.std.proofs.lemmas.Result.{err_from_is_err_and}
-use Rattle.occ_types.specs.Seen.{question_of}
+use Rattle.occ_cli.proofs.Common.{err_from_is_err_and, question_of}
 use Rattle.occ_cli.proofs.Replaying.{ask_refused, ask_answered}
 use Rattle.occ_cli.proofs.asking.ask.Goals as goal
 

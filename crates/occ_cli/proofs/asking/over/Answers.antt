@@ -1,10 +1,9 @@
 use Rattle.std.proofs.Common.{sym, ap, ◌∙◌}
+use Rattle.occ_cli.proofs.Common.{overlay, Answered}
 use Rattle.occ_model.specs.State as states
-use Rattle.occ_model.specs.Overlay.{overlay}
 use Rattle.occ_sets.specs.Overlays.{rows_over}
-use Rattle.occ_sets.specs.Seen as sets
+use Rattle.occ_sets.specs.PlainSets as sets
 use Rattle.occ_sets.proofs.Agreement.{overlay-Span}
-use Rattle.occ_model.specs.Event.{Answered}
 use Rattle.occ_cli.specs.Answers as says
 use Rattle.occ_cli.proofs.asking.over.Goals as goal
 

@@ -1,4 +1,4 @@
-use Rattle.std.proofs.lemmas.Result.{err_from_is_err_and}
+use Rattle.occ_cli.proofs.Common.{err_from_is_err_and}
 use Rattle.occ_cli.proofs.Replaying.{read_refused}
 use Rattle.occ_cli.proofs.asking.read.Goals as goal
 

@@ -1,11 +1,7 @@
 use Rattle.std.proofs.Common.{subst, sym, ap, ◌∙◌}
-use Rattle.std.proofs.lemmas.Result.{err_from_is_err_and}
-use Rattle.occ_types.specs.Seen.{end_of, question_of}
-use Rattle.occ_model.specs.Event.{Answered}
+use Rattle.occ_cli.proofs.Common.{err_from_is_err_and, end_of, question_of, Answered, MayAnswer, span_named, overlay}
 use Rattle.occ_cli.specs.Answers as says
-use Rattle.occ_cli.specs.Replaying.{MayAnswer, span_named}
-use Rattle.occ_model.specs.Overlay.{overlay}
-use Rattle.occ_sets.specs.Seen as sets
+use Rattle.occ_sets.specs.PlainSets as sets
 use Rattle.occ_cli.proofs.Replaying.{scan_refused}
 use Rattle.occ_cli.proofs.Scanning.{answered, is_range, scan_answered}
 use Rattle.occ_cli.proofs.asking.scan.Goals as goal

@@ -1,5 +1,5 @@
 use Rattle.std.proofs.Common.{◌≡◌, ap, ◌∙◌, replicate, arith}
-use Rattle.occ_cli.specs.Replaying.{fresh}
+use Rattle.occ_cli.proofs.Common.{fresh}
 use Rattle.occ_cli.proofs.clients.fresh_clients.Goals as goal
 
 pub returns-clause-fresh : goal.returns-clause-fresh

@@ -1,5 +1,5 @@
 use Rattle.std.proofs.Common.{◌≡◌, replicate}
-use Rattle.occ_cli.specs.Replaying.{fresh}
+use Rattle.occ_cli.proofs.Common.{fresh}
 use Rattle.occ_cli.proofs.clients.fresh_clients.Given as goal
 
 abbrev pub invariant-loop : goal.invariant-loop

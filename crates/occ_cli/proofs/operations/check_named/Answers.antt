@@ -1,11 +1,7 @@
 use Rattle.std.proofs.Common.{Err, sym, ap, ◌∙◌, rules, map-id, map}
-use Rattle.std.specs.Result.{result_err}
-use Rattle.std.proofs.lemmas.Result.{err_from_is_err_and}
+use Rattle.occ_cli.proofs.Common.{result_err, err_from_is_err_and, check_operations, operation_of, operations_named}
 use Rattle.std.proofs.lemmas.Iterator.Consumers.{YieldsList-end}
 use Rattle.std.proofs.lemmas.Iterator.Adapters.{YieldsList-from_vec}
-use Rattle.occ_model.specs.Refusal.{check_operations}
-use Rattle.occ_text.specs.Operations.{operation_of}
-use Rattle.occ_cli.specs.Replaying.{operations_named}
 use Rattle.occ_cli.proofs.HandingIn.{fits_more, unfit_so}
 use Rattle.occ_cli.proofs.operations.check_named.Goals as goal
 

@@ -1,7 +1,5 @@
 use Rattle.std.proofs.Common.{◌≡◌, None, map}
-use Rattle.occ_model.specs.Refusal.{check_operations}
-use Rattle.occ_text.specs.Operations.{operation_of}
-use Rattle.occ_cli.specs.Replaying.{operations_named}
+use Rattle.occ_cli.proofs.Common.{check_operations, operation_of, operations_named}
 use Rattle.occ_cli.proofs.operations.check_named.Given as goal
 
 -- the operations so far fit

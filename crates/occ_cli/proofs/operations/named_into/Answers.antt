@@ -1,10 +1,7 @@
 use Rattle.std.proofs.Common.{◌+◌, ◌≤◌, length, map, sym, ap, subst, ◌∙◌, rules, map-id, arith}
-use Rattle.std.proofs.lemmas.List.{length_push}
+use Rattle.occ_cli.proofs.Common.{length_push, ops_of, operation_of, operations_named}
 use Rattle.std.proofs.lemmas.Iterator.Consumers.{YieldsList-end, YieldsList-turn}
 use Rattle.std.proofs.lemmas.Iterator.Adapters.{YieldsList-from_vec}
-use Rattle.occ_sets.specs.Operations.{ops_of}
-use Rattle.occ_text.specs.Operations.{operation_of}
-use Rattle.occ_cli.specs.Replaying.{operations_named}
 use Rattle.occ_cli.proofs.HandingIn.{named_more}
 use Rattle.occ_cli.proofs.operations.named_into.Goals as goal
 

@@ -1,7 +1,5 @@
 use Rattle.std.proofs.Common.{◌≡◌, ◌≤◌, length, map, vec_len, vec_capacity}
-use Rattle.occ_sets.specs.Operations.{ops_of}
-use Rattle.occ_text.specs.Operations.{operation_of}
-use Rattle.occ_cli.specs.Replaying.{operations_named}
+use Rattle.occ_cli.proofs.Common.{ops_of, operation_of, operations_named}
 use Rattle.occ_cli.proofs.operations.named_into.Given as goal
 
 -- the operations so far have their places, and there is room for the others

@@ -1,6 +1,5 @@
 use Rattle.std.proofs.Common.{Err, ap, ◌∙◌}
-use Rattle.std.proofs.lemmas.Result.{err_from_is_err_and}
-use Rattle.occ_sets.specs.Operations.{ops_of}
+use Rattle.occ_cli.proofs.Common.{err_from_is_err_and, ops_of}
 use Rattle.occ_cli.proofs.HandingIn.{no_list}
 use Rattle.occ_cli.proofs.operations.operations_named.Goals as goal
 

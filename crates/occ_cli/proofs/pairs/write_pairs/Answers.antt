@@ -1,5 +1,4 @@
-use Rattle.occ_types.specs.Seen.{key_of}
-use Rattle.occ_cli.specs.Answers.{pair_text}
+use Rattle.occ_cli.proofs.Common.{key_of, pair_text}
 use Rattle.occ_cli.proofs.Lists.{one_more}
 use Rattle.occ_cli.proofs.pairs.write_pairs.Goals as goal
 

@@ -1,8 +1,6 @@
-use Rattle.std.proofs.Common.{◌≡◌, ◌++◌, take}
-use Rattle.std.specs.Prelude.{string_bytes}
-use Rattle.std.specs.List.{flat_map}
-use Rattle.occ_sets.specs.Seen.{rows_of}
-use Rattle.occ_cli.specs.Answers.{pair_text}
+use Rattle.std.proofs.Common.{◌≡◌, ◌++◌, take, string_bytes, flat_map}
+use Rattle.occ_cli.proofs.Common.{pair_text}
+use Rattle.occ_sets.specs.PlainSets.{rows_of}
 use Rattle.occ_cli.proofs.pairs.write_pairs.Given as goal
 
 abbrev pub invariant-loop-key : goal.invariant-loop-key

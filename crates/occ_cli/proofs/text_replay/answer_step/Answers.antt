@@ -1,7 +1,6 @@
 use Rattle.std.proofs.Common.{◌∙◌, ap}
-use Rattle.occ_model.specs.World.{World}
+use Rattle.occ_cli.proofs.Common.{World, step_of}
 use Rattle.occ_cli.specs.Answers.{answer_of}
-use Rattle.occ_text.specs.Steps.{step_of}
 use Rattle.occ_cli.proofs.Schedules.{quietly, spoken}
 use Rattle.occ_cli.proofs.text_replay.answer_step.Goals as goal
 

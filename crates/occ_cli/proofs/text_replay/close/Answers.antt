@@ -1,6 +1,5 @@
 use Rattle.std.proofs.Common.{◌∙◌, ap, subst}
-use Rattle.occ_model.specs.World.{World, low}
-use Rattle.occ_model.specs.Log.{Audited}
+use Rattle.occ_cli.proofs.Common.{World, low, Audited}
 use Rattle.occ_log.specs.Rows.{opened}
 use Rattle.occ_cli.proofs.Closing.{closing, cut_in_book, same_book}
 use Rattle.occ_cli.proofs.text_replay.close.Goals as goal

@@ -1,5 +1,5 @@
 use Rattle.std.proofs.Common.{Ok, Err, ◌∙◌, ap}
-use Rattle.std.proofs.lemmas.Result.{err_from_is_err_and}
+use Rattle.occ_cli.proofs.Common.{err_from_is_err_and}
 use Rattle.occ_text.specs.HeaderTaking.{header_of}
 use Rattle.occ_cli.proofs.WholeReplay.{header_stopped, turns_stopped, all_closed, all_cut, no_read, wrote_for_cause}
 use Rattle.occ_cli.proofs.text_replay.replay_lines.Goals as goal

@@ -1,6 +1,5 @@
 use Rattle.std.proofs.Common.{◌∙◌, ap, sym}
-use Rattle.occ_text.specs.Line.{Source}
-use Rattle.occ_text.specs.Sending.{Outgoing}
+use Rattle.occ_cli.proofs.Common.{Source, Outgoing}
 use Rattle.occ_cli.proofs.WholeReplay.{emptied_at, ended_unflushed, ended_flushed, ended_amid_flush}
 use Rattle.occ_cli.proofs.text_replay.replay_text.Goals as goal
 

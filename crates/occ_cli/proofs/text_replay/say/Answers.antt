@@ -1,4 +1,4 @@
-use Rattle.occ_print.proofs.Printing.{printed_nothing}
+use Rattle.occ_cli.proofs.Common.{printed_nothing}
 use Rattle.occ_cli.proofs.text_replay.say.Goals as goal
 
 pub returns-in_err-write_answer-clause-gives : goal.returns-in_err-write_answer-clause-gives

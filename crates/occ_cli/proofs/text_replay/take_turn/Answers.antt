@@ -1,4 +1,4 @@
-use Rattle.occ_text.specs.Steps.{step_of}
+use Rattle.occ_cli.proofs.Common.{step_of}
 use Rattle.occ_cli.proofs.Schedules.{turn_stopped, turn_unread}
 use Rattle.occ_cli.proofs.text_replay.take_turn.Goals as goal
 

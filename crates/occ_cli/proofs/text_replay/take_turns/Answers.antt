@@ -1,5 +1,5 @@
 use Rattle.std.proofs.Common.{Ok, Err, ◌∙◌, ap, true, false}
-use Rattle.std.proofs.lemmas.Result.{err_from_is_err_and}
+use Rattle.occ_cli.proofs.Common.{err_from_is_err_and}
 use Rattle.occ_cli.proofs.Schedules.{so_far_none, so_far_more, so_far_end, so_far_stopped, turn_under}
 use Rattle.occ_cli.proofs.text_replay.take_turns.Goals as goal
 

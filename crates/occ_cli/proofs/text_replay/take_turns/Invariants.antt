@@ -1,5 +1,5 @@
 use Rattle.std.proofs.Common.{◌-◌, ◌^◌}
-use Rattle.std.specs.Io.KnownBytes.{prepend_known}
+use Rattle.occ_cli.proofs.Common.{prepend_known}
 use Rattle.occ_cli.proofs.Schedules.{AreSoFar}
 use Rattle.occ_cli.proofs.text_replay.take_turns.Given as goal
 

@@ -1,7 +1,6 @@
 use Rattle.std.proofs.Common.{◌≡◌, ℕ, Some, sym, ap, subst, ◌∙◌}
+use Rattle.occ_cli.proofs.Common.{Step, Client}
 use Rattle.occ_model.specs.Event as events
-use Rattle.occ_model.specs.Step.{Step}
-use Rattle.occ_cli.specs.Replaying.{Client}
 use Rattle.occ_cli.proofs.Replaying.{abandon_refused}
 use Rattle.occ_cli.proofs.clients.Client.abandon.Goals as goal
 

@@ -1,16 +1,7 @@
-use Rattle.std.proofs.Common.{◌≡◌, List, map, sym, ap, subst, ◌∙◌, inr}
-use Rattle.std.specs.Prelude.{is_some, nat_le, nat_lt}
-use Rattle.std.proofs.lemmas.List.{length-map}
-use Rattle.std.proofs.lemmas.Bool.{lt-leb, le-ltb, lt-ltb}
-use Rattle.std.proofs.lemmas.Result.{err_from_is_err_and}
-use Rattle.occ_types.specs.declared.limits.TheConstants.{MAX_NUMBER, MAX_OPERATIONS}
-use Rattle.occ_model.specs.Operations.{Operation}
-use Rattle.occ_model.specs.Refusal.{check_operations}
+use Rattle.std.proofs.Common.{◌≡◌, List, map, sym, ap, subst, ◌∙◌, inr, is_some, nat_le, nat_lt}
+use Rattle.occ_cli.proofs.Common.{length-map, lt-leb, le-ltb, lt-ltb, err_from_is_err_and, MAX_NUMBER, MAX_OPERATIONS, Operation, check_operations, next, with_item, refusal_of_submit, operation_of, Client, Given, unless, operation_named, operations_named, played}
 use Rattle.occ_model.specs.Event as events
-use Rattle.occ_queue.specs.Numbering.{next, with_item, refusal_of_submit}
-use Rattle.occ_text.specs.Operations.{operation_of}
 use Rattle.occ_cli.specs.Answers as says
-use Rattle.occ_cli.specs.Replaying.{Client, Given, unless, operation_named, operations_named, played}
 use Rattle.occ_cli.proofs.HandingIn.{listed, unlisted, too_many}
 use Rattle.occ_cli.proofs.clients.Client.alone.Goals as goal
 

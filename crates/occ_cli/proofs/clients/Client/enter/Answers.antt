@@ -1,8 +1,7 @@
 use Rattle.std.proofs.Common.{Some, ap, ◌∙◌}
+use Rattle.occ_cli.proofs.Common.{item_of, Client}
 use Rattle.occ_model.specs.Event as events
-use Rattle.occ_queue.specs.Items.{item_of}
 use Rattle.occ_core.specs.declared.replies.Reply.TheVariants as replies
-use Rattle.occ_cli.specs.Replaying.{Client}
 use Rattle.occ_cli.proofs.Replaying.{by_entry, refused_so}
 use Rattle.occ_cli.proofs.clients.Client.enter.Goals as goal
 

@@ -1,5 +1,5 @@
 use Rattle.std.proofs.Common.{Ok, Err}
-use Rattle.occ_text.specs.Steps.{step_of}
+use Rattle.occ_cli.proofs.Common.{step_of}
 use Rattle.occ_cli.specs.Answers.{answer_of, refused}
 use Rattle.occ_cli.proofs.Replaying.{ends_ok, ends_fed, ends_err}
 use Rattle.occ_cli.proofs.replay_steps.Replay.answer.Goals as goal

@@ -1,16 +1,13 @@
-use Rattle.std.proofs.lemmas.Result.{err_from_is_err_and}
+use Rattle.occ_cli.proofs.Common.{Enters}
 use Rattle.occ_model.specs.Event as events
-use Rattle.occ_cli.specs.Replaying.{Enters}
 use Rattle.occ_cli.proofs.Replaying.{by_both, no_partner}
 use Rattle.occ_cli.proofs.replay_steps.Replay.enter.Goals as goal
 
 pub returns-in_err-place : goal.returns-in_err-place
 returns-in_err-place g c =
-    let p = err_from_is_err_and c.from_residual.result c.from_residual.ensures.1 in
-    no_partner c.self.inside.core.world c.self.inside.clients.items c.args.self.now c.self.view_is c.from_residual.result
-    c.as_slice.result.now c.args.session p.0 c.in_err-place.field-0.0
+    no_partner c.self.inside.core.world c.self.inside.clients.items c.args.self.now c.self.view_is c.from_residual.result c.as_slice.result.now c.args.session c.in_err-place.field-0.0
     (λ answer client next. Enters (events.Enter c.args.session) c.args.self.now.world client answer next c.args.self.now.world)
-    c.as_slice.ensures.value p.1 p.2 c.in_err-place.ensures
+    c.as_slice.ensures.value c.from_residual.ensures.1 c.in_err-place.ensures
 
 pub returns : goal.returns
 returns g c =

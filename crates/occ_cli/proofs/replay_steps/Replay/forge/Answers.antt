@@ -1,7 +1,6 @@
 use Rattle.std.proofs.Common.{List, subst}
-use Rattle.occ_model.specs.State.{Write}
+use Rattle.occ_cli.proofs.Common.{Write, ByStore, played}
 use Rattle.occ_model.specs.Event as events
-use Rattle.occ_cli.specs.Replaying.{ByStore, played}
 use Rattle.occ_cli.proofs.Replaying.{never_off}
 use Rattle.occ_cli.proofs.replay_steps.Replay.forge.Goals as goal
 

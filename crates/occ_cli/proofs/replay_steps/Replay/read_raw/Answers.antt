@@ -1,8 +1,6 @@
 use Rattle.std.proofs.Common.{ℕ, ap, subst, ◌∙◌}
-use Rattle.occ_types.specs.Question.{One}
-use Rattle.occ_types.specs.Seen.{key_of}
+use Rattle.occ_cli.proofs.Common.{One, key_of, ByStore, Replayed, place_named, played}
 use Rattle.occ_model.specs.Event as events
-use Rattle.occ_cli.specs.Replaying.{ByStore, Replayed, place_named, played}
 use Rattle.occ_cli.proofs.Replaying.{never_off}
 use Rattle.occ_cli.proofs.replay_steps.Replay.read_raw.Goals as goal
 

@@ -1,17 +1,13 @@
 use Rattle.std.proofs.Common.{inr}
-use Rattle.std.proofs.lemmas.Result.{err_from_is_err_and}
-use Rattle.occ_types.specs.Seen.{end_of}
-use Rattle.occ_cli.specs.Replaying.{Scans, WantsScan}
+use Rattle.occ_cli.proofs.Common.{end_of, Scans, WantsScan}
 use Rattle.occ_cli.proofs.Replaying.{by_asking, no_asker}
 use Rattle.occ_cli.proofs.replay_steps.Replay.scan.Goals as goal
 
 pub returns-in_err-place : goal.returns-in_err-place
 returns-in_err-place g c =
-    let p = err_from_is_err_and c.from_residual.result c.from_residual.ensures.1 in
-    inr (no_asker c.self.inside.core.world c.self.inside.clients.items c.args.self.now c.self.view_is c.from_residual.result
-    c.as_slice.result.now c.args.session p.0 c.in_err-place.field-0.0
+    inr (no_asker c.self.inside.core.world c.self.inside.clients.items c.args.self.now c.self.view_is c.from_residual.result c.as_slice.result.now c.args.session c.in_err-place.field-0.0
     (λ answer client. Scans c.args.self.now.world c.args.session c.args.table.now (end_of c.args.lower) (end_of c.args.upper) client answer c.args.self.now.world)
-    c.as_slice.ensures.value p.1 p.2 c.in_err-place.ensures)
+    c.as_slice.ensures.value c.from_residual.ensures.1 c.in_err-place.ensures)
 
 pub returns : goal.returns
 returns g c =
