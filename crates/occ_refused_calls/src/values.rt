@@ -16,7 +16,7 @@ fn text<A: Allocator + Copy>(alloc: A, word: &str) -> Option<Text<A>> {
 
 /// A row of one number.
 pub(crate) fn row<A: Allocator + Copy>(alloc: A, number: i64) -> Option<Row<A>> {
-    Some(Row::from_cells(list(alloc, Cell::Int(number))?))
+    Row::from_cells(list(alloc, Cell::Int(number))?).ok()
 }
 
 /// A list of one item.

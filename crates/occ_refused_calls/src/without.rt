@@ -133,19 +133,29 @@ pub(crate) fn others_want_memory(paper: Global) -> Option<()> {
     want_memory(&lent, &mut client)
 }
 
-// A read, an entry and the others of their kind, and what the store shows before and after.
+// With what the calls are handed made before, every request is refused.
 fn want_memory(lent: &Refusing<Global>, client: &mut Client<&Refusing<Global>>) -> Option<()> {
-    let key = key(client.alloc, "a")?;
     let put = client.put_one("b")?;
+    let key = key(client.alloc, "a")?;
     lent.follow(Plan::From(0));
-    let before = client.shown()?;
-    client.reads_want_memory(&key)?;
-    client.items_want_memory(put)?;
-    client.others_want_memory()?;
-    holds(client.shown()?.as_str() == before.as_str())
+    client.all_want_memory(&key, put)
 }
 
 impl<A: Allocator + Copy> Client<A> {
+    // The calls that take memory, and what the store shows before and after.
+    fn all_want_memory(&mut self, key: &Key<A>, put: Item<A>) -> Option<()> {
+        let before = self.shown()?;
+        self.calls_want_memory(key, put)?;
+        holds(self.shown()?.as_str() == before.as_str())
+    }
+
+    // A read, an entry and the others of their kind.
+    fn calls_want_memory(&mut self, key: &Key<A>, put: Item<A>) -> Option<()> {
+        self.reads_want_memory(key)?;
+        self.items_want_memory(put)?;
+        self.others_want_memory()
+    }
+
     fn reads_want_memory(&mut self, key: &Key<A>) -> Option<()> {
         holds(self.core.read(1, 1, 0, 0, key).err() == Some(Fault::Memory))?;
         holds(self.core.scan(1, 1, 0, 0, &None, &None).err() == Some(Fault::Memory))?;
