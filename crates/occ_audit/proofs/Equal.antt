@@ -6,9 +6,6 @@ use Rattle.std.proofs.lemmas.Iterator.Consumers.{nth_from_yields_List}
 use Rattle.std.proofs.lemmas.Option.{slice_get-map}
 use Rattle.occ_types.specs.declared.keys.Key as code_key
 
-some-injective : {C : Type 0} (x y : C) → Some x ≡ Some y → x ≡ y
-some-injective x y e = cc
-
 -- whatever was answered, as many items came before as there are
 reached : {A : Type 0} (n : ℕ) (o : Option A) → MatchOption o (n ≤ n) (λ _. n ≡ n)
 reached n None = omega arith
@@ -34,7 +31,7 @@ module _ {A B C : Type 0} (v : A → B) (f : B → C) (eq : A → A → Bool) (s
   ended None (Some y) r Same is equal agree = (λ t. clash r t is, λ t. let e : None ≡ Some (f (v y)) = agree t in cc)
   ended (Some x) None r Same is equal agree = (λ t. clash r t is.0, λ t. let e : Some (f (v x)) ≡ None = agree t in cc)
   ended (Some x) (Some y) r Same is equal agree =
-      (λ t. clash r t is.0, λ t. clash (eq x y) ((same x y).1 (some-injective (f (v x)) (f (v y)) (agree t))) is.1)
+      (λ t. clash r t is.0, λ t. let e : Some (f (v x)) ≡ Some (f (v y)) = agree t in clash (eq x y) ((same x y).1 (cc)) is.1)
 
   -- the next item of an iterator of a list is the list's element there
   next : {S : Type 0} {steps : S → Option A → S → Type 0} {s : S} {xs : List B} → YieldsList steps v s xs → (ps : List A) (o : Option A) (u : S) → YieldsThen steps s ps o u → option_map (λ x. f (v x)) o ≡ slice_get (map f xs) (length ps)

@@ -1,6 +1,6 @@
 -- A state that is kept as maps of lent rows, one for each table: what it has at an object, and what a write does to it.
-use Rattle.std.proofs.Common.{◌≡◌, ℕ, nat_eq, Bool, true, false, not, ◌&&◌, cond, List, [], ◌∷◌, Option, None, Some, refl, sym, ap, subst, ◌∙◌, Bor, option_copied, BTreeMap, nat_cmp, is_eq, Less}
-use Rattle.occ_audit.proofs.Common.{AllByRecursion, IsStrictlySortedBy, keys_of, on, option_or, sorted_head, sorted_tail, key_cmp, key_same-decides, lookup, eq_by_cmp_equiv, nat_cmp_total, unsigned_tied, unsigned_Decides, get, get-empty, get-insert, get-retain_keys, Key, key_cmp_total, Object, object_cmp, object_cmp_total, object_cmp-IsAntisymmetric, Row, key_same, key_of, object_tied, State, put, get-put, same_state, code_of, lent, row_under, with_table, state_of}
+use Rattle.std.proofs.Common.{◌≡◌, ℕ, nat_eq, Bool, true, false, not, ◌&&◌, cond, List, [], ◌∷◌, Option, None, Some, refl, sym, ap, subst, ◌∙◌, MatchOption, Bor, option_copied, BTreeMap, nat_cmp, is_eq, Less}
+use Rattle.occ_audit.proofs.Common.{AllByRecursion, IsStrictlySortedBy, keys_of, on, option_or, sorted_head, sorted_tail, key_cmp, key_same-decides, lookup, eq_by_cmp_equiv, nat_cmp_total, unsigned_tied, unsigned_Decides, get, get-empty, get-insert, get-retain_keys, Key, key_cmp_total, Object, object_cmp, object_cmp_total, object_cmp-IsAntisymmetric, Row, key_same, key_of, object_tied, State, put, get-put, same_state, code_of, of_cond, lent, row_under, with_table, state_of, IsPlaced}
 use Rattle.occ_types.specs.declared.keys.Key as code_key
 use Rattle.occ_book.proofs.Views.{alone}
 
@@ -47,31 +47,24 @@ module _ {Z : Type 0} where
   get-state_of (e ∷ es) t k =
       get-with_table e.0 (lent e.1.entries) (state_of es) t k
       ∙ (λ i. cond (sym (unsigned_tied t e.0) i) (row_under (lent e.1.entries) k) (get-state_of es t k i))
-      ∙ by (is_eq (nat_cmp t e.0))
-    where
-      by : (b : Bool) → cond b (row_under (lent e.1.entries) k) (row_in (table_at es t) k) ≡ row_in (cond b (Some e.1) (table_at es t)) k
-      by true = refl
-      by false = refl
+      ∙ sym (of_cond (λ o. row_in o k) (is_eq (nat_cmp t e.0)) (Some e.1) (table_at es t))
 
   -- a look-up among references, seen as one among rows
-  row_under-lent : (es : List (Bor (code_key.Key Z) × Bor Row)) (k : Key) → row_under (lent es) k ≡ option_copied (lookup (λ x. key_same k (key_of x.now)) es)
+  pub row_under-lent : (es : List (Bor (code_key.Key Z) × Bor Row)) (k : Key) → row_under (lent es) k ≡ option_copied (lookup (λ x. key_same k (key_of x.now)) es)
   row_under-lent [] k = refl
   row_under-lent (e ∷ es) k =
-      ap (cond (key_same k (key_of e.0.now)) (Some e.1.now)) (row_under-lent es k) ∙ by (key_same k (key_of e.0.now))
-    where
-      by : (b : Bool) → cond b (Some e.1.now) (option_copied (lookup (λ x. key_same k (key_of x.now)) es)) ≡ option_copied (cond b (Some e.1) (lookup (λ x. key_same k (key_of x.now)) es))
-      by true = refl
-      by false = refl
+      ap (cond (key_same k (key_of e.0.now)) (Some e.1.now)) (row_under-lent es k)
+      ∙ sym (of_cond option_copied (key_same k (key_of e.0.now)) (Some e.1) (lookup (λ x. key_same k (key_of x.now)) es))
 
   -- the same of a state that is seen so
   pub get-in : (tables : List (ℕ × Lent Z)) (t : ℕ) (old : State) (o : Option (Lent Z)) → state_of tables ≡ old → table_at tables t ≡ o → (k : Key) → get old (t, k) ≡ row_in o k
   get-in tables t old o view at k =
       ap (λ s. get s (t, k)) (sym view) ∙ get-state_of tables t k ∙ ap (λ m. row_in m k) at
 
-  -- the row that a look-up in the map of a table finds
-  pub row-found : (tables : List (ℕ × Lent Z)) (t : ℕ) (key : code_key.Key Z) (old : State) (m : Lent Z) (r : Option (Bor Row)) → state_of tables ≡ old → table_at tables t ≡ Some m → r ≡ lookup (λ x. key_same (key_of key) (key_of x.now)) m.entries → option_copied r ≡ get old (t, key_of key)
-  row-found tables t key old m r view at is =
-      ap option_copied is ∙ sym (row_under-lent m.entries (key_of key)) ∙ sym (get-in tables t old (Some m) view at (key_of key))
+  -- what a look-up of a table finds
+  pub rows-found : (tables : List (ℕ × Lent Z)) (t : ℕ) (old : State) (r : Option (Bor (Lent Z))) → state_of tables ≡ old → option_copied r ≡ table_at tables t → MatchOption r ((k : Key) → get old (t, k) ≡ None) (λ rows. (k : Key) → get old (t, k) ≡ row_under (lent rows.now.entries) k)
+  rows-found tables t old None view at = get-in tables t old None view (sym at)
+  rows-found tables t old (Some m) view at = get-in tables t old (Some m.now) view (sym at)
 
   -- n has these references, or none, at a key, and elsewhere what m has
   abbrev pub Changes : Lent Z → Lent Z → code_key.Key Z → Option (Bor Row) → Type 0
@@ -82,31 +75,34 @@ module _ {Z : Type 0} where
   row_under-changed m n key w is k =
       row_under-lent n.entries k
       ∙ ap option_copied (let q = code_of {Z = Z} k in subst (λ l. lookup (λ x. key_same l (key_of x.now)) n.entries ≡ cond (key_same (key_of key) l) w (lookup (λ x. key_same l (key_of x.now)) m.entries)) q.1 (is (record { ref_ptr = (0, 0); now = q.0 })))
-      ∙ by (key_same (key_of key) k)
+      ∙ of_cond option_copied (key_same (key_of key) k) w (lookup (λ x. key_same k (key_of x.now)) m.entries)
       ∙ (λ i. cond ((eq_by_cmp_equiv key_cmp_total).symm (key_of key) k i) (option_copied w) (sym (row_under-lent m.entries k) i))
-    where
-      by : (b : Bool) → option_copied (cond b w (lookup (λ x. key_same k (key_of x.now)) m.entries)) ≡ cond b (option_copied w) (option_copied (lookup (λ x. key_same k (key_of x.now)) m.entries))
-      by true = refl
-      by false = refl
 
   -- the tables, with a map in the place of a table's or as that of a new one
   abbrev pub Places : List (ℕ × Lent Z) → List (ℕ × Lent Z) → ℕ → Lent Z → Type 0
   Places tables next t n = (u : ℕ) → table_at next u ≡ cond (is_eq (nat_cmp t u)) (Some n) (table_at tables u)
 
-  -- a change of the map of one table at one key is a write
-  pub state_of-put : (tables next : List (ℕ × Lent Z)) (t : ℕ) (key : Key) (row : Option Row) (o : Option (Lent Z)) (n : Lent Z) (old : State) → state_of tables ≡ old → table_at tables t ≡ o → Places tables next t n → ((k : Key) → row_under (lent n.entries) k ≡ cond (key_same k key) row (row_in o k)) → state_of next ≡ put old ((t, key), row)
-  state_of-put tables next t key row o n old view at placed is = same_state _ _ (λ object.
+  -- so the state has its rows
+  pub rows-placed : (tables next : List (ℕ × Lent Z)) (t : ℕ) (n : Lent Z) (old : State) → state_of tables ≡ old → Places tables next t n → IsPlaced t (lent n.entries) old (state_of next)
+  rows-placed tables next t n old view placed object =
       get-state_of next object.0 object.1
       ∙ ap (λ m. row_in m object.1) (placed object.0)
       ∙ ap (λ b. row_in (cond b (Some n) (table_at tables object.0)) object.1) (turned t object.0)
-      ∙ at_object object.0 object.1 (nat_eq object.0 t) refl
-      ∙ (λ i. cond (sym (object_tied object.0 t object.1 key) i) row (get old object))
-      ∙ sym (get-put old ((t, key), row) object))
+      ∙ of_cond (λ o. row_in o object.1) (nat_eq object.0 t) (Some n) (table_at tables object.0)
+      ∙ ap (cond (nat_eq object.0 t) (row_under (lent n.entries) object.1)) (sym (get-in tables object.0 old (table_at tables object.0) view refl object.1))
+
+  -- a change of a table's rows at one key is a write
+  pub changed-put : (t : ℕ) (key : code_key.Key Z) (w : Option (Bor Row)) (m n : Lent Z) (old new : State) → IsPlaced t (lent n.entries) old new → ((k : Key) → get old (t, k) ≡ row_under (lent m.entries) k) → Changes m n key w → new ≡ put old ((t, key_of key), option_copied w)
+  changed-put t key w m n old new placed was changes = same_state _ _ (λ object.
+      placed object
+      ∙ by object.0 object.1 (nat_eq object.0 t) refl
+      ∙ (λ i. cond (sym (object_tied object.0 t object.1 (key_of key)) i) (option_copied w) (get old object))
+      ∙ sym (get-put old ((t, key_of key), option_copied w) object))
     where
-      at_object : (u : ℕ) (k : Key) (b : Bool) → nat_eq u t ≡ b → row_in (cond b (Some n) (table_at tables u)) k ≡ cond (b && key_same k key) row (get old (u, k))
-      at_object u k true e =
-          is k ∙ ap (cond (key_same k key) row) (sym (ap (λ v. get old (v, k)) ((unsigned_Decides u t).0 e) ∙ get-in tables t old o view at k))
-      at_object u k false e = sym (get-in tables u old (table_at tables u) view refl k)
+      by : (u : ℕ) (k : Key) (b : Bool) → nat_eq u t ≡ b → cond b (row_under (lent n.entries) k) (get old (u, k)) ≡ cond (b && key_same k (key_of key)) (option_copied w) (get old (u, k))
+      by u k true e =
+          row_under-changed m n key w changes k ∙ ap (cond (key_same k (key_of key)) (option_copied w)) (sym (was k) ∙ ap (λ v. get old (v, k)) (sym ((unsigned_Decides u t).0 e)))
+      by u k false e = refl
 
   -- some rows of a table are lent, and these are left, in order: both together are all
   pub record Lends (whole left : List (code_key.Key Z × Row)) (rows : Lent Z) : Type 0 where

@@ -1,6 +1,6 @@
 -- How places, numbers and closing marks are counted along a log.
-use Rattle.std.proofs.Common.{◌≡◌, ℕ, zero, suc, ◌+◌, ◌<◌, ◌≤◌, Bool, true, false, cond, List, [], ◌∷◌, ◌++◌, length, get_or, drop, Option, None, Some, refl, sym, ap, subst, ◌∙◌, arith, map, filter, unwrap_or, ◌==◌, BTreeMap, nat_cmp, is_eq}
-use Rattle.occ_audit.proofs.Common.{decided, lookup, FinMap, find, get-entries, unsigned_tied, unsigned_Decides, LogRow, Base, Counts, numbers, last_folded, drop_at, AreNumbered, AreClosed, AreLast, last_of, log_row_of, log_of, Iff, via}
+use Rattle.std.proofs.Common.{◌≡◌, ℕ, zero, suc, ◌+◌, ◌<◌, ◌≤◌, Bool, true, false, cond, List, [], ◌∷◌, ◌++◌, length, get_or, drop, Option, None, Some, refl, sym, ap, subst, ◌∙◌, arith, add-one, map, filter, unwrap_or, ◌==◌, BTreeMap, nat_cmp, is_eq}
+use Rattle.occ_audit.proofs.Common.{decided, lookup, FinMap, find, get-entries, unsigned_tied, unsigned_Decides, LogRow, Base, Counts, numbers, last_folded, drop_at, AreNumbered, AreClosed, AreLast, last_of, log_row_of, log_of, Iff, of_cond, via}
 use Rattle.std.specs.FinMap as finite
 use Rattle.std.specs.BTreeMap.{get}
 use Rattle.occ_book.specs.Marks.{mark_at, marks_listed}
@@ -19,11 +19,7 @@ abbrev pub AreCounted : Base → List LogRow → List LogRow → BTreeMap ℕ �
 AreCounted base whole left last = (session : ℕ) → Counted (last_folded base session) (numbers session whole) (last_of base last session) (numbers session left)
 
 pub numbers-cons : (session : ℕ) (row : LogRow) (left : List LogRow) → numbers session (row ∷ left) ≡ cond (row.session == session) (row.number ∷ numbers session left) (numbers session left)
-numbers-cons session row left =
-    elim (row.session == session) as (λ b. map (λ r. r.number) (cond b (row ∷ filter (λ r. r.session == session) left) (filter (λ r. r.session == session) left)) ≡ cond b (row.number ∷ numbers session left) (numbers session left)) [
-      | true ↦ refl
-      | false ↦ refl
-    ]
+numbers-cons session row left = of_cond (map (λ r. r.number)) (row.session == session) (row ∷ filter (λ r. r.session == session) left) (filter (λ r. r.session == session) left)
 
 -- what is kept of each session after a number of one
 abbrev pub IsNoted : BTreeMap ℕ ℕ → BTreeMap ℕ ℕ → ℕ → ℕ → Type 0
@@ -32,10 +28,7 @@ IsNoted m n session number = (q : ℕ) → get nat_cmp n q ≡ cond (is_eq (nat_
 noted : (base : Base) (m n : BTreeMap ℕ ℕ) (session number q : ℕ) → IsNoted m n session number → last_of base n q ≡ cond (session == q) number (last_of base m q)
 noted base m n session number q is =
     ap (λ o. unwrap_or o (last_folded base q)) (is q ∙ ap (λ b. cond b (Some number) (get nat_cmp m q)) (unsigned_tied session q))
-    ∙ (elim (session == q) as (λ b. unwrap_or (cond b (Some number) (get nat_cmp m q)) (last_folded base q) ≡ cond b number (last_of base m q)) [
-      | true ↦ refl
-      | false ↦ refl
-    ])
+    ∙ of_cond (λ o. unwrap_or o (last_folded base q)) (session == q) (Some number) (get nat_cmp m q)
 
 -- a number may be one of the session's, and then it is the next
 counted-one : (first last number : ℕ) (whole left : List ℕ) (b : Bool) → (b ≡ true → number ≡ suc last) → Counted first whole last (cond b (number ∷ left) left) → Counted first whole (cond b number last) left
@@ -121,12 +114,6 @@ module _ {Z O : Type 0} (base : Base) (whole : List LogRow) (log : List (code_ro
 -- closing marks are due by what is kept of the sessions just where they are so by the log
 pub closed-alike : (base : Base) (marks : FinMap nat_cmp ℕ) (last : BTreeMap ℕ ℕ) (log : List LogRow) → AreLast base last log → Iff (AreClosed base marks last) ((session mark : ℕ) → finite.get marks session ≡ Some mark → mark ≡ last_folded base session + length (numbers session log) + 1)
 closed-alike base marks last log are = (
-  λ closed session mark at. due (last_of base last session) (last_folded base session + length (numbers session log)) mark (are session) (closed session mark at),
-  λ closed session mark at. back (last_of base last session) (last_folded base session + length (numbers session log)) mark (are session) (closed session mark at),
+  λ closed session mark at. rw add-one (closed session mark at ∙ ap suc (are session)),
+  λ closed session mark at. rw add-one at (closed session mark at) ∙ ap suc (sym (are session)),
 )
-  where
-    due : (last all mark : ℕ) → last ≡ all → mark ≡ suc last → mark ≡ all + 1
-    due last all mark p q = omega arith
-
-    back : (last all mark : ℕ) → last ≡ all → mark ≡ all + 1 → mark ≡ suc last
-    back last all mark p q = omega arith

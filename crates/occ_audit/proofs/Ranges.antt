@@ -1,5 +1,5 @@
 -- What a state answers to a range, from the entries of the range's table.
-use Rattle.std.proofs.Common.{true, ◌≡◌, ℕ, Bool, false, List, [], ◌∷◌, length, Option, None, Some, refl, sym, ap, subst, ◌∙◌, arith, Decides, ◌==◌, Bor, option_copied, Less, is_gt}
+use Rattle.std.proofs.Common.{true, ◌≡◌, ℕ, Bool, false, List, [], ◌∷◌, length, Option, None, Some, refl, sym, ap, ◌∙◌, arith, Decides, ◌==◌, Bor, option_copied, Less, is_gt}
 use Rattle.occ_audit.proofs.Common.{answers_range, AllByRecursion, IsStrictlySortedBy, keys_of, deref_pair, option_eq, Bound, entries_between, on, get, Decides-eqb, Key, key_cmp, Object, Question, One, Span, Row, row_same, row_same-decides, key_of, end_of, rows_of, State, Answer, Found, Rows, answer, is_within, is_backward, lower_bound, upper_bound, entries_within, kept-filtered, all_within, answer-within, lent, row_under, IsInOrder}
 use Rattle.std.specs.Range.Bound.{IsForward}
 use Rattle.occ_types.specs.declared.keys.Key as code_key
@@ -40,16 +40,10 @@ module _ {Z : Type 0} where
   -- two ends that don't run backwards may be asked for
   pub forward : (lower upper : Option (Bor (code_key.Key Z))) (lo hi : Bound (Bor (code_key.Key Z))) → lo ≡ lower_bound lower → hi ≡ upper_bound upper → is_backward (end_of (option_copied lower)) (end_of (option_copied upper)) ≡ false
       → IsForward (λ a b. is_gt (key_cmp (key_of a.now) (key_of b.now)) ≡ false) (λ a b. key_cmp (key_of a.now) (key_of b.now) ≡ Less) lo hi
-  forward lower upper lo hi p q e =
-      subst (λ l. IsForward Le Lt l hi) (sym p) (subst (IsForward Le Lt (lower_bound lower)) (sym q) (by lower upper e))
+  forward lower upper lo hi p q e = rw (p, q) (by lower upper e)
     where
-      Le : Bor (code_key.Key Z) → Bor (code_key.Key Z) → Type 0
-      Le = λ a b. is_gt (key_cmp (key_of a.now) (key_of b.now)) ≡ false
-
-      Lt : Bor (code_key.Key Z) → Bor (code_key.Key Z) → Type 0
-      Lt = λ a b. key_cmp (key_of a.now) (key_of b.now) ≡ Less
-
-      by : (l u : Option (Bor (code_key.Key Z))) → is_backward (end_of (option_copied l)) (end_of (option_copied u)) ≡ false → IsForward Le Lt (lower_bound l) (upper_bound u)
+      by : (l u : Option (Bor (code_key.Key Z))) → is_backward (end_of (option_copied l)) (end_of (option_copied u)) ≡ false
+          → IsForward (λ a b. is_gt (key_cmp (key_of a.now) (key_of b.now)) ≡ false) (λ a b. key_cmp (key_of a.now) (key_of b.now) ≡ Less) (lower_bound l) (upper_bound u)
       by None None e = tt
       by None (Some b) e = tt
       by (Some a) None e = tt

@@ -1,8 +1,7 @@
 -- States table by table: two that have the same rows in each, and one that gets the tables of another one after another.
 use Rattle.std.proofs.Common.{◌≡◌, ℕ, ◌+◌, ◌<◌, ◌≤◌, nat_eq, nat_lt, Bool, true, false, cond, List, [], ◌∷◌, Option, None, Some, refl, sym, ap, subst, ◌∙◌, arith, nat_cmp, is_eq}
-use Rattle.occ_audit.proofs.Common.{nat_tests, lookup, unsigned_tied, unsigned_Decides, empty, get, get-empty, Object, object_cmp, Key, Row, rows_of, State, Rows, Span, answer, answers_range, same_state, decided, row-answered, row_at-plain, IsTaken, SameTable, lent, row_under, state_of}
+use Rattle.occ_audit.proofs.Common.{nat_tests, lookup, unsigned_tied, unsigned_Decides, empty, get, get-empty, Object, object_cmp, Key, Row, rows_of, State, Rows, Span, answer, answers_range, same_state, decided, row-answered, row_at-plain, IsPlaced, IsTaken, SameTable, row_under}
 use Rattle.occ_types.specs.declared.keys.Key as code_key
-use Rattle.occ_audit.proofs.Lent.{Lent, Places, table_at, row_in, get-state_of, get-in, turned}
 
 same_tables : (s t : State) → ((u : ℕ) → SameTable u s t) → s ≡ t
 same_tables s t same = same_state s t (λ object.
@@ -61,16 +60,11 @@ filled-all first count taken state all no_more filled = same_state state taken (
     ap (λ b. cond b (get taken object) None) e ∙ sym (no_more object past)))
 
 module _ {Z : Type 0} where
-  -- a map of lent rows in the place of a table's
-  pub table-taken : (tables next : List (ℕ × Lent Z)) (table : ℕ) (rows : Lent Z) (kept : List (code_key.Key Z × Row)) (taken old : State) → state_of tables ≡ old → Places tables next table rows → Rows (rows_of kept) ≡ answer (Span table None None) taken
-      → ((k : Key) → row_under (lent rows.entries) k ≡ row_under kept k) → IsTaken table taken old (state_of next)
-  table-taken tables next table rows kept taken old view placed answers are object =
-      get-state_of next object.0 object.1
-      ∙ ap (λ o. row_in o object.1) (placed object.0)
-      ∙ ap (λ b. row_in (cond b (Some rows) (table_at tables object.0)) object.1) (turned table object.0)
-      ∙ by object.0 object.1 (nat_eq object.0 table) refl
+  -- rows of a table that another state has there
+  pub table-taken : (table : ℕ) (rows kept : List (code_key.Key Z × Row)) (taken old new : State) → IsPlaced table rows old new → Rows (rows_of kept) ≡ answer (Span table None None) taken → ((k : Key) → row_under rows k ≡ row_under kept k) → IsTaken table taken old new
+  table-taken table rows kept taken old new placed answers are object = placed object ∙ by object.0 object.1 (nat_eq object.0 table) refl
     where
-      by : (u : ℕ) (k : Key) (b : Bool) → nat_eq u table ≡ b → row_in (cond b (Some rows) (table_at tables u)) k ≡ cond b (get taken (u, k)) (get old (u, k))
+      by : (u : ℕ) (k : Key) (b : Bool) → nat_eq u table ≡ b → cond b (row_under rows k) (get old (u, k)) ≡ cond b (get taken (u, k)) (get old (u, k))
       by u k true e =
           are k ∙ sym (row-answered taken table (rows_of kept) answers k ∙ row_at-plain kept k) ∙ ap (λ t. get taken (t, k)) (sym ((unsigned_Decides u table).0 e))
-      by u k false e = sym (get-in tables u old (table_at tables u) view refl k)
+      by u k false e = refl

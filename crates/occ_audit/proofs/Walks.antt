@@ -1,5 +1,5 @@
--- Facts that stand or fall together as a loop goes on, and what holds of a result.
-use Rattle.std.proofs.Common.{◌≡◌, ℕ, ◌+◌, ◌<◌, List, ◌∷◌, length, get_or, drop, sym, subst, Result, Ok, Err, OnOk}
+-- Facts that stand or fall together as a loop goes on, and what is made of a choice.
+use Rattle.std.proofs.Common.{◌≡◌, ℕ, ◌+◌, ◌<◌, Bool, true, false, cond, List, ◌∷◌, length, get_or, drop, refl, sym, subst}
 use Rattle.occ_book.proofs.Common.{drop_at}
 
 -- each of two facts gives the other
@@ -17,11 +17,7 @@ along P a b e = (λ p. subst P e p, λ p. subst P (sym e) p)
 pub at_next : {X : Type 0} {Q : Type 0} (P : List X → Type 0) (xs : List X) (i : ℕ) (x : X) → i < length xs → x ≡ get_or xs i x → Iff Q (P (drop i xs)) → Iff Q (P (x ∷ drop (i + 1) xs))
 at_next P xs i x h at so_far = via so_far (along P _ _ (drop_at xs i x x h at))
 
--- what holds holds where a result is a success
-
-pub at_ok : {X E : Type 0} (P : Type 0) (r : Result X E) (x : X) → r ≡ Ok x → P → OnOk r P
-at_ok P r x is h = subst (λ q. OnOk q P) (sym is) h
-
--- and of a failure nothing is said
-pub at_err : {X E : Type 0} (P : Type 0) (r : Result X E) (e : E) → r ≡ Err e → OnOk r P
-at_err P r e is = subst (λ q. OnOk q P) (sym is) tt
+-- what is made of a choice is a choice of what is made of both
+pub of_cond : {X Y : Type 0} (f : X → Y) (b : Bool) (x y : X) → f (cond b x y) ≡ cond b (f x) (f y)
+of_cond f true x y = refl
+of_cond f false x y = refl

@@ -32,6 +32,10 @@ module _ {Z : Type 0} where
   abbrev pub lent : List (Bor (code_key.Key Z) × Bor Row) → List (code_key.Key Z × Row)
   lent = map deref_pair
 
+  -- a state gets these rows of a table, and has elsewhere those that it had
+  abbrev pub IsPlaced : ℕ → List (code_key.Key Z × Row) → State → State → Type 0
+  IsPlaced table rows old new = (object : Object) → get new object ≡ cond (nat_eq object.0 table) (row_under rows object.1) (get old object)
+
   -- the keys of lent rows are in order
   abbrev pub IsInOrder : List (Bor (code_key.Key Z) × Bor Row) → Type 0
   IsInOrder es = IsStrictlySortedBy (λ a b. key_cmp (key_of a.now) (key_of b.now)) (keys_of es)

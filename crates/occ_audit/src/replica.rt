@@ -1,5 +1,5 @@
 //! A state that is replayed. It has no row of its own: the log and the tables lend it theirs.
-ghost use Rattle.std.specs.Prelude.{◌≡◌, ◌<◌, ◌≤◌, ◌+◌, ℕ, drop, IfOk, OnOk};
+ghost use Rattle.std.specs.Prelude.{◌≡◌, ◌<◌, ◌≤◌, ◌+◌, ℕ, None, drop, IfOk, MatchOption, OnOk};
 ghost use Rattle.std.specs.Bool.{Decides};
 ghost use Rattle.std.specs.Option.{option_copied};
 ghost use Rattle.std.specs.FinMap as finite;
@@ -11,7 +11,7 @@ ghost use Rattle.occ_types.specs.PlainData.{end_of, object_of, question_of};
 ghost use Rattle.occ_sets.specs.PlainSets.{answer_of, rows_of};
 ghost use Rattle.occ_book.specs.Content.{is_backward, lower_bound, upper_bound};
 ghost use Rattle.occ_model.specs.State.{put, apply, answer, Rows};
-ghost use Rattle.occ_audit.specs.Replica.{lent, IsInOrder, SameTable, IsTaken, row_under};
+ghost use Rattle.occ_audit.specs.Replica.{lent, IsInOrder, SameTable, IsPlaced, IsTaken, row_under};
 
 use occ_book::Tables;
 use occ_sets::{Answer, WriteSet};
@@ -88,18 +88,35 @@ impl<'a, A: Allocator + Copy> Replica<'a, A> {
             return Ok(());
         };
         let rows = lend(self.alloc, kept)?;
-        // without `?`, as in `insert`
-        match self.tables.insert(table, rows) {
-            Ok(_replaced) => Ok(()),
-            Err(_refused) => Err(AllocError),
-        }
+        self.place(table, rows)
+    }
+
+    // Puts the rows of a table in the place of those that it has.
+    fn place(&mut self, table: usize, rows: LentRows<'a, A>) -> Result<(), AllocError>
+        ensures { OnOk result (IsPlaced table (lent rows.entry.entries) self.old self.new) }
+    {
+        // without `?`, since a conversion of the refused map gets no proof
+        let _replaced = match self.tables.insert(table, rows) {
+            Ok(replaced) => replaced,
+            Err(_refused) => return Err(AllocError),
+        };
+        Ok(())
+    }
+
+    // The rows of a table, or none where it was never written.
+    fn rows(&self, table: usize) -> Option<&LentRows<'a, A>>
+        ensures { MatchOption result
+            ((key : keys.Key) → finite.get self.now (table, key) ≡ None)
+            (λ rows. (key : keys.Key) → finite.get self.now (table, key) ≡ row_under (lent rows.now.entries) key) }
+    {
+        self.tables.get(&table)
     }
 
     // The row of an object, or none where it is not there.
     pub(crate) fn row(&self, object: &'a Object<A>) -> Option<&'a Row<A>>
         ensures { option_copied result ≡ finite.get self.now (object_of object.now) }
     {
-        let rows = self.tables.get(&object.table)?;
+        let rows = self.rows(object.table)?;
         rows.get(&&object.key).copied()
     }
 
@@ -130,11 +147,7 @@ impl<'a, A: Allocator + Copy> Replica<'a, A> {
         }
         let mut rows = BTreeMap::new(self.alloc);
         rows.insert(&object.key, row)?;
-        // without `?`, since a conversion of the refused map gets no proof
-        match self.tables.insert(object.table, rows) {
-            Ok(_absent) => Ok(()),
-            Err(_refused) => Err(AllocError),
-        }
+        self.place(object.table, rows)
     }
 
     // Deletes the row of an object, where there is one.
@@ -197,7 +210,7 @@ impl<'a, A: Allocator + Copy> Replica<'a, A> {
     {
         let lower = lower.as_ref();
         let upper = upper.as_ref();
-        match self.tables.get(&table) {
+        match self.rows(table) {
             // a map may not be asked for a range that runs backwards
             Some(rows) if !is_backward(&lower, &upper) => {
                 are_given(
@@ -242,7 +255,7 @@ impl<'a, A: Allocator + Copy> Replica<'a, A> {
     {
         // `count` tells that no row stands in a table that is not there
         let _count = tables.count();
-        match (tables.table(table), self.tables.get(&table)) {
+        match (tables.table(table), self.rows(table)) {
             (Some(kept), Some(rows)) => are_kept(rows, kept),
             (Some(kept), None) => kept.len() == 0,
             (None, Some(rows)) => rows.len() == 0,

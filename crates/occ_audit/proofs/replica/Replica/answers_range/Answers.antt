@@ -1,6 +1,5 @@
-use Rattle.std.proofs.Common.{◌≡◌, [], None, Some, refl, sym, ap, ◌∙◌, option_copied}
+use Rattle.std.proofs.Common.{◌≡◌, [], refl, sym, ap, ◌∙◌}
 use Rattle.occ_audit.proofs.Common.{end_of, rows_of, Rows, is_backward, entries_within, lent, answer-backward, answer-nowhere}
-use Rattle.occ_audit.proofs.Lent.{table_at, get-in}
 use Rattle.occ_audit.proofs.Ranges.{answer-between, lent-between, forward, none-decides, rows-decide}
 use Rattle.occ_audit.proofs.replica.Replica.answers_range.Goals as goal
 use Rattle.occ_audit.proofs.replica.Replica.answers_range.Goals.{in_default-via-in-Some+else-not-is_backward, in_default-via-in_default}
@@ -14,13 +13,12 @@ returns-in-Some g c =
     let rows = c.in-Some.rows.now in
     let a = end_of c.args.lower.now in
     let b = end_of c.args.upper.now in
-    let at : table_at c.self.inside.tables.entries c.args.table ≡ Some rows = sym c.get.ensures.value ∙ ap option_copied c.in-Some.is in
     let within : lent c.range.result ≡ entries_within a b (lent rows.entries) =
     ap lent (c.range.ensures.between tt)
     ∙ lent-between c.as_ref-lower.result c.as_ref-upper.result _ _ rows.entries c.lower_bound.ensures c.upper_bound.ensures
     ∙ (λ i. entries_within (end_of (c.as_ref-lower.ensures.value i)) (end_of (c.as_ref-upper.ensures.value i)) (lent rows.entries)) in
     rows-decide _ _ (rows_of c.args.given.now) (rows_of (lent c.range.result)) c.are_given.result refl
-    (answer-between c.args.self.now c.args.table a b rows.entries c.range.ensures.ordered (get-in c.self.inside.tables.entries c.args.table c.args.self.now (Some rows) c.self.view_is at)
+    (answer-between c.args.self.now c.args.table a b rows.entries c.range.ensures.ordered c.in-Some.ensures
     ∙ ap (λ es. Rows (rows_of es)) (sym within))
     c.are_given.ensures
 
@@ -34,6 +32,6 @@ returns-in_default g c =
           answer-backward c.args.self.now c.args.table a b
           ((λ i. is_backward (end_of (sym c.as_ref-lower.ensures.value i)) (end_of (sym c.as_ref-upper.ensures.value i))) ∙ sym w.is_backward.ensures ∙ w.if-not-is_backward.false)
       | in_default-via-in_default w ↦
-          answer-nowhere c.args.self.now c.args.table a b (get-in c.self.inside.tables.entries c.args.table c.args.self.now None c.self.view_is (sym c.get.ensures.value ∙ ap option_copied w.in_default.is))
+          answer-nowhere c.args.self.now c.args.table a b w.in_default.ensures
     ])
     (none-decides c.args.given.now _ c.is_empty.result refl c.is_empty.ensures)
