@@ -1,22 +1,14 @@
 -- What a change of a vector is, to those who see it as plain data.
-use Rattle.std.proofs.Common.{◌≡◌, ℕ, zero, suc, ◌+◌, ◌<◌, false, List, [], ◌∷◌, ◌++◌, get_or, length, map, Option, None, Some, refl, eqb-true, eq-eqb, sym, ap, subst, ◌∙◌, arith, slice_get, slice_set, ◌==◌, is_some, true}
+use Rattle.std.proofs.Common.{◌≡◌, ℕ, zero, suc, ◌+◌, ◌<◌, false, List, [], ◌∷◌, ◌++◌, get_or, length, map, Option, None, Some, refl, eqb-true, eq-eqb, sym, ap, ◌∙◌, arith, slice_get, slice_set, ◌==◌, is_some, true}
+use Rattle.occ_log.proofs.Common.{ArePlaced, Case, Hold, HoldsArePlaced, LogRow, Slot, clash, decided, idle_slots, is_open, last_of, log_of, log_row_of, map-set, option_copied, option_map, slice_get-map, slice_get_read, slot_of, slots_of, standing_of, table-at}
 use Rattle.std.specs.Borrow.{Bor}
-use Rattle.std.specs.Option.{option_map, option_copied}
 use Rattle.std.specs.Slice.{IsItemAt}
-use Rattle.std.proofs.lemmas.Option.{slice_get-map, slice_get_read}
 use Rattle.std.proofs.lemmas.List as lists
-use Rattle.std.proofs.lemmas.List.{map-set}
-use Rattle.occ_book.proofs.Views.{table-at}
-use Rattle.occ_model.specs.Log.{Case, LogRow, is_open}
-use Rattle.occ_log.specs.SessionStates.{Slot, Hold, idle_slots, last_of, HoldsArePlaced}
-use Rattle.occ_book.specs.Undo.{ArePlaced}
-use Rattle.occ_log.proofs.Places.{slice_get-other}
-use Rattle.occ_model.proofs.Tests as tests
-use Rattle.occ_log.specs.Rows.{standing_of, log_row_of, log_of, slot_of, slots_of}
 use Rattle.occ_book.specs.declared.rows.Standing as code_standing
 use Rattle.occ_book.specs.declared.rows.Standing.TheVariants as standings
 use Rattle.occ_book.specs.declared.rows.LogRow as code_row
 use Rattle.occ_log.specs.declared.sessions.SessionState as code_session
+use Rattle.occ_log.proofs.Places.{slice_get-other}
 
 -- a view of each, after one was replaced
 pub ruleset in_place = (map-set)
@@ -54,13 +46,10 @@ idle-push (suc count) = ap (λ l. record { last = 0; hold = None } ∷ l) (idle-
 -- a standing that no case opens
 pub not_open : (s : code_standing.Standing (ℕ × Case)) → ((open_case : ℕ × Case) → s ≡ standings.Open open_case → ⊥) → is_open (standing_of s) ≡ false
 not_open (standings.Open open_case) not = absurd (not open_case refl)
-not_open (standings.Writing done) not = refl
-not_open (standings.Done number) not = refl
-not_open (standings.Back cause) not = refl
+not_open standing not = refl
 
 pub length-map : {X Y : Type 0} (f : X → Y) (xs : List X) → length (map f xs) ≡ length xs
-length-map f [] = refl
-length-map f (x ∷ xs) = ap suc (length-map f xs)
+length-map f xs = lists.length-map xs f
 
 -- no session is held where none has entered
 pub idle-placed : (tables count : ℕ) → HoldsArePlaced tables (idle_slots count)
@@ -73,11 +62,11 @@ idle-placed tables (suc count) (suc k) slot hold at holds = idle-placed tables c
 
 -- a session that is let go, or takes a row whose writes are placed, leaves the writes of all placed
 pub placed-set : (tables : ℕ) (slots : List Slot) (place : ℕ) (next : Slot) → HoldsArePlaced tables slots → ((hold : Hold) → next.hold ≡ Some hold → ArePlaced tables hold.writes) → HoldsArePlaced tables (slice_set slots place next)
-placed-set tables slots place next placed own k slot hold at holds = tests.decided (k == place)
+placed-set tables slots place next placed own k slot hold at holds = decided (k == place)
     (λ e. let same : k ≡ place = eqb-true k place e in
     let is = at_own slots place slot (ap (slice_get (slice_set slots place next)) (sym same) ∙ at) in
     own hold (ap (λ (s : Slot). s.hold) is ∙ holds))
-    (λ e. placed k slot hold (sym (slice_get-other slots place k next (λ is. tests.clash (k == place) (eq-eqb k place is) e)) ∙ at) holds)
+    (λ e. placed k slot hold (sym (slice_get-other slots place k next (λ is. clash (k == place) (eq-eqb k place is) e)) ∙ at) holds)
   where
     at_own : (xs : List Slot) (p : ℕ) (s : Slot) → slice_get (slice_set xs p next) p ≡ Some s → next ≡ s
     at_own [] p s e = cc

@@ -1,67 +1,41 @@
 -- The rows and the places that are listed, as rows come in, take another standing and go.
-use Rattle.std.proofs.Common.{◌≡◌, ℕ, zero, suc, ◌+◌, ◌-◌, ◌<◌, ◌≤◌, Bool, true, false, cond, List, [], ◌∷◌, ◌++◌, map, filter, drop, get_or, length, Some, refl, sym, ap, subst, ◌∙◌, arith, ◌&&◌, ◌||◌, ◌==◌, nat_le, slice_get, slice_set}
-use Rattle.std.specs.List.{list_any, prefix_len}
+use Rattle.std.proofs.Common.{◌≡◌, ℕ, zero, suc, ◌+◌, ◌-◌, ◌≤◌, Bool, true, false, cond, List, [], ◌∷◌, ◌++◌, map, filter, drop, get_or, length, Some, refl, sym, ap, subst, ◌∙◌, arith, ◌&&◌, ◌||◌, ◌==◌, nat_le, slice_get, slice_set}
+use Rattle.occ_log.proofs.Common.{AreListed, Case, Counts, Counts-push, HaveNoGap, Listed, LogRow, append-nil, decided, filter-append, foldable_part, is_open, leb-false, leb-true, length-map, list_any, listed_at, log_of, log_row_of, map-append, places_of, prefix_len, rows_of, standing_of, unlisted}
 use Rattle.std.proofs.Math.Seq.{drop-nil}
-use Rattle.std.proofs.lemmas.Bool.{leb-true, leb-false}
-use Rattle.std.proofs.lemmas.List.{map-append, append-nil, length-map}
-use Rattle.std.proofs.lemmas.List.Elements.{filter-append}
-use Rattle.occ_model.specs.Log.{Case, LogRow, Counts, is_open}
 use Rattle.occ_model.specs.Refusal.{foldable}
-use Rattle.occ_model.specs.Step.{foldable_part}
-use Rattle.occ_model.proofs.Orders.{Counts-push}
-use Rattle.occ_model.proofs.Tests as tests
 use Rattle.occ_book.specs.declared.rows.LogRow as code_row
-use Rattle.occ_log.specs.Listing.{Listed, unlisted, listed_at}
-use Rattle.occ_log.specs.Logs.{HaveNoGap, AreListed, places_of, rows_of}
-use Rattle.occ_log.specs.Rows.{standing_of, log_row_of, log_of}
+use Rattle.occ_log.proofs.Listed.{either}
+use Rattle.occ_log.proofs.Places.{of_cond, set-unseen}
 
 -- What is listed.
+
+-- the places of a session's rows, by the first of all rows
+places-cons : (session : ℕ) (row : LogRow) (rows : List LogRow) → places_of (rows_of session (row ∷ rows)) ≡ cond (row.session == session) (row.place ∷ places_of (rows_of session rows)) (places_of (rows_of session rows))
+places-cons session row rows = of_cond places_of (row.session == session) (row ∷ rows_of session rows) (rows_of session rows)
 
 -- a row comes in
 pub listed-push : (first : ℕ) (rows log : List LogRow) (row : LogRow) (old new : List Listed) → AreListed first rows old → row.place ≡ first + length rows → log ≡ rows ++ row ∷ []
     → ((session : ℕ) → (listed_at new session).places ≡ cond (row.session == session) ((listed_at old session).places ++ row.place ∷ []) (listed_at old session).places) → AreListed first log new
 listed-push first rows log row old new are place is now = record {
-  placed = subst (λ l. Counts first (places_of l)) (sym is) (subst (Counts first) (sym (map-append (λ (r : LogRow). r.place) rows (row ∷ [])))
-      (Counts-push first row.place (places_of rows) are.placed (place ∙ ap (λ n. first + n) (sym (length-map rows (λ (r : LogRow). r.place))))));
-  listed = λ session. now session ∙ ap (λ l. cond (row.session == session) (l ++ row.place ∷ []) l) (are.listed session) ∙ go session (row.session == session)
+  placed = subst (Counts first) (sym (ap places_of is ∙ map-append (λ (r : LogRow). r.place) rows (row ∷ [])))
+      (Counts-push first row.place (places_of rows) are.placed (place ∙ ap (λ n. first + n) (sym (length-map rows (λ (r : LogRow). r.place)))));
+  listed = λ session.
+      let old_places = places_of (rows_of session rows) in
+      now session ∙ ap (λ l. cond (row.session == session) (l ++ row.place ∷ []) l) (are.listed session)
+      ∙ ap (cond (row.session == session) (old_places ++ row.place ∷ [])) (sym (append-nil old_places))
+      ∙ sym (of_cond (λ l. old_places ++ places_of l) (row.session == session) (row ∷ []) [])
       ∙ sym (map-append (λ (r : LogRow). r.place) (rows_of session rows) (cond (row.session == session) (row ∷ []) []))
       ∙ ap places_of (sym (filter-append (λ (r : LogRow). r.session == session) rows (row ∷ [])) ∙ ap (rows_of session) (sym is));
 }
-  where
-    go : (session : ℕ) (b : Bool) → cond b (places_of (rows_of session rows) ++ row.place ∷ []) (places_of (rows_of session rows)) ≡ places_of (rows_of session rows) ++ places_of (cond b (row ∷ []) [])
-    go session true = refl
-    go session false = sym (append-nil (places_of (rows_of session rows)))
 
 -- a row is replaced by one of its session and place
 pub listed-set : (first : ℕ) (rows log : List LogRow) (k : ℕ) (row next : LogRow) (lists : List Listed) → AreListed first rows lists → slice_get rows k ≡ Some row → next.session ≡ row.session → next.place ≡ row.place
     → log ≡ slice_set rows k next → AreListed first log lists
 listed-set first rows log k row next lists are there own place is = record {
-  placed = subst (λ l. Counts first (places_of l)) (sym is) (subst (Counts first) (sym (all rows k there)) are.placed);
-  listed = λ session. are.listed session ∙ sym (ap (λ l. places_of (rows_of session l)) is ∙ some session rows k there);
+  placed = subst (Counts first) (sym (ap places_of is ∙ set-unseen places_of (λ (r : LogRow). r.place) (λ p ps. p ∷ ps) (λ r rs. refl) rows k row next there place)) are.placed;
+  listed = λ session. are.listed session ∙ sym (ap (λ l. places_of (rows_of session l)) is
+      ∙ set-unseen {Y = ℕ × ℕ} (λ l. places_of (rows_of session l)) (λ r. (r.session, r.place)) (λ seen ps. cond (seen.0 == session) (seen.1 ∷ ps) ps) (places-cons session) rows k row next there (λ i. (own i, place i)));
 }
-  where
-    all : (rows : List LogRow) (k : ℕ) → slice_get rows k ≡ Some row → places_of (slice_set rows k next) ≡ places_of rows
-    all [] k there = refl
-    all (x ∷ rows) zero there = let same : x ≡ row = cc in ap (λ n. n ∷ places_of rows) (place ∙ ap (λ (r : LogRow). r.place) (sym same))
-    all (x ∷ rows) (suc k) there = ap (λ l. x.place ∷ l) (all rows k there)
-
-    some : (session : ℕ) (rows : List LogRow) (k : ℕ) → slice_get rows k ≡ Some row → places_of (rows_of session (slice_set rows k next)) ≡ places_of (rows_of session rows)
-    some session [] k there = refl
-    some session (x ∷ rows) zero there =
-        let same : x ≡ row = cc in
-        chosen next (next.session == session)
-        ∙ (λ i. cond ((own ∙ ap (λ (r : LogRow). r.session) (sym same)) i == session) ((place ∙ ap (λ (r : LogRow). r.place) (sym same)) i ∷ places_of (rows_of session rows)) (places_of (rows_of session rows)))
-        ∙ sym (chosen x (x.session == session))
-      where
-        chosen : (r : LogRow) (b : Bool) → places_of (cond b (r ∷ rows_of session rows) (rows_of session rows)) ≡ cond b (r.place ∷ places_of (rows_of session rows)) (places_of (rows_of session rows))
-        chosen r true = refl
-        chosen r false = refl
-    some session (x ∷ rows) (suc k) there = go (x.session == session) (some session rows k there)
-      where
-        go : (b : Bool) → places_of (rows_of session (slice_set rows k next)) ≡ places_of (rows_of session rows)
-            → places_of (cond b (x ∷ rows_of session (slice_set rows k next)) (rows_of session (slice_set rows k next))) ≡ places_of (cond b (x ∷ rows_of session rows) (rows_of session rows))
-        go true again = ap (λ l. x.place ∷ l) again
-        go false again = again
 
 -- the rows stay, and what is listed of each session
 pub listed-same : (first : ℕ) (rows log : List LogRow) (old new : List Listed) → AreListed first rows old → log ≡ rows → ((session : ℕ) → (listed_at new session).places ≡ (listed_at old session).places) → AreListed first log new
@@ -81,29 +55,27 @@ counts-drop n (suc count) (row ∷ rows) counts =
 places-from : (session n first : ℕ) (rows : List LogRow) → Counts first (places_of rows)
     → filter (λ place. nat_le n place) (places_of (rows_of session rows)) ≡ places_of (rows_of session (drop (n - first) rows))
 places-from session n first [] counts = ap (λ (l : List LogRow). places_of (rows_of session l)) (sym (drop-nil (n - first)))
-places-from session n first (row ∷ rows) counts = tests.decided (nat_le n row.place)
-    (λ yes. let up = leb-true n row.place yes in
+places-from session n first (row ∷ rows) counts =
+    let later = places-from session n (suc first) rows counts.1 in
     let is = counts.0 in
+    ap from (places-cons session row rows) ∙ of_cond from (row.session == session) (row.place ∷ own) own
+    ∙ decided (nat_le n row.place)
+    (λ yes. let up = leb-true n row.place yes in
     let none : n - first ≡ 0 = omega arith in
-    let later : n - suc first ≡ 0 = omega arith in
-    stays yes (row.session == session) (places-from session n (suc first) rows counts.1 ∙ ap (λ m. places_of (rows_of session (drop m rows))) later)
-    ∙ ap (λ m. places_of (rows_of session (drop m (row ∷ rows)))) (sym none))
-    (λ no. let is = counts.0 in
-    let up : first < n = tests.decided (nat_le n first) (λ yes. absurd (tests.clash {A = ⊥} (nat_le n first) yes (ap (nat_le n) (sym is) ∙ no))) (λ below. leb-false n first below) in
+    let none_later : n - suc first ≡ 0 = omega arith in
+    let all : from own ≡ own = later ∙ ap (λ m. places_of (rows_of session (drop m rows))) none_later in
+    (λ i. cond (row.session == session) (cond (yes i) (row.place ∷ all i) (all i)) (all i))
+    ∙ sym (places-cons session row rows) ∙ ap (λ m. places_of (rows_of session (drop m (row ∷ rows)))) (sym none))
+    (λ no. let below = leb-false n row.place no in
     let one : n - first ≡ suc (n - suc first) = omega arith in
-    goes no (row.session == session) ∙ places-from session n (suc first) rows counts.1 ∙ ap (λ m. places_of (rows_of session (drop m (row ∷ rows)))) (sym one))
+    (λ i. cond (row.session == session) (cond (no i) (row.place ∷ from own) (from own)) (from own))
+    ∙ either (row.session == session) (from own) ∙ later ∙ ap (λ m. places_of (rows_of session (drop m (row ∷ rows)))) (sym one))
   where
     own : List ℕ
     own = places_of (rows_of session rows)
 
-    stays : nat_le n row.place ≡ true → (b : Bool) → filter (λ place. nat_le n place) own ≡ own
-        → filter (λ place. nat_le n place) (places_of (cond b (row ∷ rows_of session rows) (rows_of session rows))) ≡ places_of (cond b (row ∷ rows_of session rows) (rows_of session rows))
-    stays up true again = ap (λ b. cond b (row.place ∷ filter (λ place. nat_le n place) own) (filter (λ place. nat_le n place) own)) up ∙ ap (λ l. row.place ∷ l) again
-    stays up false again = again
-
-    goes : nat_le n row.place ≡ false → (b : Bool) → filter (λ place. nat_le n place) (places_of (cond b (row ∷ rows_of session rows) (rows_of session rows))) ≡ filter (λ place. nat_le n place) own
-    goes lost true = ap (λ b. cond b (row.place ∷ filter (λ place. nat_le n place) own) (filter (λ place. nat_le n place) own)) lost
-    goes lost false = refl
+    from : List ℕ → List ℕ
+    from places = filter (λ place. nat_le n place) places
 
 -- the first rows go
 pub listed-drop : (first count : ℕ) (rows log : List LogRow) (old new : List Listed) → AreListed first rows old → log ≡ drop count rows

@@ -1,17 +1,7 @@
 -- The set of held sessions, from what is kept of each.
-use Rattle.std.proofs.Common.{◌≡◌, ℕ, zero, suc, ◌+◌, ◌-◌, ◌<◌, ◌≤◌, Bool, true, false, cond, not, ◌&&◌, ◌||◌, List, [], ◌∷◌, get_or, length, Option, None, Some, refl, sym, ap, subst, ◌∙◌, arith, eqb-true, eq-eqb, is_some, nat_le, slice_get, slice_set, ◌==◌}
-use Rattle.std.specs.Ordering.{nat_cmp, eq_by_cmp}
-use Rattle.std.specs.Cmp.{nat_cmp_total}
+use Rattle.std.proofs.Common.{◌≡◌, ℕ, zero, suc, ◌+◌, ◌-◌, ◌<◌, Bool, true, false, cond, not, ◌&&◌, ◌||◌, List, [], ◌∷◌, get_or, length, Option, None, Some, refl, sym, ap, ◌∙◌, arith, is_some, nat_le, slice_get, slice_set, ◌==◌}
+use Rattle.occ_log.proofs.Common.{Hold, Slot, and_true, get_or-set_at, get_or-set_other, get_or_from_slice_get, get_or_head, get_or_tail, held_from, leb-true, nat_cmp, nat_cmp-IsAntisymmetric, nat_cmp_total, nat_tests, unsigned_tied}
 use Rattle.std.specs.FinSet as sets
-use Rattle.std.specs.FinSet.{FinSet, nat_cmp-IsAntisymmetric}
-use Rattle.std.proofs.lemmas.Bool.{leb-true}
-use Rattle.std.proofs.lemmas.Bool.Decides.{nat_tests}
-use Rattle.std.proofs.lemmas.Grind.{get_or-set_at, get_or_head, get_or_tail}
-use Rattle.std.proofs.lemmas.List.{get_or-set_other}
-use Rattle.std.proofs.lemmas.Option.{get_or_from_slice_get}
-use Rattle.occ_model.proofs.Tests as tests
-use Rattle.occ_model.proofs.Orders.{tied, apart}
-use Rattle.occ_log.specs.SessionStates.{Slot, Hold, held_from}
 
 abbrev pub idle_slot : Slot
 idle_slot = record { last = 0; hold = None }
@@ -23,11 +13,6 @@ is_held_at slots place = is_some (get_or slots place idle_slot).hold
 pub held-is : (slots : List Slot) (place : ℕ) (slot : Slot) → slice_get slots place ≡ Some slot → is_held_at slots place ≡ is_some slot.hold
 held-is slots place slot at = ap (λ (s : Slot). is_some s.hold) (get_or_from_slice_get slots place slot idle_slot at)
 
-same_number : (a b : ℕ) → eq_by_cmp nat_cmp a b ≡ (a == b)
-same_number a b = tests.decided (a == b)
-    (λ e. subst (λ c. eq_by_cmp nat_cmp a c ≡ true) (eqb-true a b e) (tied a) ∙ sym e)
-    (λ e. apart a b (λ is. tests.clash (a == b) (eq-eqb a b is) e) ∙ sym e)
-
 -- the set has the sessions from the first number on that are held
 holds : (n q : ℕ) (slots : List Slot) → sets.contains (held_from n slots) q ≡ (nat_le n q && is_held_at slots (q - n))
 holds n q [] = sets.contains-empty nat_cmp q ∙ grind arith
@@ -35,7 +20,7 @@ holds n q (slot ∷ slots) = go (is_some slot.hold) refl (holds (suc n) q slots)
   where
     go : (b : Bool) → is_some slot.hold ≡ b → sets.contains (held_from (suc n) slots) q ≡ (nat_le (suc n) q && is_held_at slots (q - suc n))
         → sets.contains (cond b (sets.insert (held_from (suc n) slots) n) (held_from (suc n) slots)) q ≡ (nat_le n q && is_held_at (slot ∷ slots) (q - n))
-    go true e again = sets.contains-insert nat_cmp_total (held_from (suc n) slots) n q ∙ (λ i. same_number q n i || again i) ∙ grind (arith, nat_tests, get_or_head, get_or_tail)
+    go true e again = sets.contains-insert nat_cmp_total (held_from (suc n) slots) n q ∙ (λ i. unsigned_tied q n i || again i) ∙ grind (arith, nat_tests, get_or_head, get_or_tail)
     go false e again = again ∙ grind (arith, nat_tests, get_or_head, get_or_tail)
 
 -- no session below the first number is in the set
@@ -53,13 +38,13 @@ is_held_at-set slots place slot q less = grind (arith, nat_tests, get_or-set_at,
 -- a session is held, by its place
 pub held-hold : (n : ℕ) (slots : List Slot) (place : ℕ) (slot : Slot) → place < length slots → is_some slot.hold ≡ true → sets.insert (held_from n slots) (n + place) ≡ held_from n (slice_set slots place slot)
 held-hold n slots place slot less is = sets.same_set nat_cmp_total nat_cmp-IsAntisymmetric _ _ (λ q.
-    sets.contains-insert nat_cmp_total (held_from n slots) (n + place) q ∙ (λ i. same_number q (n + place) i || holds n q slots i)
+    sets.contains-insert nat_cmp_total (held_from n slots) (n + place) q ∙ (λ i. unsigned_tied q (n + place) i || holds n q slots i)
     ∙ grind (arith, nat_tests, is_held_at-set slots place slot (q - n) less) ∙ sym (holds n q (slice_set slots place slot)))
 
 -- a session is let go
 pub held-free : (n : ℕ) (slots : List Slot) (place : ℕ) (slot : Slot) → place < length slots → is_some slot.hold ≡ false → sets.remove (held_from n slots) (n + place) ≡ held_from n (slice_set slots place slot)
 held-free n slots place slot less is = sets.same_set nat_cmp_total nat_cmp-IsAntisymmetric _ _ (λ q.
-    sets.contains-remove nat_cmp_total (held_from n slots) (n + place) q ∙ (λ i. not (same_number q (n + place) i) && holds n q slots i)
+    sets.contains-remove nat_cmp_total (held_from n slots) (n + place) q ∙ (λ i. not (unsigned_tied q (n + place) i) && holds n q slots i)
     ∙ grind (arith, nat_tests, is_held_at-set slots place slot (q - n) less) ∙ sym (holds n q (slice_set slots place slot)))
 
 -- the place of a session that is held
@@ -82,7 +67,7 @@ find_held (slot ∷ slots) (suc place) is = find_held slots place is
 
 pub held_place : (slots : List Slot) (number : ℕ) → sets.contains (held_from 1 slots) number ≡ true → HeldPlace slots number
 held_place slots number held =
-    let parts = tests.and_true (nat_le 1 number) (is_held_at slots (number - 1)) (sym (holds 1 number slots) ∙ held) in
+    let parts = and_true (nat_le 1 number) (is_held_at slots (number - 1)) (sym (holds 1 number slots) ∙ held) in
     let up = leb-true 1 number parts.0 in
     let found = find_held slots (number - 1) parts.1 in
     record { place = number - 1; session = found.0; at = found.1; there = found.2; held = found.3; is_number = omega arith }

@@ -1,3 +1,4 @@
+pub mod Common
 pub mod Holding
 pub mod Places
 pub mod Opponents

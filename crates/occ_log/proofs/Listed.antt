@@ -1,10 +1,6 @@
 -- What is kept of each session, where one of the lists is replaced.
-use Rattle.std.proofs.Common.{◌≡◌, ℕ, zero, suc, ◌+◌, ◌-◌, ◌<◌, ◌≤◌, Bool, true, false, cond, List, [], ◌∷◌, ◌++◌, map, filter, get_or, length, Option, Some, refl, sym, ap, ◌∙◌, arith, eqb-true, eq-eqb, ◌==◌, nat_le, nat_lt, slice_get, slice_set, Vec}
-use Rattle.std.proofs.lemmas.Bool.Decides.{nat_tests}
-use Rattle.std.proofs.lemmas.Grind.{get_or-set_at, common_steps}
-use Rattle.std.proofs.lemmas.List.{get_or-set_other, get_or-map, map-set, map-append, get_or-append-add, get_or_append_left, get_or_past, length-set, length-map}
-use Rattle.std.proofs.lemmas.Option.{slice_get_within, get_or_from_slice_get}
-use Rattle.occ_log.specs.Listing.{Listed, IsNew, unlisted, listed_at, has_room, listed_of, all_listed}
+use Rattle.std.proofs.Common.{◌≡◌, ℕ, zero, suc, ◌+◌, ◌-◌, ◌<◌, ◌≤◌, Bool, true, false, cond, List, [], ◌∷◌, ◌++◌, filter, get_or, length, Some, refl, sym, ap, ◌∙◌, arith, ◌==◌, nat_le, nat_lt, slice_get, slice_set, Vec}
+use Rattle.occ_log.proofs.Common.{IsNew, Listed, all_listed, common_steps, get_or-append-add, get_or-map, get_or-set_at, get_or-set_other, get_or_append_left, get_or_from_slice_get, get_or_past, has_room, length-map, length-set, listed_at, listed_of, map-append, map-set, nat_tests, slice_get_within, unlisted}
 
 -- the list at a place is replaced
 set-at : (lists : List Listed) (k q : ℕ) (next : Listed) → k < length lists → get_or (slice_set lists k next) q unlisted ≡ cond (q == k) next (get_or lists q unlisted)

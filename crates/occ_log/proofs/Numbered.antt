@@ -1,12 +1,9 @@
 -- A row is found by its place, and by its session and number, through the places of its session's rows.
 use Rattle.std.proofs.Common.{◌≡◌, ℕ, zero, suc, ◌+◌, ◌-◌, ◌<◌, ◌≤◌, Bool, true, false, cond, List, [], ◌∷◌, map, filter, find, length, Option, None, Some, refl, sym, ap, subst, ◌∙◌, arith, eq-eqb, ◌&&◌, ◌==◌, is_some, nat_lt, if◌then◌else◌, option_map, slice_get}
-use Rattle.std.proofs.lemmas.Bool.{ltb-true, ltb-false, lt-ltb, ne_eqb}
-use Rattle.std.proofs.lemmas.Option.{slice_get-map, slice_get_past}
-use Rattle.occ_model.specs.Log.{LogRow, Counts, numbers}
+use Rattle.occ_log.proofs.Common.{Counts, Kept, LogRow, decided, get_or_from_slice_get, lt-ltb, ltb-false, ltb-true, ne_eqb, numbers, placed_at, places_of, row_at, rows_of, slice_get-map, slice_get_past, slice_get_within}
+use Rattle.std.proofs.lemmas.List.Elements.{All-filter}
+use Rattle.std.proofs.lemmas.Option.{slice_get-get_or}
 use Rattle.occ_model.specs.Poll.{row_numbered}
-use Rattle.occ_model.proofs.Orders.{placed_at}
-use Rattle.occ_model.proofs.Tests as tests
-use Rattle.occ_log.specs.Logs.{Kept, row_at, places_of, rows_of}
 
 -- By place.
 
@@ -16,35 +13,34 @@ before_first kept place less = ap (λ b. if b then None else slice_get kept.rows
 
 pub row_from : (kept : Kept) (place : ℕ) → kept.first ≤ place → slice_get kept.rows (place - kept.first) ≡ row_at kept place
 unfolding row_at
-row_from kept place from = tests.decided (nat_lt place kept.first)
+row_from kept place from = decided (nat_lt place kept.first)
     (λ yes. let less = ltb-true place kept.first yes in absurd (omega arith))
     (λ no. ap (λ b. if b then None else slice_get kept.rows (place - kept.first)) (sym no))
 
 -- where a row is found, its place is that of a row of the log
 pub found_from : (kept : Kept) (place : ℕ) → is_some (row_at kept place) ≡ true → (kept.first ≤ place) × (place - kept.first < length kept.rows)
-found_from kept place found = tests.decided (nat_lt place kept.first)
+found_from kept place found = decided (nat_lt place kept.first)
     (λ yes. let none = before_first kept place (ltb-true place kept.first yes) in let clash = ap is_some none ∙ found in cc)
     (λ no. let from = ltb-false place kept.first no in (
       from,
-      tests.decided (nat_lt (place - kept.first) (length kept.rows))
+      decided (nat_lt (place - kept.first) (length kept.rows))
           (λ yes. ltb-true (place - kept.first) (length kept.rows) yes)
           (λ past. let none = slice_get_past kept.rows (place - kept.first) (ltb-false (place - kept.first) (length kept.rows) past) in
           let clash = ap is_some (sym none ∙ row_from kept place from) ∙ found in cc),
     ))
+
+-- and so for what is seen of a log
+pub found-in : (inside kept : Kept) (place : ℕ) → inside ≡ kept → is_some (row_at kept place) ≡ true → (inside.first ≤ place) × (place - inside.first < length inside.rows)
+found-in inside kept place is found = found_from inside place (ap (λ k. is_some (row_at k place)) is ∙ found)
 
 pub at_index : (kept : Kept) (place : ℕ) (row : LogRow) → row_at kept place ≡ Some row → slice_get kept.rows (place - kept.first) ≡ Some row
 at_index kept place row there = row_from kept place (found_from kept place (ap is_some there)).0 ∙ there
 
 -- what passes a test stands in the list
 filtered : {X : Type 0} (test : X → Bool) (xs : List X) (i : ℕ) (x : X) → slice_get (filter test xs) i ≡ Some x → (index : ℕ) × (slice_get xs index ≡ Some x)
-filtered test [] i x there = cc
-filtered test (y ∷ ys) i x there = go (test y) i there (λ k at. let f = filtered test ys k x at in (suc f.0, f.1))
-  where
-    go : (b : Bool) (i : ℕ) → slice_get (cond b (y ∷ filter test ys) (filter test ys)) i ≡ Some x
-        → ((k : ℕ) → slice_get (filter test ys) k ≡ Some x → (index : ℕ) × (slice_get (y ∷ ys) index ≡ Some x)) → (index : ℕ) × (slice_get (y ∷ ys) index ≡ Some x)
-    go true zero at later = (0, at)
-    go true (suc k) at later = later k at
-    go false i at later = later i at
+filtered test xs i x there =
+    subst (λ y. (index : ℕ) × (slice_get xs index ≡ Some y)) (get_or_from_slice_get (filter test xs) i x x there)
+    (All-filter test (λ y. (index : ℕ) × (slice_get xs index ≡ Some y)) xs (λ k d less. (k, slice_get-get_or xs k d less)) i x (slice_get_within (filter test xs) i x there))
 
 -- at a place of a session stands its row
 pub row_is : (kept : Kept) (session i place : ℕ) → Counts kept.first (places_of kept.rows) → slice_get (places_of (rows_of session kept.rows)) i ≡ Some place → row_at kept place ≡ slice_get (rows_of session kept.rows) i

@@ -1,21 +1,9 @@
 -- The opponents of an entry, found without a scan of the log: the active ones through their sessions, the finished ones through the window.
-use Rattle.std.proofs.Common.{◌≡◌, ℕ, zero, suc, ◌+◌, ◌≤◌, Bool, true, false, cond, ◌&&◌, ◌||◌, List, [], ◌∷◌, ◌++◌, map, Option, None, Some, refl, sym, ap, subst, ◌∙◌, arith, inl, inr, ◌⊎◌, slice_get, filter, nat_lt, nat_le}
-use Rattle.std.specs.List.{list_any}
-use Rattle.std.specs.Cmp.{both_ways}
-use Rattle.std.proofs.lemmas.Bool.Decides.{nat_tests}
-use Rattle.std.proofs.lemmas.List.Folds.{list_any-append}
+use Rattle.std.proofs.Common.{◌≡◌, ℕ, zero, suc, ◌+◌, ◌≤◌, Bool, true, false, cond, ◌&&◌, ◌||◌, List, [], ◌∷◌, ◌++◌, map, Option, None, Some, refl, sym, ap, subst, ◌∙◌, arith, inl, inr, ◌⊎◌, slice_get, filter}
+use Rattle.occ_log.proofs.Common.{ActiveAreHeld, AreSame, Done, FinSet, Hold, LogRow, NumberIsBelow, NumbersAreBelow, OneUnderWay, Slot, Standing, Write, active_from, active_of, active_opponents, and_true, both_ways, decided, finished_opponents, finished_within, held_from, is_active, latest, list_any, list_any-append, nat_cmp, nat_tests, standing_at}
 use Rattle.std.proofs.lemmas.Map.Keys.{any_passes_from_place}
-use Rattle.std.specs.Ordering.{nat_cmp}
+use Rattle.std.proofs.Math.Bool.{or-false}
 use Rattle.std.specs.FinSet as sets
-use Rattle.std.specs.FinSet.{FinSet}
-use Rattle.occ_model.specs.State.{Write}
-use Rattle.occ_model.specs.Log.{LogRow, Standing, Open, Writing, Done, Back, is_active}
-use Rattle.occ_model.specs.Validity.{finished_within, finished_opponents, active_opponents, AreSame}
-use Rattle.occ_model.specs.World.{latest}
-use Rattle.occ_model.specs.Invariant.{OneUnderWay, ActiveAreHeld, NumberIsBelow, NumbersAreBelow}
-use Rattle.occ_model.proofs.Tests as tests
-use Rattle.occ_model.proofs.Logs.{standing_at}
-use Rattle.occ_log.specs.SessionStates.{Slot, Hold, held_from, active_of, active_from}
 use Rattle.occ_log.proofs.Holding.{held_place}
 use Rattle.occ_log.proofs.Places.{latest-first, latest-later}
 
@@ -31,7 +19,7 @@ any-chosen test f choose (x ∷ xs) = go (choose x) ∙ ap (λ b. (choose x && t
 
 passes_at : {X : Type 0} (test : X → Bool) (xs : List X) → list_any test xs ≡ true → (k : ℕ) × (x : X) × (slice_get xs k ≡ Some x) × (test x ≡ true)
 passes_at test [] some = cc
-passes_at test (x ∷ xs) some = tests.decided (test x)
+passes_at test (x ∷ xs) some = decided (test x)
     (λ here. (0, x, refl, here))
     (λ away. let r = passes_at test xs (sym (ap (λ b. b || list_any test xs) away) ∙ some) in (suc r.0, r.1, r.2, r.3))
 
@@ -39,31 +27,20 @@ passes_at test (x ∷ xs) some = tests.decided (test x)
 
 -- the row of a session that is under way is active and passes
 abbrev held_passes : (List Write → Bool) → (ℕ → Option LogRow) → Slot → Bool
-held_passes test find slot = elim slot.hold [
-  | None ↦ false
-  | Some hold ↦ elim (find hold.place) [ None ↦ false | Some row ↦ is_active row.standing && test row.writes ]
-]
+held_passes test find slot = list_any test (active_of find slot)
 
 through_sessions : (test : List Write → Bool) (find : ℕ → Option LogRow) (slots : List Slot) → list_any test (active_from find slots) ≡ list_any (held_passes test find) slots
 through_sessions test find [] = refl
-through_sessions test find (slot ∷ slots) = list_any-append test (active_of find slot) (active_from find slots) ∙ (λ i. held slot.hold i || through_sessions test find slots i)
-  where
-    chosen : (b : Bool) (writes : List Write) → list_any test (cond b (writes ∷ []) []) ≡ (b && test writes)
-    chosen true writes = or-false (test writes)
-      where
-        or-false : (a : Bool) → (a || false) ≡ a
-        or-false true = refl
-        or-false false = refl
-    chosen false writes = refl
+through_sessions test find (slot ∷ slots) =
+    list_any-append test (active_of find slot) (active_from find slots) ∙ ap (λ b. held_passes test find slot || b) (through_sessions test find slots)
 
-    found : (o : Option LogRow) → list_any test (elim o as (λ _. List (List Write)) [ None ↦ [] | Some row ↦ cond (is_active row.standing) (row.writes ∷ []) [] ]) ≡ (elim o as (λ _. Bool) [ None ↦ false | Some row ↦ is_active row.standing && test row.writes ])
-    found None = refl
-    found (Some row) = chosen (is_active row.standing) row.writes
+-- the writes of a row that is found, where it is active
+abbrev found_writes : Option LogRow → List (List Write)
+found_writes o = elim o [ None ↦ [] | Some row ↦ cond (is_active row.standing) (row.writes ∷ []) [] ]
 
-    held : (h : Option Hold) → list_any test (elim h as (λ _. List (List Write)) [ None ↦ [] | Some hold ↦ elim (find hold.place) [ None ↦ [] | Some row ↦ cond (is_active row.standing) (row.writes ∷ []) [] ] ])
-        ≡ (elim h as (λ _. Bool) [ None ↦ false | Some hold ↦ elim (find hold.place) [ None ↦ false | Some row ↦ is_active row.standing && test row.writes ] ])
-    held None = refl
-    held (Some hold) = found (find hold.place)
+one-passes : (test : List Write → Bool) (active : Bool) (writes : List Write) → list_any test (cond active (writes ∷ []) []) ≡ (active && test writes)
+one-passes test true writes = or-false (test writes)
+one-passes test false writes = refl
 
 -- an active row is the latest of its session
 latest_active : (log : List LogRow) (place : ℕ) (row : LogRow) → OneUnderWay log → slice_get log place ≡ Some row → is_active row.standing ≡ true → latest row.session log ≡ Some row
@@ -100,27 +77,27 @@ active_same log find slots stands one are rows test =
     from_slots : list_any (held_passes test find) slots ≡ true → list_any passes log ≡ true
     from_slots some = let s = passes_at (held_passes test find) slots some in held s.1.hold s.3
       where
-        found : (place : ℕ) (o : Option LogRow) → find place ≡ o → (elim o as (λ _. Bool) [ None ↦ false | Some row ↦ passes row ]) ≡ true → list_any passes log ≡ true
+        found : (place : ℕ) (o : Option LogRow) → find place ≡ o → list_any test (found_writes o) ≡ true → list_any passes log ≡ true
         found place None e some = cc
-        found place (Some row) e some = let s = stands place row e in any_passes_from_place passes log s.0 row s.1 some
+        found place (Some row) e some = let s = stands place row e in any_passes_from_place passes log s.0 row s.1 (sym (one-passes test (is_active row.standing) row.writes) ∙ some)
 
-        held : (h : Option Hold) → (elim h as (λ _. Bool) [ None ↦ false | Some hold ↦ elim (find hold.place) [ None ↦ false | Some row ↦ passes row ] ]) ≡ true → list_any passes log ≡ true
+        held : (h : Option Hold) → list_any test (active_of find (record { last = 0; hold = h })) ≡ true → list_any passes log ≡ true
         held None some = cc
         held (Some hold) some = found hold.place (find hold.place) refl some
 
     to_slots : list_any passes log ≡ true → list_any (held_passes test find) slots ≡ true
     to_slots some =
         let r = passes_at passes log some in
-        let active = (tests.and_true (is_active r.1.standing) (test r.1.writes) r.3).0 in
+        let active = (and_true (is_active r.1.standing) (test r.1.writes) r.3).0 in
         let slot = held_place slots r.1.session (held_active (held_from 1 slots) log r.0 r.1 are r.2 active) in
         any_passes_from_place (held_passes test find) slots slot.place slot.session slot.there
-        (ap (λ h. elim h as (λ _. Bool) [ None ↦ false | Some hold ↦ elim (find hold.place) [ None ↦ false | Some row ↦ passes row ] ]) slot.held
+        (ap (λ h. list_any test (active_of find (record { last = 0; hold = h }))) slot.held
         ∙ go (suc slot.place) slot.at r.1 r.3 (ap (λ s. latest s log) (sym slot.is_number) ∙ latest_active log r.0 r.1 one r.2 active) (rows slot.place slot.session slot.at slot.there slot.held))
       where
-        go : (session : ℕ) (hold : Hold) (row : LogRow) → passes row ≡ true → latest session log ≡ Some row → IsFoundOrNone find log session hold → (elim (find hold.place) as (λ _. Bool) [ None ↦ false | Some row ↦ passes row ]) ≡ true
+        go : (session : ℕ) (hold : Hold) (row : LogRow) → passes row ≡ true → latest session log ≡ Some row → IsFoundOrNone find log session hold → list_any test (found_writes (find hold.place)) ≡ true
         go session hold row pass is (inl at) =
             let same : at.0 ≡ row = let e = sym at.2 ∙ is in cc in
-            ap (λ o. elim o as (λ _. Bool) [ None ↦ false | Some row ↦ passes row ]) at.1 ∙ ap passes same ∙ pass
+            ap (λ o. list_any test (found_writes o)) (at.1 ∙ ap Some same) ∙ one-passes test (is_active row.standing) row.writes ∙ pass
         go session hold row pass is (inr none) = let e : None ≡ Some row = sym none ∙ is in cc
 
 -- The finished ones.
@@ -129,35 +106,35 @@ active_same log find slots stands one are rows test =
 abbrev pub some_finished : (List Write → Bool) → List LogRow → ℕ → ℕ → ℕ → Bool
 some_finished test log finish low start = list_any test (finished_opponents log finish low start)
 
+-- whether a row does
+abbrev finishes : (List Write → Bool) → ℕ → ℕ → ℕ → LogRow → Bool
+finishes test finish low start row = (finished_within low finish row.standing && finished_within start finish row.standing) && test row.writes
+
+among : (test : List Write → Bool) (rows : List LogRow) (finish low start : ℕ) → some_finished test rows finish low start ≡ list_any (finishes test finish low start) rows
+among test rows finish low start = any-chosen test (λ (row : LogRow). row.writes) (λ row. finished_within low finish row.standing && finished_within start finish row.standing) rows
+
 pub any-finished : (test : List Write → Bool) (row : LogRow) (rows : List LogRow) (finish low start : ℕ) → some_finished test (row ∷ rows) finish low start
     ≡ (((finished_within low finish row.standing && finished_within start finish row.standing) && test row.writes) || some_finished test rows finish low start)
-any-finished test row rows finish low start = any-chosen test (λ (r : LogRow). r.writes) within (row ∷ rows) ∙ ap (λ b. (within row && test row.writes) || b) (sym (any-chosen test (λ (r : LogRow). r.writes) within rows))
-  where
-    within : LogRow → Bool
-    within r = finished_within low finish r.standing && finished_within start finish r.standing
+any-finished test row rows finish low start = among test (row ∷ rows) finish low start ∙ ap (λ b. finishes test finish low start row || b) (sym (among test rows finish low start))
 
 -- a row that isn't finished adds nothing
 pub finished-push : (test : List Write → Bool) (rows : List LogRow) (row : LogRow) (finish low start : ℕ) → finished_within low finish row.standing ≡ false → some_finished test (rows ++ row ∷ []) finish low start ≡ some_finished test rows finish low start
-finished-push test [] row finish low start out = any-finished test row [] finish low start ∙ ap (λ b. ((b && finished_within start finish row.standing) && test row.writes) || false) out
-finished-push test (x ∷ xs) row finish low start out =
-    grind (arith, any-finished test x (xs ++ row ∷ []) finish low start, any-finished test x xs finish low start, finished-push test xs row finish low start out)
+finished-push test rows row finish low start out =
+    grind (arith, among test (rows ++ row ∷ []) finish low start, among test rows finish low start, list_any-append (finishes test finish low start) rows (row ∷ []), out)
 
 -- a row that turns without finishing changes nothing
 pub finished-turn : (test : List Write → Bool) (before later : List LogRow) (row : LogRow) (standing : Standing) (finish low start : ℕ)
     → finished_within low finish row.standing ≡ false → finished_within low finish standing ≡ false
     → some_finished test (before ++ standing_at row standing ∷ later) finish low start ≡ some_finished test (before ++ row ∷ later) finish low start
-finished-turn test [] later row standing finish low start was now =
-    grind (arith, any-finished test (standing_at row standing) later finish low start, any-finished test row later finish low start, was, now)
-finished-turn test (x ∷ xs) later row standing finish low start was now =
-    grind (arith, any-finished test x (xs ++ standing_at row standing ∷ later) finish low start, any-finished test x (xs ++ row ∷ later) finish low start, finished-turn test xs later row standing finish low start was now)
+finished-turn test before later row standing finish low start was now =
+    let own = finishes test finish low start in
+    grind (arith, among test (before ++ standing_at row standing ∷ later) finish low start, among test (before ++ row ∷ later) finish low start, list_any-append own before (standing_at row standing ∷ later), list_any-append own before (row ∷ later), was, now)
 
 -- One row more finishes: it takes the next number.
 module _ (test : List Write → Bool) (counter low start : ℕ) where
   within_more : (s : Standing) → NumberIsBelow counter s → (bound : ℕ) → finished_within bound (counter + 1) s ≡ finished_within bound counter s
-  within_more (Open index case) below bound = refl
-  within_more (Writing done) below bound = refl
-  within_more (Back cause) below bound = refl
   within_more (Done number) below bound = grind (arith, nat_tests)
+  within_more standing below bound = refl
 
   others_more : (rows : List LogRow) → NumbersAreBelow counter rows → some_finished test rows (counter + 1) low start ≡ some_finished test rows counter low start
   others_more [] below = refl
@@ -184,12 +161,9 @@ module _ (test : List Write → Bool) (counter low start : ℕ) where
 
 -- above a start, the window's own lower end says nothing more
 pub finished-low : (test : List Write → Bool) (rows : List LogRow) (finish low higher start : ℕ) → low ≤ start → higher ≤ start → some_finished test rows finish low start ≡ some_finished test rows finish higher start
-finished-low test [] finish low higher start up more = refl
-finished-low test (x ∷ xs) finish low higher start up more =
-    grind (arith, any-finished test x xs finish low start, any-finished test x xs finish higher start, same x.standing, finished-low test xs finish low higher start up more)
+finished-low test rows finish low higher start up more =
+    among test rows finish low start ∙ (λ i. list_any (λ row. same row.standing i && test row.writes) rows) ∙ sym (among test rows finish higher start)
   where
     same : (s : Standing) → (finished_within low finish s && finished_within start finish s) ≡ (finished_within higher finish s && finished_within start finish s)
-    same (Open index case) = refl
-    same (Writing done) = refl
-    same (Back cause) = refl
     same (Done number) = grind (arith, nat_tests)
+    same standing = refl

@@ -1,16 +1,9 @@
 -- The log as an array: rows that are replaced in place, and rows that come in.
-use Rattle.std.proofs.Common.{◌≡◌, ℕ, zero, suc, ◌+◌, ◌<◌, Bool, true, false, cond, List, [], ◌∷◌, ◌++◌, length, Option, None, Some, refl, sym, ap, ◌∙◌, arith, eqb-true, eq-eqb, slice_get, slice_set, ◌==◌, filter, if◌then◌else◌}
-use Rattle.std.proofs.lemmas.Bool.{ne_eqb}
-use Rattle.std.proofs.lemmas.List as lists
-use Rattle.std.proofs.lemmas.List.{length-append}
-use Rattle.std.proofs.lemmas.List.Elements.{filter-append}
-use Rattle.std.proofs.lemmas.Option.{slice_get_within}
-use Rattle.occ_model.specs.Log.{LogRow, Standing, is_active}
-use Rattle.occ_model.specs.World.{latest, turn}
-use Rattle.occ_model.proofs.Tests as tests
-use Rattle.occ_model.proofs.Logs.{standing_at}
+use Rattle.std.proofs.Common.{◌≡◌, ℕ, zero, suc, ◌+◌, ◌<◌, Bool, true, false, cond, List, [], ◌∷◌, ◌++◌, length, Option, None, Some, refl, sym, ap, ◌∙◌, eq-eqb, slice_get, slice_set, ◌==◌, filter, if◌then◌else◌}
+use Rattle.occ_log.proofs.Common.{IsHeldAt, LogRow, Standing, filter-append, get_or_from_slice_get, is_active, latest, length-append, ne_eqb, slice_get_within, standing_at, turn}
+use Rattle.std.proofs.lemmas.List.Sums.{length-filter, sum_by-set}
 use Rattle.occ_model.proofs.Turns.{latest-push}
-use Rattle.occ_log.specs.SessionStates.{IsHeldAt}
+use Rattle.std.proofs.lemmas.List as lists
 
 pub slice_get-set : {X : Type 0} (xs : List X) (k : ℕ) (x y : X) → slice_get xs k ≡ Some x → slice_get (slice_set xs k y) k ≡ Some y
 slice_get-set [] k x y there = cc
@@ -24,16 +17,28 @@ slice_get-other (z ∷ zs) zero (suc q) y ne = refl
 slice_get-other (z ∷ zs) (suc k) zero y ne = refl
 slice_get-other (z ∷ zs) (suc k) (suc q) y ne = slice_get-other zs k q y (λ e. ne (ap suc e))
 
+-- what is made of a choice is a choice of what is made of both
+pub of_cond : {X Y : Type 0} (f : X → Y) (b : Bool) (x y : X) → f (cond b x y) ≡ cond b (f x) (f y)
+of_cond f true x y = refl
+of_cond f false x y = refl
+
+-- a recursion over a list that sees of each element only a part has the same value after one was replaced by another with that part
+pub set-unseen : {X Y Z : Type 0} (F : List X → Z) (part : X → Y) (step : Y → Z → Z) → ((x : X) (xs : List X) → F (x ∷ xs) ≡ step (part x) (F xs))
+    → (xs : List X) (k : ℕ) (old next : X) → slice_get xs k ≡ Some old → part next ≡ part old → F (slice_set xs k next) ≡ F xs
+set-unseen F part step steps [] k old next there same = refl
+set-unseen F part step steps (x ∷ xs) zero old next there same =
+    let is : old ≡ x = cc in steps next xs ∙ ap (λ y. step y (F xs)) (same ∙ ap part is) ∙ sym (steps x xs)
+set-unseen F part step steps (x ∷ xs) (suc k) old next there same =
+    steps x (slice_set xs k next) ∙ ap (step (part x)) (set-unseen F part step steps xs k old next there same) ∙ sym (steps x xs)
+
 pub slice_get-below : {X : Type 0} (xs : List X) (k : ℕ) (x : X) → slice_get xs k ≡ Some x → k < length xs
 slice_get-below = slice_get_within
 
 pub latest-first : (session : ℕ) (first : LogRow) (rows : List LogRow) → latest session rows ≡ None → first.session ≡ session → latest session (first ∷ rows) ≡ Some first
-latest-first session first rows none is =
-    ap (λ l. elim l as (λ _. Option LogRow) [ None ↦ if first.session == session then Some first else None | Some l ↦ Some l ]) none
-    ∙ ap (λ b. if b then Some first else None) (eq-eqb first.session session is)
+latest-first session first rows none is = rw (none, eq-eqb first.session session is)
 
 pub latest-later : (session : ℕ) (first row : LogRow) (rows : List LogRow) → latest session rows ≡ Some row → latest session (first ∷ rows) ≡ Some row
-latest-later session first row rows is = ap (λ l. elim l as (λ _. Option LogRow) [ None ↦ if first.session == session then Some first else None | Some l ↦ Some l ]) is
+latest-later session first row rows is = rw is
 
 pub held_latest : (session place : ℕ) (log : List LogRow) (row : LogRow) → IsHeldAt session place log row → latest session log ≡ Some row
 held_latest session place [] row at = absurd at
@@ -73,8 +78,7 @@ none-later session first rows none = go (latest session rows) refl (first.sessio
     go (Some r) e b own none = cc
 
 none-first : (session : ℕ) (first : LogRow) (rows : List LogRow) → latest session rows ≡ None → (first.session == session) ≡ false → latest session (first ∷ rows) ≡ None
-none-first session first rows none other =
-    ap (λ l. elim l as (λ _. Option LogRow) [ None ↦ if first.session == session then Some first else None | Some r ↦ Some r ]) none ∙ ap (λ b. if b then Some first else None) other
+none-first session first rows none other = rw (none, other)
 
 -- a session that has no row has none after another row was replaced
 pub latest-none-set : (session k : ℕ) (rows : List LogRow) (old next : LogRow) → slice_get rows k ≡ Some old → next.session ≡ old.session → latest session rows ≡ None → latest session (slice_set rows k next) ≡ None
@@ -112,18 +116,8 @@ held-push-own session (first ∷ rows) next is = held-push-own session rows next
 abbrev pub count_active : List LogRow → ℕ
 count_active log = length (filter (λ row. is_active row.standing) log)
 
-count-append : (xs ys : List LogRow) → count_active (xs ++ ys) ≡ count_active xs + count_active ys
-count-append xs ys = simp (filter-append, length-append)
-
-count-first : (row : LogRow) (rows : List LogRow) → count_active (row ∷ rows) ≡ cond (is_active row.standing) 1 0 + count_active rows
-count-first row rows = go (is_active row.standing)
-  where
-    go : (b : Bool) → length (cond b (row ∷ filter (λ r. is_active r.standing) rows) (filter (λ r. is_active r.standing) rows)) ≡ cond b 1 0 + count_active rows
-    go true = omega arith
-    go false = omega arith
-
 pub count-push : (rows : List LogRow) (row : LogRow) → count_active (rows ++ row ∷ []) ≡ count_active rows + cond (is_active row.standing) 1 0
-count-push rows row = let more = count-append rows (row ∷ []) in let one = count-first row [] in omega arith
+count-push rows row = simp (filter-append, length-append) (ap (λ n. count_active rows + n) (of_cond length (is_active row.standing) (row ∷ []) []))
 
 -- the log around a row at a place
 pub record Split (log : List LogRow) (place : ℕ) (row : LogRow) : Type 0 where
@@ -141,12 +135,9 @@ split-at (first ∷ rows) (suc place) row there =
 
 pub count-set : (log : List LogRow) (k : ℕ) (old next : LogRow) → slice_get log k ≡ Some old → count_active (slice_set log k next) + cond (is_active old.standing) 1 0 ≡ count_active log + cond (is_active next.standing) 1 0
 count-set log k old next there =
-    let s = split-at log k old there in
-    let was = ap count_active s.was ∙ count-append s.before (old ∷ s.later) in
-    let now = ap count_active (s.now next) ∙ count-append s.before (next ∷ s.later) in
-    let first = count-first old s.later in
-    let other = count-first next s.later in
-    omega arith
+    (λ i. length-filter (λ row. is_active row.standing) (slice_set log k next) i + cond (is_active (sym (get_or_from_slice_get log k old old there) i).standing) 1 0)
+    ∙ sum_by-set (λ row. cond (is_active row.standing) 1 0) log k next old (slice_get_within log k old there)
+    ∙ (λ i. sym (length-filter (λ row. is_active row.standing) log) i + cond (is_active next.standing) 1 0)
 
 pub length-set : {X : Type 0} (xs : List X) (k : ℕ) (x : X) → length (slice_set xs k x) ≡ length xs
 length-set = lists.length-set
@@ -171,13 +162,6 @@ first_number base session first rows = go (latest session rows) (first.session =
 
 -- a row that is replaced by one of its session and number leaves each session's latest number
 pub number-set : (base session k : ℕ) (log : List LogRow) (row next : LogRow) → slice_get log k ≡ Some row → next.session ≡ row.session → next.number ≡ row.number → latest_number_or base session (slice_set log k next) ≡ latest_number_or base session log
-number-set base session k [] row next there same number = refl
-number-set base session zero (first ∷ rows) row next there same number =
-    let e : first ≡ row = cc in
-    first_number base session next rows
-    ∙ (λ i. latest_number_or (if (same ∙ ap (λ r. r.session) (sym e)) i == session then (number ∙ ap (λ r. r.number) (sym e)) i else base) session rows)
-    ∙ sym (first_number base session first rows)
-number-set base session (suc k) (first ∷ rows) row next there same number =
-    first_number base session first (slice_set rows k next)
-    ∙ number-set (if first.session == session then first.number else base) session k rows row next there same number
-    ∙ sym (first_number base session first rows)
+number-set base session k log row next there same number =
+    ap (λ (f : ℕ → ℕ). f base) (set-unseen {Y = ℕ × ℕ} {Z = ℕ → ℕ} (λ rows base. latest_number_or base session rows) (λ row. (row.session, row.number)) (λ seen later base. later (if seen.0 == session then seen.1 else base))
+    (λ first rows i base. first_number base session first rows i) log k row next there (λ i. (same i, number i)))

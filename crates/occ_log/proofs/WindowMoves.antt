@@ -1,6 +1,6 @@
 -- The window's own step, as the step of the window in the model.
 use Rattle.std.proofs.Common.{◌≡◌, ℕ, ◌+◌, ◌-◌, List, [], ◌∷◌, ◌++◌, drop, length, ap, arith}
-use Rattle.occ_model.specs.State.{Write}
+use Rattle.occ_log.proofs.Common.{Write}
 use Rattle.occ_log.specs.Window.{Window, advanced}
 use Rattle.occ_log.proofs.Windows.{moved_window}
 

@@ -1,6 +1,5 @@
 use Rattle.std.proofs.Common.{◌<◌, length, arith}
-use Rattle.std.proofs.lemmas.List.{length-map}
-use Rattle.occ_log.specs.Listing.{all_listed, listed_of}
+use Rattle.occ_log.proofs.Common.{all_listed, length-map, listed_of}
 use Rattle.occ_log.proofs.Listed.{begun-next}
 use Rattle.occ_log.proofs.listing.Listing.begin_at.Goals as goal
 

@@ -1,4 +1,4 @@
-use Rattle.occ_log.specs.Listing.{all_listed}
+use Rattle.occ_log.proofs.Common.{all_listed}
 use Rattle.occ_log.proofs.Listed.{Begun}
 use Rattle.occ_log.proofs.listing.Listing.begin_at.Given as goal
 

@@ -1,8 +1,6 @@
-use Rattle.std.proofs.Common.{◌≡◌, ◌≤◌, ◌-◌, suc, refl, sym, ap, ◌∙◌, arith, slice_get}
-use Rattle.std.specs.Option.{option_copied}
-use Rattle.occ_log.specs.Listing.{listed_at}
+use Rattle.std.proofs.Common.{◌≡◌, suc, refl, sym, ap, ◌∙◌, arith, slice_get}
+use Rattle.occ_log.proofs.Common.{listed_at, option_copied, table-at}
 use Rattle.occ_log.proofs.Listed.{listed-found}
-use Rattle.occ_book.proofs.Views.{table-at}
 use Rattle.occ_log.proofs.listing.Listing.get.Goals as goal
 
 pub returns : goal.returns

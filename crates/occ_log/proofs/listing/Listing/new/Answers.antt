@@ -1,5 +1,3 @@
-use Rattle.std.proofs.Common.{ap, ◌∙◌, length}
-use Rattle.occ_log.specs.Listing.{listed_at, all_listed}
 use Rattle.occ_log.proofs.Listed.{new-more}
 use Rattle.occ_log.proofs.listing.Listing.new.Goals as goal
 

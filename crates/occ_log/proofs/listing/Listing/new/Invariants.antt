@@ -1,4 +1,4 @@
-use Rattle.occ_log.specs.Listing.{IsNew, all_listed}
+use Rattle.occ_log.proofs.Common.{IsNew, all_listed}
 use Rattle.occ_log.proofs.listing.Listing.new.Given as goal
 
 abbrev pub invariant-loop : goal.invariant-loop

@@ -1,6 +1,5 @@
-use Rattle.std.proofs.Common.{◌≡◌, ◌-◌, suc, [], ◌∷◌, ◌++◌, cond, sym, ap, ◌∙◌, arith, ◌==◌}
-use Rattle.std.proofs.lemmas.Bool.{ltb-true}
-use Rattle.occ_log.specs.Listing.{Listed, listed_at}
+use Rattle.std.proofs.Common.{◌-◌, [], ◌∷◌, ◌++◌, cond, ap, ◌∙◌, arith, ◌==◌}
+use Rattle.occ_log.proofs.Common.{listed_at, ltb-true}
 use Rattle.occ_log.proofs.Listed.{room-at, places-now}
 use Rattle.occ_log.proofs.listing.Listing.push.Goals as goal
 

@@ -1,8 +1,5 @@
-use Rattle.std.proofs.Common.{◌≡◌, ◌<◌, ◌-◌, suc, length, sym, ap, ◌∙◌, arith}
-use Rattle.std.proofs.lemmas.Bool.{lt-ltb}
-use Rattle.std.proofs.lemmas.List.{length-map}
-use Rattle.std.proofs.lemmas.Result.{on_ok_weaker}
-use Rattle.occ_log.specs.Listing.{listed_at, listed_of}
+use Rattle.std.proofs.Common.{◌≡◌, ◌-◌, length, sym, ap, ◌∙◌, arith}
+use Rattle.occ_log.proofs.Common.{length-map, listed_at, listed_of, lt-ltb, on_ok_weaker}
 use Rattle.occ_log.proofs.Listed.{places-now, free-now, either}
 use Rattle.occ_log.proofs.listing.Listing.reserve.Goals as goal
 

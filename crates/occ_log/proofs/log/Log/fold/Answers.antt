@@ -1,8 +1,5 @@
-use Rattle.std.proofs.Common.{◌≡◌, ◌-◌, ◌+◌, suc, false, drop, get_or, length, refl, sym, ap, ◌∙◌, arith}
-use Rattle.std.proofs.lemmas.List.{length-map, drop-map}
-use Rattle.occ_model.proofs.Tests.{and_true, both_true}
-use Rattle.occ_log.specs.Listing.{has_room}
-use Rattle.occ_log.specs.Rows.{log_row_of, log_of}
+use Rattle.std.proofs.Common.{◌-◌, suc, false, drop, get_or, length, sym, ap, ◌∙◌, arith}
+use Rattle.occ_log.proofs.Common.{and_true, both_true, drop-map, has_room, length-map, log_of, log_row_of}
 use Rattle.occ_log.proofs.Folding.{listed-drop, room-at}
 use Rattle.occ_log.proofs.log.Log.fold.Goals as goal
 

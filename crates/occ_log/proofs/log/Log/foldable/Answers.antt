@@ -1,5 +1,5 @@
 use Rattle.std.proofs.Common.{ap, ◌∙◌, length}
-use Rattle.occ_model.specs.Step.{foldable_part}
+use Rattle.occ_log.proofs.Common.{foldable_part}
 use Rattle.occ_log.proofs.Folding.{foldable_rows}
 use Rattle.occ_log.proofs.log.Log.foldable.Goals as goal
 

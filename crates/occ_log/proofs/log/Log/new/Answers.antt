@@ -1,7 +1,5 @@
 use Rattle.std.proofs.Common.{sym, ap, subst, refl, ◌∙◌}
-use Rattle.occ_model.specs.Log.{Counts}
-use Rattle.occ_log.specs.Logs.{places_of, rows_of}
-use Rattle.occ_log.specs.Rows.{log_of}
+use Rattle.occ_log.proofs.Common.{Counts, log_of, places_of, rows_of}
 use Rattle.occ_log.proofs.log.Log.new.Goals as goal
 
 pub invariant_of-result : goal.invariant_of-result

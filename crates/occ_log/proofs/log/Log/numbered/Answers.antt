@@ -1,5 +1,5 @@
 use Rattle.std.proofs.Common.{◌∙◌, sym, arith}
-use Rattle.occ_log.specs.Rows.{log_row_of}
+use Rattle.occ_log.proofs.Common.{log_row_of}
 use Rattle.occ_log.proofs.Numbered.{none_numbered, below_none, numbered_from}
 use Rattle.occ_log.proofs.log.Log.numbered.Goals as goal
 

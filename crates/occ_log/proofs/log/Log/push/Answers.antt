@@ -1,9 +1,5 @@
-use Rattle.std.proofs.Common.{◌≡◌, ◌-◌, ◌+◌, false, [], ◌∷◌, ◌++◌, get_or, length, sym, ap, ◌∙◌, arith}
-use Rattle.std.proofs.lemmas.Bool.{ltb-true}
-use Rattle.std.proofs.lemmas.List.{map-append}
-use Rattle.occ_model.proofs.Tests.{and_true}
-use Rattle.occ_log.specs.Listing.{has_room}
-use Rattle.occ_log.specs.Rows.{log_row_of, log_of}
+use Rattle.std.proofs.Common.{◌-◌, ◌+◌, false, [], ◌∷◌, ◌++◌, get_or, length, sym, ap, ◌∙◌}
+use Rattle.occ_log.proofs.Common.{and_true, has_room, log_of, log_row_of, ltb-true, map-append}
 use Rattle.occ_log.proofs.Folding.{listed-push, room-of}
 use Rattle.occ_log.proofs.log.Log.push.Goals as goal
 

@@ -1,9 +1,5 @@
-use Rattle.std.proofs.Common.{◌≡◌, refl, ap, ◌∙◌, arith}
-use Rattle.std.proofs.lemmas.Bool.{lt-ltb}
-use Rattle.std.proofs.lemmas.Result.{on_ok_weaker}
-use Rattle.occ_model.proofs.Tests.{both_true}
-use Rattle.occ_log.specs.Listing.{has_room}
-use Rattle.occ_log.specs.Rows.{log_of}
+use Rattle.std.proofs.Common.{refl, ap, ◌∙◌, arith}
+use Rattle.occ_log.proofs.Common.{both_true, has_room, log_of, lt-ltb, on_ok_weaker}
 use Rattle.occ_log.proofs.Folding.{listed-same, room-of}
 use Rattle.occ_log.proofs.log.Log.reserve.Goals as goal
 

@@ -1,6 +1,5 @@
 use Rattle.std.proofs.Common.{◌<◌, ◌≤◌, ◌-◌, refl, ap, ◌∙◌, arith}
-use Rattle.occ_log.specs.Logs.{row_at, kept_of}
-use Rattle.occ_log.specs.Rows.{log_row_of, log_of}
+use Rattle.occ_log.proofs.Common.{kept_of, log_of, log_row_of, row_at}
 use Rattle.occ_log.proofs.Changes.{seen_at}
 use Rattle.occ_log.proofs.Numbered.{before_first, row_from}
 use Rattle.occ_log.proofs.log.Log.row.Goals as goal

@@ -1,6 +1,5 @@
 use Rattle.std.proofs.Common.{sym, ap, ◌∙◌, slice_get}
-use Rattle.occ_log.specs.Logs.{kept_of, row_at, rows_of}
-use Rattle.occ_log.specs.Rows.{log_of}
+use Rattle.occ_log.proofs.Common.{kept_of, log_of, row_at, rows_of}
 use Rattle.occ_log.proofs.Numbered.{none_is, row_is}
 use Rattle.occ_log.proofs.log.Log.row_of.Goals as goal
 

@@ -1,6 +1,6 @@
 use Rattle.std.proofs.Common.{ap, ◌∙◌}
+use Rattle.occ_log.proofs.Common.{log_of}
 use Rattle.occ_book.proofs.RowCopies.{same_rows}
-use Rattle.occ_log.specs.Rows.{log_of}
 use Rattle.occ_log.proofs.log.Log.share_rows.Goals as goal
 
 pub returns : goal.returns

@@ -1,7 +1,5 @@
 use Rattle.std.proofs.Common.{◌≡◌, [], ◌∷◌, ◌++◌, None, ap, ◌∙◌, arith}
-use Rattle.occ_log.specs.SessionStates.{idle_slots}
-use Rattle.occ_log.specs.Rows.{slot_of, slots_of}
-use Rattle.std.proofs.lemmas.List.{map-append}
+use Rattle.occ_log.proofs.Common.{idle_slots, map-append, slot_of, slots_of}
 use Rattle.occ_log.proofs.Changes.{idle-push}
 use Rattle.occ_log.proofs.sessions.Sessions.new.Goals as goal
 

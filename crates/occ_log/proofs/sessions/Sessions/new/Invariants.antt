@@ -1,6 +1,5 @@
 use Rattle.std.proofs.Common.{◌≡◌}
-use Rattle.occ_log.specs.SessionStates.{idle_slots}
-use Rattle.occ_log.specs.Rows.{slots_of}
+use Rattle.occ_log.proofs.Common.{idle_slots, slots_of}
 use Rattle.occ_log.proofs.sessions.Sessions.new.Given as goal
 
 abbrev pub invariant-loop : goal.invariant-loop

@@ -1,5 +1,5 @@
 use Rattle.std.proofs.Common.{ap, ◌∙◌, slice_set}
-use Rattle.occ_log.specs.Rows.{slots_of}
+use Rattle.occ_log.proofs.Common.{slots_of}
 use Rattle.occ_log.proofs.Changes.{let_go}
 use Rattle.occ_log.proofs.sessions.Sessions.release.Goals as goal
 

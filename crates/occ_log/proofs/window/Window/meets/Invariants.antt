@@ -1,6 +1,5 @@
 use Rattle.std.proofs.Common.{◌≡◌, drop, map}
-use Rattle.std.specs.List.{list_any}
-use Rattle.occ_model.specs.State.{meets_reads}
+use Rattle.occ_log.proofs.Common.{list_any, meets_reads}
 use Rattle.occ_log.proofs.window.Window.meets.Given as goal
 
 -- whether some set meets the reads is what the sets still to come say
