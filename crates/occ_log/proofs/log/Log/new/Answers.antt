@@ -1,4 +1,4 @@
-use Rattle.std.proofs.Common.{sym, ap, subst, refl, ◌∙◌}
+use Rattle.std.proofs.Common.{sym, ap, subst, ◌∙◌}
 use Rattle.occ_log.proofs.Common.{Counts, log_of, places_of, rows_of}
 use Rattle.occ_log.proofs.log.Log.new.Goals as goal
 
@@ -7,6 +7,3 @@ invariant_of-result g c = record {
   placed = subst (λ rows. Counts 0 (places_of (log_of rows))) (sym c.new-2.ensures.items) tt;
   listed = λ session. c.in_ok-places.ensures.none session ∙ sym (ap (λ rows. places_of (rows_of session (log_of rows))) c.new-2.ensures.items);
 }
-
-pub returns : goal.returns
-returns g c = record { first = refl; rows = ap log_of c.new-2.ensures.items; sessions = c.in_ok-places.ensures.sessions }
