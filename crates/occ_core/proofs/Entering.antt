@@ -149,7 +149,7 @@ entry_refusal parts session number start writes sound =
 
     turn : Option Fault → List (Option Fault)
     turn o =
-        o ∷ closed ∷ due_fault (last_of parts.slots (session - 1)) number ∷ busy_fault (slice_get parts.slots (session - 1)) ∷ spare_fault number ∷ start_fault parts.phases parts.counter session number start ∷ []
+        o ∷ closed ∷ due_fault (last_of parts.slots (session - 1)) number ∷ busy_fault (slice_get parts.slots (session - 1)) ∷ spare_fault number ∷ start_fault (finite.get parts.phases (session, number)) parts.counter start ∷ []
 
     rest : List (Option Fault)
     rest = refusals.numbers_exhausted number ∷ refusals.wrong_start w session number start ∷ check_writes parts.settings.schema writes ∷ refusals.log_full w ∷ refusals.counter_exhausted w ∷ []
@@ -165,7 +165,7 @@ entry_refusal parts session number start writes sound =
         ∙ ap (λ last. first_fault (closed ∷ due_fault last number ∷ refusals.session_busy w session ∷ None ∷ rest)) (sym (last_is parts session sound e))
         ∙ ap (λ o. first_fault (closed ∷ due_fault (last_of parts.slots (session - 1)) number ∷ o ∷ None ∷ rest)) (busy_is parts session sound e)
         ∙ without closed (due_fault (last_of parts.slots (session - 1)) number) (busy_fault (slice_get parts.slots (session - 1))) rest
-        ∙ ap (λ o. first_fault (closed ∷ due_fault (last_of parts.slots (session - 1)) number ∷ busy_fault (slice_get parts.slots (session - 1)) ∷ spare_fault number ∷ start_fault parts.phases parts.counter session number start
+        ∙ ap (λ o. first_fault (closed ∷ due_fault (last_of parts.slots (session - 1)) number ∷ busy_fault (slice_get parts.slots (session - 1)) ∷ spare_fault number ∷ start_fault (finite.get parts.phases (session, number)) parts.counter start
         ∷ check_writes parts.settings.schema writes ∷ log_fault (length parts.log) ∷ o ∷ [])) (counter_is parts sound)
         ∙ sym (nest_last (turn None) room) ∙ sym (nest (turn None) (first_fault room ∷ []))
         ∙ sym (ap (λ o. first_fault (first_fault (turn o) ∷ first_fault room ∷ [])) e)

@@ -25,7 +25,9 @@ use Rattle.occ_log.specs.Phases.{reads_of}
 use Rattle.occ_core.specs.Reads.{session_fault, closed_fault, number_fault, start_fault, turn_to_read, size_fault, room_to_read, noted}
 use Rattle.occ_core.specs.Replies.{reading, scanning, forgetting}
 use Rattle.occ_log.specs.SessionStates.{last_of}
+use Rattle.occ_core.specs.Core.{parts_of, IsCore}
 use Rattle.occ_core.specs.CoreParts.{Parts, world_of, AreSound}
+use Rattle.occ_core.specs.declared.core_state.Core.TheInside.{Inside}
 use Rattle.occ_core.proofs.Moves.{slot_same, read_moves}
 
 pub session_is : (parts : Parts) (session : ℕ) → AreSound parts → refusals.no_session (world_of parts) session ≡ session_fault parts.slots session
@@ -84,21 +86,21 @@ nested None None None None others = refl
 
 turn_is : (parts : Parts) (session number start : ℕ) (others : List (Option Fault)) → AreSound parts
     → first_fault (refusals.no_session (world_of parts) session ∷ refusals.session_closed (world_of parts) session ∷ refusals.not_readable (world_of parts) session number ∷ refusals.wrong_start (world_of parts) session number start ∷ others)
-    ≡ first_fault (turn_to_read parts.slots parts.marks parts.phases parts.counter session number start ∷ others)
+    ≡ first_fault (turn_to_read parts.slots parts.marks (finite.get parts.phases (session, number)) parts.counter session number start ∷ others)
 turn_is parts session number start others sound =
     ap (λ o. first_fault (o ∷ refusals.session_closed w session ∷ refusals.not_readable w session number ∷ refusals.wrong_start w session number start ∷ others)) (session_is parts session sound)
     ∙ at (session_fault parts.slots session) refl
-    ∙ sym (nested (session_fault parts.slots session) (closed_fault parts.marks session) (number_fault (last_of parts.slots (session - 1)) number) (start_fault parts.phases parts.counter session number start) others)
+    ∙ sym (nested (session_fault parts.slots session) (closed_fault parts.marks session) (number_fault (last_of parts.slots (session - 1)) number) (start_fault (finite.get parts.phases (session, number)) parts.counter start) others)
   where
     w : World
     w = world_of parts
 
     at : (o : Option Fault) → session_fault parts.slots session ≡ o
         → first_fault (session_fault parts.slots session ∷ refusals.session_closed w session ∷ refusals.not_readable w session number ∷ refusals.wrong_start w session number start ∷ others)
-        ≡ first_fault (session_fault parts.slots session ∷ closed_fault parts.marks session ∷ number_fault (last_of parts.slots (session - 1)) number ∷ start_fault parts.phases parts.counter session number start ∷ others)
+        ≡ first_fault (session_fault parts.slots session ∷ closed_fault parts.marks session ∷ number_fault (last_of parts.slots (session - 1)) number ∷ start_fault (finite.get parts.phases (session, number)) parts.counter start ∷ others)
     at (Some f) e =
         ap (λ o. first_fault (o ∷ refusals.session_closed w session ∷ refusals.not_readable w session number ∷ refusals.wrong_start w session number start ∷ others)) e
-        ∙ sym (ap (λ o. first_fault (o ∷ closed_fault parts.marks session ∷ number_fault (last_of parts.slots (session - 1)) number ∷ start_fault parts.phases parts.counter session number start ∷ others)) e)
+        ∙ sym (ap (λ o. first_fault (o ∷ closed_fault parts.marks session ∷ number_fault (last_of parts.slots (session - 1)) number ∷ start_fault (finite.get parts.phases (session, number)) parts.counter start ∷ others)) e)
     at None e = ap (λ last. first_fault (session_fault parts.slots session ∷ closed_fault parts.marks session ∷ number_fault last number ∷ refusals.wrong_start w session number start ∷ others)) (sym (last_is parts session sound e))
 
 pub reads_are : (o : Option ReadPhase) → (elim o as (λ _. List Observation) [ None ↦ [] | Some phase ↦ phase.reads ]) ≡ reads_of o
@@ -107,13 +109,35 @@ reads_are (Some phase) = refl
 
 read_refusal : (parts : Parts) (session number start : ℕ) (question : Question) → AreSound parts
     → refusal (world_of parts) (Read session number start question)
-    ≡ first_fault (turn_to_read parts.slots parts.marks parts.phases parts.counter session number start ∷ check_question parts.settings.schema question ∷ size_fault parts.table question ∷ room_to_read parts.phases session number ∷ [])
+    ≡ first_fault (turn_to_read parts.slots parts.marks (finite.get parts.phases (session, number)) parts.counter session number start ∷ check_question parts.settings.schema question ∷ size_fault parts.table question ∷ room_to_read (finite.get parts.phases (session, number)) ∷ [])
 read_refusal parts session number start question sound =
     turn_is parts session number start (check_question parts.settings.schema question ∷ refusals.range_too_large (world_of parts) question ∷ refusals.questions_full (world_of parts) session number ∷ []) sound
-    ∙ ap (λ reads. first_fault (turn_to_read parts.slots parts.marks parts.phases parts.counter session number start ∷ check_question parts.settings.schema question ∷ size_fault parts.table question ∷ fault_if (nat_le MAX_QUESTIONS (length reads)) faults.SetFull ∷ []))
+    ∙ ap (λ reads. first_fault (turn_to_read parts.slots parts.marks (finite.get parts.phases (session, number)) parts.counter session number start ∷ check_question parts.settings.schema question ∷ size_fault parts.table question ∷ fault_if (nat_le MAX_QUESTIONS (length reads)) faults.SetFull ∷ []))
     (reads_are (finite.get parts.phases (session, number)))
 
--- what a refused read says, by the test that refuses it
+-- an answer to one key is never too large
+pub one_fits : (table : State) (place : ℕ) (key : Key) → size_fault table (One place key) ≡ None
+unfolding answer
+one_fits table place key = tests.decided (nat_lt MAX_ANSWER_ROWS 1)
+    (λ yes. let h = ltb-true MAX_ANSWER_ROWS 1 yes in absurd (omega arith))
+    (λ no. ap (λ b. fault_if b faults.RangeTooLarge) no)
+
+-- the tests of a read, in their order, where this read phase is under way
+abbrev pub read_fault : Parts → Option ReadPhase → ℕ → ℕ → ℕ → Question → Option Fault
+read_fault parts begun session number start question = first_fault (
+    turn_to_read parts.slots parts.marks begun parts.counter session number start
+    ∷ check_question parts.settings.schema question
+    ∷ size_fault parts.table question
+    ∷ room_to_read begun
+    ∷ [])
+
+-- a read is refused by the first of its tests that fails
+pub read_refused : (parts : Parts) (world : World) → world_of parts ≡ world → AreSound parts → (session number start : ℕ) (question : Question) (begun : Option ReadPhase) → begun ≡ finite.get parts.phases (session, number)
+    → refusal world (Read session number start question) ≡ read_fault parts begun session number start question
+read_refused parts world seen sound session number start question begun is =
+    ap (λ w. refusal w (Read session number start question)) (sym seen) ∙ read_refusal parts session number start question sound
+    ∙ ap (λ b. read_fault parts b session number start question) (sym is)
+
 pub refused_turn : (a b c d : Option Fault) (f : Fault) → a ≡ Some f → first_fault (a ∷ b ∷ c ∷ d ∷ []) ≡ Some f
 refused_turn a b c d f at = ap (λ o. first_fault (o ∷ b ∷ c ∷ d ∷ [])) at
 
@@ -123,61 +147,47 @@ refused_question a b c d f p at = ap (λ o. first_fault (o ∷ b ∷ c ∷ d ∷
 pub refused_size : (a b c d : Option Fault) (f : Fault) → a ≡ None → b ≡ None → c ≡ Some f → first_fault (a ∷ b ∷ c ∷ d ∷ []) ≡ Some f
 refused_size a b c d f p q at = ap (λ o. first_fault (o ∷ b ∷ c ∷ d ∷ [])) p ∙ ap (λ o. first_fault (o ∷ c ∷ d ∷ [])) q ∙ ap (λ o. first_fault (o ∷ d ∷ [])) at
 
-pub passed_size : (a b c d : Option Fault) → a ≡ None → b ≡ None → c ≡ None → first_fault (a ∷ b ∷ c ∷ d ∷ []) ≡ first_fault (d ∷ [])
-passed_size a b c d p q r = ap (λ o. first_fault (o ∷ b ∷ c ∷ d ∷ [])) p ∙ ap (λ o. first_fault (o ∷ c ∷ d ∷ [])) q ∙ ap (λ o. first_fault (o ∷ d ∷ [])) r
+-- the last test decides where the others let through
+pub last_decides : (a b c d : Option Fault) → a ≡ None → b ≡ None → c ≡ None → first_fault (a ∷ b ∷ c ∷ d ∷ []) ≡ d
+last_decides a b c d p q r =
+    ap (λ o. first_fault (o ∷ b ∷ c ∷ d ∷ [])) p ∙ ap (λ o. first_fault (o ∷ c ∷ d ∷ [])) q ∙ ap (λ o. first_fault (o ∷ d ∷ [])) r ∙ alone d
+  where
+    alone : (o : Option Fault) → first_fault (o ∷ []) ≡ o
+    alone None = refl
+    alone (Some f) = refl
 
-pub refused_room : (a b c d : Option Fault) (f : Fault) → a ≡ None → b ≡ None → c ≡ None → d ≡ Some f → first_fault (a ∷ b ∷ c ∷ d ∷ []) ≡ Some f
-refused_room a b c d f p q r at = passed_size a b c d p q r ∙ ap (λ o. first_fault (o ∷ [])) at
+-- and where nothing refuses, it does not
+last_lets : (a b c d : Option Fault) → first_fault (a ∷ b ∷ c ∷ d ∷ []) ≡ None → d ≡ None
+last_lets None None None None free = refl
+last_lets None None None (Some f) free = cc
+last_lets None None (Some f) d free = cc
+last_lets None (Some f) c d free = cc
+last_lets (Some f) b c d free = cc
 
-pub not_refused_read : (a b c d : Option Fault) → a ≡ None → b ≡ None → c ≡ None → d ≡ None → first_fault (a ∷ b ∷ c ∷ d ∷ []) ≡ None
-not_refused_read a b c d p q r s = passed_size a b c d p q r ∙ ap (λ o. first_fault (o ∷ [])) s
-
--- an answer to one key is never too large
-pub one_fits : (table : State) (place : ℕ) (key : Key) → size_fault table (One place key) ≡ None
-unfolding answer
-one_fits table place key = tests.decided (nat_lt MAX_ANSWER_ROWS 1)
-    (λ yes. let h = ltb-true MAX_ANSWER_ROWS 1 yes in absurd (omega arith))
-    (λ no. ap (λ b. fault_if b faults.RangeTooLarge) no)
-
--- the tests of a read, in their order
-abbrev pub read_fault : Parts → ℕ → ℕ → ℕ → Question → Option Fault
-read_fault parts session number start question = first_fault (
-    turn_to_read parts.slots parts.marks parts.phases parts.counter session number start
-    ∷ check_question parts.settings.schema question
-    ∷ size_fault parts.table question
-    ∷ room_to_read parts.phases session number
-    ∷ [])
+-- a read phase of a read that is not refused has room
+pub read_roomy : (parts : Parts) (world : World) → world_of parts ≡ world → AreSound parts → (session number start : ℕ) (question : Question) → refusal world (Read session number start question) ≡ None
+    → room_to_read (finite.get parts.phases (session, number)) ≡ None
+read_roomy parts world seen sound session number start question none =
+    let begun = finite.get parts.phases (session, number) in
+    last_lets (turn_to_read parts.slots parts.marks begun parts.counter session number start) (check_question parts.settings.schema question) (size_fault parts.table question) (room_to_read begun) (sym (read_refused parts world seen sound session number start question _ refl) ∙ none)
 
 -- The exits of a read, seen from outside.
 
-pub read_exit : (parts : Parts) (world : World) → world_of parts ≡ world → AreSound parts → (session number start : ℕ) (question : Question) (fault : Fault) → read_fault parts session number start question ≡ Some fault
-    → Step world (Read session number start question) (Refused fault) world
-read_exit parts world seen sound session number start question fault told =
-    subst (λ w. Step w (Read session number start question) (Refused fault) w) seen (refused fault (read_refusal parts session number start question sound ∙ told) refl refl)
-
 -- there is no memory, and the read phases are as they were
-pub read_starved : (parts : Parts) (world : World) → world_of parts ≡ world → AreSound parts → (session number start : ℕ) (question : Question) → read_fault parts session number start question ≡ None
+pub read_starved : (parts : Parts) (world : World) → world_of parts ≡ world → AreSound parts → (session number start : ℕ) (question : Question) → refusal world (Read session number start question) ≡ None
     → (phases : FinMap phase_cmp ReadPhase) → phases ≡ parts.phases
     → Step world (Read session number start question) (Refused faults.Memory) (world_of (record parts { phases = phases })) × AreSound (record parts { phases = phases })
-read_starved parts world seen sound session number start question free phases same =
-    subst (λ p. Step world (Read session number start question) (Refused faults.Memory) (world_of (record parts { phases = p })) × AreSound (record parts { phases = p })) (sym same) (
-      subst (λ w. Step w (Read session number start question) (Refused faults.Memory) (world_of parts)) seen (starved (read_refusal parts session number start question sound ∙ free) refl refl refl),
-      sound,
-    )
+read_starved parts world seen sound session number start question none phases same =
+    subst (λ p. Step world (Read session number start question) (Refused faults.Memory) (world_of (record parts { phases = p })) × AreSound (record parts { phases = p })) (sym same)
+    (starved none refl refl seen, sound)
 
--- there is no memory, and nothing was touched
-pub read_unmoved : (parts : Parts) (world : World) → world_of parts ≡ world → AreSound parts → (session number start : ℕ) (question : Question) → read_fault parts session number start question ≡ None
-    → Step world (Read session number start question) (Refused faults.Memory) world
-read_unmoved parts world seen sound session number start question free =
-    subst (λ w. Step w (Read session number start question) (Refused faults.Memory) w) seen (starved (read_refusal parts session number start question sound ∙ free) refl refl refl)
-
-pub read_whole : (parts : Parts) (world : World) → world_of parts ≡ world → AreSound parts → (session number start : ℕ) (question : Question) → read_fault parts session number start question ≡ None
+pub read_whole : (parts : Parts) (world : World) → world_of parts ≡ world → AreSound parts → (session number start : ℕ) (question : Question) → refusal world (Read session number start question) ≡ None
     → (seen_now : Observation) → seen_now ≡ (question, answer question parts.table)
     → (phases : FinMap phase_cmp ReadPhase) → phases ≡ noted parts.phases session number start seen_now
     → (given : Answer) → given ≡ answer question parts.table
     → Step world (Read session number start question) (Answered given) (world_of (record parts { phases = phases })) × AreSound (record parts { phases = phases })
 read_whole parts world seen sound session number start question free seen_now right phases is given told =
-    let none = read_refusal parts session number start question sound ∙ free in
+    let none : refusal (world_of parts) (Read session number start question) ≡ None = ap (λ w. refusal w (Read session number start question)) seen ∙ free in
     let moved : (read_more (world_of parts) session number start question).phases ≡ phases =
     ap (λ reads. finite.insert parts.phases (session, number) (record { start = start; reads = reads ++ (question, answer question parts.table) ∷ [] })) (reads_are (finite.get parts.phases (session, number)))
     ∙ ap (noted parts.phases session number start) (sym right) ∙ sym is in
@@ -199,3 +209,15 @@ module _ {Z : Type 0} where
       → ◌≡◌ {A = Observation} (One table (key_of copied), Found row) (One table (key_of key), answer (One table (key_of key)) state)
   unfolding answer
   row_answers table copied key same row state is i = (One table (key_of (same i)), Found (is i))
+
+module _ {Z : Type 0} where
+  -- what holds of a core holds where its read phases alone are others, and its parts are sound
+  pub phases_core : (c : Inside Z) → IsCore c → (phases : FinMap phase_cmp ReadPhase) → AreSound (record (parts_of c) { phases = phases }) → IsCore (record c { phases = phases })
+  phases_core c is phases sound = record {
+    sound = sound;
+    tables_match = is.tables_match;
+    marks_match = is.marks_match;
+    log_match = is.log_match;
+    base_match = is.base_match;
+    placed = is.placed;
+  }

@@ -65,10 +65,10 @@ serial_refusal parts session number start writes sound =
     w = world_of parts
 
     others : Option Fault → List (Option Fault)
-    others o = spare_fault number ∷ start_fault parts.phases parts.counter session number start ∷ check_writes parts.settings.schema writes ∷ log_fault (length parts.log) ∷ o ∷ []
+    others o = spare_fault number ∷ start_fault (finite.get parts.phases (session, number)) parts.counter start ∷ check_writes parts.settings.schema writes ∷ log_fault (length parts.log) ∷ o ∷ []
 
     turn : List (Option Fault)
-    turn = turn_to_close parts.slots parts.marks session number ∷ quiet_fault (length (active_from (found_at parts) parts.slots)) ∷ spare_fault number ∷ start_fault parts.phases parts.counter session number start ∷ []
+    turn = turn_to_close parts.slots parts.marks session number ∷ quiet_fault (length (active_from (found_at parts) parts.slots)) ∷ spare_fault number ∷ start_fault (finite.get parts.phases (session, number)) parts.counter start ∷ []
 
     room : List (Option Fault)
     room = check_writes parts.settings.schema writes ∷ log_fault (length parts.log) ∷ counter_fault parts.counter (length (active_from (found_at parts) parts.slots)) ∷ []

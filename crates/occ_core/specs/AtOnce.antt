@@ -56,7 +56,7 @@ turn_to_end slots marks log phases counter session number start = first_fault (
     turn_to_close slots marks session number
     ∷ quiet_fault (length (active_from log slots))
     ∷ spare_fault number
-    ∷ start_fault phases counter session number start
+    ∷ start_fault (finite.get phases (session, number)) counter start
     ∷ [])
 
 module _ {Z : Type 0} where

@@ -1,5 +1,6 @@
 -- When an entry is refused, over the parts of a core: the tests of the model, each over the part that it reads (our own choice).
 use Rattle.std.specs.Prelude.{ℕ, ◌+◌, ◌-◌, not, ◌==◌, nat_le, List, [], ◌∷◌, length, Option, None, Some, cond, is_some, slice_get}
+use Rattle.std.specs.FinMap as finite
 use Rattle.std.specs.FinMap.{FinMap}
 use Rattle.std.specs.Ordering.{nat_cmp}
 use Rattle.occ_types.specs.declared.fault.Fault.{Fault}
@@ -34,7 +35,7 @@ turn_to_enter slots marks phases counter session number start = first_fault (
     ∷ due_fault (last_of slots (session - 1)) number
     ∷ busy_fault (slice_get slots (session - 1))
     ∷ spare_fault number
-    ∷ start_fault phases counter session number start
+    ∷ start_fault (finite.get phases (session, number)) counter start
     ∷ [])
 
 -- the session can't close under the number

@@ -25,20 +25,20 @@ closed_fault marks session = fault_if (finite.contains_key marks session) Sessio
 abbrev pub number_fault : ℕ → ℕ → Option Fault
 number_fault last number = fault_if (nat_lt number (last + 1) || nat_lt (last + 1 + READ_AHEAD) number) OutOfTurn
 
--- the start is not that of the read phase; or there is none, and the start lies above the counter
-abbrev pub start_fault : FinMap phase_cmp ReadPhase → ℕ → ℕ → ℕ → ℕ → Option Fault
-start_fault phases counter session number start = elim (finite.get phases (session, number)) [
+-- the start is not that of the read phase under way; or there is none, and the start lies above the counter
+abbrev pub start_fault : Option ReadPhase → ℕ → ℕ → Option Fault
+start_fault begun counter start = elim begun [
   | None ↦ fault_if (nat_lt counter start) FutureStart
   | Some phase ↦ fault_if (not (phase.start == start)) StartDiffers
 ]
 
--- the session can't read under the number from this start
-abbrev pub turn_to_read : List Slot → FinMap nat_cmp ℕ → FinMap phase_cmp ReadPhase → ℕ → ℕ → ℕ → ℕ → Option Fault
-turn_to_read slots marks phases counter session number start = first_fault (
+-- the session can't read under the number, whose read phase may be under way, from this start
+abbrev pub turn_to_read : List Slot → FinMap nat_cmp ℕ → Option ReadPhase → ℕ → ℕ → ℕ → ℕ → Option Fault
+turn_to_read slots marks begun counter session number start = first_fault (
     session_fault slots session
     ∷ closed_fault marks session
     ∷ number_fault (last_of slots (session - 1)) number
-    ∷ start_fault phases counter session number start
+    ∷ start_fault begun counter start
     ∷ [])
 
 -- the answer has too many rows
@@ -46,9 +46,8 @@ abbrev pub size_fault : State → Question → Option Fault
 size_fault table question = fault_if (nat_lt MAX_ANSWER_ROWS (answer_size (answer question table))) RangeTooLarge
 
 -- the read phase has no room for another question
-abbrev pub room_to_read : FinMap phase_cmp ReadPhase → ℕ → ℕ → Option Fault
-room_to_read phases session number =
-    fault_if (nat_le MAX_QUESTIONS (length (reads_of (finite.get phases (session, number))))) SetFull
+abbrev pub room_to_read : Option ReadPhase → Option Fault
+room_to_read begun = fault_if (nat_le MAX_QUESTIONS (length (reads_of begun))) SetFull
 
 -- the read phases with one more observation, in the phase of a number that has this start
 abbrev pub noted : FinMap phase_cmp ReadPhase → ℕ → ℕ → ℕ → Observation → FinMap phase_cmp ReadPhase

@@ -134,9 +134,9 @@ fn check_unread<A: Allocator>(
 ) -> Result<(), Fault>
     ensures { result_err result ≡ read_open_fault phases.now session number }
 {
-    match phases.start(session, number) {
+    match phases.get(session, number) {
         None => Ok(()),
-        Some(_start) => Err(Fault::ReadOpen),
+        Some(_phase) => Err(Fault::ReadOpen),
     }
 }
 

@@ -8,9 +8,9 @@ ghost use Rattle.occ_core.specs.EntryFaults.{turn_to_close};
 ghost use Rattle.occ_core.specs.Replies.{entry};
 
 use crate::core_entries::Entry;
-use crate::core_reads::{check_session, check_unclosed};
 use crate::core_state::Core;
 use crate::entry_checks::{check_due, check_idle};
+use crate::read_checks::{check_session, check_unclosed};
 use occ_book::Marks;
 use occ_log::Sessions;
 use occ_types::Fault;

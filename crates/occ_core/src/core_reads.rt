@@ -1,22 +1,24 @@
 //! What a transaction reads of the tables in its read phase.
 ghost use Rattle.std.specs.Prelude.{◌≡◌, IfOk, OnOk, OnErr, IsOkUnless, None, length};
+ghost use Rattle.std.specs.FinMap as finite;
 ghost use Rattle.std.specs.Option.{option_copied};
 ghost use Rattle.std.specs.Result.{result_err};
 ghost use Rattle.occ_types.specs.Question.{One, Span};
 ghost use Rattle.occ_types.specs.PlainData.{key_of, end_of, question_of};
 ghost use Rattle.occ_model.specs.Event.{Read, Forget};
+ghost use Rattle.occ_model.specs.Refusal.{refusal};
 ghost use Rattle.occ_model.specs.State.{answer, Found, Rows};
 ghost use Rattle.occ_sets.specs.PlainSets.{observation_of, rows_of};
-ghost use Rattle.occ_core.specs.Reads.{session_fault, closed_fault, number_fault, start_fault, turn_to_read, size_fault, room_to_read, noted};
+ghost use Rattle.occ_core.specs.Reads.{room_to_read, noted};
 ghost use Rattle.occ_types.specs.declared.fault.Fault.TheVariants.{Memory};
 ghost use Rattle.occ_core.specs.Core.{Transition};
 ghost use Rattle.occ_core.specs.Replies.{reading, scanning, forgetting};
 
 use crate::core_state::Core;
-use occ_book::{Marks, Tables};
-use occ_log::{ReadPhases, Sessions, Transaction};
+use crate::read_checks::{check_room_to_read, check_session, check_size, check_turn_to_read};
+use occ_book::Tables;
+use occ_log::{ReadPhases, Transaction};
 use occ_sets::{Answer, Observation};
-use occ_types::limits::{MAX_ANSWER_ROWS, MAX_QUESTIONS, READ_AHEAD};
 use occ_types::{Fault, Key, Object, Question, Row, Schema};
 use std::alloc::{AllocError, Allocator};
 
@@ -76,15 +78,7 @@ impl<A: Allocator + Copy> Core<A> {
             number,
             start,
         };
-        check_turn_to_read(
-            &self.sessions,
-            &self.marks,
-            &self.phases,
-            self.counter,
-            transaction,
-        )?;
-        self.schema.check_key(table, key)?;
-        check_room_to_read(&self.phases, session, number)?;
+        self.check_read(transaction, table, key)?;
         let (seen, row) = observe_row(&self.tables, table, key)?;
         note(&mut self.phases, self.alloc, transaction, seen)?;
         Ok(row)
@@ -111,19 +105,51 @@ impl<A: Allocator + Copy> Core<A> {
             number,
             start,
         };
+        self.check_scan(transaction, table, lower, upper)?;
+        let (seen, rows) = observe_rows(&self.tables, table, lower, upper)?;
+        note(&mut self.phases, self.alloc, transaction, seen)?;
+        Ok(rows)
+    }
+}
+
+impl<A: Allocator + Clone> Core<A> {
+    // Whether a key of a table may be read for a transaction. Its read phase is looked up once.
+    fn check_read(&self, transaction: Transaction, table: usize, key: &Key<A>) -> Result<(), Fault>
+        ensures { result_err result ≡ refusal self.now.world (Read transaction.session transaction.number transaction.start (One table (key_of key.now))) }
+    {
+        let begun = self.phases.get(transaction.session, transaction.number);
         check_turn_to_read(
             &self.sessions,
             &self.marks,
-            &self.phases,
+            begun,
+            self.counter,
+            transaction,
+        )?;
+        self.schema.check_key(table, key)?;
+        check_room_to_read(begun)
+    }
+
+    // Whether a range of a table may be read for a transaction. Its read phase is looked up once.
+    fn check_scan(
+        &self,
+        transaction: Transaction,
+        table: usize,
+        lower: &Option<Key<A>>,
+        upper: &Option<Key<A>>,
+    ) -> Result<(), Fault>
+        ensures { result_err result ≡ refusal self.now.world (Read transaction.session transaction.number transaction.start (Span table (end_of lower.now) (end_of upper.now))) }
+    {
+        let begun = self.phases.get(transaction.session, transaction.number);
+        check_turn_to_read(
+            &self.sessions,
+            &self.marks,
+            begun,
             self.counter,
             transaction,
         )?;
         self.schema.check_range(table, lower, upper)?;
         check_size(&self.tables, table, lower, upper)?;
-        check_room_to_read(&self.phases, session, number)?;
-        let (seen, rows) = observe_rows(&self.tables, table, lower, upper)?;
-        note(&mut self.phases, self.alloc, transaction, seen)?;
-        Ok(rows)
+        check_room_to_read(begun)
     }
 }
 
@@ -134,7 +160,7 @@ fn note<A: Allocator + Copy>(
     transaction: Transaction,
     seen: Observation<A>,
 ) -> Result<(), Fault>
-    requires few { room_to_read phases.old transaction.session transaction.number ≡ None }
+    requires few { room_to_read (finite.get phases.old (transaction.session, transaction.number)) ≡ None }
     ensures ok { OnOk result (phases.new ≡ noted phases.old transaction.session transaction.number transaction.start (observation_of seen)) }
     ensures err { OnErr result (phases.new ≡ phases.old) }
     ensures memory { IsOkUnless result Memory }
@@ -209,98 +235,4 @@ fn copy<A: Allocator + Clone>(row: Option<&Row<A>>) -> Result<Option<Row<A>>, Al
         None => Ok(None),
         Some(row) => Ok(Some(row.clone()?)),
     }
-}
-
-// Whether there is such a session.
-pub(crate) fn check_session<A: Allocator>(
-    sessions: &Sessions<A>,
-    session: usize,
-) -> Result<(), Fault>
-    ensures { result_err result ≡ session_fault sessions.now session }
-{
-    if session == 0 || session > sessions.len() {
-        return Err(Fault::NoSession);
-    }
-    Ok(())
-}
-
-// Whether a session has no closing mark.
-pub(crate) fn check_unclosed<A: Allocator>(marks: &Marks<A>, session: usize) -> Result<(), Fault>
-    ensures { result_err result ≡ closed_fault marks.now.marks session }
-{
-    if marks.get(session).is_some() {
-        return Err(Fault::SessionClosed);
-    }
-    Ok(())
-}
-
-// Whether a number is the next one after that of a session's last transaction, or among the 1,025 after it.
-fn check_number(last: u64, number: u64) -> Result<(), Fault>
-    ensures { result_err result ≡ number_fault last number }
-{
-    if number <= last || number - last > READ_AHEAD + 1 {
-        return Err(Fault::OutOfTurn);
-    }
-    Ok(())
-}
-
-// Whether a transaction's start is that of its read phase, or has been reached where there is none.
-pub(crate) fn check_start<A: Allocator>(
-    phases: &ReadPhases<A>,
-    counter: u64,
-    transaction: Transaction,
-) -> Result<(), Fault>
-    ensures { result_err result ≡ start_fault phases.now counter transaction.session transaction.number transaction.start }
-{
-    match phases.start(transaction.session, transaction.number) {
-        None if transaction.start > counter => Err(Fault::FutureStart),
-        Some(begun) if begun != transaction.start => Err(Fault::StartDiffers),
-        _ => Ok(()),
-    }
-}
-
-// Whether a session may read for a transaction.
-fn check_turn_to_read<A: Allocator>(
-    sessions: &Sessions<A>,
-    marks: &Marks<A>,
-    phases: &ReadPhases<A>,
-    counter: u64,
-    transaction: Transaction,
-) -> Result<(), Fault>
-    ensures { result_err result ≡ turn_to_read sessions.now marks.now.marks phases.now counter transaction.session transaction.number transaction.start }
-{
-    let session = transaction.session;
-    check_session(sessions, session)?;
-    check_unclosed(marks, session)?;
-    check_number(sessions.last(session - 1), transaction.number)?;
-    check_start(phases, counter, transaction)
-}
-
-// Whether the answer to a range has no more rows than an answer may have. They are counted, and none is copied.
-fn check_size<A: Allocator + Clone>(
-    tables: &Tables<A>,
-    table: usize,
-    lower: &Option<Key<A>>,
-    upper: &Option<Key<A>>,
-) -> Result<(), Fault>
-    ensures { result_err result ≡ size_fault tables.now.state (Span table (end_of lower.now) (end_of upper.now)) }
-{
-    if tables.count_rows(table, lower, upper) > MAX_ANSWER_ROWS {
-        return Err(Fault::RangeTooLarge);
-    }
-    Ok(())
-}
-
-// Whether a read phase has room for another question.
-fn check_room_to_read<A: Allocator>(
-    phases: &ReadPhases<A>,
-    session: usize,
-    number: u64,
-) -> Result<(), Fault>
-    ensures { result_err result ≡ room_to_read phases.now session number }
-{
-    if phases.questions(session, number) >= MAX_QUESTIONS {
-        return Err(Fault::SetFull);
-    }
-    Ok(())
 }

@@ -16,9 +16,9 @@ ghost use Rattle.occ_queue.specs.Items.{item_of};
 
 use crate::actives::count_active;
 use crate::core_closing::check_turn_to_close;
-use crate::core_reads::check_start;
 use crate::core_state::Core;
 use crate::entry_checks::{check_room_to_enter, check_spare};
+use crate::read_checks::check_start;
 use occ_book::Marks;
 use occ_case::{Cause, Verdict};
 use occ_log::{Log, ReadPhases, Sessions, Transaction, Window};
@@ -204,7 +204,11 @@ fn check_turn_to_end<A: Allocator>(
     check_turn_to_close(sessions, marks, transaction.session, transaction.number)?;
     check_quiet(count_active(sessions, log))?;
     check_spare(transaction.number)?;
-    check_start(phases, counter, transaction)
+    check_start(
+        phases.get(transaction.session, transaction.number),
+        counter,
+        transaction.start,
+    )
 }
 
 // Whether no transaction is active.

@@ -8,7 +8,7 @@ ghost use Rattle.occ_log.specs.SessionStates.{active_from};
 ghost use Rattle.occ_core.specs.EntryFaults.{due_fault, busy_fault, spare_fault, turn_to_enter, write_fault, log_fault, counter_fault, room_to_enter};
 
 use crate::actives::count_active;
-use crate::core_reads::{check_session, check_start, check_unclosed};
+use crate::read_checks::{check_session, check_start, check_unclosed};
 use occ_book::Marks;
 use occ_log::{Log, ReadPhases, SessionState, Sessions, Transaction};
 use occ_sets::WriteSet;
@@ -32,7 +32,11 @@ pub(crate) fn check_turn_to_enter<A: Allocator>(
     check_due(sessions.last(session - 1), transaction.number)?;
     check_idle(sessions.get(session - 1))?;
     check_spare(transaction.number)?;
-    check_start(phases, counter, transaction)
+    check_start(
+        phases.get(session, transaction.number),
+        counter,
+        transaction.start,
+    )
 }
 
 // Whether a number is the one after that of the session's last transaction.

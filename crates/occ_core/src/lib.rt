@@ -15,6 +15,7 @@ mod core_state;
 mod core_turns;
 mod driving;
 mod entry_checks;
+mod read_checks;
 mod replies;
 mod steps;
 

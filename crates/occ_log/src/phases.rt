@@ -74,28 +74,8 @@ impl<A: Allocator> Model for ReadPhases<A> {
 }
 
 impl<A: Allocator> ReadPhases<A> {
-    /// The start of a phase, or none where it is not under way.
-    pub fn start(&self, session: usize, number: u64) -> Option<u64>
-        ensures { result ≡ option_map (λ phase. phase.start) (finite.get self.now (session, number)) }
-    {
-        match self.phase(session, number) {
-            Some(phase) => Some(phase.start),
-            None => None,
-        }
-    }
-
-    /// How many questions were asked in a phase, or 0 where it is not under way.
-    pub fn questions(&self, session: usize, number: u64) -> usize
-        ensures { result ≡ length (reads_of (finite.get self.now (session, number))) }
-    {
-        match self.phase(session, number) {
-            Some(phase) => phase.reads.len(),
-            None => 0,
-        }
-    }
-
-    // A phase, or none where it is not under way.
-    fn phase(&self, session: usize, number: u64) -> Option<&Phase<A>>
+    /// A phase, or none where it is not under way.
+    pub fn get(&self, session: usize, number: u64) -> Option<&Phase<A>>
         ensures { option_map (λ phase. phase_of phase.now) result ≡ finite.get self.now (session, number) }
     {
         self.phases.get(&(session, number))

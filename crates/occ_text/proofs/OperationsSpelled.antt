@@ -36,21 +36,6 @@ colon_separates = record {
 letter_is_no_colon : (byte : ℕ) → is_ascii_lowercase byte ≡ true → byte ≢ 58
 letter_is_no_colon byte h e = absurd (omega (arith, leb-true 97 byte (both (leb 97 byte) (leb byte 122) h).0))
 
-name_lacks : (name : List ℕ) → IsName name → Lacks 58 name
-name_lacks name fits = All-weaker (λ (byte : ℕ). is_ascii_lowercase byte ≡ true) (λ (byte : ℕ). byte ≢ 58) letter_is_no_colon name fits.letters
-
-key_lacks : (version : Version) (key : Key) → KeyFits version key → Lacks 58 (key_text key)
-key_lacks version key fits = of_key (λ byte. byte ≢ 58) version key colon_separates (λ e. omega arith) fits
-
-end_lacks : (version : Version) (end : Option Key) → EndFits version end → Lacks 58 (end_text end)
-end_lacks version end fits = of_end (λ byte. byte ≢ 58) version end colon_separates (λ e. omega arith) (λ e. omega arith) fits
-
-row_lacks : (row : Row) → RowFits row → Lacks 58 (row_text row)
-row_lacks row fits = of_row (λ byte. byte ≢ 58) row colon_separates (λ e. omega arith) fits.each
-
-int_lacks : (n : ℤ) → FitsSigned w64 n → Lacks 58 (signed_decimal n)
-int_lacks n fits = of_cell (λ byte. byte ≢ 58) (rows.Int n) colon_separates fits
-
 -- ---- each part is a token
 
 -- a part is a token in which no colon stands
@@ -59,22 +44,22 @@ record Part (part : List ℕ) : Type 0 where
   lacks : Lacks 58 part
 
 part_name : (name : List ℕ) → IsName name → Part name
-part_name name fits = record { token = IsToken-name name fits; lacks = name_lacks name fits }
+part_name name fits = record { token = IsToken-name name fits; lacks = All-weaker (λ (byte : ℕ). is_ascii_lowercase byte ≡ true) (λ (byte : ℕ). byte ≢ 58) letter_is_no_colon name fits.letters }
 
 part_word : (word : List ℕ) → is_name word ≡ true → Part word
 part_word word h = part_name word (IsName-from_test word h)
 
 part_key : (version : Version) (key : Key) → KeyFits version key → Part (key_text key)
-part_key version key fits = record { token = IsToken-key version key fits; lacks = key_lacks version key fits }
+part_key version key fits = record { token = IsToken-key version key fits; lacks = of_key (λ byte. byte ≢ 58) version key colon_separates (λ e. omega arith) fits }
 
 part_end : (version : Version) (end : Option Key) → EndFits version end → Part (end_text end)
-part_end version end fits = record { token = IsToken-end version end fits; lacks = end_lacks version end fits }
+part_end version end fits = record { token = IsToken-end version end fits; lacks = of_end (λ byte. byte ≢ 58) version end colon_separates (λ e. omega arith) (λ e. omega arith) fits }
 
 part_row : (row : Row) → RowFits row → Part (row_text row)
-part_row row fits = record { token = IsToken-row row fits; lacks = row_lacks row fits }
+part_row row fits = record { token = IsToken-row row fits; lacks = of_row (λ byte. byte ≢ 58) row colon_separates (λ e. omega arith) fits.each }
 
 part_int : (n : ℤ) → FitsSigned w64 n → Part (signed_decimal n)
-part_int n fits = record { token = IsToken-int n fits; lacks = int_lacks n fits }
+part_int n fits = record { token = IsToken-int n fits; lacks = of_cell (λ byte. byte ≢ 58) (rows.Int n) colon_separates fits }
 
 three_parts : {a b c : List ℕ} → Part a → Part b → Part c → All Part (a ∷ b ∷ c ∷ [])
 three_parts {a = a} {b = b} {c = c} p q r = All-cons Part a (b ∷ c ∷ []) p (All-cons Part b (c ∷ []) q (All-cons Part c [] r (All-nil Part)))
@@ -113,9 +98,6 @@ operation_reads version token = record {
 }
 
 -- ---- an operation is a token
-
-abbrev Graphic : List ℕ → Type 0
-Graphic bytes = All (λ byte. is_ascii_graphic byte ≡ true) bytes
 
 -- tokens with a colon between two of them are one token
 joined : (parts : List (List ℕ)) → 0 < length parts → All Part parts → IsToken (join_with_byte 58 parts)

@@ -43,6 +43,3 @@ pub this_word : {X : Type 0} (P : List (List ℕ) → X → Type 0) (this word :
     → (a ≡ Some x → P (this ∷ rest) x) → (b ≡ Some x → P (word ∷ rest) x) → cond p a b ≡ Some x → P (word ∷ rest) x
 this_word P this word rest a b x true is f g h = subst (λ (w : List ℕ). P (w ∷ rest) x) (sym (word_is word this is)) (f h)
 this_word P this word rest a b x false other f g h = g h
-
-pub no_word : {X : Type 0} (P : List (List ℕ) → X → Type 0) (tokens : List (List ℕ)) (x : X) → None ≡ Some x → P tokens x
-no_word P tokens x h = absurd cc

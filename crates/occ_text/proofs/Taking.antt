@@ -63,12 +63,6 @@ line_found {Y} spell fits None result shown a b n first last line reads is =
     subst (λ (r : Result Y LineFault). Taken (λ y. y) spell fits (widened r) a b first last) (sym is)
     (OtherLine line.line b line.taken.0 line.taken.2 (λ p. let e = reads.again p.0 p.1 (line.same ∙ p.2) in cc e), line.here ∙ line.taken.1)
 
--- a line that isn't the one that is wanted can't stand
-pub another_line : (Y : Type 0) (fits : Y → Type 0) (wanted shown line : List ℕ) (a b : Option (List ℕ)) (test : Bool) → Consumes a b (line ++ 10 ∷ []) → IsLine line → shown ≡ line → (IsTrue test ↔ shown ≡ wanted) → test ≡ false
-    → CannotStand (λ l. (y : Y) × fits y × (l ≡ wanted)) a
-another_line Y fits wanted shown line a b test taken alone same is not_it =
-    OtherLine line b taken alone (λ p. let yes = is.1 (same ∙ p.2) in let e : false ≡ true = sym not_it ∙ yes in cc e)
-
 -- the line of a table is taken
 pub next_read : (version : Version) (tables : List Table) (table : Table) (shown line : List ℕ) (a b : Option (List ℕ)) (first last : ℕ) → TablesSoFar version tables → Consumes a b (line ++ 10 ∷ []) × (last ≡ first + 1) × IsLine line → shown ≡ line → table_behind version tables shown ≡ Some table
     → Consumes a b (table_text table ++ 10 ∷ []) × TablesSoFar version (tables ++ table ∷ []) × (last ≡ first + 1)

@@ -18,6 +18,3 @@ four_tokens {a = a} {b = b} {c = c} {d = d} p q r s = more_tokens a (b ∷ c ∷
 
 pub five_tokens : {a b c d e : List ℕ} → IsToken a → IsToken b → IsToken c → IsToken d → IsToken e → AreTokens (a ∷ b ∷ c ∷ d ∷ e ∷ [])
 five_tokens {a = a} {b = b} {c = c} {d = d} {e = e} p q r s t = more_tokens a (b ∷ c ∷ d ∷ e ∷ []) p (four_tokens q r s t)
-
-pub six_tokens : {a b c d e f : List ℕ} → IsToken a → IsToken b → IsToken c → IsToken d → IsToken e → IsToken f → AreTokens (a ∷ b ∷ c ∷ d ∷ e ∷ f ∷ [])
-six_tokens {a = a} {b = b} {c = c} {d = d} {e = e} {f = f} p q r s t u = more_tokens a (b ∷ c ∷ d ∷ e ∷ f ∷ []) p (five_tokens q r s t u)

@@ -38,11 +38,6 @@ pub again_by : {X Y : Type 0} (view : X → Y) (r : Result X Unread) (read : Opt
     → Gives view r read → Reads spell fits token read → (y : Y) → fits y → token ≡ spell y → Gives view r (Some y)
 again_by view r read spell fits token gives reads y fit e = subst (Gives view r) (reads.again y fit e) gives
 
--- what needed no memory was read, or its token is malformed
-pub Gives-from_option : {X Y : Type 0} (view : X → Y) (o : Option X) (r : Result X Unread) (read : Option Y) → r ≡ ok_or o Malformed → option_map view o ≡ read → Gives view r read
-Gives-from_option view (Some x) r read is same = subst (λ s. Gives view s read) (sym is) (sym same)
-Gives-from_option view None r read is same = subst (λ s. Gives view s read) (sym is) (sym same)
-
 -- ---- texts
 
 text_cases : (b : Bool) (o : Option (List ℕ)) (y : List ℕ) → cond b o None ≡ Some y → (b ≡ true) × (o ≡ Some y)

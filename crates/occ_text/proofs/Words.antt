@@ -35,7 +35,8 @@ test-from_IsToken : (token : List ℕ) → IsToken token → is_token token ≡ 
 unfolding is_token
 test-from_IsToken token t = rw (lt-ltb 0 (length token) t.some, list_all-from_AllPass is_ascii_graphic token t.graphic) refl
 
-lacks : (separator : ℕ) (bytes : List ℕ) → All (λ byte. byte ≢ separator) bytes → All (λ byte. eqb byte separator ≡ false) bytes
+-- bytes that differ from a separator don't pass for one
+pub lacks : (separator : ℕ) (bytes : List ℕ) → All (λ byte. byte ≢ separator) bytes → All (λ byte. eqb byte separator ≡ false) bytes
 lacks separator bytes h = All-weaker (λ (byte : ℕ). byte ≢ separator) (λ (byte : ℕ). eqb byte separator ≡ false) (λ byte ne. ne_eqb byte separator ne) bytes h
 
 -- parts that lack the separator are cut again where they were joined

@@ -1,4 +1,8 @@
 //! The read phases and the window, on their happy paths.
+ghost use Rattle.std.specs.Prelude.{◌≡◌, length};
+ghost use Rattle.std.specs.FinMap as finite;
+ghost use Rattle.occ_log.specs.Phases.{reads_of};
+
 use occ_log::{ReadPhases, Transaction, Window};
 use occ_sets::{Answer, WriteSet};
 use occ_types::limits::MAX_QUESTIONS;
@@ -13,6 +17,24 @@ fn object(key: u64) -> Object<Global> {
     }
 }
 
+// How many questions were asked in a phase, or 0 where it is not under way.
+fn questions(phases: &ReadPhases<Global>, session: usize, number: u64) -> usize
+    ensures { result ≡ length (reads_of (finite.get phases.now (session, number))) }
+{
+    match phases.get(session, number) {
+        Some(phase) => phase.reads.len(),
+        None => 0,
+    }
+}
+
+// The start of a phase, or none where it is not under way.
+fn start(phases: &ReadPhases<Global>, session: usize, number: u64) -> Option<u64> {
+    match phases.get(session, number) {
+        Some(phase) => Some(phase.start),
+        None => None,
+    }
+}
+
 // Notes a question where there is room for it. Each phase starts at 5.
 fn note(
     alloc: Global,
@@ -21,7 +43,7 @@ fn note(
     number: u64,
     key: u64,
 ) -> Result<(), Fault> {
-    if phases.questions(session, number) >= MAX_QUESTIONS {
+    if questions(phases, session, number) >= MAX_QUESTIONS {
         return Err(Fault::SetFull);
     }
     let question = Question::One(object(key));
@@ -37,24 +59,24 @@ fn note(
 fn phases(rt: HostRuntime) -> Result<(), Fail> {
     let alloc = rt.alloc();
     let mut phases = ReadPhases::new(alloc);
-    assert!(rt; phases.start(1, 1) == None);
-    assert_eq!(rt; phases.questions(1, 1), 0);
+    assert!(rt; start(&phases, 1, 1) == None);
+    assert_eq!(rt; questions(&phases, 1, 1), 0);
     note(alloc, &mut phases, 1, 1, 7)?;
     note(alloc, &mut phases, 1, 1, 8)?;
     note(alloc, &mut phases, 1, 2, 7)?;
     note(alloc, &mut phases, 2, 1, 7)?;
-    assert!(rt; phases.start(1, 1) == Some(5));
-    assert_eq!(rt; phases.questions(1, 1), 2);
+    assert!(rt; start(&phases, 1, 1) == Some(5));
+    assert_eq!(rt; questions(&phases, 1, 1), 2);
     assert!(rt;
         phases
             .take(1, 1)
             .is_some_and(|phase| phase.start == 5 && phase.reads.len() == 2)
     );
     assert!(rt; phases.take(1, 1).is_none());
-    assert!(rt; phases.start(1, 2) == Some(5));
+    assert!(rt; start(&phases, 1, 2) == Some(5));
     phases.drop_session(1);
-    assert!(rt; phases.start(1, 2) == None);
-    assert!(rt; phases.start(2, 1) == Some(5));
+    assert!(rt; start(&phases, 1, 2) == None);
+    assert!(rt; start(&phases, 2, 1) == Some(5));
     Ok(())
 }
 

@@ -1,7 +1,7 @@
 use Rattle.std.proofs.Common.{ap, sym, ◌∙◌, Some}
 use Rattle.std.proofs.lemmas.Result.{err_from_is_err_and}
 use Rattle.occ_core.specs.Core.{parts_of}
-use Rattle.occ_core.proofs.Reading.{forget_exit, forget_sound}
+use Rattle.occ_core.proofs.Reading.{forget_exit, forget_sound, phases_core}
 use Rattle.occ_core.proofs.core_state.Core.forget.Goals as goal
 
 pub returns-in_err-check_session : goal.returns-in_err-check_session
@@ -10,11 +10,5 @@ returns-in_err-check_session g c =
     forget_exit (parts_of c.self.inside) c.args.self.now.world (ap (λ s. s.world) c.self.view_is) c.self.invariant.sound c.args.session c.args.number c.from_residual.result p.0 p.1 (sym c.in_err-check_session.ensures ∙ ap Some (sym p.2))
 
 pub invariant_of-self : goal.invariant_of-self
-invariant_of-self g c = record {
-  sound = forget_sound (parts_of c.self.inside) c.args.session c.args.number c.self.invariant.sound (sym c.in_ok-check_session.ensures) c.take-phase.new.self c.take-phase.ensures.gone;
-  tables_match = c.self.invariant.tables_match;
-  marks_match = c.self.invariant.marks_match;
-  log_match = c.self.invariant.log_match;
-  base_match = c.self.invariant.base_match;
-  placed = c.self.invariant.placed;
-}
+invariant_of-self g c =
+    phases_core c.self.inside c.self.invariant _ (forget_sound (parts_of c.self.inside) c.args.session c.args.number c.self.invariant.sound (sym c.in_ok-check_session.ensures) c.take-phase.new.self c.take-phase.ensures.gone)
