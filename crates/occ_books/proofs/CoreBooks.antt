@@ -1,12 +1,12 @@
 -- The book of a core fits its header.
-use Rattle.std.proofs.Common.{◌≡◌, ℕ, suc, ◌+◌, ◌-◌, ◌^◌, ◌<◌, ◌≤◌, Bool, true, false, cond, List, [], ◌∷◌, map, length, Option, Some, None, refl, sym, subst, arith}
+use Rattle.std.proofs.Common.{◌≡◌, ℕ, suc, ◌+◌, ◌-◌, ◌^◌, ◌≤◌, Bool, true, false, cond, List, [], ◌∷◌, map, length, Option, Some, None, refl, sym, subst, arith}
 use Rattle.std.specs.Prelude.{◌==◌, filter, unwrap_or}
 use Rattle.std.specs.List.{AllByRecursion}
 use Rattle.std.proofs.lemmas.Bool.Decides.{nat_tests}
 use Rattle.std.specs.FinMap.{entries, get, nat_cmp-IsAntisymmetric}
 use Rattle.std.specs.Cmp.{nat_cmp_total}
 use Rattle.std.specs.Ordering.{nat_cmp}
-use Rattle.occ_types.specs.declared.limits.TheConstants.{MAX_COUNTER, MAX_LOG_ROWS, MAX_NUMBER, MAX_QUESTIONS}
+use Rattle.occ_types.specs.declared.limits.TheConstants.{MAX_COUNTER, MAX_LOG_ROWS, MAX_NUMBER}
 use Rattle.occ_types.specs.Schema.{Schema}
 use Rattle.occ_model.specs.Log.{LogRow, Base, Standing, Open, Writing, Done, Back, Counts, numbers, last_folded}
 use Rattle.occ_model.specs.Invariant.{Invariant, NumberIsBelow, NumbersAreBelow}
@@ -70,7 +70,7 @@ rows_fit version schema sessions counter bound most (row ∷ rows) few up high p
         number = omega arith;
         start = omega arith;
         finish = omega arith;
-        count_reads = few_reads (length row.reads) reads;
+        count_reads = omega (arith, reads);
         count_writes = has.count_writes;
         done = standing_fits counter (length row.writes) row.standing few below.0 fits.done;
         reads = all_both (ReadIs (QuestionFits schema) (content.RowFits schema)) (ReadHasWords version) (ReadFits version schema) (read_fits version schema) row.reads fits.reads has.reads;
@@ -79,9 +79,6 @@ rows_fit version schema sessions counter bound most (row ∷ rows) few up high p
       },
       rows_fit version schema sessions counter bound most rows few up high places.1 numbered.1 below.1 fit.1 words.1,
     )
-  where
-    few_reads : (reads : ℕ) → reads ≤ MAX_QUESTIONS → reads ≤ 2 ^ 64 - 1
-    few_reads reads h = omega arith
 
 one_more : (a b : ℕ) → a ≤ b → suc a ≤ suc b
 one_more a b h = omega arith
@@ -105,21 +102,6 @@ few_marks mark folded count rows is low within few = omega arith
 few_numbers : (folded rows : ℕ) → folded ≤ MAX_NUMBER → rows ≤ MAX_LOG_ROWS → folded + rows ≤ MAX_NUMBER + MAX_LOG_ROWS
 few_numbers folded rows low few = omega arith
 
-few_counted : (counter active : ℕ) → counter + active ≤ MAX_COUNTER → counter ≤ 2 ^ 64 - 1
-few_counted counter active h = omega arith
-
-few_rows : (rows : ℕ) → rows ≤ MAX_LOG_ROWS → rows ≤ 2 ^ 64 - 1
-few_rows rows h = omega arith
-
-few_below : (counter keep : ℕ) → counter ≤ 2 ^ 64 - 1 → counter - keep ≤ 2 ^ 64 - 1
-few_below counter keep h = omega arith
-
-few_places : (place rows : ℕ) → place + rows < 2 ^ 64 → (place ≤ 2 ^ 64 - 1) × (place + rows ≤ 2 ^ 64 - 1)
-few_places place rows h = (omega arith, omega arith)
-
-small : (number : ℕ) → number ≤ MAX_NUMBER → number ≤ 2 ^ 64 - 1
-small number h = omega arith
-
 -- the last folded number of a session is small, where it has one
 folded_small : (base : Base) (session : ℕ) → ((number : ℕ) → get base.last session ≡ Some number → number ≤ MAX_NUMBER) → last_folded base session ≤ MAX_NUMBER
 folded_small base session each = by (get base.last session) refl
@@ -130,20 +112,22 @@ folded_small base session each = by (get base.last session) refl
 
 pub core_book_fits : (header : Header) (world : World) → Invariant world → IsToldBase world → world.counter + active_count world ≤ MAX_COUNTER → length world.log ≤ MAX_LOG_ROWS → IsInSchema world → IsHeaderOf header world → HasWords header.version world → BookFits (book_in header world)
 core_book_fits header world law told counter rows within own words =
-    let few = few_counted world.counter (active_count world) counter in
-    let up = few_places world.base.place (length world.log) told.places in
+    let few : world.counter ≤ 2 ^ 64 - 1 = omega (arith, counter) in
+    let up = told.places in
     let order = law.in_order in
     let folded : (session : ℕ) → last_folded world.base session ≤ MAX_NUMBER = λ session. folded_small world.base session (told.numbers session) in
     let numbers_fit : AllByRecursion (λ row. row.number ≤ MAX_NUMBER + MAX_LOG_ROWS) world.log =
     own_below (MAX_NUMBER + MAX_LOG_ROWS) world.log (λ session.
     session_below session (last_folded world.base session) (MAX_NUMBER + MAX_LOG_ROWS) world.log (order.numbered session) (few_numbers (last_folded world.base session) (length world.log) (folded session) rows)) in
     let log_fits : AllByRecursion (LogRowFits header.version world.settings.schema world.settings.sessions) world.log =
-    rows_fit header.version world.settings.schema world.settings.sessions world.counter (world.base.place + length world.log) (MAX_NUMBER + MAX_LOG_ROWS) world.log few up.1 (omega arith) (places_below world.base.place (world.base.place + length world.log) world.log order.places (omega arith))
+    rows_fit header.version world.settings.schema world.settings.sessions world.counter (world.base.place + length world.log) (MAX_NUMBER + MAX_LOG_ROWS) world.log few (omega (arith, up)) (omega arith) (places_below world.base.place (world.base.place + length world.log) world.log order.places (omega arith))
     numbers_fit law.below within.log words.log in
     let base_fits : BaseFits header.version world.settings.schema world.settings.sessions world.base = record {
-      place = up.0;
+      place = omega (arith, up);
       last = all_entries nat_cmp nat_cmp_total nat_cmp-IsAntisymmetric (EntryFits world.settings.sessions) world.base.last (λ session number is.
-          let there = within.folded session number is in (record { first = there.first; last = there.last }, small number (told.numbers session number is)));
+          let there = within.folded session number is in
+          let most = told.numbers session number is in
+          (record { first = there.first; last = there.last }, omega (arith, most)));
       objects = words.folded;
       state = table_fits header.version world.settings.schema world.base.state within.base words.base;
       nothing = told.nothing;
@@ -151,7 +135,7 @@ core_book_fits header world law told counter rows within own words =
     record {
       header = own.fits;
       base = subst (λ sessions. BaseFits header.version header.tables sessions world.base) (sym own.sessions) (subst (λ schema. BaseFits header.version schema world.settings.sessions world.base) (sym own.tables) base_fits);
-      rows = few_rows (length world.log) rows;
+      rows = omega (arith, rows);
       log = subst (λ sessions. AllByRecursion (LogRowFits header.version header.tables sessions) world.log) (sym own.sessions)
           (subst (λ schema. AllByRecursion (LogRowFits header.version schema world.settings.sessions) world.log) (sym own.tables) log_fits);
       marks = subst (λ sessions. AllByRecursion (EntryFits sessions) (entries world.marks)) (sym own.sessions)
@@ -162,5 +146,5 @@ core_book_fits header world law told counter rows within own words =
           )));
       objects = words.objects;
       state = subst (λ schema. AllByRecursion (AtFits header.version schema) (entries world.table)) (sym own.tables) (table_fits header.version world.settings.schema world.table within.table words.state);
-      counts = record { counter = few; low = few_below world.counter world.settings.keep few };
+      counts = record { counter = few; low = omega (arith, few) };
     }

@@ -1,5 +1,5 @@
 -- The content of a core, as a book wants it.
-use Rattle.std.proofs.Common.{◌≡◌, ℕ, suc, Bool, true, false, cond, ◌&&◌, T, List, [], ◌∷◌, map, Option, None, Some, IfSome, Contains, Ordering, refl, sym, ap, subst, ◌∙◌, suc-le-suc, arith}
+use Rattle.std.proofs.Common.{◌≡◌, ℕ, suc, cond, T, List, [], ◌∷◌, map, Option, None, Some, IfSome, Contains, Ordering, refl, sym, ap, subst, ◌∙◌, suc-le-suc, arith}
 use Rattle.std.specs.List.{AllByRecursion}
 use Rattle.std.specs.List.Sorted.{IsStrictlySortedBy}
 use Rattle.std.specs.declared.cmp.Ordering.TheVariants.{Less, Equal, Greater}
@@ -19,24 +19,12 @@ use Rattle.occ_model.specs.Content as content
 use Rattle.occ_model.proofs.RangeAnswers.{answers_range}
 use Rattle.occ_text.specs.declared.versions.Version.{Version}
 use Rattle.occ_text.specs.Spelling.{KeyFits, RowFits}
+use Rattle.occ_books.proofs.Rising.{first, second, less}
 use Rattle.occ_books.specs.RowLines.{FoundFits, PairFits, WriteFits, AtFits}
 use Rattle.occ_books.specs.Taking.{RisesFrom, ReadFits}
 use Rattle.occ_books.specs.Cores.{ReadHasWords, WriteHasWords}
 
 -- Entries of a map are what its keys give.
-
-first : (a b : Bool) → T (a && b) → T a
-first true b p = tt
-first false b p = p
-
-second : (a b : Bool) → T (a && b) → T b
-second true b p = p
-second false b p = absurd p
-
-less : (o : Ordering) → T (is_lt o) → o ≡ Less
-less Less p = refl
-less Equal p = absurd p
-less Greater p = absurd p
 
 nothing : {X A : Type 0} {x : X} → None ≡ Some x → A
 nothing e = cc
