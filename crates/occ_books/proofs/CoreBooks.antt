@@ -1,24 +1,9 @@
 -- The book of a core fits its header.
-use Rattle.std.proofs.Common.{◌≡◌, ℕ, suc, ◌+◌, ◌-◌, ◌^◌, ◌≤◌, Bool, true, false, cond, List, [], ◌∷◌, map, length, Option, Some, None, refl, sym, subst, arith}
-use Rattle.std.specs.Prelude.{◌==◌, filter, unwrap_or}
-use Rattle.std.specs.List.{AllByRecursion}
-use Rattle.std.proofs.lemmas.Bool.Decides.{nat_tests}
-use Rattle.std.specs.FinMap.{entries, get, nat_cmp-IsAntisymmetric}
-use Rattle.std.specs.Cmp.{nat_cmp_total}
-use Rattle.std.specs.Ordering.{nat_cmp}
+use Rattle.std.proofs.Common.{◌≡◌, ℕ, suc, ◌+◌, ◌-◌, ◌^◌, ◌≤◌, Bool, true, false, cond, List, ◌∷◌, map, length, Option, Some, None, refl, sym, subst, arith, []}
+use Rattle.occ_books.proofs.Common.{AllByRecursion, AtFits, Back, Base, BaseFits, BookFits, Counts, Done, EntryFits, HasWords, Header, IsHeaderOf, IsInSchema, IsToldBase, LogRow, LogRowFits, Open, QuestionFits, ReadFits, ReadHasWords, ReadIs, RowHasWords, RowIs, Schema, Standing, StandingFits, Version, World, WriteFits, WriteHasWords, WriteIs, Writing, active_count, book_in, entries, filter, get, last_folded, nat_cmp, nat_cmp-IsAntisymmetric, nat_cmp_total, nat_tests, numbers, unwrap_or, ◌==◌}
 use Rattle.occ_types.specs.declared.limits.TheConstants.{MAX_COUNTER, MAX_LOG_ROWS, MAX_NUMBER}
-use Rattle.occ_types.specs.Schema.{Schema}
-use Rattle.occ_model.specs.Log.{LogRow, Base, Standing, Open, Writing, Done, Back, Counts, numbers, last_folded}
 use Rattle.occ_model.specs.Invariant.{Invariant, NumberIsBelow, NumbersAreBelow}
-use Rattle.occ_model.specs.World.{World, active_count}
-use Rattle.occ_text.specs.declared.versions.Version.{Version}
-use Rattle.occ_text.specs.Headers.{Header}
-use Rattle.occ_model.specs.Content.{WriteIs, ReadIs, RowIs, QuestionFits, IsInSchema}
 use Rattle.occ_model.specs.Content as content
-use Rattle.occ_books.specs.RowLines.{WriteFits, AtFits}
-use Rattle.occ_books.specs.Taking.{StandingFits, LogRowFits, ReadFits}
-use Rattle.occ_books.specs.WholeBooks.{EntryFits, BaseFits, BookFits}
-use Rattle.occ_books.specs.Cores.{book_in, IsHeaderOf, IsToldBase, ReadHasWords, WriteHasWords, RowHasWords, HasWords}
 use Rattle.occ_books.proofs.CoreContent.{all_entries, all_both, write_fits, read_fits, table_fits}
 
 -- the places of a log in order lie below the next one

@@ -1,28 +1,10 @@
 -- The content of a core, as a book wants it.
-use Rattle.std.proofs.Common.{◌≡◌, ℕ, suc, cond, T, List, [], ◌∷◌, map, Option, None, Some, IfSome, Contains, Ordering, refl, sym, ap, subst, ◌∙◌, suc-le-suc, arith}
-use Rattle.std.specs.List.{AllByRecursion}
+use Rattle.std.proofs.Common.{◌≡◌, ℕ, suc, cond, T, List, ◌∷◌, map, Option, None, Some, IfSome, Contains, Ordering, refl, sym, ap, subst, ◌∙◌, suc-le-suc, arith, []}
+use Rattle.occ_books.proofs.Common.{AllByRecursion, Answer, AtFits, Equal, FinMap, Found, FoundFits, Greater, IsAntisymmetric, IsRangeAnswer, IsTotalOrder, Key, KeyFits, Less, Object, Observation, One, PairFits, QuestionFits, ReadFits, ReadHasWords, ReadIs, RisesFrom, Row, RowFits, Rows, Schema, Span, State, StateIs, Version, Write, WriteFits, WriteHasWords, WriteIs, answer, below_all, entries, entries_sorted, find, get, get-entries, is_eq, is_lt, is_sorted, key_cmp, object_cmp, object_cmp-IsAntisymmetric, object_cmp_total, tied_itself}
 use Rattle.std.specs.List.Sorted.{IsStrictlySortedBy}
-use Rattle.std.specs.declared.cmp.Ordering.TheVariants.{Less, Equal, Greater}
-use Rattle.std.specs.Ordering.{is_eq, is_lt}
-use Rattle.std.specs.Cmp.{IsTotalOrder, tied_itself}
-use Rattle.std.specs.FinMap.{FinMap, get, entries, entries_sorted, find, is_sorted, get-entries, IsAntisymmetric}
-use Rattle.std.specs.FinMap.Entries.{below_all}
-use Rattle.occ_types.specs.Key.{Key, key_cmp}
-use Rattle.occ_types.specs.Object.{Object, object_cmp, object_cmp_total, object_cmp-IsAntisymmetric}
-use Rattle.occ_types.specs.Question.{One, Span}
-use Rattle.occ_types.specs.Row.{Row}
-use Rattle.occ_types.specs.Schema.{Schema}
-use Rattle.occ_model.specs.State.{State, Write, Answer, Found, Rows, Observation, answer}
-use Rattle.occ_model.specs.RangeLaws.{IsRangeAnswer}
-use Rattle.occ_model.specs.Content.{StateIs, WriteIs, ReadIs, QuestionFits}
-use Rattle.occ_model.specs.Content as content
 use Rattle.occ_model.proofs.RangeAnswers.{answers_range}
-use Rattle.occ_text.specs.declared.versions.Version.{Version}
-use Rattle.occ_text.specs.Spelling.{KeyFits, RowFits}
+use Rattle.occ_model.specs.Content as content
 use Rattle.occ_books.proofs.Rising.{first, second, less}
-use Rattle.occ_books.specs.RowLines.{FoundFits, PairFits, WriteFits, AtFits}
-use Rattle.occ_books.specs.Taking.{RisesFrom, ReadFits}
-use Rattle.occ_books.specs.Cores.{ReadHasWords, WriteHasWords}
 
 -- Entries of a map are what its keys give.
 

@@ -1,9 +1,9 @@
+pub mod Common
 pub mod TableNames
 pub mod LineLengths
 pub mod SchemaFields
 pub mod NumberLines
 pub mod RowLines
-pub mod Found
 pub mod LinesTaken
 pub mod SingleLines
 pub mod RowTaking

@@ -1,5 +1,5 @@
 -- Lines that are taken one after another, and where they lead.
-use Rattle.std.proofs.Common.{◌≡◌, ℕ, suc, ◌+◌, ◌-◌, ◌^◌, ◌<◌, List, [], ◌∷◌, ◌++◌, map, length, Option, Some, None, Result, Ok, Err, refl, sym, ap, subst, ◌∙◌, arith, length-append}
+use Rattle.std.proofs.Common.{◌≡◌, ℕ, suc, ◌+◌, ◌-◌, ◌^◌, ◌<◌, List, ◌∷◌, ◌++◌, map, length, Option, Some, None, Result, Ok, Err, refl, sym, ap, subst, ◌∙◌, arith, length-append, []}
 use Rattle.std.specs.List.{AllByRecursion, flat_map}
 use Rattle.std.specs.Result.{IsErrAnd}
 use Rattle.std.specs.Io.KnownBytes.{Consumes}
@@ -7,38 +7,53 @@ use Rattle.std.proofs.KnownBytes.{Consumes-nil, Consumes-trans}
 use Rattle.std.proofs.lemmas.List.{append-nil, map-append}
 use Rattle.std.proofs.lemmas.Grind.{flat_map-append}
 use Rattle.occ_text.specs.declared.faults.ReadFault.{ReadFault}
-use Rattle.occ_text.specs.declared.faults.ReadFault.TheVariants as faults
 use Rattle.occ_text.specs.Line.{IsLine, CannotStand, OtherLine, NoneTaken, IsSpelled, lines_text}
 use Rattle.occ_text.proofs.Taking.{NoneTaken-narrower}
-use Rattle.occ_books.specs.Taking.{TakesLines}
-use Rattle.occ_books.specs.Places.{Place, Leads, LeadOn, MayEnd, Unended, Position, point, Took, Stopped, Unread as Torn, Uncounted, FailsFrom, TakesFrom, Ended, EndsFrom}
+use Rattle.occ_books.specs.Places.{Place, grammar, Leads, LeadOn, MayEnd, Unended, Position, point, Took, Stopped, Uncounted, FailsFrom, TakesFrom, Ended, EndsFrom}
+use Rattle.occ_text.specs.declared.faults.ReadFault.TheVariants as faults
+use Rattle.occ_books.specs.Places.{Unread as Torn}
 
-one_line : (line : List ℕ) (a b : Option (List ℕ)) → Consumes a b (line ++ 10 ∷ []) → TakesLines a b (line ∷ [])
+one_line : (line : List ℕ) (a b : Option (List ℕ)) → Consumes a b (line ++ 10 ∷ []) → Consumes a b (lines_text (line ∷ []))
 one_line line a b taken = subst (Consumes a b) (sym (append-nil (line ++ 10 ∷ []))) taken
 
-more_lines : (xs ys : List (List ℕ)) (a b c : Option (List ℕ)) → TakesLines a b xs → TakesLines b c ys → TakesLines a c (xs ++ ys)
+more_lines : (xs ys : List (List ℕ)) (a b c : Option (List ℕ)) → Consumes a b (lines_text xs) → Consumes b c (lines_text ys) → Consumes a c (lines_text (xs ++ ys))
 more_lines xs ys a b c p q = subst (Consumes a c) (sym (flat_map-append (λ (l : List ℕ). l ++ 10 ∷ []) xs ys)) (Consumes-trans a b c (lines_text xs) (lines_text ys) p q)
 
--- lines lead on behind lines
-pub lead_on : (xs ys : List (List ℕ)) (p q r : Place) → LeadOn p xs q → LeadOn q ys r → LeadOn p (xs ++ ys) r
-lead_on [] ys p q r h k = subst (λ (x : Place). LeadOn x ys r) h k
-lead_on (x ∷ xs) ys p q r h k = (h.0, h.1, lead_on xs ys h.0 q r h.2 k)
+-- lines that lead from a place to another one
+pub record Path (from to : Place) (lines : List (List ℕ)) : Type 0 where
+  pub leads : LeadOn from lines to
+
+pub stay : {p : Place} → Path p p []
+stay = record { leads = refl }
+
+-- one line, and those behind it
+pub on : {p q r : Place} {line : List ℕ} {lines : List (List ℕ)} → Leads p line q → Path q r lines → Path p r (line ∷ lines)
+on {q = q} leads path = record { leads = (q, leads, path.leads) }
+
+-- lines behind lines
+pub along : {p q r : Place} {xs ys : List (List ℕ)} → Path p q xs → Path q r ys → Path p r (xs ++ ys)
+along {p} {q} {r} {xs} {ys} path more = record { leads = lead_on xs p path.leads }
+  where
+    lead_on : (xs : List (List ℕ)) (p : Place) → LeadOn p xs q → LeadOn p (xs ++ ys) r
+    lead_on [] p h = subst (λ (x : Place). LeadOn x ys r) h more.leads
+    lead_on (x ∷ xs) p h = (h.0, h.1, lead_on xs h.0 h.2)
+
+-- lines that lead on, in two parts
+pub led_apart : (xs ys : List (List ℕ)) (p q : Place) → LeadOn p (xs ++ ys) q → (mid : Place) × LeadOn p xs mid × LeadOn mid ys q
+led_apart [] ys p q h = (p, refl, h)
+led_apart (x ∷ xs) ys p q h = let r = led_apart xs ys h.0 q h.2 in (r.0, (h.0, h.1, r.1), r.2)
 
 pub none : {p : Place} {a : Position} → Took p p a a []
 none {p} {a} = record { taken = Consumes-nil a.left; leads = refl; number = omega arith }
 
-pub line : (p q : Place) (bytes : List ℕ) (a b : Option (List ℕ)) (first last : ℕ) → Leads p bytes q → Consumes a b (bytes ++ 10 ∷ []) → last ≡ first + 1 → Took p q (point a first) (point b last) (bytes ∷ [])
-line p q bytes a b first last leads taken number = record { taken = one_line bytes a b taken; leads = (q, leads, refl); number = number }
-
-pub both : {p q r : Place} {a b c : Position} {xs ys : List (List ℕ)} → Took p q a b xs → Took q r b c ys → Took p r a c (xs ++ ys)
-both {p} {q} {r} {a} {b} {c} {xs} {ys} l k =
+-- lines that were taken behind lines
+infixl 60 ◌and◌
+pub ◌and◌ : {p q r : Place} {a b c : Position} {xs ys : List (List ℕ)} → Took p q a b xs → Took q r b c ys → Took p r a c (xs ++ ys)
+◌and◌ {a = a} {b = b} {c = c} {xs = xs} {ys = ys} l k =
     let x = l.number in
     let y = k.number in
-    record {
-      taken = more_lines xs ys a.left b.left c.left l.taken k.taken;
-      leads = lead_on xs ys p q r l.leads k.leads;
-      number = omega (arith, length-append xs ys);
-    }
+    let path = along (record { leads = l.leads }) (record { leads = k.leads }) in
+    record { taken = more_lines xs ys a.left b.left c.left l.taken k.taken; leads = path.leads; number = omega (arith, length-append xs ys) }
 
 -- the same lines, spelled otherwise
 pub spelled : {p q : Place} {a b : Position} {xs ys : List (List ℕ)} → xs ≡ ys → Took p q a b xs → Took p q a b ys
@@ -48,9 +63,9 @@ spelled {p} {q} {a} {b} same l = subst (Took p q a b) same l
 
 -- lines were taken, and then no more
 pub fails : (fault : ReadFault) {p q : Place} {a b : Position} {xs : List (List ℕ)} (c : Option (List ℕ)) → Took p q a b xs → FailsFrom fault q b c → FailsFrom fault p a c
-fails (faults.Malformed number) c l t = record { place = t.place; rest = t.rest; lines = _; took = both l t.took; stuck = t.stuck; unended = t.unended; here = t.here }
-fails faults.Read c l t = record { place = t.place; rest = t.rest; lines = _; took = both l t.took; part = t.part; lost = t.lost; torn = t.torn }
-fails faults.TooManyLines c l t = record { place = t.place; rest = t.rest; lines = _; took = both l t.took; here = t.here }
+fails (faults.Malformed number) c l t = record { place = t.place; rest = t.rest; lines = _; took = l and t.took; stuck = t.stuck; unended = t.unended; here = t.here }
+fails faults.Read c l t = record { place = t.place; rest = t.rest; lines = _; took = l and t.took; part = t.part; lost = t.lost; torn = t.torn }
+fails faults.TooManyLines c l t = record { place = t.place; rest = t.rest; lines = _; took = l and t.took; here = t.here }
 fails faults.Memory c l t = tt
 
 -- the exit of a `?`
@@ -78,9 +93,18 @@ torn_here from a part b torn lost = record { place = from; rest = a; lines = [];
 pub uncounted_here : (from : Place) (a : Position) → a.number ≡ 2 ^ 64 - 1 → Uncounted from a
 uncounted_here from a all = record { place = from; rest = a; lines = []; took = none; here = all }
 
+-- where a line stands, a text doesn't end
+more_to_come : (place : Place) (bytes : List ℕ) (a b : Option (List ℕ)) → Consumes a b (bytes ++ 10 ∷ []) → Unended a place
+more_to_come place bytes None b taken = tt
+more_to_come place bytes (Some x) None taken = absurd taken
+more_to_come place bytes (Some x) (Some y) taken = λ ended may.
+    let n : length x ≡ 0 = ap length ended in
+    let m : length x ≡ length (bytes ++ 10 ∷ []) + length y = ap length taken ∙ length-append (bytes ++ 10 ∷ []) y in
+    absurd (omega (arith, length-append bytes (10 ∷ [])))
+
 -- a line stands there that isn't one that leads on
-pub line_refused : (from : Place) (bytes : List ℕ) (a b : Option (List ℕ)) (first last number : ℕ) → (MayEnd from → ⊥) → Consumes a b (bytes ++ 10 ∷ []) × (last ≡ first + 1) × IsLine bytes → (LeadsOn from bytes → ⊥) → number ≡ last → Stopped from (point a first) number
-line_refused from bytes a b first last number more taken other here = stopped_here from (point a first) number (unended_by a from more) (OtherLine bytes b taken.0 taken.2 other) (here ∙ taken.1)
+pub line_refused : (from : Place) (bytes : List ℕ) (a b : Option (List ℕ)) (first last number : ℕ) → Consumes a b (bytes ++ 10 ∷ []) × (last ≡ first + 1) × IsLine bytes → (LeadsOn from bytes → ⊥) → number ≡ last → Stopped from (point a first) number
+line_refused from bytes a b first last number taken other here = stopped_here from (point a first) number (more_to_come from bytes a b taken.0) (OtherLine bytes b taken.0 taken.2 other) (here ∙ taken.1)
 
 -- no line of a kind was taken, and none of another kind leads on
 pub none_fails : (IsKind : List ℕ → Type 0) (fault : ReadFault) (from : Place) (a b : Option (List ℕ)) (first : ℕ) → (MayEnd from → ⊥) → ((bytes : List ℕ) → LeadsOn from bytes → IsKind bytes) → NoneTaken IsKind fault a b first
@@ -92,21 +116,14 @@ none_fails IsKind faults.Read from a b first more only t = torn_here from (point
 none_fails IsKind faults.TooManyLines from a b first more only t = uncounted_here from (point a first) t
 none_fails IsKind faults.Memory from a b first more only t = tt
 
--- ---- one line of a grammar
+-- ---- one line of the grammar of a place
 
--- at a place stands a line of this grammar, and each of them leads on
-pub record NextLine {Y : Type 0} (spell : Y → List ℕ) (fits : Y → Type 0) (from : Place) (to : Y → Place) : Type 0 where
-  pub more : MayEnd from → ⊥
-  pub leads : (y : Y) → fits y → Leads from (spell y) (to y)
-  pub only : (bytes : List ℕ) → LeadsOn from bytes → IsSpelled spell fits bytes
+pub next_taken : {a b : Option (List ℕ)} {first last : ℕ} (from : Place) (told : (grammar from).Told) → Consumes a b ((grammar from).spell told ++ 10 ∷ []) × (grammar from).fits told × (last ≡ first + 1)
+    → Took from ((grammar from).to told) (point a first) (point b last) ((grammar from).spell told ∷ []) × (grammar from).fits told
+next_taken {a} {b} from told t = (record { taken = one_line ((grammar from).spell told) a b t.0; leads = ((grammar from).to told, (told, t.1, refl, refl), refl); number = t.2 }, t.1)
 
-pub next_taken : {Y : Type 0} {spell : Y → List ℕ} {fits : Y → Type 0} {from : Place} {to : Y → Place} {a b : Option (List ℕ)} {first last : ℕ} → NextLine spell fits from to → (y : Y) → Consumes a b (spell y ++ 10 ∷ []) × fits y × (last ≡ first + 1)
-    → Took from (to y) (point a first) (point b last) (spell y ∷ []) × fits y
-next_taken {spell = spell} {from = from} {to = to} {a = a} {b = b} {first = first} {last = last} next y t = (line from (to y) (spell y) a b first last (next.leads y t.1) t.0 t.2, t.1)
-
-pub next_fails : {Y : Type 0} {spell : Y → List ℕ} {fits : Y → Type 0} {from : Place} {to : Y → Place} → NextLine spell fits from to → (fault : ReadFault) (a b : Option (List ℕ)) (first : ℕ) → NoneTaken (IsSpelled spell fits) fault a b first
-    → FailsFrom fault from (point a first) b
-next_fails {spell = spell} {fits = fits} {from = from} next fault a b first t = none_fails (IsSpelled spell fits) fault from a b first next.more next.only t
+pub next_fails : (from : Place) (fault : ReadFault) (a b : Option (List ℕ)) (first : ℕ) → (MayEnd from → ⊥) → NoneTaken (IsSpelled (grammar from).spell (grammar from).fits) fault a b first → FailsFrom fault from (point a first) b
+next_fails from fault a b first more t = none_fails (IsSpelled (grammar from).spell (grammar from).fits) fault from a b first more (λ line leads. (leads.1.0, leads.1.1, leads.1.2)) t
 
 -- ---- so many of a kind, one after another
 
@@ -134,7 +151,7 @@ pub gathered_more : {Y : Type 0} {lines : Y → List (List ℕ)} {fits : Y → T
 gathered_more {lines = lines} {fits = fits} {p = p} {r = r} {a = a} {b = b} {c = c} at ys now y count counter lt is so_far next =
     let before = subst (λ k. Took p (at k) a b (flat_map lines ys)) (one_of count counter lt) so_far.took in
     let all : flat_map lines ys ++ lines y ≡ flat_map lines (ys ++ y ∷ []) = sym (flat_map-append lines ys (y ∷ []) ∙ ap (λ (l : List (List ℕ)). flat_map lines ys ++ l) (append-nil (lines y))) in
-    subst (Gathered lines fits p r a c) (sym is) (record { took = spelled all (both before next.0); fit = all_more fits ys y so_far.fit next.1 })
+    subst (Gathered lines fits p r a c) (sym is) (record { took = spelled all (before and next.0); fit = all_more fits ys y so_far.fit next.1 })
 
 -- no more of them
 pub gathered_fails : {Y : Type 0} {lines : Y → List (List ℕ)} {fits : Y → Type 0} {p : Place} {a b : Position} {ys : List Y} (fault : ReadFault) (c : Option (List ℕ)) (at : ℕ → Place) (count counter : ℕ) → counter < count
@@ -164,7 +181,7 @@ viewed_more view xs now x is = ap (map view) is ∙ map-append view xs (x ∷ []
 
 -- the lines of a whole text from a place on, behind lines that lead there
 pub ended : {p q : Place} {a b : Position} {xs : List (List ℕ)} → Took p q a b xs → Ended q b → Ended p a
-ended l t = record { place = t.place; rest = t.rest; lines = _; took = both l t.took; may = t.may; whole = t.whole }
+ended l t = record { place = t.place; rest = t.rest; lines = _; took = l and t.took; may = t.may; whole = t.whole }
 
 -- a part failed, behind lines that were taken
 pub part_failed : {X : Type 0} {p q : Place} {a b : Position} {xs : List (List ℕ)} (fault : ReadFault) (result : Result X ReadFault) (c : Option (List ℕ)) → IsErrAnd result (λ e. e ≡ fault) → Took p q a b xs → FailsFrom fault q b c → EndsFrom result p a c

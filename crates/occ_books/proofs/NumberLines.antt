@@ -1,28 +1,11 @@
 -- The lines of numbers are fields: what is read is spelled so, what is spelled so is read again, and they are lines.
-use Rattle.std.proofs.Common.{◌≡◌, ◌+◌, ℕ, zero, suc, ◌^◌, ◌-◌, ◌==◌, ◌<◌, ◌≤◌, not, true, List, [], ◌∷◌, length, Option, Some, None, lit<, refl, sym, ap, ◌∙◌, arith}
-use Rattle.std.specs.Prelude.{option_map, codes}
-use Rattle.std.proofs.lemmas.Bool.{ne_eqb}
-use Rattle.occ_model.specs.declared.verdict.Cause.TheVariants.{Conflict, TooOld}
+use Rattle.std.proofs.Common.{◌≡◌, ◌+◌, ℕ, zero, suc, ◌^◌, ◌-◌, ◌==◌, ◌<◌, ◌≤◌, not, true, List, ◌∷◌, length, Option, Some, None, lit<, refl, sym, ap, ◌∙◌, arith, []}
+use Rattle.occ_books.proofs.Common.{BaseHead, BaseHeadFits, Began, BeganFits, Conflict, CountsFit, HeadFits, IfSome, IsField, IsLine, IsSession, IsToken, IsToken-from_test, MarkFits, Reads, Section, Stand, StandFits, TooOld, Within, after_word, alone_spelled, alone_takes, base_head_line, base_of_line, base_text, began_of_line, began_text, began_unless, behind_spelled, behind_takes, both_fields, codes, count_field, count_of_line, count_reads, count_text, counts_line, field_is_line, field_reads, fitting_field, head_from, head_line, head_parts, is_token, mark_line, ne_eqb, next_session, next_stand, number, number64, number_field, number_word, one_and_other, option_map, session, shaped_field, stand, stand_tokens, tested_field, within, words_field}
 use Rattle.occ_book.specs.declared.rows.Standing.TheVariants.{Open, Writing, Done, Back}
-use Rattle.occ_print.specs.Books.{number_word}
-use Rattle.occ_print.specs.declared.sections.Section.{Section}
+use Rattle.occ_text.proofs.Fields.{IsSpelled}
 use Rattle.occ_print.specs.declared.sections.Section.TheVariants as sections
-use Rattle.occ_text.specs.Line.{IsLine}
-use Rattle.occ_text.specs.Spelling.{IsToken}
-use Rattle.occ_text.specs.Reading.{Reads, is_token}
-use Rattle.occ_text.specs.Headers.{count_text, Within}
-use Rattle.occ_text.specs.HeaderReading.{count_of_line}
-use Rattle.occ_text.specs.Fields.{number}
-use Rattle.occ_text.proofs.Words.{IsToken-from_test}
-use Rattle.occ_text.proofs.HeaderLines.{count_field, count_reads}
-use Rattle.occ_text.proofs.Fields.{IsField, IsSpelled, number_field, after_word, both_fields, one_and_other, tested_field, fitting_field, shaped_field, alone_takes, behind_takes, alone_spelled, behind_spelled, within, words_field, field_reads, field_is_line}
-use Rattle.occ_books.specs.declared.number_lines.Head.{Head}
-use Rattle.occ_books.specs.declared.number_lines.Mark.{Mark}
-use Rattle.occ_books.specs.declared.number_lines.Counts.{Counts}
-use Rattle.occ_books.specs.declared.number_lines.BaseHead.{BaseHead}
-use Rattle.occ_books.specs.declared.number_lines.Began.{Began}
 use Rattle.occ_books.specs.declared.number_lines.Began.TheVariants as begun
-use Rattle.occ_books.specs.NumberLines.{Stand, stand_tokens, head_text, mark_text, base_text, began_text, counts_text, IsSession, StandFits, HeadFits, MarkFits, BaseHeadFits, BeganFits, CountsFit, number64, next_session, session, next_stand, stand, head_from, head_parts, head_line, head_of_line, mark_line, mark_of_line, base_head_line, base_of_line, began_unless, began_of_line, counts_line, counts_of_line}
+use Rattle.occ_books.proofs.TextLines.{first_byte}
 
 pub wide : 2 ^ 64 - 1 < 2 ^ 64
 wide = lit< tt
@@ -117,21 +100,9 @@ counts_field =
 
 -- ---- the readers are right
 
-pub head_reads : (sessions : ℕ) (line : List ℕ) (head : Option Head) → sessions < 2 ^ 64 → head ≡ head_of_line sessions line → Reads head_text (HeadFits sessions) line head
-unfolding head_of_line
-head_reads sessions line head small is = field_reads (head_field sessions small) is
-
-pub mark_reads : (section : Section) (sessions : ℕ) (line : List ℕ) (mark : Option Mark) → sessions < 2 ^ 64 → mark ≡ mark_of_line section sessions line → Reads (mark_text section) (MarkFits sessions) line mark
-unfolding mark_of_line
-mark_reads section sessions line mark small is = field_reads (mark_field section sessions small) is
-
 pub base_reads : (line : List ℕ) (head : Option BaseHead) → head ≡ base_of_line line → Reads base_text BaseHeadFits line head
 unfolding base_of_line
 base_reads line head is = field_reads base_field is
-
-pub counts_reads : (line : List ℕ) (counts : Option Counts) → counts ≡ counts_of_line line → Reads counts_text CountsFit line counts
-unfolding counts_of_line
-counts_reads line counts is = field_reads counts_field is
 
 -- ---- how the log begins
 
@@ -142,39 +113,26 @@ IsToken-log = IsToken-from_test (codes "log") refl
 log_reads : (line : List ℕ) → Reads (count_text (codes "log")) (Within 0 (2 ^ 64 - 1)) line (count_of_line (codes "log") 0 (2 ^ 64 - 1) line)
 log_reads line = count_reads (codes "log") 0 (2 ^ 64 - 1) line _ wide IsToken-log refl
 
-abbrev first_byte : List ℕ → ℕ
-first_byte [] = 0
-first_byte (byte ∷ bytes) = byte
-
 log_is_no_base : (rows : ℕ) (head : BaseHead) → count_text (codes "log") rows ≡ base_text head → ⊥
 log_is_no_base rows head e = let f : 108 ≡ 98 = ap first_byte e in absurd (omega (arith, f))
 
 -- what was read of a line as a count of rows, and what as a base, gives how the log begins
-pub began_reads_by : (line : List ℕ) (rows : Option ℕ) (head : Option BaseHead) → Reads (count_text (codes "log")) (Within 0 (2 ^ 64 - 1)) line rows → Reads base_text BaseHeadFits line head → Reads began_text BeganFits line (began_unless rows head)
-began_reads_by line (Some n) head log base = record {
-  found = log.found;
-  again = λ began fits e. by began fits e;
-}
+began_reads_by : (line : List ℕ) (rows : Option ℕ) (head : Option BaseHead) → Reads (count_text (codes "log")) (Within 0 (2 ^ 64 - 1)) line rows → Reads base_text BaseHeadFits line head → Reads began_text BeganFits line (began_unless rows head)
+began_reads_by line rows head log base = record { found = found rows head log.found base.found; again = again }
   where
-    by : (began : Began) → BeganFits began → line ≡ began_text began → Some (begun.Log n) ≡ Some began
-    by (begun.Log m) fits e = ap (option_map begun.Log) (log.again m fits e)
-    by (begun.Base other) fits e = absurd (log_is_no_base n other (sym log.found.0 ∙ e))
-began_reads_by line None (Some head) log base = record {
-  found = base.found;
-  again = λ began fits e. by began fits e;
-}
-  where
-    by : (began : Began) → BeganFits began → line ≡ began_text began → Some (begun.Base head) ≡ Some began
-    by (begun.Log m) fits e = let none : None ≡ Some m = log.again m fits e in cc
-    by (begun.Base other) fits e = ap (option_map begun.Base) (base.again other fits e)
-began_reads_by line None None log base = record {
-  found = tt;
-  again = λ began fits e. by began fits e;
-}
-  where
-    by : (began : Began) → BeganFits began → line ≡ began_text began → None ≡ Some began
-    by (begun.Log m) fits e = ap (option_map begun.Log) (log.again m fits e)
-    by (begun.Base other) fits e = ap (option_map begun.Base) (base.again other fits e)
+    found : (rows : Option ℕ) (head : Option BaseHead) → IfSome rows (λ n. (line ≡ count_text (codes "log") n) × Within 0 (2 ^ 64 - 1) n) → IfSome head (λ h. (line ≡ base_text h) × BaseHeadFits h)
+        → IfSome (began_unless rows head) (λ began. (line ≡ began_text began) × BeganFits began)
+    found (Some n) head log base = log
+    found None (Some h) log base = base
+    found None None log base = tt
+
+    no_log : (rows : Option ℕ) (other : BaseHead) → IfSome rows (λ n. (line ≡ count_text (codes "log") n) × Within 0 (2 ^ 64 - 1) n) → line ≡ base_text other → rows ≡ None
+    no_log (Some n) other log e = absurd (log_is_no_base n other (sym log.0 ∙ e))
+    no_log None other log e = refl
+
+    again : (began : Began) → BeganFits began → line ≡ began_text began → began_unless rows head ≡ Some began
+    again (begun.Log n) fits e = ap (λ r. began_unless r head) (log.again n fits e)
+    again (begun.Base other) fits e = ap (λ r. began_unless r head) (no_log rows other log.found e) ∙ ap (option_map begun.Base) (base.again other fits e)
 
 pub began_reads : (line : List ℕ) → Reads began_text BeganFits line (began_of_line line)
 began_reads line = began_reads_by line _ _ (log_reads line) (base_reads line _ refl)

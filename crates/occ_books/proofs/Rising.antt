@@ -1,12 +1,6 @@
 -- Entries that come in the order of their keys.
-use Rattle.std.proofs.Common.{◌≡◌, Bool, true, false, ◌&&◌, T, List, [], ◌∷◌, ◌++◌, Option, Some, None, refl, sym, ap, subst, ◌∙◌}
-use Rattle.std.specs.Prelude.{IfSome}
-use Rattle.std.specs.declared.cmp.Ordering.{Ordering}
-use Rattle.std.specs.declared.cmp.Ordering.TheVariants.{Less, Equal, Greater}
-use Rattle.std.specs.Ordering.{is_lt, ordering_reverse}
-use Rattle.std.specs.Cmp.{IsTotalOrder}
-use Rattle.std.specs.FinMap.{FinMap, insert, entries, entries_sorted, entries-insert, put, is_sorted}
-use Rattle.std.specs.FinMap.Entries.{by_order, below_all}
+use Rattle.std.proofs.Common.{ℕ, ◌+◌, length, ◌≡◌, Bool, true, false, ◌&&◌, T, List, ◌∷◌, ◌++◌, Option, Some, None, refl, sym, ap, subst, ◌∙◌, []}
+use Rattle.occ_books.proofs.Common.{Equal, FinMap, Greater, IfSome, IsTotalOrder, Less, Ordering, below_all, by_order, count_more, empty, entries, entries-insert, entries_sorted, insert, is_lt, is_sorted, len-empty, len-entries, nil_from_length, ordering_reverse, put}
 
 pub first : (a b : Bool) → T (a && b) → T a
 first true b p = tt
@@ -52,3 +46,24 @@ module _ {K X : Type 0} where
 
     pub insert_last : (last : Option K) (m : FinMap R X) (k : K) (v : X) → LastIs last (entries m) → IfSome last (λ key. R key k ≡ Less) → entries (insert m k v) ≡ entries m ++ (k, v) ∷ []
     insert_last last m k v is lt = entries-insert total m k v ∙ put_last last (entries m) k v (entries_sorted m) is lt
+
+-- so many entries, of which the last one has this key, if there is one
+pub record SoFar {K X : Type 0} {R : K → K → Ordering} (last : Option K) (count : ℕ) (m : FinMap R X) : Type 0 where
+  pub number : length (entries m) ≡ count
+  pub ends : LastIs last (entries m)
+
+pub no_entries : {K X : Type 0} {R : K → K → Ordering} (m : FinMap R X) → m ≡ empty → entries m ≡ []
+no_entries {X = X} {R = R} m none = ap entries none ∙ nil_from_length _ (sym (len-entries empty) ∙ len-empty R X)
+
+pub none_yet : {K X : Type 0} {R : K → K → Ordering} (m : FinMap R X) → m ≡ empty → SoFar None 0 m
+none_yet m none = let e = no_entries m none in record { number = ap length e; ends = e }
+
+-- one more entry, behind the last one
+pub record Added {K X : Type 0} {R : K → K → Ordering} (count : ℕ) (m new : FinMap R X) (k : K) (v : X) : Type 0 where
+  pub more : entries new ≡ entries m ++ (k, v) ∷ []
+  pub so_far : SoFar (Some k) (count + 1) new
+
+pub added : {K X : Type 0} {R : K → K → Ordering} (total : IsTotalOrder R) (last : Option K) (count : ℕ) (m new : FinMap R X) (k : K) (v : X) → SoFar last count m → IfSome last (λ key. R key k ≡ Less) → new ≡ insert m k v → Added count m new k v
+added {R = R} total last count m new k v so_far lt is =
+    let more = ap entries is ∙ insert_last R total last m k v so_far.ends lt in
+    record { more = more; so_far = record { number = count_more (entries m) (entries new) (k, v) count more so_far.number; ends = (entries m, v, more) } }

@@ -1,24 +1,8 @@
 -- The lines of keys and rows are fields: what is read is spelled so, what is spelled so is read again, and they are lines.
-use Rattle.std.proofs.Common.{◌≡◌, ℕ, ◌+◌, ◌≤◌, List, [], ◌∷◌, ◌++◌, length, Option, Some, None, refl, sym, ap, subst, ◌∙◌, arith, append_assoc}
-use Rattle.std.specs.Prelude.{codes}
-use Rattle.std.specs.Fmt.{decimal}
-use Rattle.occ_types.specs.Question.{One, Span}
-use Rattle.occ_types.specs.Schema.{Schema, check_tables}
-use Rattle.occ_model.specs.State.{Write}
-use Rattle.occ_text.specs.declared.versions.Version.{Version}
-use Rattle.occ_text.specs.Line.{IsLine}
-use Rattle.occ_text.specs.Spelling.{line_text, key_text, end_text, IsToken}
-use Rattle.occ_text.specs.Reading.{Reads, is_token}
-use Rattle.occ_text.specs.Fields.{both, ◌⊗◌}
-use Rattle.occ_text.proofs.Numbers.{some_or_none}
-use Rattle.occ_text.proofs.Words.{IsToken-from_test}
-use Rattle.occ_text.proofs.Readers.{takes}
-use Rattle.occ_text.proofs.Fields.{IsField, IsSpelled, after_word, both_fields, one_and_other, behind_takes, behind_spelled, within, words_field, field_reads, field_is_line}
-use Rattle.occ_print.specs.Books.{table_name, pair_line, write_line, entry_word, entry_line}
-use Rattle.occ_print.specs.declared.sections.Section.{Section}
+use Rattle.std.proofs.Common.{◌≡◌, ℕ, ◌+◌, ◌≤◌, List, ◌∷◌, ◌++◌, length, Option, Some, None, refl, sym, ap, subst, ◌∙◌, arith, append_assoc, []}
+use Rattle.occ_books.proofs.Common.{Asked, AskedFits, AskedOne, AskedSpan, AtFits, IsField, IsLine, IsToken, IsToken-from_test, One, PairFits, Reads, Schema, Section, Span, Version, Write, WriteFits, after_word, asked_line, asked_of_line, asked_text, asked_tokens, at_field, at_of_line, behind_spelled, behind_takes, both, both_fields, check_tables, codes, decimal, del_behind, end_text, ends_field, entry_line, entry_word, field_is_line, field_reads, found_field, found_text, is_token, key_text, line_text, next_asked, next_write, number64, object_field, one_and_other, one_behind, pair_field, pair_line, pair_of_line, put_behind, row_field, some_or_none, span_behind, table_field, table_name, takes, within, words_field, write_field, write_line, write_of_line, write_tokens, ◌⊗◌}
+use Rattle.occ_text.proofs.Fields.{IsSpelled}
 use Rattle.occ_print.specs.declared.sections.Section.TheVariants as sections
-use Rattle.occ_books.specs.NumberLines.{number64}
-use Rattle.occ_books.specs.RowLines.{table_field, object_field, row_field, found_field, ends_field, Asked, AskedOne, AskedSpan, asked_text, found_text, asked_tokens, write_tokens, AskedFits, PairFits, WriteFits, AtFits, one_behind, span_behind, next_asked, asked_line, asked_of_line, pair_field, pair_of_line, put_behind, del_behind, next_write, write_field, write_of_line, at_field, at_of_line}
 use Rattle.occ_books.proofs.TableNames.{checked_place}
 use Rattle.occ_books.proofs.NumberLines.{number64_field}
 use Rattle.occ_books.proofs.SchemaFields.{table_is_field, key_is_field, object_is_field, row_is_field, found_is_field, ends_is_field}

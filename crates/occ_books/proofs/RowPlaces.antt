@@ -1,28 +1,8 @@
 -- The lines of a row of the log, and where they lead.
-use Rattle.std.proofs.Common.{◌≡◌, ℕ, suc, ◌+◌, ◌-◌, ◌<◌, Bool, true, false, cond, List, [], ◌∷◌, ◌++◌, map, length, Option, Some, None, Result, Ok, Err, ◌||◌, refl, sym, ap, subst, ◌∙◌, arith}
-use Rattle.std.specs.Prelude.{slice_get, IfErr, IsTrue, ◌↔◌, is_some}
-use Rattle.std.specs.List.{list_any}
-use Rattle.std.specs.Io.KnownBytes.{Consumes}
-use Rattle.std.specs.Ordering.{is_lt, eq_by_cmp}
-use Rattle.std.proofs.lemmas.List.{map-append}
-use Rattle.occ_types.specs.Key.{Key, key_cmp}
-use Rattle.occ_types.specs.Object.{Object, object_cmp}
-use Rattle.occ_types.specs.Row.{Row}
-use Rattle.occ_types.specs.Schema.{Schema, check_tables}
-use Rattle.occ_model.specs.State.{Write}
-use Rattle.occ_model.specs.Overlay.{own}
-use Rattle.occ_text.specs.declared.tokens.Unread.{Unread}
+use Rattle.std.proofs.Common.{◌≡◌, ℕ, suc, ◌+◌, ◌-◌, ◌<◌, Bool, true, false, cond, List, ◌∷◌, ◌++◌, map, length, Option, Some, None, Result, Ok, Err, ◌||◌, refl, sym, ap, subst, ◌∙◌, arith, []}
+use Rattle.occ_books.proofs.Common.{Consumes, FailsFrom, Gathered, IfErr, InRow, IsAbove, IsLine, IsSpelled, IsTrue, Key, LeadsOn, NoneTaken, Object, PairFits, PairOf, Place, Position, ReadFault, Row, Schema, Taken, Took, Unread, Version, Write, WriteFits, WriteOf, check_tables, eq_by_cmp, gathered_fails, gathered_more, is_lt, is_some, key_cmp, last_key, line_refused, list_any, map-append, next_fails, next_taken, none_fails, object_cmp, own, pair_line, pairs_to_come, point, slice_get, told, viewed_more, write_line, write_of_line, writes_to_come, ◌↔◌}
 use Rattle.occ_text.specs.declared.tokens.Unread.TheVariants as unread
-use Rattle.occ_text.specs.declared.faults.ReadFault.{ReadFault}
 use Rattle.occ_text.specs.declared.faults.ReadFault.TheVariants as faults
-use Rattle.occ_text.specs.Faults.{told}
-use Rattle.occ_text.specs.declared.versions.Version.{Version}
-use Rattle.occ_text.specs.Line.{IsLine, NoneTaken, IsSpelled, Taken}
-use Rattle.occ_print.specs.Books.{pair_line, write_line}
-use Rattle.occ_books.specs.NumberLines.{HeadFits, head_text}
-use Rattle.occ_books.specs.RowLines.{asked_text, AskedFits, PairFits, WriteFits, write_of_line}
-use Rattle.occ_books.specs.Places.{Frame, Place, InRow, LogRow, ReadOf, PairOf, WriteOf, Position, point, Took, FailsFrom, IsAbove, last_key, in_row, behind_read, pairs_to_come, reads_to_come, writes_to_come}
-use Rattle.occ_books.proofs.LinesTaken.{LeadsOn, line, line_refused, none_fails, NextLine, next_taken, next_fails, Gathered, gathered_more, gathered_fails, viewed_more}
 use Rattle.occ_books.proofs.RowLines.{write_line-again}
 
 -- ---- keys of a range, each above the one before
@@ -49,18 +29,6 @@ last_more view xs now x is = ap (λ l. last_key (map view l)) is ∙ by xs
     by (y ∷ []) = refl
     by (y ∷ z ∷ xs) = by (z ∷ xs)
 
--- ---- which lines stand in a row
-
-pub pair_stands : (row : InRow) (reads table more : ℕ) (last : Option Key)
-    → NextLine pair_line (λ pair. PairFits row.frame.version row.frame.schema table pair × IsAbove last pair.0) (PairOf row reads table more last) (λ pair. pairs_to_come row reads table more (Some pair.0))
-pair_stands row reads table more last = record { more = λ may. may; leads = λ pair fits. (pair, fits.0, fits.1, refl, refl); only = λ line leads. (leads.1.0, (leads.1.1, leads.1.2), leads.1.3) }
-
-pub asked_stands : (row : InRow) (reads : ℕ) → NextLine (asked_text row.frame.schema) (AskedFits row.frame.version row.frame.schema) (ReadOf row reads) (behind_read row reads)
-asked_stands row reads = record { more = λ may. may; leads = λ asked fits. (asked, fits, refl, refl); only = λ line leads. (leads.1.0, leads.1.1, leads.1.2) }
-
-pub head_stands : (frame : Frame) (rows : ℕ) → NextLine head_text (HeadFits frame.sessions) (LogRow frame rows) (λ head. reads_to_come (in_row frame rows head) head.reads)
-head_stands frame rows = record { more = λ may. may; leads = λ head fits. (head, fits, refl, refl); only = λ line leads. (leads.1.0, leads.1.1, leads.1.2) }
-
 -- ---- pairs
 
 abbrev pub Pairs : InRow → ℕ → ℕ → Place → Place → Position → Position → List (Key × Row) → Type 0
@@ -73,7 +41,7 @@ pub pairs_more : {X : Type 0} (view : X → Key × Row) (items shown now : List 
     → Pairs row reads table p (pairs_to_come row reads table (count - (counter + 1)) (last_key (map view now))) a (point c end) (map view now)
 pairs_more view items shown now x row reads table count counter b c mid end lt is same so_far taken =
     let more = count - (counter + 1) in
-    let next = next_taken (pair_stands row reads table more (last_key (map view items))) (view x)
+    let next = next_taken (PairOf row reads table more (last_key (map view items))) (view x)
     (subst (λ l. Taken view pair_line (λ pair. PairFits row.frame.version row.frame.schema table pair × IsAbove (last_key (map view l)) pair.0) (Ok x) b c mid end) same taken) in
     let to = subst (λ o. Took (PairOf row reads table more (last_key (map view items))) (pairs_to_come row reads table more o) (point b mid) (point c end) (pair_line (view x) ∷ [])) (sym (last_more view items now x is)) next.0 in
     gathered_more (λ k. pairs_to_come row reads table k (last_key (map view items))) (map view items) (map view now) (view x) count counter lt (viewed_more view items now x is) so_far (to, next.1.0)
@@ -83,7 +51,7 @@ pub pairs_fail : {X : Type 0} (view : X → Key × Row) (items shown : List X) (
     → NoneTaken (IsSpelled pair_line (λ pair. PairFits row.frame.version row.frame.schema table pair × IsAbove (last_key (map view shown)) pair.0)) fault b c mid → FailsFrom fault p a c
 pairs_fail view items shown fault row reads table count counter b c mid lt same so_far taken =
     gathered_fails fault c (λ k. pairs_to_come row reads table k (last_key (map view items))) count counter lt so_far
-    (next_fails (pair_stands row reads table (count - (counter + 1)) (last_key (map view items))) fault b c mid
+    (next_fails (PairOf row reads table (count - (counter + 1)) (last_key (map view items))) fault b c mid (λ may. may)
     (subst (λ l. NoneTaken (IsSpelled pair_line (λ pair. PairFits row.frame.version row.frame.schema table pair × IsAbove (last_key (map view l)) pair.0)) fault b c mid) same taken))
 
 -- ---- writes
@@ -107,7 +75,7 @@ pub write_fails : (fault : ReadFault) (row : InRow) (count counter : ℕ) (write
 write_fails fault row count counter writes b c mid lt so_far taken =
     let objects = map (λ (w : Write). w.0) writes in
     gathered_fails fault c (λ k. writes_to_come row k objects) count counter lt so_far
-    (none_fails (IsSpelled (write_line row.frame.schema) (WriteFits row.frame.version row.frame.schema)) fault (WriteOf row (count - (counter + 1)) objects) b c mid (λ may. may) (λ line leads. (leads.1.0, leads.1.1, leads.1.3)) taken)
+    (none_fails (IsSpelled (write_line row.frame.schema) (WriteFits row.frame.version row.frame.schema)) fault (WriteOf row (count - (counter + 1)) objects) b c mid (λ may. may) (λ line leads. (leads.1.0, leads.1.1.0, leads.1.2)) taken)
 
 -- the lines of no two writes are the same
 same_write : (version : Version) (schema : Schema) (v w : Write) → check_tables schema ≡ None → WriteFits version schema v → WriteFits version schema w → write_line schema v ≡ write_line schema w → v ≡ w
@@ -126,10 +94,10 @@ twice_fails write row count counter number writes b c mid end good lt so_far tak
     let objects = map (λ (w : Write). w.0) writes in
     let from = WriteOf row (count - (counter + 1)) objects in
     let other : LeadsOn from (write_line row.frame.schema write) → ⊥ = λ leads.
-    let w : write ≡ leads.1.0 = same_write row.frame.version row.frame.schema write leads.1.0 good taken.1 leads.1.1 leads.1.3 in
-    let e : false ≡ true = sym leads.1.2 ∙ ap (λ (v : Write). list_any (eq_by_cmp object_cmp v.0) objects) (sym w) ∙ written writes write.0 ∙ twice in
+    let w : write ≡ leads.1.0 = same_write row.frame.version row.frame.schema write leads.1.0 good taken.1 leads.1.1.0 leads.1.2 in
+    let e : false ≡ true = sym leads.1.1.1 ∙ ap (λ (v : Write). list_any (eq_by_cmp object_cmp v.0) objects) (sym w) ∙ written writes write.0 ∙ twice in
     cc e in
-    gathered_fails (faults.Malformed number) c (λ k. writes_to_come row k objects) count counter lt so_far (line_refused from (write_line row.frame.schema write) b c mid end number (λ may. may) (taken.0, taken.2, line) other here)
+    gathered_fails (faults.Malformed number) c (λ k. writes_to_come row k objects) count counter lt so_far (line_refused from (write_line row.frame.schema write) b c mid end number (taken.0, taken.2, line) other here)
 
 -- a write that was taken isn't added
 pub add_fails : {X : Type 0} (added : Result X Unread) (fault : ReadFault) (write : Write) (row : InRow) (count counter number : ℕ) (writes : List Write) {a : Position} (b c : Option (List ℕ)) (mid end : ℕ) → check_tables row.frame.schema ≡ None → counter < count
@@ -146,14 +114,8 @@ add_fails (Err unread.Malformed) fault write row count counter number writes {a}
 -- a line that can't be read is no fault of the device
 pub no_read_failed : {X : Type 0} (read : Result X Unread) (fault : ReadFault) (number : ℕ) (Cause : Type 0) → Err fault ≡ told read number → fault ≡ faults.Read → Cause
 no_read_failed (Ok x) fault number Cause is same = absurd cc
-no_read_failed (Err unread.Memory) fault number Cause is same =
-    let memory : fault ≡ faults.Memory = cc is in
-    let clash : faults.Read ≡ faults.Memory = sym same ∙ memory in
-    cc
-no_read_failed (Err unread.Malformed) fault number Cause is same =
-    let malformed : fault ≡ faults.Malformed number = cc is in
-    let clash : faults.Read ≡ faults.Malformed number = sym same ∙ malformed in
-    cc
+no_read_failed (Err unread.Memory) fault number Cause is same = let clash = ap Err (sym same) ∙ is in absurd (cc clash)
+no_read_failed (Err unread.Malformed) fault number Cause is same = let clash = ap Err (sym same) ∙ is in absurd (cc clash)
 
 -- one more write
 pub write_more : (write : Write) (row : InRow) (count counter : ℕ) (writes now : List Write) {a : Position} (b c : Option (List ℕ)) (mid end : ℕ) → counter < count → Writes row count (count - counter) a (point b mid) writes → WriteTaken row write b c mid end
@@ -162,6 +124,6 @@ write_more write row count counter writes now b c mid end lt so_far taken fresh 
     let objects = map (λ (w : Write). w.0) writes in
     let more = count - (counter + 1) in
     let all : map (λ (w : Write). w.0) now ≡ objects ++ write.0 ∷ [] = ap (map (λ (w : Write). w.0)) is ∙ map-append (λ (w : Write). w.0) writes (write ∷ []) in
-    let next = line (WriteOf row more objects) (writes_to_come row more (objects ++ write.0 ∷ [])) (write_line row.frame.schema write) b c mid end (write, taken.1, written writes write.0 ∙ fresh, refl, refl) taken.0 taken.2 in
-    let to = subst (λ l. Took (WriteOf row more objects) (writes_to_come row more l) (point b mid) (point c end) (write_line row.frame.schema write ∷ [])) (sym all) next in
+    let next = next_taken (WriteOf row more objects) write (taken.0, (taken.1, written writes write.0 ∙ fresh), taken.2) in
+    let to = subst (λ l. Took (WriteOf row more objects) (writes_to_come row more l) (point b mid) (point c end) (write_line row.frame.schema write ∷ [])) (sym all) next.0 in
     gathered_more (λ k. writes_to_come row k objects) writes now write count counter lt is so_far (to, taken.1)

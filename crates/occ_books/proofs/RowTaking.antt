@@ -1,37 +1,13 @@
 -- The rows of the log, from their lines.
-use Rattle.std.proofs.Common.{◌≡◌, ℕ, ◌≤◌, ◌^◌, ◌-◌, Bool, true, false, cond, List, [], ◌∷◌, ◌++◌, map, length, Option, Some, None, refl, sym, ap, subst, ◌∙◌}
-use Rattle.std.specs.Prelude.{codes, is_some}
-use Rattle.std.specs.List.{AllByRecursion, flat_map}
-use Rattle.std.specs.Ordering.{eq_by_cmp}
-use Rattle.std.specs.Fmt.{decimal}
-use Rattle.occ_types.specs.Key.{Key}
-use Rattle.occ_types.specs.Object.{Object, object_cmp}
-use Rattle.occ_types.specs.Question.{Question, One, Span}
-use Rattle.occ_types.specs.Row.{Row}
-use Rattle.occ_types.specs.Schema.{Schema}
-use Rattle.occ_types.specs.PlainData.{table_asked}
-use Rattle.occ_model.specs.State.{Write, Observation, Rows}
-use Rattle.occ_model.specs.Overlay.{set, own}
-use Rattle.occ_model.specs.RangeLaws.{IsDistinctWrites}
+use Rattle.std.proofs.Common.{◌≡◌, ℕ, ◌≤◌, ◌^◌, ◌-◌, Bool, true, false, cond, List, ◌∷◌, ◌++◌, map, length, Option, Some, None, refl, sym, ap, subst, ◌∙◌, []}
+use Rattle.occ_books.proofs.Common.{AllByRecursion, AllFit, AskedFits, AskedSpan, Conflict, FailsFrom, Head, HeadFits, InRow, IsAbove, IsDistinctWrites, IsRowOf, IsSession, Key, LogRow, LogRowFits, Object, Observation, One, PairFits, Position, Question, ReadFault, ReadFits, ReadOf, RisesFrom, Row, Rows, Schema, Span, Stand, StandFits, Standing, StandingFits, StandsSo, TooOld, Took, Version, Write, WriteFits, asked_text, codes, decimal, eq_by_cmp, fails, flat_map, frame_of, head_text, in_row, is_some, last_key, line_text, object_cmp, own, pair_line, pairs_to_come, question_text, read_lines, reads_to_come, row_line, row_lines, rows_to_come, set, spelled, stand_tokens, standing_text, table_asked, write_line, writes_to_come, ◌and◌}
 use Rattle.occ_model.proofs.OwnWrites.{sets_own}
-use Rattle.occ_model.specs.Log.{LogRow, Standing}
-use Rattle.occ_model.specs.declared.verdict.Cause.TheVariants.{Conflict, TooOld}
-use Rattle.occ_text.specs.declared.faults.ReadFault.{ReadFault}
-use Rattle.occ_text.specs.declared.versions.Version.{Version}
-use Rattle.occ_text.specs.Spelling.{line_text}
-use Rattle.occ_print.specs.Books.{question_text, pair_line, read_lines, write_line, standing_text, row_line, row_lines}
 use Rattle.occ_book.specs.declared.rows.Standing.TheVariants as stands
-use Rattle.occ_books.specs.declared.number_lines.Head.{Head}
-use Rattle.occ_books.specs.NumberLines.{Stand, stand_tokens, head_text, IsSession, StandFits, HeadFits}
-use Rattle.occ_books.specs.RowLines.{AskedSpan, asked_text, AskedFits, PairFits, WriteFits}
-use Rattle.occ_books.specs.Taking.{AllFit, ReadFits, RisesFrom, StandingFits, LogRowFits, StandsSo, IsRowOf}
 use Rattle.occ_books.specs.Places as places
-use Rattle.occ_books.specs.Places.{InRow, ReadOf, Position, Took, FailsFrom, frame_of, in_row, rows_to_come, writes_to_come, reads_to_come, pairs_to_come, IsAbove, last_key}
-use Rattle.occ_books.proofs.LinesTaken.{both, spelled, fails}
 
 -- ---- writes
 
-absent : (b : Bool) (x : Option Row) (o : Option (Option Row)) → cond b (Some x) o ≡ None → (b ≡ false) × (o ≡ None)
+pub absent : (b : Bool) (x : Option Row) (o : Option (Option Row)) → cond b (Some x) o ≡ None → (b ≡ false) × (o ≡ None)
 absent true x o h = absurd cc
 absent false x o h = (refl, h)
 
@@ -48,28 +24,16 @@ distinct-more writes now object row h is so_far = subst IsDistinctWrites (set-ab
 
 -- ---- ranges
 
--- the last key of some rows behind another one
-abbrev last_behind : Option Key → List (Key × Row) → Option Key
-last_behind last [] = last
-last_behind last (row ∷ rows) = last_behind (Some row.0) rows
-
-last_behind-is : (last : Option Key) (row : Key × Row) (rows : List (Key × Row)) → last_behind last (row ∷ rows) ≡ last_key (row ∷ rows)
-last_behind-is last row [] = refl
-last_behind-is last row (next ∷ rows) = last_behind-is (Some row.0) next rows
-
-last_of : (rows : List (Key × Row)) → last_key rows ≡ last_behind None rows
-last_of [] = refl
-last_of (row ∷ rows) = sym (last_behind-is None row rows)
-
-rises_behind : (last : Option Key) (rows : List (Key × Row)) (pair : Key × Row) → IsAbove (last_behind last rows) pair.0 → RisesFrom last rows → RisesFrom last (rows ++ pair ∷ [])
-rises_behind None [] pair above rises = tt
-rises_behind (Some last) [] pair above rises = (above, tt)
-rises_behind None (row ∷ rows) pair above rises = rises_behind (Some row.0) rows pair above rises
-rises_behind (Some last) (row ∷ rows) pair above rises = (rises.0, rises_behind (Some row.0) rows pair above rises.1)
+rises_behind : (last : Option Key) (row : Key × Row) (rows : List (Key × Row)) (pair : Key × Row) → IsAbove (last_key (row ∷ rows)) pair.0 → RisesFrom last (row ∷ rows) → RisesFrom last (row ∷ rows ++ pair ∷ [])
+rises_behind None row [] pair above rises = (above, tt)
+rises_behind (Some last) row [] pair above rises = (rises.0, (above, tt))
+rises_behind None row (next ∷ rows) pair above rises = rises_behind (Some row.0) next rows pair above rises
+rises_behind (Some last) row (next ∷ rows) pair above rises = (rises.0, rises_behind (Some row.0) next rows pair above rises.1)
 
 -- a key above the last one rises too
 pub rises-more : (rows now : List (Key × Row)) (pair : Key × Row) → now ≡ rows ++ pair ∷ [] → IsAbove (last_key rows) pair.0 → RisesFrom None rows → RisesFrom None now
-rises-more rows now pair is above so_far = subst (RisesFrom None) (sym is) (rises_behind None rows pair (subst (λ (k : Option Key). IsAbove k pair.0) (last_of rows) above) so_far)
+rises-more [] now pair is above so_far = subst (RisesFrom None) (sym is) tt
+rises-more (row ∷ rows) now pair is above so_far = subst (RisesFrom None) (sym is) (rises_behind None row rows pair above so_far)
 
 pub span_taken : (version : Version) (schema : Schema) (question : Question) (rows : List (Key × Row)) (row : InRow) (reads n table : ℕ) {a b c : Position} → table ≡ table_asked question
     → Took (ReadOf row reads) (pairs_to_come row reads (table_asked question) n None) a b (asked_text schema (AskedSpan question n) ∷ []) × AskedFits version schema (AskedSpan question n)
@@ -81,7 +45,7 @@ span_taken version schema (Span t lower upper) rows row reads n table {a} {b} {c
     let asked : ℕ → List ℕ = λ k. line_text (question_text schema question ∷ decimal k ∷ []) in
     let rest = subst (λ (k : ℕ). Took (pairs_to_come row reads k n None) (reads_to_come row reads) b c (map pair_line rows)) same pairs.0 in
     let fit = subst (λ (k : ℕ). AllByRecursion (PairFits version schema k) rows) same pairs.1.0.0 in (
-      spelled (ap (λ (k : ℕ). asked k ∷ map pair_line rows) (sym pairs.1.0.1)) (both head.0 rest),
+      spelled (ap (λ (k : ℕ). asked k ∷ map pair_line rows) (sym pairs.1.0.1)) (head.0 and rest),
       (head.1.0, fit, pairs.1.1, subst (λ (k : ℕ). k ≤ 2 ^ 64 - 1) (sym pairs.1.0.1) head.1.1),
     )
 
@@ -138,7 +102,7 @@ row_taken version schema sessions rows head reads writes row first read written 
     let line = head_line head reads writes row read.1.1 written.1.0.1 is in
     let lines : head_text head ∷ (flat_map (read_lines schema) reads ++ map (write_line schema) writes) ≡ row_lines schema row =
     λ i. line i ∷ (flat_map (read_lines schema) (sym is.read i) ++ map (write_line schema) (sym is.written i)) in (
-      spelled lines (both first.0 (both read.0 written.0)),
+      spelled lines (first.0 and (read.0 and written.0)),
       record {
         place = subst (λ (k : ℕ). k ≤ 2 ^ 64 - 1) (sym is.place) first.1.place;
         session = subst (IsSession sessions) (sym is.session) first.1.session;

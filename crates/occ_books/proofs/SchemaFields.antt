@@ -1,30 +1,7 @@
 -- What a line names under a schema are fields: tables, keys, rows and ranges.
-use Rattle.std.proofs.Common.{◌≡◌, ℕ, ◌<◌, Bool, true, false, cond, List, [], ◌∷◌, length, Option, Some, None, refl, sym, ap, subst, ◌∙◌, arith}
-use Rattle.std.specs.Prelude.{option_map, option_and_then, codes}
-use Rattle.std.specs.Str.{bytes_eq}
-use Rattle.std.proofs.lemmas.Slice.Eq.{bytes_eq-Decides}
-use Rattle.occ_types.specs.declared.fault.Fault.{Fault}
-use Rattle.occ_types.specs.Key.{Key}
-use Rattle.occ_types.specs.Question.{Span}
-use Rattle.occ_types.specs.Row.{Row}
-use Rattle.occ_types.specs.Schema.{Schema, check_key, check_row, check_question, check_tables}
-use Rattle.occ_text.specs.declared.versions.Version.{Version}
-use Rattle.occ_text.specs.Spelling.{key_text, end_text, row_text, IsToken, KeyFits, RowFits}
-use Rattle.occ_text.specs.Reading.{Reads, is_token, number_of, decimal_of, is_decimal, int_of}
-use Rattle.occ_text.specs.Escapes.{read_end, read_row, read_cell}
+use Rattle.std.proofs.Common.{◌≡◌, ℕ, ◌<◌, Bool, true, false, cond, List, ◌∷◌, length, Option, Some, None, refl, sym, ap, subst, ◌∙◌, arith, []}
+use Rattle.occ_books.proofs.Common.{Fault, FoundFits, IsField, IsToken, IsToken-end, IsToken-from_test, IsToken-key, IsToken-name, IsToken-row, Key, KeyFits, ObjectFits, Reads, Row, RowFits, RowFitsIn, Schema, Span, SpanFits, Tokens, Version, bind_value, both_fields, bytes_eq, bytes_eq-Decides, check_key, check_question, check_row, check_tables, codes, decimal_of, end_reads, end_text, ends_field, fitting_field, found_field, found_in, found_text, int_of, is_decimal, is_token, key_field, key_in, key_reads, key_text, map_value, next-takes, next_ends, next_found, next_key, next_object, next_row, next_table, number_of, object_field, option_and_then, option_map, place_of, read_cell, read_end, read_row, row_field, row_in, row_reads, row_text, some_is, some_or_none, table_field, table_name, takes, token_field, two_tokens, unless_fault, word_is}
 use Rattle.occ_text.specs.ValueFields.{next_end}
-use Rattle.occ_text.specs.Fields.{Tokens}
-use Rattle.occ_text.proofs.Numbers.{some_or_none}
-use Rattle.occ_text.proofs.Escapes.{some_is, bind_value, map_value}
-use Rattle.occ_text.proofs.Words.{IsToken-from_test}
-use Rattle.occ_text.proofs.Values.{key_reads, end_reads, row_reads}
-use Rattle.occ_text.proofs.Spelled.{IsToken-name, IsToken-key, IsToken-end, IsToken-row}
-use Rattle.occ_text.proofs.Readers.{takes, word_is}
-use Rattle.occ_text.proofs.TokenLists.{two_tokens}
-use Rattle.occ_text.proofs.Fields.{IsField, next-takes, token_field, both_fields, fitting_field}
-use Rattle.occ_print.specs.Books.{table_name}
-use Rattle.occ_books.specs.SchemaReaders.{unless_fault, place_of, key_in, row_in, next_table, next_key, next_row, next_object}
-use Rattle.occ_books.specs.RowLines.{found_text, ObjectFits, RowFitsIn, FoundFits, SpanFits, table_field, key_field, object_field, row_field, found_in, next_found, found_field, next_ends, ends_field}
 use Rattle.occ_books.proofs.TableNames.{checked_place, place_reads, name_there}
 use Rattle.occ_books.proofs.LineLengths.{object_key_width, row_in_width, ends_width}
 

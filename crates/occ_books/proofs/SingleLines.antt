@@ -1,17 +1,8 @@
 -- Single lines that are taken from an input, and what is left where the line that is wanted doesn't stand.
-use Rattle.std.proofs.Common.{◌≡◌, ℕ, List, [], ◌∷◌, ◌++◌, Option, Some, Result, Ok, Err, sym, ap, subst, ◌∙◌}
-use Rattle.std.specs.Prelude.{IfOk}
-use Rattle.std.specs.Result.{IsErrAnd}
-use Rattle.std.specs.Io.KnownBytes.{Consumes}
-use Rattle.occ_text.specs.declared.tokens.Unread.{Unread}
+use Rattle.std.proofs.Common.{◌≡◌, ℕ, List, ◌∷◌, ◌++◌, Option, Some, Result, Ok, Err, sym, ap, subst, ◌∙◌, []}
+use Rattle.occ_books.proofs.Common.{Consumes, Gives, IfOk, IsErrAnd, IsSpelled, LineFault, NoneTaken, NoneTaken-narrower, OtherLine, ReadFault, ShownLine, Taken, Unread, read_fault, told, widened}
 use Rattle.occ_text.specs.declared.tokens.Unread.TheVariants as unread
-use Rattle.occ_text.specs.declared.faults.LineFault.{LineFault}
-use Rattle.occ_text.specs.declared.faults.ReadFault.{ReadFault}
 use Rattle.occ_text.specs.declared.faults.ReadFault.TheVariants as faults
-use Rattle.occ_text.specs.Escapes.{Gives}
-use Rattle.occ_text.specs.Faults.{read_fault, told, widened}
-use Rattle.occ_text.specs.Line.{OtherLine, NoneTaken, IsSpelled, Taken}
-use Rattle.occ_text.proofs.Taking.{NoneTaken-narrower, ShownLine}
 
 -- what a reader of lines answers is whose text the line is, and all that fits is read again
 pub record ReadsLine {X Y : Type 0} (view : X → Y) (spell : Y → List ℕ) (fits : Y → Type 0) (shown : List ℕ) (read : Result X Unread) : Type 0 where

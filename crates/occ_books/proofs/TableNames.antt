@@ -1,27 +1,10 @@
 -- The name of a table finds its place again.
-use Rattle.std.proofs.Common.{◌≡◌, ℕ, zero, suc, ◌+◌, ◌<◌, Bool, true, false, cond, List, [], ◌∷◌, length, ◌&&◌, ◌||◌, not, Option, Some, None, refl, sym, ap, subst, ◌∙◌, arith}
-use Rattle.std.specs.Prelude.{option_and_then, slice_get, nat_eq, nat_lt, nat_le}
-use Rattle.std.specs.List.{All, list_any, position, position_or_len}
-use Rattle.std.specs.Cmp.Lexicographic.{pointwise}
-use Rattle.std.proofs.lemmas.Bool.{lt-ltb}
-use Rattle.std.proofs.lemmas.Slice.Eq.{bytes_eq-Decides}
+use Rattle.std.proofs.Common.{◌≡◌, ℕ, zero, suc, ◌+◌, ◌<◌, Bool, true, false, cond, List, ◌∷◌, length, ◌&&◌, ◌||◌, not, Option, Some, None, refl, sym, ap, subst, ◌∙◌, arith, []}
+use Rattle.occ_books.proofs.Common.{All, All-head, All-tail, Fault, IsName, IsSchema-from_check, NoTable, Reads, Schema, Table, TableFits, are_tables, bind_value, bytes_eq-Decides, check_tables, each_fits, in_table, is_name, list_any, lt-ltb, name_again, name_of, name_reads, nat_eq, nat_le, nat_lt, option_and_then, place_of, pointwise, position, position_or_len, slice_get, some_is, some_or_none, table_name, takes}
 use Rattle.std.proofs.lemmas.Option.{slice_get_within, slice_get-get_or}
-use Rattle.std.proofs.lemmas.List.Elements.{All-head, All-tail}
 use Rattle.std.proofs.lemmas.List.Quantifiers.{position-Some}
-use Rattle.occ_types.specs.declared.fault.Fault.{Fault}
-use Rattle.occ_types.specs.declared.fault.Fault.TheVariants.{NoTable}
-use Rattle.occ_types.specs.Schema.{Table, Schema, check_tables, are_tables, is_name, in_table}
 use Rattle.occ_types.specs.Fits.{has_name}
-use Rattle.occ_text.specs.Spelling.{IsName}
-use Rattle.occ_text.specs.Headers.{TableFits}
-use Rattle.occ_text.specs.Reading.{Reads, name_of}
-use Rattle.occ_text.proofs.Numbers.{some_or_none}
-use Rattle.occ_text.proofs.Escapes.{some_is, bind_value}
-use Rattle.occ_text.proofs.Words.{both, name_reads}
-use Rattle.occ_text.proofs.Readers.{takes, name_again}
-use Rattle.occ_text.proofs.SchemaLines.{each_fits, IsSchema-from_check}
-use Rattle.occ_print.specs.Books.{table_name}
-use Rattle.occ_books.specs.SchemaReaders.{place_of}
+use Rattle.occ_text.proofs.Words.{both}
 
 is_not : (b : Bool) → not b ≡ true → b ≡ false
 is_not true h = absurd cc
@@ -34,7 +17,7 @@ no_fault schema place check h = by (slice_get schema place) refl h
     by None e f = absurd cc
     by (Some table) e f = (table, e, f)
 
-neither : (a b : Bool) → (a || b) ≡ false → (a ≡ false) × (b ≡ false)
+pub neither : (a b : Bool) → (a || b) ≡ false → (a ≡ false) × (b ≡ false)
 neither true b h = absurd cc
 neither false b h = (refl, h)
 
@@ -45,18 +28,20 @@ misses test (y ∷ ys) zero x h e = ap test (sym (some_is y x e)) ∙ (neither (
 misses test (y ∷ ys) (suc k) x h e = misses test ys k x (neither (test y) (list_any test ys) h).1 e
 
 -- names of their own stand before no other place
-record Apart (table : Table) (later : List Table) : Type 0 where
-  own : list_any (λ other. pointwise nat_eq table.name other.name) later ≡ false
-  rest : are_tables later ≡ true
+pub record Apart (table : Table) (later : List Table) : Type 0 where
+  pub named : is_name table.name ≡ true
+  pub own : list_any (λ other. pointwise nat_eq table.name other.name) later ≡ false
+  pub few : (nat_le 1 (length table.columns) && nat_le (length table.columns) 8) ≡ true
+  pub rest : are_tables later ≡ true
 
-first_apart : (table : Table) (later : List Table) → are_tables (table ∷ later) ≡ true → Apart table later
+pub first_apart : (table : Table) (later : List Table) → are_tables (table ∷ later) ≡ true → Apart table later
 first_apart table later h =
     let own = list_any (λ other. pointwise nat_eq table.name other.name) later in
     let few = nat_le 1 (length table.columns) && nat_le (length table.columns) 8 in
     let p = both ((is_name table.name && not own) && few) (are_tables later) h in
     let q = both (is_name table.name && not own) few p.0 in
     let n = both (is_name table.name) (not own) q.0 in
-    record { own = is_not own n.1; rest = p.1 }
+    record { named = n.0; own = is_not own n.1; few = q.1; rest = p.1 }
 
 first_named : (tables : List Table) (place : ℕ) (table : Table) → are_tables tables ≡ true → slice_get tables place ≡ Some table → position_or_len (has_name table.name) tables ≡ place
 first_named [] place table h e = absurd cc

@@ -1,8 +1,6 @@
 -- Texts of lines: which lines a text has.
-use Rattle.std.proofs.Common.{◌≡◌, ◌≢◌, ℕ, ◌≤◌, List, [], ◌∷◌, ◌++◌, length, refl, sym, ap, ◌∙◌, arith, length-append, append_assoc}
-use Rattle.std.specs.List.{AllByRecursion}
-use Rattle.std.proofs.lemmas.List.Elements.{All-head, All-tail}
-use Rattle.occ_text.specs.Line.{IsLine, HasNoFeed, lines_text}
+use Rattle.std.proofs.Common.{◌≡◌, ◌≢◌, ℕ, ◌≤◌, List, ◌∷◌, ◌++◌, length, refl, sym, ap, ◌∙◌, arith, length-append, append_assoc, []}
+use Rattle.occ_books.proofs.Common.{All-head, All-tail, AllByRecursion, HasNoFeed, IsLine, lines_text}
 
 abbrev pub first_byte : List ℕ → ℕ
 first_byte [] = 0

@@ -1,22 +1,11 @@
 -- Writing a verdict, and what an audit leaves.
-use Rattle.std.proofs.Common.{◌≡◌, ℕ, Bool, List, [], ◌++◌, Option, Some, None, Result, Ok, Err, inl, inr, refl, sym, ap, subst, ◌∙◌, append_assoc}
-use Rattle.std.specs.Io.KnownBytes.{Appends, prepend_known}
-use Rattle.std.proofs.KnownBytes.{Appends-trans, Keeps-refl}
-use Rattle.std.specs.Result.{IsErrAnd}
-use Rattle.occ_text.specs.declared.faults.ReadFault.{ReadFault}
-use Rattle.occ_text.specs.declared.faults.ReadFault.TheVariants as reads
+use Rattle.std.proofs.Common.{◌≡◌, ℕ, Bool, List, ◌++◌, Option, Some, None, Result, Ok, Err, inl, inr, refl, sym, ap, subst, ◌∙◌, append_assoc, []}
+use Rattle.occ_books.proofs.Common.{Appends, Appends-trans, AuditGives, Audited, Book, Decides, FailsFrom, HasFailed, IsBookText, IsErrAnd, Judged, Keeps-refl, PushGives, ReadFault, Sends, Source, Trouble, VerdictFront, VerdictGives, point, prepend_known, read_trouble, start, verdict_text, write_trouble}
 use Rattle.occ_text.specs.declared.faults.WriteFault.{WriteFault}
+use Rattle.occ_books.specs.Places.{Version, Unread}
+use Rattle.occ_text.specs.declared.faults.ReadFault.TheVariants as reads
 use Rattle.occ_text.specs.declared.faults.WriteFault.TheVariants as faults
-use Rattle.occ_text.specs.Faults.{read_trouble, write_trouble}
-use Rattle.occ_text.specs.declared.trouble.Trouble.{Trouble}
 use Rattle.occ_text.specs.declared.trouble.Trouble.TheVariants as troubles
-use Rattle.std.specs.Bool.{Decides}
-use Rattle.occ_model.specs.Log.{Audited}
-use Rattle.occ_print.specs.Books.{Book}
-use Rattle.occ_text.specs.Line.{Source, HasFailed}
-use Rattle.occ_text.specs.Sending.{Sends, PushGives}
-use Rattle.occ_books.specs.Places.{Version, point, start, Unread, FailsFrom}
-use Rattle.occ_books.specs.WholeBooks.{verdict_text, VerdictFront, VerdictGives, AuditGives, Judged, IsBookText}
 
 front_of : (verdict : Bool) (a b : Option (List ℕ)) (bytes held : List ℕ) → bytes ≡ verdict_text verdict → Sends a b bytes held → VerdictFront verdict a b
 front_of verdict a b bytes held is s = record { front = s.sent; rest = held; whole = sym is ∙ s.whole; written = s.written }

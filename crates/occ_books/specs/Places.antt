@@ -1,5 +1,5 @@
 -- Where a book stands behind some of its lines, and which lines may come next there (our own choice; decided line by line, so that a count that doesn't fit is found at the first line that can't stand).
-use Rattle.std.specs.Prelude.{◌≡◌, ◌^◌, ◌-◌, ◌+◌, ◌<◌, ◌⊎◌, ℕ, zero, suc, true, false, List, [], ◌∷◌, ◌++◌, length, Option, Some, None, Result, Ok, Err, IfSome, codes}
+use Rattle.std.specs.Prelude.{◌≡◌, ◌^◌, ◌-◌, ◌+◌, ◌<◌, ℕ, zero, suc, true, false, List, [], ◌∷◌, ◌++◌, length, Option, Some, None, Result, Ok, Err, IfSome, codes}
 use Rattle.std.specs.List.{list_any}
 use Rattle.std.specs.Io.KnownBytes.{Consumes, IsAtEnd, prepend_known}
 use Rattle.std.specs.Ordering.{eq_by_cmp, is_lt}
@@ -8,24 +8,20 @@ use Rattle.occ_types.specs.Object.{Object, object_cmp}
 use Rattle.occ_types.specs.Row.{Row}
 use Rattle.occ_types.specs.Schema.{Table, Schema, check_tables}
 use Rattle.occ_types.specs.PlainData.{table_asked}
-use Rattle.occ_model.specs.State.{Write}
 use Rattle.occ_text.specs.declared.versions.Version as versions
 use Rattle.occ_text.specs.declared.faults.ReadFault.{ReadFault}
 use Rattle.occ_text.specs.declared.faults.ReadFault.TheVariants as faults
 use Rattle.occ_text.specs.Line.{Source, IsLine, CannotStand, lines_text}
-use Rattle.occ_text.specs.Headers.{Within, version_text, count_text, table_text}
-use Rattle.occ_text.specs.HeaderTaking.{TablesSoFar}
-use Rattle.occ_print.specs.Books.{pair_line, write_line, entry_line}
+use Rattle.occ_text.specs.Headers.{Within, version_text, count_text}
+use Rattle.occ_print.specs.Books.{pair_line, write_line, entry_line, audit_line}
 use Rattle.occ_print.specs.declared.sections.Section.{Section}
 use Rattle.occ_print.specs.declared.sections.Section.TheVariants as sections
 use Rattle.occ_books.specs.declared.number_lines.Head.{Head}
-use Rattle.occ_books.specs.declared.number_lines.Mark.{Mark}
-use Rattle.occ_books.specs.declared.number_lines.Counts.{Counts}
 use Rattle.occ_books.specs.declared.number_lines.Began.{Began}
 use Rattle.occ_books.specs.declared.number_lines.Began.TheVariants as begun
-use Rattle.occ_books.specs.NumberLines.{HeadFits, MarkFits, CountsFit, BeganFits, head_text, mark_text, counts_text, began_text}
+use Rattle.occ_books.specs.NumberLines.{HeadFits, MarkFits, CountsFit, head_text, mark_text, counts_text}
 use Rattle.occ_books.specs.RowLines.{Asked, AskedOne, AskedSpan, AskedFits, PairFits, WriteFits, AtFits, asked_text}
-use Rattle.occ_books.specs.Taking.{is_behind}
+use Rattle.occ_books.specs.Taking.{Further, OneTable, Begins, FurtherFits, further_text, is_behind}
 
 -- what a header tells that the lines behind it have to fit, and the version in which they are read
 pub record Frame : Type 0 where
@@ -129,44 +125,54 @@ last_key [] = None
 last_key (row ∷ []) = Some row.0
 last_key (row ∷ next ∷ rows) = last_key (next ∷ rows)
 
--- a count of a header
-abbrev pub Counted : List ℕ → ℕ → ℕ → List ℕ → Place → (ℕ → Place) → Type 0
-Counted word least most line next to = (n : ℕ) × Within least most n × (line ≡ count_text word n) × (next ≡ to n)
+-- the lines that may stand at a place: what each tells, and where it leads
+pub record Grammar : Type 1 where
+  pub Told : Type 0
+  pub spell : Told → List ℕ
+  pub fits : Told → Type 0
+  pub to : Told → Place
 
-abbrev pub OneMoreTable : versions.Version → ℕ → List Table → List ℕ → Place → Type 0
-OneMoreTable version sessions tables line next = (table : Table) × TablesSoFar version (tables ++ table ∷ []) × (line ≡ table_text table) × (next ≡ Tables version sessions (tables ++ table ∷ []))
+abbrev pub lines_of : {Y : Type 0} → (Y → List ℕ) → (Y → Type 0) → (Y → Place) → Grammar
+lines_of {Y} spell fits to = record { Told = Y; spell = spell; fits = fits; to = to }
 
--- the line with which the log of a header begins
-abbrev pub Beginning : Frame → List ℕ → Place → Type 0
-Beginning frame line next = (began : Began) × BeganFits began × (line ≡ began_text began) × (next ≡ behind_began frame began)
+abbrev pub counts_of : List ℕ → ℕ → ℕ → (ℕ → Place) → Grammar
+counts_of word least most to = lines_of (count_text word) (Within least most) to
 
-abbrev pub LogBegins : versions.Version → ℕ → List Table → List ℕ → Place → Type 0
-LogBegins version sessions tables line next = (check_tables tables ≡ None) × Beginning (frame_of version tables sessions) line next
+-- behind some tables stands one table more, or how the log begins where they make a schema
+abbrev pub MayFollow : versions.Version → List Table → Further → Type 0
+MayFollow version tables (OneTable table) = FurtherFits version tables (OneTable table)
+MayFollow version tables (Begins began) = (check_tables tables ≡ None) × FurtherFits version tables (Begins began)
+
+abbrev pub behind_further : versions.Version → ℕ → List Table → Further → Place
+behind_further version sessions tables (OneTable table) = Tables version sessions (tables ++ table ∷ [])
+behind_further version sessions tables (Begins began) = behind_began (frame_of version tables sessions) began
+
+abbrev pub grammar : Place → Grammar
+grammar Version = lines_of version_text (λ version. Unit {0}) Sessions
+grammar (Sessions version) = counts_of (codes "sessions") 1 64 (Queue version)
+grammar (Queue version sessions) = counts_of (codes "queue") 1 1024 (λ n. Keep version sessions)
+grammar (Keep version sessions) = counts_of (codes "keep") 1 4096 (λ n. Tables version sessions [])
+grammar (Tables version sessions tables) = lines_of further_text (MayFollow version tables) (behind_further version sessions tables)
+grammar (NumberOf section frame rows numbers last) =
+    lines_of (mark_text section) (λ mark. MarkFits frame.sessions mark × (last < mark.session)) (λ mark. numbers_to_come section frame rows numbers mark.session)
+grammar (EntryOf section frame rows last) =
+    lines_of (entry_line section frame.schema) (λ entry. AtFits frame.version frame.schema entry × (is_behind last entry.0 ≡ true)) (λ entry. entries_to_come section frame rows (Some entry.0))
+grammar (Log frame) = counts_of (codes "log") 0 (2 ^ 64 - 1) (rows_to_come frame)
+grammar (LogRow frame rows) = lines_of head_text (HeadFits frame.sessions) (λ head. reads_to_come (in_row frame rows head) head.reads)
+grammar (ReadOf row reads) = lines_of (asked_text row.frame.schema) (AskedFits row.frame.version row.frame.schema) (behind_read row reads)
+grammar (PairOf row reads table pairs last) =
+    lines_of pair_line (λ pair. PairFits row.frame.version row.frame.schema table pair × IsAbove last pair.0) (λ pair. pairs_to_come row reads table pairs (Some pair.0))
+grammar (WriteOf row writes written) =
+    lines_of (write_line row.frame.schema) (λ write. WriteFits row.frame.version row.frame.schema write × (list_any (eq_by_cmp object_cmp write.0) written ≡ false))
+    (λ write. writes_to_come row writes (written ++ write.0 ∷ []))
+grammar (Marks frame) = counts_of (codes "marks") 0 (2 ^ 64 - 1) (λ n. numbers_to_come sections.Store frame 0 n 0)
+grammar (State frame) = counts_of (codes "state") 0 (2 ^ 64 - 1) (λ n. entries_to_come sections.Store frame n None)
+grammar Counter = lines_of counts_text CountsFit (λ counts. Audit)
+grammar Audit = lines_of audit_line (λ verdict. Unit {0}) (λ verdict. End)
+grammar End = lines_of {Y = ⊥} (λ none. []) (λ none. Unit {0}) (λ none. End)
 
 abbrev pub Leads : Place → List ℕ → Place → Type 0
-Leads Version line next = (version : versions.Version) × (line ≡ version_text version) × (next ≡ Sessions version)
-Leads (Sessions version) line next = Counted (codes "sessions") 1 64 line next (Queue version)
-Leads (Queue version sessions) line next = Counted (codes "queue") 1 1024 line next (λ n. Keep version sessions)
-Leads (Keep version sessions) line next = Counted (codes "keep") 1 4096 line next (λ n. Tables version sessions [])
-Leads (Tables version sessions tables) line next = OneMoreTable version sessions tables line next ⊎ LogBegins version sessions tables line next
-Leads (NumberOf section frame rows numbers last) line next = (mark : Mark) × MarkFits frame.sessions mark × (last < mark.session) × (line ≡ mark_text section mark)
-    × (next ≡ numbers_to_come section frame rows numbers mark.session)
-Leads (EntryOf section frame rows last) line next = (entry : Object × Row) × AtFits frame.version frame.schema entry × (is_behind last entry.0 ≡ true) × (line ≡ entry_line section frame.schema entry)
-    × (next ≡ entries_to_come section frame rows (Some entry.0))
-Leads (Log frame) line next = Counted (codes "log") 0 (2 ^ 64 - 1) line next (rows_to_come frame)
-Leads (LogRow frame rows) line next = (head : Head) × HeadFits frame.sessions head × (line ≡ head_text head)
-    × (next ≡ reads_to_come (record { frame = frame; rows = rows; head = head }) head.reads)
-Leads (ReadOf row reads) line next = (asked : Asked) × AskedFits row.frame.version row.frame.schema asked × (line ≡ asked_text row.frame.schema asked)
-    × (next ≡ behind_read row reads asked)
-Leads (PairOf row reads table pairs last) line next = (pair : Key × Row) × PairFits row.frame.version row.frame.schema table pair × IsAbove last pair.0 × (line ≡ pair_line pair)
-    × (next ≡ pairs_to_come row reads table pairs (Some pair.0))
-Leads (WriteOf row writes written) line next = (write : Write) × WriteFits row.frame.version row.frame.schema write × (list_any (eq_by_cmp object_cmp write.0) written ≡ false)
-    × (line ≡ write_line row.frame.schema write) × (next ≡ writes_to_come row writes (written ++ write.0 ∷ []))
-Leads (Marks frame) line next = Counted (codes "marks") 0 (2 ^ 64 - 1) line next (λ n. numbers_to_come sections.Store frame 0 n 0)
-Leads (State frame) line next = Counted (codes "state") 0 (2 ^ 64 - 1) line next (λ n. entries_to_come sections.Store frame n None)
-Leads Counter line next = (counts : Counts) × CountsFit counts × (line ≡ counts_text counts) × (next ≡ Audit)
-Leads Audit line next = ((line ≡ codes "audit yes") ⊎ (line ≡ codes "audit no")) × (next ≡ End)
-Leads End line next = ⊥
+Leads place line next = let g = grammar place in (told : g.Told) × g.fits told × (line ≡ g.spell told) × (next ≡ g.to told)
 
 -- some lines lead from a place to another one
 abbrev pub LeadOn : Place → List (List ℕ) → Place → Type 0

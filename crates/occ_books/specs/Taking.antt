@@ -2,7 +2,6 @@
 use Rattle.std.specs.Prelude.{◌≡◌, ◌≤◌, ◌^◌, ◌-◌, ℕ, Bool, true, List, [], ◌∷◌, ◌++◌, length, Option, Some, None, codes}
 use Rattle.std.specs.List.{AllByRecursion}
 use Rattle.std.specs.FinMap.{len}
-use Rattle.std.specs.Io.KnownBytes.{Consumes}
 use Rattle.occ_types.specs.Key.{Key, key_cmp}
 use Rattle.std.specs.Ordering.{is_lt}
 use Rattle.occ_types.specs.Object.{Object, object_cmp}
@@ -16,7 +15,6 @@ use Rattle.occ_print.specs.Books.{base_line, base_lines, row_count}
 use Rattle.occ_model.specs.Log.{Case, LogRow, Base, Standing, Open, Writing, Done, Back}
 use Rattle.occ_book.specs.declared.rows.Standing.TheVariants as stands
 use Rattle.occ_text.specs.declared.versions.Version.{Version}
-use Rattle.occ_text.specs.Line.{lines_text}
 use Rattle.occ_text.specs.Headers.{table_text, count_text}
 use Rattle.occ_text.specs.HeaderTaking.{TablesSoFar}
 use Rattle.occ_books.specs.declared.number_lines.Head.{Head}
@@ -26,10 +24,6 @@ use Rattle.occ_books.specs.declared.whole_books.Behind as code_behind
 use Rattle.occ_books.specs.declared.whole_books.Behind.TheVariants as behind
 use Rattle.occ_books.specs.NumberLines.{IsSession, Stand, BeganFits, base_text, began_text}
 use Rattle.occ_books.specs.RowLines.{ObjectFits, FoundFits, SpanFits, PairFits, WriteFits}
-
--- whole lines were taken, and nothing else
-abbrev pub TakesLines : Option (List ℕ) → Option (List ℕ) → List (List ℕ) → Type 0
-TakesLines before after lines = Consumes before after (lines_text lines)
 
 -- an object comes behind another one, if there is one
 abbrev pub is_behind : Option Object → Object → Bool

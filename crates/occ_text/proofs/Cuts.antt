@@ -1,5 +1,5 @@
 -- Where bytes are cut at a separator.
-use Rattle.std.proofs.Common.{◌≡◌, ◌≢◌, ℕ, ◌+◌, ◌-◌, ◌<◌, Bool, true, false, eqb, List, [], ◌∷◌, ◌++◌, length, take, drop, get_or, refl, sym, ap, subst, ◌∙◌, take-append-drop, arith}
+use Rattle.std.proofs.Common.{◌≡◌, ◌≢◌, ℕ, ◌+◌, ◌-◌, ◌<◌, Bool, false, eqb, List, [], ◌∷◌, ◌++◌, length, take, drop, get_or, refl, sym, ap, subst, ◌∙◌, take-append-drop, arith}
 use Rattle.std.specs.List.{slice_split, All}
 use Rattle.std.proofs.lemmas.List.{append-nil, drop-drop, drop_more, take_rest, nil_from_length}
 use Rattle.std.proofs.lemmas.List.Splits.{slice_split_none, slice_split_at}

@@ -1,6 +1,6 @@
 -- Texts, keys, cells and rows: what is read is spelled so, and what is spelled so is read again.
 use Rattle.std.proofs.Common.{◌≡◌, ◌≢◌, ℕ, pos, negsuc, ◌-◌, ◌^◌, Bool, true, false, cond, eqb, List, [], ◌∷◌, length, map, drop, Option, Some, None, Result, Ok, Err, option_map, IfOk, IfSome, lit<, refl, sym, ap, subst, ◌∙◌, arith}
-use Rattle.std.specs.Prelude.{option_and_then, ok_or, codes}
+use Rattle.std.specs.Prelude.{option_and_then, codes}
 use Rattle.std.specs.List.{All, slice_split, join_with_byte}
 use Rattle.std.specs.Str.{IsUtf8, is_utf8, bytes_eq}
 use Rattle.std.proofs.lemmas.Bool.{false_from_ne_true, false≢true}
@@ -16,7 +16,6 @@ use Rattle.occ_types.specs.KeyPart as parts
 use Rattle.occ_types.specs.Row.{Cell, Row}
 use Rattle.occ_types.specs.Row as rows
 use Rattle.occ_text.specs.declared.tokens.Unread.{Unread}
-use Rattle.occ_text.specs.declared.tokens.Unread.TheVariants.{Malformed}
 use Rattle.occ_text.specs.declared.versions.Version.{Version}
 use Rattle.occ_text.specs.declared.versions.Version.TheVariants.{One, Two}
 use Rattle.occ_text.specs.Spelling.{is_plain, text_text, part_text, key_text, end_text, cell_text, row_text, IsText, PartFits, KeyFits, EndFits, CellFits, RowFits}

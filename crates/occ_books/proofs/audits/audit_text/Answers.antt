@@ -1,8 +1,5 @@
 use Rattle.std.proofs.Common.{◌≡◌, ap, subst}
-use Rattle.std.specs.Result.{IsErrAnd}
-use Rattle.occ_text.specs.declared.trouble.Trouble.{Trouble}
-use Rattle.occ_text.specs.Line.{Source}
-use Rattle.occ_books.specs.WholeBooks.{printed_book}
+use Rattle.occ_books.proofs.Common.{IsErrAnd, Source, Trouble, printed_book}
 use Rattle.occ_books.proofs.VerdictWriting.{refused, stopped, write_failed, judged}
 use Rattle.occ_books.proofs.audits.audit_text.Goals as goal
 

@@ -1,11 +1,6 @@
 use Rattle.std.proofs.Common.{List, subst}
-use Rattle.std.specs.Bool.{Decides}
-use Rattle.occ_model.specs.Log.{Audited}
-use Rattle.occ_book.specs.Base.{BaseContent}
-use Rattle.occ_book.specs.Content.{Content}
-use Rattle.occ_book.specs.Marks.{Marked}
+use Rattle.occ_books.proofs.Common.{Audited, BaseContent, Content, Decides, Marked, log_of, without_case}
 use Rattle.occ_book.specs.declared.rows.LogRow.{LogRow}
-use Rattle.occ_books.specs.PlainRows.{without_case, log_of}
 use Rattle.occ_books.proofs.audits.judge.Goals as goal
 
 pub returns-in-Ok-clause-ok : goal.returns-in-Ok-clause-ok

@@ -1,5 +1,5 @@
 use Rattle.std.proofs.Common.{ap, ◌∙◌}
-use Rattle.occ_text.specs.Sending.{Outgoing}
+use Rattle.occ_books.proofs.Common.{Outgoing}
 use Rattle.occ_books.proofs.VerdictWriting.{push_failed, flush_failed, all_written}
 use Rattle.occ_books.proofs.audits.tell.Goals as goal
 

@@ -1,5 +1,7 @@
-use Rattle.occ_books.proofs.NumberLines.{head_reads}
+use Rattle.occ_books.proofs.Common.{field_reads, head_of_line}
+use Rattle.occ_books.proofs.NumberLines.{head_field}
 use Rattle.occ_books.proofs.number_lines.read_head.Goals as goal
 
 pub returns-clause-grammar : goal.returns-clause-grammar
-returns-clause-grammar c = head_reads c.args.sessions c.args.line.now c.head_of_line.result c.ranges.sessions.fits c.head_of_line.ensures
+unfolding head_of_line
+returns-clause-grammar c = field_reads (head_field c.args.sessions c.ranges.sessions.fits) c.head_of_line.ensures

@@ -1,5 +1,7 @@
-use Rattle.occ_books.proofs.NumberLines.{mark_reads}
+use Rattle.occ_books.proofs.Common.{field_reads, mark_of_line}
+use Rattle.occ_books.proofs.NumberLines.{mark_field}
 use Rattle.occ_books.proofs.number_lines.read_mark.Goals as goal
 
 pub returns-clause-grammar : goal.returns-clause-grammar
-returns-clause-grammar c = mark_reads c.args.section c.args.sessions c.args.line.now c.mark_of_line.result c.ranges.sessions.fits c.mark_of_line.ensures
+unfolding mark_of_line
+returns-clause-grammar c = field_reads (mark_field c.args.section c.args.sessions c.ranges.sessions.fits) c.mark_of_line.ensures

@@ -1,5 +1,4 @@
-use Rattle.occ_types.specs.PlainData.{key_of}
-use Rattle.occ_books.specs.RowLines.{pair_of}
+use Rattle.occ_books.proofs.Common.{key_of, pair_of}
 use Rattle.occ_books.proofs.RowPlaces.{above_last}
 use Rattle.occ_books.proofs.single_lines.is_above.Goals as goal
 

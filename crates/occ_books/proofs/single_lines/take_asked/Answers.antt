@@ -1,4 +1,4 @@
-use Rattle.occ_books.specs.RowLines.{asked_of, asked_text, AskedFits}
+use Rattle.occ_books.proofs.Common.{AskedFits, asked_of, asked_text}
 use Rattle.occ_books.proofs.SingleLines.{line_read}
 use Rattle.occ_books.proofs.single_lines.take_asked.Goals as goal
 

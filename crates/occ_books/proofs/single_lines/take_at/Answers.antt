@@ -1,8 +1,5 @@
 use Rattle.std.proofs.Common.{◌≡◌, true, option_map, ◌∙◌, Err, sym}
-use Rattle.occ_types.specs.PlainData.{object_of}
-use Rattle.occ_print.specs.Books.{entry_line}
-use Rattle.occ_books.specs.RowLines.{at_of, AtFits}
-use Rattle.occ_books.specs.Taking.{is_behind}
+use Rattle.occ_books.proofs.Common.{AtFits, at_of, entry_line, is_behind, object_of}
 use Rattle.occ_books.proofs.SingleLines.{ReadsLine, line_read, told_alone, line_barred, narrowed}
 use Rattle.occ_books.proofs.single_lines.take_at.Goals as goal
 

@@ -1,5 +1,4 @@
-use Rattle.occ_text.proofs.Taking.{line_found}
-use Rattle.occ_books.specs.NumberLines.{counts_text, CountsFit}
+use Rattle.occ_books.proofs.Common.{CountsFit, counts_text, line_found}
 use Rattle.occ_books.proofs.single_lines.take_counts.Goals as goal
 
 pub returns-clause-taken : goal.returns-clause-taken

@@ -1,5 +1,4 @@
-use Rattle.occ_text.proofs.Taking.{line_found}
-use Rattle.occ_books.specs.NumberLines.{head_text, HeadFits}
+use Rattle.occ_books.proofs.Common.{HeadFits, head_text, line_found}
 use Rattle.occ_books.proofs.single_lines.take_head.Goals as goal
 
 pub returns-clause-taken : goal.returns-clause-taken

@@ -1,8 +1,5 @@
 use Rattle.std.proofs.Common.{◌<◌, ◌∙◌, Err, sym, arith}
-use Rattle.occ_text.specs.Faults.{read_fault, widened}
-use Rattle.occ_text.proofs.Taking.{line_found}
-use Rattle.occ_books.specs.NumberLines.{mark_text, MarkFits}
-use Rattle.occ_books.specs.declared.number_lines.Mark.{Mark}
+use Rattle.occ_books.proofs.Common.{Mark, MarkFits, line_found, mark_text, read_fault, widened}
 use Rattle.occ_books.proofs.SingleLines.{line_barred, narrowed, widened_is}
 use Rattle.occ_books.proofs.single_lines.take_mark.Goals as goal
 

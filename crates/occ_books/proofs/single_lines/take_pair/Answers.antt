@@ -1,8 +1,5 @@
 use Rattle.std.proofs.Common.{◌≡◌, true, false, Ok, Err, sym, ◌∙◌}
-use Rattle.occ_sets.specs.PlainSets.{rows_of}
-use Rattle.occ_print.specs.Books.{pair_line}
-use Rattle.occ_books.specs.RowLines.{pair_of, PairFits}
-use Rattle.occ_books.specs.Places.{IsAbove, last_key}
+use Rattle.occ_books.proofs.Common.{IsAbove, PairFits, last_key, pair_line, pair_of, rows_of}
 use Rattle.occ_books.proofs.SingleLines.{ReadsLine, line_read, told_alone, line_barred, narrowed}
 use Rattle.occ_books.proofs.single_lines.take_pair.Goals as goal
 

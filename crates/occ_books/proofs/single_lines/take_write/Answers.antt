@@ -1,5 +1,4 @@
-use Rattle.occ_print.specs.Books.{write_line}
-use Rattle.occ_books.specs.RowLines.{write_of, WriteFits}
+use Rattle.occ_books.proofs.Common.{WriteFits, write_line, write_of}
 use Rattle.occ_books.proofs.SingleLines.{line_read}
 use Rattle.occ_books.proofs.single_lines.take_write.Goals as goal
 

@@ -1,5 +1,5 @@
 use Rattle.std.proofs.Common.{◌∙◌}
-use Rattle.occ_types.specs.PlainData.{object_of}
+use Rattle.occ_books.proofs.Common.{object_of}
 use Rattle.occ_books.proofs.RowTaking.{set-absent, not_some}
 use Rattle.occ_books.proofs.transactions.add_write.Goals as goal
 

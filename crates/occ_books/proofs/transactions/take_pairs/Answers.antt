@@ -1,15 +1,8 @@
-use Rattle.std.proofs.Common.{◌≡◌, [], ◌∷◌, length, None, sym, ap, subst, arith}
-use Rattle.occ_types.specs.PlainData.{key_of}
-use Rattle.occ_print.specs.Books.{pair_line}
-use Rattle.occ_books.specs.RowLines.{pair_of, PairFits}
-use Rattle.occ_books.specs.Taking.{RisesFrom}
-use Rattle.occ_books.specs.Places.{framed, IsAbove, last_key, pairs_to_come}
-use Rattle.occ_books.proofs.LinesTaken.{failed, gathered_none, gathered_all, single_lines, spelled, viewed_more, count_more}
+use Rattle.std.proofs.Common.{◌≡◌, ◌∷◌, length, None, sym, ap, subst, arith, []}
+use Rattle.occ_books.proofs.Common.{IsAbove, PairFits, RisesFrom, caused, count_more, failed, framed, gathered_all, gathered_none, key_of, last_key, pair_line, pair_of, pairs_to_come, rows_of, single_lines, spelled, viewed_more}
+use Rattle.occ_text.specs.declared.faults.ReadFault.TheVariants as read_faults
 use Rattle.occ_books.proofs.RowTaking.{rises-more}
 use Rattle.occ_books.proofs.RowPlaces.{pairs_more, pairs_fail}
-use Rattle.occ_sets.specs.PlainSets.{rows_of}
-use Rattle.occ_text.specs.declared.faults.ReadFault.TheVariants as read_faults
-use Rattle.occ_text.proofs.Causes.{caused}
 use Rattle.occ_books.proofs.transactions.take_pairs.Goals as goal
 
 pub loop-init : goal.loop-init

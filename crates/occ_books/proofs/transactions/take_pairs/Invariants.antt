@@ -1,7 +1,5 @@
 use Rattle.std.proofs.Common.{◌≡◌, ℕ, ◌-◌, None, length}
-use Rattle.occ_sets.specs.PlainSets.{rows_of}
-use Rattle.occ_books.specs.Taking.{RisesFrom}
-use Rattle.occ_books.specs.Places.{InRow, framed, position_of, last_key, pairs_to_come}
+use Rattle.occ_books.proofs.Common.{InRow, RisesFrom, framed, last_key, pairs_to_come, position_of, rows_of}
 use Rattle.occ_books.proofs.RowPlaces.{Pairs}
 use Rattle.occ_books.proofs.transactions.take_pairs.Given as goal
 

@@ -1,12 +1,6 @@
 use Rattle.std.proofs.Common.{◌+◌, ◌-◌, length, ap, arith}
-use Rattle.occ_text.specs.declared.faults.ReadFault.TheVariants.{Memory}
-use Rattle.occ_sets.specs.PlainSets.{observation_of}
-use Rattle.occ_print.specs.Books.{read_lines}
-use Rattle.occ_books.specs.Taking.{ReadFits}
-use Rattle.occ_books.specs.Places.{framed, reads_to_come}
-use Rattle.occ_books.proofs.LinesTaken.{failed, gathered_none, gathered_more, gathered_fails, gathered_all, count_more}
+use Rattle.occ_books.proofs.Common.{Memory, ReadFits, caused, count_more, failed, framed, gathered_all, gathered_fails, gathered_more, gathered_none, observation_of, read_lines, reads_to_come}
 use Rattle.occ_text.specs.declared.faults.ReadFault.TheVariants as read_faults
-use Rattle.occ_text.proofs.Causes.{caused}
 use Rattle.occ_books.proofs.transactions.take_reads.Goals as goal
 
 pub loop-init : goal.loop-init

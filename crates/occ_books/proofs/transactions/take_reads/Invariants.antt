@@ -1,8 +1,5 @@
 use Rattle.std.proofs.Common.{◌≡◌, ◌-◌, length}
-use Rattle.occ_print.specs.Books.{read_lines}
-use Rattle.occ_books.specs.Taking.{ReadFits}
-use Rattle.occ_books.specs.Places.{InRow, framed, position_of, reads_to_come}
-use Rattle.occ_books.proofs.LinesTaken.{Gathered}
+use Rattle.occ_books.proofs.Common.{Gathered, InRow, ReadFits, framed, position_of, read_lines, reads_to_come}
 use Rattle.occ_books.proofs.transactions.take_reads.Given as goal
 
 -- what was taken so far

@@ -1,11 +1,6 @@
-use Rattle.std.proofs.Common.{◌≡◌, ◌+◌, ◌-◌, [], length, ap, arith}
-use Rattle.occ_books.specs.PlainRows.{log_row_of, log_of}
-use Rattle.occ_print.specs.Books.{row_lines}
-use Rattle.occ_books.specs.Taking.{LogRowFits}
-use Rattle.occ_books.specs.Places.{frame_of, rows_to_come}
-use Rattle.occ_books.proofs.LinesTaken.{failed, gathered_none, gathered_more, gathered_fails, gathered_all, viewed_more, count_more}
+use Rattle.std.proofs.Common.{◌≡◌, ◌+◌, ◌-◌, length, ap, arith, []}
+use Rattle.occ_books.proofs.Common.{LogRowFits, caused, count_more, failed, frame_of, gathered_all, gathered_fails, gathered_more, gathered_none, log_of, log_row_of, row_lines, rows_to_come, viewed_more}
 use Rattle.occ_text.specs.declared.faults.ReadFault.TheVariants as read_faults
-use Rattle.occ_text.proofs.Causes.{caused}
 use Rattle.occ_books.proofs.transactions.take_rows.Goals as goal
 
 pub loop-init : goal.loop-init

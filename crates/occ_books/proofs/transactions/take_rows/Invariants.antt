@@ -1,9 +1,5 @@
 use Rattle.std.proofs.Common.{◌≡◌, ◌-◌, length}
-use Rattle.occ_books.specs.PlainRows.{log_of}
-use Rattle.occ_print.specs.Books.{row_lines}
-use Rattle.occ_books.specs.Taking.{LogRowFits}
-use Rattle.occ_books.specs.Places.{position_of, frame_of, rows_to_come}
-use Rattle.occ_books.proofs.LinesTaken.{Gathered}
+use Rattle.occ_books.proofs.Common.{Gathered, LogRowFits, frame_of, log_of, position_of, row_lines, rows_to_come}
 use Rattle.occ_books.proofs.transactions.take_rows.Given as goal
 
 -- what was taken so far

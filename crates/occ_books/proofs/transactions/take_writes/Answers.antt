@@ -1,14 +1,8 @@
-use Rattle.std.proofs.Common.{[], ◌∷◌, map, length, refl, sym, ap, subst, arith}
-use Rattle.occ_types.specs.PlainData.{object_of}
-use Rattle.occ_model.specs.RangeLaws.{IsDistinctWrites}
-use Rattle.occ_print.specs.Books.{write_line}
-use Rattle.occ_books.specs.RowLines.{WriteFits}
-use Rattle.occ_books.specs.Places.{framed, writes_to_come}
-use Rattle.occ_books.proofs.LinesTaken.{failed, gathered_none, gathered_all, single_lines, spelled, count_more}
+use Rattle.std.proofs.Common.{◌∷◌, map, length, refl, sym, ap, subst, arith, []}
+use Rattle.occ_books.proofs.Common.{IsDistinctWrites, WriteFits, caused, count_more, failed, framed, gathered_all, gathered_none, object_of, single_lines, spelled, write_line, writes_to_come}
+use Rattle.occ_text.specs.declared.faults.ReadFault.TheVariants as read_faults
 use Rattle.occ_books.proofs.RowTaking.{distinct-more, not_some}
 use Rattle.occ_books.proofs.RowPlaces.{write_more, write_fails, add_fails, no_read_failed}
-use Rattle.occ_text.specs.declared.faults.ReadFault.TheVariants as read_faults
-use Rattle.occ_text.proofs.Causes.{caused}
 use Rattle.occ_books.proofs.transactions.take_writes.Goals as goal
 
 pub loop-init : goal.loop-init

@@ -1,6 +1,5 @@
 use Rattle.std.proofs.Common.{◌≡◌, ◌-◌, length}
-use Rattle.occ_model.specs.RangeLaws.{IsDistinctWrites}
-use Rattle.occ_books.specs.Places.{InRow, framed, position_of}
+use Rattle.occ_books.proofs.Common.{InRow, IsDistinctWrites, framed, position_of}
 use Rattle.occ_books.proofs.RowPlaces.{Writes}
 use Rattle.occ_books.proofs.transactions.take_writes.Given as goal
 

@@ -1,9 +1,5 @@
 use Rattle.std.proofs.Common.{subst}
-use Rattle.occ_types.specs.PlainData.{table_of, tables_of}
-use Rattle.occ_text.specs.Escapes.{Gives}
-use Rattle.occ_text.specs.HeaderTaking.{table_behind}
-use Rattle.occ_text.proofs.Taking.{next_read}
-use Rattle.occ_books.specs.Taking.{further_of}
+use Rattle.occ_books.proofs.Common.{Gives, further_of, next_read, table_behind, table_of, tables_of}
 use Rattle.occ_books.proofs.PartPlaces.{further_unread}
 use Rattle.occ_books.proofs.whole_books.take_behind.Goals as goal
 

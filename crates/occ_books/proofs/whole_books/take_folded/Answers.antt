@@ -1,6 +1,5 @@
 use Rattle.std.proofs.Common.{ap}
-use Rattle.occ_book.specs.Base.{BaseContent}
-use Rattle.occ_books.proofs.LinesTaken.{fails, failed}
+use Rattle.occ_books.proofs.Common.{BaseContent, failed, fails}
 use Rattle.occ_books.proofs.Sections.{folded_taken}
 use Rattle.occ_books.proofs.whole_books.take_folded.Goals as goal
 

@@ -1,7 +1,5 @@
-use Rattle.std.proofs.Common.{◌≡◌, [], ◌∷◌, ◌++◌, ap, subst, sym, ◌∙◌}
-use Rattle.occ_types.specs.PlainData.{table_of, tables_of}
-use Rattle.occ_text.specs.HeaderTaking.{TablesSoFar}
-use Rattle.occ_books.proofs.LinesTaken.{failed, viewed_more}
+use Rattle.std.proofs.Common.{◌≡◌, ◌∷◌, ◌++◌, ap, subst, sym, ◌∙◌, []}
+use Rattle.occ_books.proofs.Common.{TablesSoFar, failed, table_of, tables_of, viewed_more}
 use Rattle.occ_books.proofs.PartPlaces.{no_tables, no_tables_yet, table_more, opening_taken, opening_barred, opening_fails}
 use Rattle.occ_books.proofs.whole_books.take_opening.Goals as goal
 

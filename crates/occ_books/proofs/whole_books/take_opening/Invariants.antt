@@ -1,7 +1,5 @@
 use Rattle.std.proofs.Common.{ℕ, ◌-◌, length}
-use Rattle.occ_types.specs.PlainData.{tables_of}
-use Rattle.occ_text.specs.HeaderTaking.{TablesSoFar}
-use Rattle.occ_books.specs.Places.{position_of}
+use Rattle.occ_books.proofs.Common.{TablesSoFar, position_of, tables_of}
 use Rattle.occ_books.proofs.PartPlaces.{TablesTaken}
 use Rattle.occ_books.proofs.whole_books.take_opening.Given as goal
 
