@@ -1,11 +1,10 @@
 -- What a checkpoint has to show, over plain parts.
-use Rattle.std.proofs.Common.{◌≡◌, ℕ, zero, suc, ◌+◌, ◌-◌, ◌<◌, ◌≤◌, Bool, true, false, cond, ◌&&◌, ◌||◌, List, [], ◌∷◌, ◌++◌, take, drop, length, Option, None, Some, Result, Err, refl, sym, ap, subst, ◌∙◌, arith, length-append, inl, inr, ◌==◌, nat_lt, nat_le, filter, if◌then◌else◌}
+use Rattle.std.proofs.Common.{◌≡◌, ℕ, zero, suc, ◌+◌, ◌-◌, ◌<◌, ◌≤◌, Bool, true, false, cond, ◌&&◌, ◌||◌, List, [], ◌∷◌, ◌++◌, take, drop, length, Option, None, Some, refl, sym, ap, subst, ◌∙◌, arith, length-append, inl, inr, ◌==◌, nat_lt, nat_le, filter, if◌then◌else◌}
 use Rattle.std.specs.List.{list_any, AllByRecursion}
 use Rattle.std.proofs.lemmas.Bool.{ltb-true, ltb-false}
 use Rattle.std.proofs.lemmas.Bool.Decides.{nat_tests}
 use Rattle.std.proofs.lemmas.List.{length-take-le}
 use Rattle.std.proofs.lemmas.List.Elements.{filter-append}
-use Rattle.occ_types.specs.declared.fault.Fault.{Fault}
 use Rattle.occ_types.specs.declared.fault.Fault.TheVariants as faults
 use Rattle.occ_types.specs.Schema.{Schema, fault_if}
 use Rattle.occ_model.specs.State.{Write}
@@ -13,7 +12,7 @@ use Rattle.occ_model.specs.Log.{Case, LogRow, Standing, Open, Writing, Done, Bac
 use Rattle.occ_model.specs.Content.{QuestionFits, RowFits, WriteIs, RowIs}
 use Rattle.occ_model.specs.Event.{Checkpoint, Folded, Refused}
 use Rattle.occ_model.specs.Refusal.{refusal, foldable}
-use Rattle.occ_model.specs.Step.{Step, refused, starved, taken, foldable_part, folded}
+use Rattle.occ_model.specs.Step.{Step, refused, taken, foldable_part, folded}
 use Rattle.occ_model.specs.Validity.{finished_within}
 use Rattle.occ_model.specs.World.{World, latest, low, last_entered, active_count}
 use Rattle.occ_model.proofs.Checkpoints.{checkpoint_folds}
@@ -30,7 +29,6 @@ use Rattle.occ_log.proofs.Places.{none-later}
 use Rattle.occ_core.specs.declared.core_checkpoint.TheConstants.{MAX_PLACE}
 use Rattle.occ_core.specs.Folding.{AllFit}
 use Rattle.occ_core.specs.CoreParts.{Parts, world_of, low_of, HasRow, AreSound}
-use Rattle.occ_core.specs.Replies.{folding}
 use Rattle.occ_core.proofs.RunsAlone.{key_placed}
 
 -- The rows of a session, after a beginning of the log went.
@@ -198,13 +196,6 @@ checkpoint_busy parts world seen busy =
 quiet : (parts : Parts) → false ≡ list_any (λ row. is_open row.standing) parts.log → refusal (world_of parts) Checkpoint ≡ None
 quiet parts free = ap (λ b. fault_if b faults.StoreBusy) (sym free)
 
--- there is no memory, and the base is as it was
-pub checkpoint_starved : (parts : Parts) (world : World) → world_of parts ≡ world → false ≡ list_any (λ row. is_open row.standing) parts.log → (reply : Result ℕ Fault) → reply ≡ Err faults.Memory → (new : World) → new ≡ world_of parts
-    → Step world Checkpoint (folding reply) new
-checkpoint_starved parts world seen free reply is new same =
-    subst (λ r. Step world Checkpoint (folding r) new) (sym is)
-    (subst (λ w. Step w Checkpoint (Refused faults.Memory) new) seen (starved (quiet parts free) refl refl same))
-
 -- the parts with another base and log
 abbrev pub shortened_parts : Parts → Base → List LogRow → Parts
 shortened_parts parts base log = record parts { base = base; log = log }
@@ -226,10 +217,6 @@ checkpoint_whole parts world seen sound free count count_is room base base_is lo
           (subst (λ p. Step (world_of parts) Checkpoint (Folded (length (foldable_part (low_of parts) parts.log))) (world_of p)) moved (folded_step parts sound none))),
       subst AreSound moved (folded_sound parts sound none room'),
     )
-
--- the base was left as it was
-pub base_same : (parts : Parts) → AreSound parts → (base : Base) → base ≡ parts.base → AreSound (record parts { base = base })
-base_same parts sound base is = subst (λ b. AreSound (record parts { base = b })) (sym is) sound
 
 -- The base has room for the rows of the log.
 

@@ -140,9 +140,6 @@ event_fits world Checkpoint none = tt
 
 -- No step changes the settings.
 
-settings_of : World → Settings
-settings_of world = world.settings
-
 same_written : (old new : World) (reply : Reply) (session done : ℕ) (row : Rattle.occ_model.specs.Log.LogRow) → WritesOne old session row done reply new → new.settings ≡ old.settings
 same_written old new reply session done row writes = go (slice_get row.writes done) writes
   where

@@ -1,19 +1,18 @@
 -- The queue of a session keeps its law as it is pushed to.
-use Rattle.std.proofs.Common.{◌≡◌, ℕ, suc, ◌+◌, ◌<◌, Bool, true, false, not, List, [], ◌∷◌, ◌++◌, map, length, Some, None, refl, sym, ap, subst, ◌∙◌, arith}
-use Rattle.std.specs.Prelude.{◌==◌, nat_le}
+use Rattle.std.proofs.Common.{◌≡◌, ℕ, suc, ◌+◌, ◌<◌, Bool, true, false, not, List, [], ◌∷◌, ◌++◌, map, length, None, refl, sym, ap, subst, ◌∙◌, arith}
+use Rattle.std.specs.Prelude.{◌==◌}
 use Rattle.std.proofs.lemmas.Bool.{leb-false, eqb-true}
 use Rattle.std.proofs.lemmas.List.{length_push, map-append}
 use Rattle.occ_types.specs.declared.fault.Fault.{Fault}
 use Rattle.occ_types.specs.declared.fault.Fault.TheVariants as faults
 use Rattle.occ_types.specs.declared.limits.TheConstants.{MAX_NUMBER}
 use Rattle.occ_types.specs.Schema.{fault_if, first_fault}
-use Rattle.occ_model.specs.Event.{Item, Request, Close}
-use Rattle.occ_model.specs.State.{Write}
+use Rattle.occ_model.specs.Event.{Item, Close}
 use Rattle.occ_model.specs.Log.{Counts}
 use Rattle.occ_model.proofs.Orders.{Counts-push}
 use Rattle.occ_model.proofs.Tests as tests
 use Rattle.occ_queue.specs.Items.{number_of, is_mark}
-use Rattle.occ_queue.specs.Numbering.{Numbered, unused, next, with_item, is_full, turn_fault, refusal_of_request, refusal_of_submit, EndsWithMark, IsInTurn}
+use Rattle.occ_queue.specs.Numbering.{Numbered, unused, next, with_item, turn_fault, EndsWithMark, IsInTurn}
 use Rattle.occ_queue.specs.Waiting.{Waiting}
 
 pub unused_in_turn : (limit : ℕ) → IsInTurn (unused limit)
@@ -54,24 +53,6 @@ pushed_in_turn queue item law still number spare =
     length_map : (items : List Item) → length (map number_of items) ≡ length items
     length_map [] = refl
     length_map (one ∷ items) = ap suc (length_map items)
-
--- a request is refused as its number is
-pub request_refused : (queue : Numbered) (number start : ℕ) (writes : List Write) → refusal_of_submit queue (Request number start writes) ≡ refusal_of_request queue number
-request_refused queue number start writes = go queue.closed (nat_le MAX_NUMBER (next queue)) (not (number == next queue)) (is_full queue)
-  where
-    go : (closed none_left other full : Bool)
-        → first_fault (first_fault (fault_if closed faults.Closed ∷ fault_if none_left faults.NumbersExhausted ∷ fault_if other faults.OutOfTurn ∷ []) ∷ fault_if full faults.QueueFull ∷ [])
-        ≡ first_fault (fault_if closed faults.Closed ∷ fault_if none_left faults.NumbersExhausted ∷ fault_if other faults.OutOfTurn ∷ fault_if full faults.QueueFull ∷ [])
-    go true none_left other full = refl
-    go false true other full = refl
-    go false false true full = refl
-    go false false false full = refl
-
--- so one whose number was checked is not refused
-pub checked_fits : (queue : Numbered) (number start : ℕ) (writes : List Write) (fault : Fault) → None ≡ refusal_of_request queue number → Some fault ≡ refusal_of_submit queue (Request number start writes) → ⊥
-checked_fits queue number start writes fault fits refused =
-    let both = refused ∙ request_refused queue number start writes ∙ sym fits in
-    cc
 
 -- what a submission makes of the parts
 pub submitted_in_turn : (queue now : Numbered) → queue ≡ now → IsInTurn queue → (item : Item) → turn_fault now item ≡ None

@@ -1,6 +1,6 @@
 -- Refusals for memory, where there is room.
 use Rattle.std.proofs.Common.{◌≡◌, Bool, false, cond, Result, Ok, Err, ◌∙◌, sym, ap}
-use Rattle.std.specs.Prelude.{IfErr, IsOk, OnOk, OnErr, MatchResult}
+use Rattle.std.specs.Prelude.{IfErr, IsOk, OnOk, MatchResult}
 use Rattle.occ_types.specs.declared.fault.Fault.TheVariants.{SetFull, Memory}
 use Rattle.occ_types.specs.declared.fault.Refused.{Refused}
 
@@ -14,8 +14,3 @@ module _ {X Y : Type 0} where
 pub when_ok : {X Y P : Type 0} (r : Result X Y) → IsOk r → OnOk r P → P
 when_ok (Ok x) ok h = h
 when_ok (Err y) ok h = cc
-
--- what holds anyway holds at an error
-pub at_error : {X Y P : Type 0} (r : Result X Y) → P → OnErr r P
-at_error (Ok x) h = tt
-at_error (Err y) h = h

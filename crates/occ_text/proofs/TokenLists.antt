@@ -12,9 +12,3 @@ more_tokens a tokens p rest = record { some = omega arith; each = All-cons IsTok
 
 pub two_tokens : {a b : List ℕ} → IsToken a → IsToken b → AreTokens (a ∷ b ∷ [])
 two_tokens {a = a} {b = b} p q = more_tokens a (b ∷ []) p (one_token q)
-
-pub four_tokens : {a b c d : List ℕ} → IsToken a → IsToken b → IsToken c → IsToken d → AreTokens (a ∷ b ∷ c ∷ d ∷ [])
-four_tokens {a = a} {b = b} {c = c} {d = d} p q r s = more_tokens a (b ∷ c ∷ d ∷ []) p (more_tokens b (c ∷ d ∷ []) q (two_tokens r s))
-
-pub five_tokens : {a b c d e : List ℕ} → IsToken a → IsToken b → IsToken c → IsToken d → IsToken e → AreTokens (a ∷ b ∷ c ∷ d ∷ e ∷ [])
-five_tokens {a = a} {b = b} {c = c} {d = d} {e = e} p q r s t = more_tokens a (b ∷ c ∷ d ∷ e ∷ []) p (four_tokens q r s t)

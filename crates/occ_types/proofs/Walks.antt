@@ -1,17 +1,15 @@
 -- The steps of the loops that check cells and tables.
-use Rattle.std.proofs.Common.{◌≡◌, ℕ, zero, suc, arith, ◌+◌, ◌<◌, ◌≤◌, Bool, true, false, ◌&&◌, ◌||◌, cond, List, [], ◌∷◌, Option, None, Some, length, get_or, drop, refl, sym, ap, ◌∙◌, add-one, drop-cons}
+use Rattle.std.proofs.Common.{◌≡◌, ℕ, zero, suc, arith, ◌+◌, ◌<◌, ◌≤◌, Bool, true, ◌||◌, cond, List, [], ◌∷◌, Option, None, Some, length, get_or, drop, refl, sym, ap, ◌∙◌, add-one, drop-cons}
 use Rattle.std.proofs.lemmas.Iterator.Adapters.{position_from-zero}
 use Rattle.std.proofs.lemmas.List.{drop_all}
 use Rattle.std.proofs.lemmas.Option.{slice_get_within, get_or_from_slice_get}
 use Rattle.std.specs.Prelude.{map, slice_get}
 use Rattle.std.specs.List.{list_any, position, position_from}
-use Rattle.occ_types.specs.declared.tables.TableDef.{TableDef}
 use Rattle.occ_types.specs.declared.fault.Fault.{Fault}
 use Rattle.occ_types.specs.declared.kind.Kind.{Kind}
-use Rattle.occ_types.specs.Schema.{first_fault, check_cells, are_tables}
-use Rattle.occ_types.specs.Fits.{check_cell, fits_before}
+use Rattle.occ_types.specs.Schema.{first_fault, check_cells}
+use Rattle.occ_types.specs.Fits.{check_cell}
 use Rattle.occ_types.specs.Row.{Cell, Row}
-use Rattle.occ_types.specs.PlainData.{table_of, tables_of}
 
 -- what is left from a place on begins with the element there
 pub drop_at : {X : Type 0} (xs : List X) (i : ℕ) (d x : X) → i < length xs → x ≡ get_or xs i d → drop i xs ≡ x ∷ drop (i + 1) xs
@@ -56,18 +54,7 @@ check_cells-fit kinds row i d c g e fits = sym (cells_at kinds row i d c g e ∙
 pub check_cells-fault : (kinds : List Kind) (row : Row) (i : ℕ) (d : Kind) (c : Cell) (fault : Fault) → i < length kinds → Some c ≡ slice_get row i → Some fault ≡ check_cell (get_or kinds i d) c → check_cells (drop i kinds) (drop i row) ≡ Some fault
 check_cells-fault kinds row i d c fault g e fits = cells_at kinds row i d c g e ∙ first_fault-early _ _ (check_cells (drop (i + 1) kinds) (drop (i + 1) row)) fault (sym fits)
 
-module _ {Z : Type 0} where
-  -- the test of the tables from a place on is that of the table there and then that of the rest
-  pub are_tables-at : (tables : List (TableDef Z)) (i : ℕ) (t : TableDef Z) → i < length tables → t ≡ get_or tables i t → are_tables (tables_of (drop i tables)) ≡ (fits_before (table_of t) (tables_of (drop (i + 1) tables)) && are_tables (tables_of (drop (i + 1) tables)))
-  are_tables-at tables i t h e = ap (λ ts. are_tables (tables_of ts)) (drop_at tables i t t h e)
-
--- the search of the place goes on where the test fails
-pub position_from-miss : {X Y : Type 0} (p : Y → Bool) (f : X → Y) (xs : List X) (i : ℕ) (x : X) → i < length xs → x ≡ get_or xs i x → p (f x) ≡ false → position_from p (i + 1) (map f (drop (i + 1) xs)) ≡ position_from p i (map f (drop i xs))
-position_from-miss p f xs i x h e miss =
-    let rest = position_from p (i + 1) (map f (drop (i + 1) xs)) in
-    sym (ap (λ ys. position_from p i (map f ys)) (drop_at xs i x x h e) ∙ ap (λ b. cond b (Some i) rest) miss)
-
--- and ends where it passes
+-- the search of the place ends where the test passes
 position_from-hit : {X Y : Type 0} (p : Y → Bool) (f : X → Y) (xs : List X) (i : ℕ) (x : X) → i < length xs → x ≡ get_or xs i x → p (f x) ≡ true → position_from p i (map f (drop i xs)) ≡ Some i
 position_from-hit p f xs i x h e hit =
     let rest = position_from p (i + 1) (map f (drop (i + 1) xs)) in
