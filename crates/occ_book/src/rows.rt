@@ -1,7 +1,7 @@
 //! Rows of the decision log.
 ghost use Rattle.occ_book.specs.Rows.{IsStandingCopy, IsRowCopy};
 
-use occ_case::Cause;
+use occ_model::Cause;
 use occ_sets::{ReadSet, WriteSet};
 use std::alloc::{AllocError, Allocator};
 

@@ -1,7 +1,7 @@
 //! What holds of the book of every core.
 ghost use Rattle.occ_text.specs.Headers.{Header};
-ghost use Rattle.occ_books.specs.WholeBooks.{BookFits};
-ghost use Rattle.occ_books.specs.Cores.{IsHeaderOf, HasWords, book_in};
+ghost use Rattle.occ_reading.specs.WholeBooks.{BookFits};
+ghost use Rattle.occ_reading.specs.Cores.{IsHeaderOf, HasWords, book_in};
 
 use occ_core::Core;
 use std::alloc::Allocator;

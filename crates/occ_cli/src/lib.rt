@@ -15,6 +15,6 @@ mod tokens;
 mod writing;
 
 pub use occ_audit::audit_rows;
-pub use occ_books::audit_text;
+pub use occ_reading::audit_text;
 pub use occ_text::trouble::{Trouble, status_of};
 pub use text_replay::replay_text;

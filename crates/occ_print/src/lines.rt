@@ -14,7 +14,7 @@ ghost use Rattle.occ_print.specs.Books.{table_name, question_text, answer_text, 
 
 use crate::sections::{Section, entry_word, number_word};
 use occ_book::{LogRow, Standing};
-use occ_case::Cause;
+use occ_model::Cause;
 use occ_sets::{Answer, Observation};
 use occ_text::versions::{Version, version_text};
 use occ_text::writers::{write_end, write_key, write_row};

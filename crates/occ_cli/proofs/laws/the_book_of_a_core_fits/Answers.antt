@@ -1,4 +1,4 @@
-use Rattle.occ_books.proofs.CoreBooks.{core_book_fits}
+use Rattle.occ_reading.proofs.CoreBooks.{core_book_fits}
 use Rattle.occ_cli.proofs.laws.the_book_of_a_core_fits.Goals as goal
 
 pub returns : goal.returns

@@ -1,5 +1,0 @@
-use Rattle.occ_books.proofs.BookLaws.{leads_to_one}
-use Rattle.occ_books.proofs.laws.lines_lead_to_one_place.Goals as goal
-
-pub returns : goal.returns
-returns c = leads_to_one

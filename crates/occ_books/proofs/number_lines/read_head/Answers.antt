@@ -1,7 +1,0 @@
-use Rattle.occ_books.proofs.Common.{field_reads, head_of_line}
-use Rattle.occ_books.proofs.NumberLines.{head_field}
-use Rattle.occ_books.proofs.number_lines.read_head.Goals as goal
-
-pub returns-clause-grammar : goal.returns-clause-grammar
-unfolding head_of_line
-returns-clause-grammar c = field_reads (head_field c.args.sessions c.ranges.sessions.fits) c.head_of_line.ensures

@@ -1,0 +1,119 @@
+//! Readers of what a line names under a schema: tables, and keys and rows that fit them.
+
+ghost use Rattle.std.specs.Prelude.{◌≡◌};
+ghost use Rattle.std.specs.Result.{result_err};
+ghost use Rattle.occ_types.specs.PlainData.{key_of, object_of};
+ghost use Rattle.occ_text.specs.Escapes.{Gives};
+ghost use Rattle.occ_text.specs.Fields.{GivesNext, before};
+ghost use Rattle.occ_reading.specs.SchemaReaders.{unless_fault, place_of, key_in, row_in, next_table, next_key, next_row, next_object};
+
+use occ_text::cursors::next_token;
+use occ_text::separated_parts::Parts;
+use occ_text::texts;
+use occ_text::tokens::{Unread, name};
+use occ_text::versions::Version;
+use occ_types::{Fault, Key, Object, Row, Schema};
+use std::alloc::Allocator;
+
+/// What has a fault is not read.
+pub(crate) fn unless_fault(checked: Result<(), Fault>) -> Option<()>
+    ensures { result ≡ unless_fault (result_err checked) }
+{
+    checked.ok()
+}
+
+/// The place of the table of this name.
+#[tactic(auto, unfolding(crate::specs::SchemaReaders::place_of))]
+fn place_of<A: Allocator>(schema: &Schema<A>, token: &[u8]) -> Option<usize>
+    ensures { result ≡ place_of schema.now token.now }
+{
+    let name = name(token)?;
+    schema.table_named(name)
+}
+
+/// A key of the table at a place, in a text of a version.
+#[tactic(auto, unfolding(crate::specs::SchemaReaders::key_in))]
+fn key_in<A: Allocator + Copy>(
+    alloc: A,
+    version: Version,
+    schema: &Schema<A>,
+    table: usize,
+    token: &[u8],
+) -> Result<Key<A>, Unread>
+    ensures { Gives key_of result (key_in version schema.now table token.now) }
+{
+    let key = texts::key(alloc, version, token)?;
+    unless_fault(schema.check_key(table, &key)).ok_or(Unread::Malformed)?;
+    Ok(key)
+}
+
+/// A row of the table at a place.
+#[tactic(auto, unfolding(crate::specs::SchemaReaders::row_in))]
+pub(crate) fn row_in<A: Allocator + Clone>(
+    alloc: A,
+    schema: &Schema<A>,
+    table: usize,
+    token: &[u8],
+) -> Result<Row<A>, Unread>
+    ensures { Gives (λ row. row) result (row_in schema.now table token.now) }
+{
+    let row = texts::row(alloc, token)?;
+    unless_fault(schema.check_row(table, &row)).ok_or(Unread::Malformed)?;
+    Ok(row)
+}
+
+/// The place of the table that the next token names.
+#[tactic(auto, unfolding(crate::specs::SchemaReaders::next_table))]
+pub(crate) fn next_table<A: Allocator>(schema: &Schema<A>, parts: &mut Parts<'_>) -> Option<usize>
+    ensures { before parts.new result ≡ next_table schema.now parts.old }
+{
+    let token = next_token(parts)?;
+    let place = place_of(schema, token)?;
+    Some(place)
+}
+
+/// The next token as a key of a table.
+#[tactic(auto, unfolding(crate::specs::SchemaReaders::next_key))]
+pub(crate) fn next_key<A: Allocator + Copy>(
+    alloc: A,
+    version: Version,
+    schema: &Schema<A>,
+    table: usize,
+    parts: &mut Parts<'_>,
+) -> Result<Key<A>, Unread>
+    ensures { GivesNext key_of result (next_key version schema.now table parts.old) parts.new }
+{
+    let token = next_token(parts).ok_or(Unread::Malformed)?;
+    let key = key_in(alloc, version, schema, table, token)?;
+    Ok(key)
+}
+
+/// The next token as a row of a table.
+#[tactic(auto, unfolding(crate::specs::SchemaReaders::next_row))]
+pub(crate) fn next_row<A: Allocator + Clone>(
+    alloc: A,
+    schema: &Schema<A>,
+    table: usize,
+    parts: &mut Parts<'_>,
+) -> Result<Row<A>, Unread>
+    ensures { GivesNext (λ row. row) result (next_row schema.now table parts.old) parts.new }
+{
+    let token = next_token(parts).ok_or(Unread::Malformed)?;
+    let row = row_in(alloc, schema, table, token)?;
+    Ok(row)
+}
+
+/// The name of a row, from the next two tokens: its table's name and its key.
+#[tactic(auto, unfolding(crate::specs::SchemaReaders::next_object))]
+pub(crate) fn next_object<A: Allocator + Copy>(
+    alloc: A,
+    version: Version,
+    schema: &Schema<A>,
+    parts: &mut Parts<'_>,
+) -> Result<Object<A>, Unread>
+    ensures { GivesNext object_of result (next_object version schema.now parts.old) parts.new }
+{
+    let table = next_table(schema, parts).ok_or(Unread::Malformed)?;
+    let key = next_key(alloc, version, schema, table, parts)?;
+    Ok(Object { table, key })
+}
