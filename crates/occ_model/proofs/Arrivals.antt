@@ -11,21 +11,20 @@ use Rattle.std.specs.FinSet.{FinSet}
 use Rattle.occ_types.specs.declared.fault.Fault.TheVariants as faults
 use Rattle.occ_types.specs.Question.{Question}
 use Rattle.occ_model.specs.State.{Write}
-use Rattle.occ_model.specs.Log.{LogRow, Open, Case, questions, serial, settled, is_done, AreAnswers, numbers, Counts, last_folded, InOrder}
+use Rattle.occ_model.specs.Log.{LogRow, Open, Case, questions, is_done, AreAnswers, numbers, Counts, last_folded, InOrder}
 use Rattle.occ_model.specs.Validity.{verdict, window_low}
-use Rattle.occ_model.specs.Overlay.{own}
-use Rattle.occ_model.specs.World.{World, low, next_place, latest, turn, due, reads_under, has_mark}
+use Rattle.occ_model.specs.World.{World, low, next_place, latest, due, reads_under, has_mark}
 use Rattle.occ_model.specs.Event.{Read}
 use Rattle.occ_model.specs.Refusal as refusals
 use Rattle.occ_model.specs.Refusal.{refusal, refusal_of_close, wrong_start}
-use Rattle.occ_model.specs.Step.{entering, IsCaseOf, read_more, entered, closed, decided}
-use Rattle.occ_model.specs.Invariant.{commits, Chained, is_touched, IsFresh, NumbersAreBelow, OneUnderWay, ActiveAreHeld, Invariant}
+use Rattle.occ_model.specs.Step.{entering, IsCaseOf, read_more, entered, closed}
+use Rattle.occ_model.specs.Invariant.{commits, IsFresh, Invariant}
 use Rattle.occ_model.proofs.Tests as tests
 use Rattle.occ_model.proofs.Logs.{serial-append, settled-append, Chained-push}
 use Rattle.occ_model.proofs.AtEntry.{verdict-validity, commit_means, NoneInTheWay, none_active, valid_reads}
 use Rattle.occ_model.proofs.Turns
 use Rattle.occ_model.proofs.Turns.{latest-push}
-use Rattle.occ_model.proofs.Orders.{Counts-push, numbers-append, numbers-own, numbers-other, places-append, length-places, latest_number, get-own, get-other, tied, apart}
+use Rattle.occ_model.proofs.Orders.{Counts-push, numbers-append, numbers-own, numbers-other, places-append, length-places, numbers_pushed, latest_number, get-own, get-other, tied, apart}
 use Rattle.occ_model.proofs.Phases.{get-remove-from, get-retain-from, get-insert-cases, AreFresh-push, IsFresh-step, not_refused, known_reads}
 use Rattle.occ_model.proofs.Admitted.{passed, Admitted}
 
@@ -108,6 +107,7 @@ keeps_read old session number start question inv none =
       one_under_way = inv.one_under_way;
       active_held = inv.active_held;
       held_under_way = inv.held_under_way;
+      held_entered = inv.held_entered;
     }
 
 -- A read phase that is dropped, or all those of a session.
@@ -121,6 +121,7 @@ keeps_forget old session number inv = record {
   one_under_way = inv.one_under_way;
   active_held = inv.active_held;
   held_under_way = inv.held_under_way;
+  held_entered = inv.held_entered;
 }
 
 pub keeps_close : (old : World) (session number : ℕ) → Invariant old → refusal_of_close old session number ≡ None → Invariant (closed old session number)
@@ -149,6 +150,7 @@ keeps_close old session number inv none =
       one_under_way = inv.one_under_way;
       active_held = inv.active_held;
       held_under_way = inv.held_under_way;
+      held_entered = inv.held_entered;
     }
 
 -- A request that enters.
@@ -178,4 +180,12 @@ keeps_enter old session number start writes index case is inv may =
           inv.held_under_way s
           (sym (sets.contains-insert nat_cmp_total old.held session s ∙ ap (λ b. b || sets.contains old.held s) (apart s session ne)) ∙ held)
           r (sym (latest-push s row old.log ∙ ap (λ b. if b then Some row else latest s old.log) other) ∙ is));
+      held_entered = λ s held. tests.decided (session == s)
+          (λ same. let e : s ≡ session = sym (eqb-true session s same) in
+          let one : length (numbers s (row ∷ [])) ≡ 1 = ap (λ t. length (numbers t (row ∷ []))) e ∙ ap length (numbers-own row) in
+          omega (arith, numbers_pushed s old.log row, one))
+          (λ other.
+          let ne : s ≡ session → ⊥ = λ e. tests.clash (session == s) (eq-eqb session s (sym e)) other in
+          let before = inv.held_entered s (sym (sets.contains-insert nat_cmp_total old.held session s ∙ ap (λ b. b || sets.contains old.held s) (apart s session ne)) ∙ held) in
+          omega (arith, numbers_pushed s old.log row, before));
     }

@@ -8,17 +8,17 @@ use Rattle.std.specs.FinMap.{FinMap}
 use Rattle.occ_types.specs.declared.fault.Fault.TheVariants as faults
 use Rattle.occ_types.specs.Question.{Question}
 use Rattle.occ_model.specs.State.{State, Write, Observation, answer, apply, meets_question}
-use Rattle.occ_model.specs.Log.{LogRow, Standing, Open, Writing, Done, Back, questions, remaining, serial, settled, is_done, is_active, AreAnswers, InOrder}
+use Rattle.occ_model.specs.Log.{LogRow, Standing, Open, Writing, Done, Back, questions, remaining, serial, settled, is_done, is_active, AreAnswers}
 use Rattle.occ_types.specs.Question.{One, Span}
 use Rattle.occ_types.specs.Row.{Row}
 use Rattle.occ_model.specs.Overlay.{own}
 use Rattle.occ_model.specs.Operations.{Operation, Get, Scan, Put, Delete, Add, Progress, perform, perform_all, asked, nothing_yet}
-use Rattle.occ_model.specs.World.{World, ReadPhase, low, latest, turn, due, reads_under, is_held, has_mark, phase_cmp}
-use Rattle.occ_model.specs.Event.{BackUp, Reply}
+use Rattle.occ_model.specs.World.{World, ReadPhase, low, latest, due, reads_under, is_held, has_mark, phase_cmp}
+use Rattle.occ_model.specs.Event.{Reply}
 use Rattle.occ_model.specs.Refusal as refusals
 use Rattle.occ_model.specs.Refusal.{refusal_of_request, refusal_of_alone}
-use Rattle.occ_model.specs.Step.{entering, validity_of, decided, EndsSerially, RunsAlone}
-use Rattle.occ_model.specs.Invariant.{commits, Chained, is_touched, IsFresh, NumbersAreBelow, OneUnderWay, ActiveAreHeld, Invariant}
+use Rattle.occ_model.specs.Step.{entering, validity_of, EndsSerially, RunsAlone}
+use Rattle.occ_model.specs.Invariant.{commits, Invariant}
 use Rattle.occ_model.specs.declared.verdict.Verdict.{Verdict}
 use Rattle.occ_model.specs.declared.verdict.Verdict.TheVariants as verdicts
 use Rattle.occ_model.specs.declared.verdict.Cause.{Cause}
@@ -28,6 +28,7 @@ use Rattle.occ_model.proofs.Logs.{serial-append, settled-append, ActiveAreApart,
 use Rattle.occ_model.proofs.AtEntry.{commit_means, valid_reads}
 use Rattle.occ_model.proofs.Turns
 use Rattle.occ_model.proofs.Turns.{latest-push}
+use Rattle.occ_model.proofs.Orders.{numbers_pushed}
 use Rattle.occ_model.proofs.Phases.{get-remove-from, IsFresh-step, not_refused, known_reads}
 use Rattle.occ_model.proofs.Admitted.{passed, Admitted, admitted}
 use Rattle.occ_model.proofs.Arrivals.{InOrder-push, no_mark, rise}
@@ -90,6 +91,7 @@ module _ (old : World) (inv : Invariant old) (session number start : ℕ) (reads
         one_under_way = Turns.OneUnderWay-push row old.log old.held inv.one_under_way inv.active_held free;
         active_held = Turns.ActiveAreHeld-push row old.log old.held inv.active_held (λ (a : false ≡ true). cc a);
         held_under_way = under_way_pushed';
+        held_entered = λ s held. let before = inv.held_entered s held in omega (arith, numbers_pushed s old.log row, before);
       }
     where
       under_way_pushed' : (s : ℕ) → is_held old s ≡ true → (later : LogRow) → latest s (old.log ++ done_row (Done (old.counter + 1)) ∷ []) ≡ Some later → is_done later.standing ≡ false
@@ -109,6 +111,7 @@ module _ (old : World) (inv : Invariant old) (session number start : ℕ) (reads
         one_under_way = Turns.OneUnderWay-push row old.log old.held inv.one_under_way inv.active_held free;
         active_held = Turns.ActiveAreHeld-push row old.log old.held inv.active_held (λ (a : false ≡ true). cc a);
         held_under_way = under_way_pushed (Back cause);
+        held_entered = λ s held. let before = inv.held_entered s held in omega (arith, numbers_pushed s old.log row, before);
       }
 
 pub keeps_serial : (old : World) (session number start : ℕ) (writes : List Write) (reply : Reply) (new : World) → Invariant old

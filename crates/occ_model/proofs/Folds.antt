@@ -108,3 +108,13 @@ InOrder-fold base marks xs ys order = record {
 
     at : (session : ℕ) → last_folded (folded base xs) session ≡ last_folded base session + length (numbers session xs)
     at session = folded_number session xs base.last (Counts-front _ (numbers session xs) (numbers session ys) (split session))
+
+-- how many transactions of a session entered stays, as some are folded
+pub entered_folded : (base : Base) (marks : FinMap nat_cmp ℕ) (xs ys log : List LogRow) → log ≡ xs ++ ys → InOrder base marks log → (session : ℕ)
+    → last_folded base session + length (numbers session log) ≡ last_folded (folded base xs) session + length (numbers session ys)
+entered_folded base marks xs ys log whole order session =
+    let split : numbers session log ≡ numbers session xs ++ numbers session ys = ap (numbers session) whole ∙ numbers-append session xs ys in
+    let length_is : length (numbers session log) ≡ length (numbers session xs) + length (numbers session ys) = ap length split ∙ length-append (numbers session xs) (numbers session ys) in
+    let counts : Counts (suc (last_folded base session)) (numbers session xs ++ numbers session ys) = subst (Counts (suc (last_folded base session))) split (order.numbered session) in
+    let at = folded_number session xs base.last (Counts-front (suc (last_folded base session)) (numbers session xs) (numbers session ys) counts) in
+    omega (arith, at, length_is)

@@ -14,6 +14,10 @@ pub mod Steps
 pub mod Content
 pub mod InSchema
 pub mod Polls
+pub mod NumberedRows
+pub mod Shown
+pub mod EndsShown
+pub mod RowsStay
 pub mod Decisions
 pub mod SerialEnds
 pub mod Checkpoints

@@ -1,5 +1,5 @@
 -- Places and numbers, as rows are added and folded.
-use Rattle.std.proofs.Common.{◌≡◌, ℕ, ◌+◌, Bool, true, false, cond, List, [], ◌∷◌, ◌++◌, map, length, Option, None, Some, refl, sym, ap, subst, ◌∙◌, zero, suc, arith}
+use Rattle.std.proofs.Common.{◌≡◌, ℕ, ◌+◌, Bool, true, false, cond, List, [], ◌∷◌, ◌++◌, map, length, Option, None, Some, refl, sym, ap, subst, ◌∙◌, zero, suc, arith, length-append}
 use Rattle.std.specs.Prelude.{if◌then◌else◌, ◌==◌, filter, slice_get, unwrap_or}
 use Rattle.std.proofs.lemmas.Bool.{eqb-true, eq-eqb}
 use Rattle.std.specs.Ordering.{nat_cmp, eq_by_cmp}
@@ -33,6 +33,10 @@ numbers-append session (x ∷ xs) ys = front (x.session == session) (numbers-app
         ≡ map (λ r. r.number) (cond b (x ∷ filter (λ r. r.session == session) xs) (filter (λ r. r.session == session) xs)) ++ numbers session ys
     front true e = ap (λ l. x.number ∷ l) e
     front false e = e
+
+-- a session has one row more, or as many as before
+pub numbers_pushed : (session : ℕ) (log : List LogRow) (row : LogRow) → length (numbers session (log ++ row ∷ [])) ≡ length (numbers session log) + length (numbers session (row ∷ []))
+numbers_pushed session log row = ap length (numbers-append session log (row ∷ [])) ∙ length-append (numbers session log) (numbers session (row ∷ []))
 
 pub numbers-own : (row : LogRow) → numbers row.session (row ∷ []) ≡ row.number ∷ []
 numbers-own row = ap (λ b. map (λ r. r.number) (cond b (row ∷ []) [])) (eq-eqb row.session row.session refl)

@@ -1,5 +1,5 @@
 -- No step lets fall what a poll shows.
-use Rattle.std.proofs.Common.{◌≡◌, ℕ, ◌+◌, ◌-◌, ◌≤◌, ◌⊎◌, inl, inr, Bool, true, false, List, [], ◌∷◌, ◌++◌, length, drop, Option, None, Some, refl, sym, ap, subst, ◌∙◌, suc, not, ◌||◌, arith, length-append}
+use Rattle.std.proofs.Common.{◌≡◌, ℕ, ◌+◌, ◌-◌, ◌≤◌, ◌⊎◌, inl, inr, Bool, true, false, List, [], ◌∷◌, ◌++◌, length, drop, Option, None, Some, refl, sym, ap, subst, ◌∙◌, not, ◌||◌, arith}
 use Rattle.std.specs.Prelude.{if◌then◌else◌, ◌==◌, slice_get, MatchOption}
 use Rattle.std.proofs.lemmas.Bool.{eqb-true, eq-eqb}
 use Rattle.std.specs.Cmp.{nat_cmp_total}
@@ -8,11 +8,11 @@ use Rattle.std.specs.FinSet.{FinSet}
 use Rattle.std.specs.FinMap as finite
 use Rattle.std.specs.FinMap.{FinMap}
 use Rattle.std.specs.Ordering.{nat_cmp, eq_by_cmp}
-use Rattle.occ_model.specs.Log.{LogRow, Standing, Open, Writing, Done, Back, Base, last_folded, numbers, Counts}
+use Rattle.occ_model.specs.Log.{LogRow, Standing, Open, Writing, Done, Back, last_folded, numbers}
 use Rattle.occ_model.specs.State.{State, Write, put, apply}
 use Rattle.occ_model.specs.Operations.{Operation, perform_all, nothing_yet}
 use Rattle.occ_model.specs.Validity.{verdict}
-use Rattle.occ_model.specs.World.{World, ReadPhase, phase_cmp, last_entered, is_held, latest, turn, low, reads_under}
+use Rattle.occ_model.specs.World.{World, ReadPhase, phase_cmp, last_entered, entered_count, is_held, latest, turn, low, reads_under}
 use Rattle.occ_model.specs.declared.verdict.Verdict.{Verdict}
 use Rattle.occ_model.specs.declared.verdict.Verdict.TheVariants as verdicts
 use Rattle.occ_model.specs.Event.{Request, Alone, Close, Event, Read, Forget, Enter, Decide, WriteOne, Finish, BackUp, SerialEnd, RunAlone, Checkpoint, Reply, Wrote, NoMore}
@@ -21,8 +21,8 @@ use Rattle.occ_model.specs.Poll.{settled_number, done_number, last_done, poll, R
 use Rattle.occ_model.specs.Step.{Step, refused, starved, taken, Taken, entering, validity_of, EndsSerially, RunsAlone, foldable_part, shortened}
 use Rattle.occ_model.specs.Step as steps
 use Rattle.occ_model.specs.Laws.{PollsRise}
-use Rattle.occ_model.proofs.Orders.{Counts-front, numbers-append, numbers-own, latest_number, folded_number, apart}
-use Rattle.occ_model.proofs.Turns.{Around, around, numbers-turn}
+use Rattle.occ_model.proofs.Orders.{numbers-own, numbers_pushed, latest_number, apart}
+use Rattle.occ_model.proofs.Turns.{Around, around, entered_turned}
 use Rattle.occ_model.proofs.Logs.{standing_at}
 use Rattle.occ_model.proofs.Tests.{decided, clash, and_true}
 use Rattle.occ_model.proofs.Folds as folds
@@ -30,11 +30,7 @@ use Rattle.occ_model.proofs.Steps.{keeps}
 
 -- ---- numbers that entered
 
--- how many transactions of a session entered, those that were folded too
-abbrev entered_of : Base → ℕ → List LogRow → ℕ
-entered_of base session log = last_folded base session + length (numbers session log)
-
-last_is : (world : World) (session : ℕ) → Invariant world → last_entered world session ≡ entered_of world.base session world.log
+pub last_is : (world : World) (session : ℕ) → Invariant world → last_entered world session ≡ entered_count world session
 last_is world session inv = latest_number session (last_folded world.base session) world.log (inv.in_order.numbered session)
 
 -- where no fewer entered, and a session that is held was held before, no settled number falls
@@ -55,12 +51,9 @@ settled_more old new true false up = omega arith
 settled_more old new false true up = omega arith
 settled_more old new false false up = omega arith
 
-numbers_pushed : (session : ℕ) (log : List LogRow) (row : LogRow) → length (numbers session (log ++ row ∷ [])) ≡ length (numbers session log) + length (numbers session (row ∷ []))
-numbers_pushed session log row = ap length (numbers-append session log (row ∷ [])) ∙ length-append (numbers session log) (numbers session (row ∷ []))
-
 -- ---- numbers of finished transactions
 
-last_done-append : (session : ℕ) (xs ys : List LogRow) → last_done session (xs ++ ys) ≡ (elim (last_done session ys) as (λ _. Option ℕ) [ None ↦ last_done session xs | Some later ↦ Some later ])
+pub last_done-append : (session : ℕ) (xs ys : List LogRow) → last_done session (xs ++ ys) ≡ (elim (last_done session ys) as (λ _. Option ℕ) [ None ↦ last_done session xs | Some later ↦ Some later ])
 last_done-append session [] ys = own (last_done session ys)
   where
     own : (o : Option ℕ) → o ≡ (elim o as (λ _. Option ℕ) [ None ↦ None | Some later ↦ Some later ])
@@ -176,14 +169,6 @@ module _ (old : World) (inv : Invariant old) (session : ℕ) where
       go (inl e) = inl (next n e)
       go (inr e) = inr (ap (last_done session) a.was ∙ e)
 
-  turned_entered : (turning : ℕ) (row : LogRow) (standing : Standing) → latest turning old.log ≡ Some row
-      → length (numbers session (turn turning standing old.log)) ≡ length (numbers session old.log)
-  turned_entered turning row standing is =
-      let a = around turning old.log row standing is in
-      ap (λ l. length (numbers session l)) a.now
-      ∙ ap length (numbers-turn row (standing_at row standing) a.later refl refl refl session a.before)
-      ∙ ap (λ l. length (numbers session l)) (sym a.was)
-
   folded_numbered : (part rows : List LogRow) → old.log ≡ part ++ rows → AreNumbered rows
   unfolding AreNumbered
   folded_numbered part rows whole n is =
@@ -203,7 +188,7 @@ module _ (old : World) (inv : Invariant old) (session : ℕ) where
   stays = rises old (omega arith) (omega arith) (same_numbered old inv session)
 
   -- no fewer entered, and no session is held that wasn't before
-  freed : (new : World) → Invariant new → old.counter ≤ new.counter → entered_of old.base session old.log ≤ entered_of new.base session new.log
+  freed : (new : World) → Invariant new → old.counter ≤ new.counter → entered_count old session ≤ entered_count new session
       → (is_held new session ≡ true → is_held old session ≡ true) → AreNumbered old inv session new.log → Rises (poll old session) (poll new session)
   freed new keeps counter entered held numbered =
       let was = last_is old session inv in
@@ -217,7 +202,7 @@ module _ (old : World) (inv : Invariant old) (session : ℕ) where
       → Invariant (record old { log = turn turning standing old.log; table = table; counter = counter; held = held })
       → Rises (poll old session) (poll (record old { log = turn turning standing old.log; table = table; counter = counter; held = held }) session)
   turns turning row standing table counter held is fresh next up fewer keeps =
-      let e = turned_entered old inv session turning row standing is in
+      let e = entered_turned turning row standing old.log is session in
       freed (record old { log = turn turning standing old.log; table = table; counter = counter; held = held }) keeps up
       (omega (arith, e)) fewer (turned_numbered old inv session turning row standing is fresh next)
 
@@ -258,10 +243,10 @@ module _ (old : World) (inv : Invariant old) (session : ℕ) where
       entered : length (numbers session (old.log ++ row ∷ [])) ≡ length (numbers session old.log) + length (numbers session (row ∷ []))
       entered = numbers_pushed session old.log row
 
-      was : last_entered old session ≡ entered_of old.base session old.log
+      was : last_entered old session ≡ entered_count old session
       was = last_is old session inv
 
-      is : last_entered new session ≡ entered_of new.base session new.log
+      is : last_entered new session ≡ entered_count new session
       is = last_is new session keeps
 
   folds_up : Invariant (shortened old) → Rises (poll old session) (poll (shortened old) session)
@@ -269,11 +254,8 @@ module _ (old : World) (inv : Invariant old) (session : ℕ) where
       let part = foldable_part (low old) old.log in
       let rows = drop (length part) old.log in
       let whole = folds.part_rest (low old) old.log in
-      let split : numbers session old.log ≡ numbers session part ++ numbers session rows = ap (numbers session) whole ∙ numbers-append session part rows in
-      let length_is : length (numbers session old.log) ≡ length (numbers session part) + length (numbers session rows) = ap length split ∙ length-append (numbers session part) (numbers session rows) in
-      let counts : Counts (suc (last_folded old.base session)) (numbers session part ++ numbers session rows) = subst (Counts (suc (last_folded old.base session))) split (inv.in_order.numbered session) in
-      let at = folded_number session part old.base.last (Counts-front (suc (last_folded old.base session)) (numbers session part) (numbers session rows) counts) in
-      freed (shortened old) keeps (omega arith) (omega (arith, at, length_is)) (λ held. held) (folded_numbered old inv session part rows whole)
+      let same = folds.entered_folded old.base old.marks part rows old.log whole inv.in_order session in
+      freed (shortened old) keeps (omega arith) (omega (arith, same)) (λ held. held) (folded_numbered old inv session part rows whole)
 
 no_some : {n : ℕ} → None ≡ Some n → ⊥
 no_some e = cc

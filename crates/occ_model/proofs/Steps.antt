@@ -4,16 +4,17 @@ use Rattle.std.specs.Prelude.{nat_lt}
 use Rattle.std.proofs.lemmas.Bool.{ltb-false}
 use Rattle.std.specs.Ordering.{nat_cmp}
 use Rattle.std.specs.FinMap as finite
+use Rattle.std.specs.FinSet as sets
 use Rattle.occ_types.specs.Schema.{fault_if}
 use Rattle.occ_types.specs.declared.fault.Fault.TheVariants as faults
 use Rattle.occ_model.specs.State.{State, Write, apply}
 use Rattle.occ_model.specs.Log.{LogRow, Standing, Open, Writing, Done, Back, rest, remaining, after, serial, settled, is_writing, Explained, Quiet, Base, InOrder, Audited}
-use Rattle.occ_model.specs.World.{Settings, World, ReadPhase, resumed, low, latest, phase_cmp}
+use Rattle.occ_model.specs.World.{Settings, World, ReadPhase, resumed, low, latest, is_held, phase_cmp}
 use Rattle.occ_model.specs.Event.{Request, Alone, Close, Event, Read, Forget, Enter, Decide, WriteOne, Finish, BackUp, SerialEnd, RunAlone, Checkpoint, Reply}
 use Rattle.occ_model.specs.Refusal as refusals
 use Rattle.occ_model.specs.Refusal.{refusal}
-use Rattle.occ_model.specs.Step.{Step, refused, starved, taken, Taken, Run, closed, foldable_part, shortened}
-use Rattle.occ_model.specs.Invariant.{Chained, is_touched, IsFresh, NumbersAreBelow, OneUnderWay, ActiveAreHeld, Invariant}
+use Rattle.occ_model.specs.Step.{Step, refused, starved, taken, Taken, Run, foldable_part, shortened}
+use Rattle.occ_model.specs.Invariant.{Chained, is_touched, NumbersAreBelow, OneUnderWay, ActiveAreHeld, Invariant}
 use Rattle.occ_model.proofs.Tests as tests
 use Rattle.occ_model.proofs.Logs.{committed_sound, serial-append, settled-append}
 use Rattle.occ_model.proofs.Folds as folds
@@ -41,6 +42,7 @@ keeps_fold old inv =
       one_under_way = folds.OneUnderWay-later part rows (subst OneUnderWay whole inv.one_under_way);
       active_held = folds.ActiveAreHeld-later old.held part rows (subst (ActiveAreHeld old.held) whole inv.active_held);
       held_under_way = λ s held row is. inv.held_under_way s held row (ap (latest s) whole ∙ folds.latest-later s row part rows is);
+      held_entered = λ s held. subst (λ n. 1 ≤ n) (folds.entered_folded old.base old.marks part rows old.log whole inv.in_order s) (inv.held_entered s held);
     }
 
 -- Every event that is taken keeps the invariant.
@@ -98,6 +100,7 @@ invariant_resumed settings base counter = record {
   one_under_way = tt;
   active_held = tt;
   held_under_way = λ s held row is. absurd (no_row is);
+  held_entered = λ s held. tests.clash (is_held (resumed settings base counter) s) held (sets.contains-empty nat_cmp s);
 }
   where
     no_phase : {phase : ReadPhase} → None ≡ Some phase → ⊥

@@ -1,5 +1,5 @@
 -- The latest row of a session takes another standing, and a row goes to the end.
-use Rattle.std.proofs.Common.{◌≡◌, ℕ, ◌+◌, Bool, true, false, cond, ◌&&◌, ◌||◌, List, [], ◌∷◌, ◌++◌, map, Option, None, Some, refl, sym, ap, subst, ◌∙◌, arith}
+use Rattle.std.proofs.Common.{◌≡◌, ℕ, ◌+◌, ◌⊎◌, inl, inr, Bool, true, false, cond, ◌&&◌, ◌||◌, List, [], ◌∷◌, ◌++◌, map, length, Option, None, Some, refl, sym, ap, subst, ◌∙◌, arith}
 use Rattle.std.specs.Prelude.{if◌then◌else◌, ◌==◌, filter}
 use Rattle.std.proofs.lemmas.Bool.{eqb-true, eq-eqb}
 use Rattle.std.specs.Ordering.{nat_cmp}
@@ -118,6 +118,15 @@ module _ (row turned : LogRow) (later : List LogRow) (same_session : turned.sess
   NumbersAreBelow-turn counter new [] are = (new, are.1)
   NumbersAreBelow-turn counter new (x ∷ xs) are = (are.0, NumbersAreBelow-turn counter new xs are.1)
 
+-- a turn leaves how many rows a session has
+pub entered_turned : (turning : ℕ) (row : LogRow) (standing : Standing) (log : List LogRow) → latest turning log ≡ Some row → (session : ℕ)
+    → length (numbers session (turn turning standing log)) ≡ length (numbers session log)
+entered_turned turning row standing log is session =
+    let a = around turning log row standing is in
+    ap (λ l. length (numbers session l)) a.now
+    ∙ ap length (numbers-turn row (standing_at row standing) a.later refl refl refl session a.before)
+    ∙ ap (λ l. length (numbers session l)) (sym a.was)
+
 -- the latest row of a session, where no later row is of it
 pub latest-at : (session : ℕ) (row : LogRow) (before later : List LogRow) → latest session later ≡ None → row.session ≡ session → latest session (before ++ row ∷ later) ≡ Some row
 latest-at session row [] later none is =
@@ -125,6 +134,29 @@ latest-at session row [] later none is =
     ∙ ap (λ b. if b then Some row else None) (eq-eqb row.session session is)
 latest-at session row (x ∷ xs) later none is =
     ap (λ l. elim l as (λ _. Option LogRow) [ None ↦ if x.session == session then Some x else None | Some r ↦ Some r ]) (latest-at session row xs later none is)
+
+-- the latest row of each session: the turned one, or what it was
+pub latest_turned : (session : ℕ) (row : LogRow) (standing : Standing) (log : List LogRow) → Around session row standing log
+    → (s : ℕ) (later : LogRow) → latest s (turn session standing log) ≡ Some later → ((s ≡ session) × (later ≡ standing_at row standing)) ⊎ ((s ≡ session → ⊥) × (latest s log ≡ Some later))
+latest_turned session row standing log r s later is = decided (s == session)
+    (λ same. let e : s ≡ session = eqb-true s session same in
+    let at : latest session (turn session standing log) ≡ Some turned = ap (latest session) r.now ∙ latest-at session turned r.before r.later r.none_later r.session_is in
+    let both : Some turned ≡ Some later = sym at ∙ ap (λ t. latest t (turn session standing log)) (sym e) ∙ is in
+    inl (e, cc))
+    (λ other. let ne : s ≡ session → ⊥ = λ e. clash (s == session) (eq-eqb s session e) other in
+    inr (ne, ap (latest s) r.was ∙ sym (skip ne r.before) ∙ sym (ap (latest s) r.now) ∙ is))
+  where
+    turned : LogRow
+    turned = standing_at row standing
+
+    unlike : (x : LogRow) → x.session ≡ session → (s ≡ session → ⊥) → (x.session == s) ≡ false
+    unlike x is ne = decided (x.session == s) (λ e. absurd (ne (sym (eqb-true x.session s e) ∙ is))) (λ e. e)
+
+    skip : (s ≡ session → ⊥) → (before : List LogRow) → latest s (before ++ turned ∷ r.later) ≡ latest s (before ++ row ∷ r.later)
+    skip ne [] =
+        ap (λ b. elim (latest s r.later) as (λ _. Option LogRow) [ None ↦ if b then Some turned else None | Some l ↦ Some l ]) (unlike row r.session_is ne)
+        ∙ sym (ap (λ b. elim (latest s r.later) as (λ _. Option LogRow) [ None ↦ if b then Some row else None | Some l ↦ Some l ]) (unlike row r.session_is ne))
+    skip ne (x ∷ xs) = ap (λ l. elim l as (λ _. Option LogRow) [ None ↦ if x.session == s then Some x else None | Some l ↦ Some l ]) (skip ne xs)
 
 -- a row goes to the end
 

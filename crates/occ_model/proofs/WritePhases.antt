@@ -1,18 +1,18 @@
 -- A decision, a single write, a finish and a back-up keep the invariant.
-use Rattle.std.proofs.Common.{◌≡◌, ℕ, ◌+◌, ◌⊎◌, Bool, true, false, cond, ◌||◌, List, [], ◌∷◌, ◌++◌, drop, length, Option, None, Some, refl, sym, ap, subst, ◌∙◌, zero, suc, inl, inr, arith, add-one}
-use Rattle.std.specs.Prelude.{if◌then◌else◌, ◌==◌, slice_get, MatchOption}
-use Rattle.std.proofs.lemmas.Bool.{lt-ltb, eqb-true, eq-eqb}
+use Rattle.std.proofs.Common.{◌≡◌, ℕ, ◌+◌, ◌≤◌, Bool, true, false, cond, ◌||◌, List, [], ◌∷◌, ◌++◌, drop, length, Option, None, Some, refl, sym, ap, subst, ◌∙◌, zero, suc, inl, inr, arith, add-one}
+use Rattle.std.specs.Prelude.{slice_get, MatchOption}
+use Rattle.std.proofs.lemmas.Bool.{lt-ltb}
 use Rattle.std.specs.FinSet as sets
 use Rattle.occ_types.specs.Question.{Question, asks}
-use Rattle.occ_model.specs.State.{State, Write, answer, put, apply, meets_question}
+use Rattle.occ_model.specs.State.{State, Write, put, apply, meets_question}
 use Rattle.occ_model.specs.Log.{LogRow, Standing, Open, Writing, Done, Back, Case, rest, remaining, after, serial, settled, is_writing, is_back, is_done, is_active, is_committed, numbers, Counts, last_folded, InOrder}
 use Rattle.occ_model.specs.Validity.{verdict}
 use Rattle.occ_model.specs.Operations.{asked}
 use Rattle.occ_model.specs.World.{World, latest, turn, is_held}
-use Rattle.occ_model.specs.Event.{BackUp, Reply}
+use Rattle.occ_model.specs.Event.{Reply}
 use Rattle.occ_model.specs.Refusal as refusals
-use Rattle.occ_model.specs.Step.{closed, decided, WritesOne, finished}
-use Rattle.occ_model.specs.Invariant.{commits, is_sound, Chained, finished_after, is_touched, IsFresh, NumberIsBelow, NumbersAreBelow, OneUnderWay, ActiveAreHeld, Invariant}
+use Rattle.occ_model.specs.Step.{decided, WritesOne, finished}
+use Rattle.occ_model.specs.Invariant.{commits, is_sound, Chained, finished_after, is_touched, NumberIsBelow, NumbersAreBelow, OneUnderWay, ActiveAreHeld, Invariant}
 use Rattle.occ_model.specs.declared.verdict.Verdict.{Verdict}
 use Rattle.occ_model.specs.declared.verdict.Verdict.TheVariants as verdicts
 use Rattle.occ_model.specs.declared.verdict.Cause.{Cause}
@@ -20,7 +20,7 @@ use Rattle.occ_model.proofs.Tests as tests
 use Rattle.occ_model.proofs.States.{answer-put}
 use Rattle.occ_model.proofs.Logs.{standing_at, serial-append, settled-append, settled-apply, serial-apply, Chained-apply, Chained-turn, Chained-at, active_before, settled-put}
 use Rattle.occ_model.proofs.Turns
-use Rattle.occ_model.proofs.Turns.{Around, around, latest-at}
+use Rattle.occ_model.proofs.Turns.{Around, around}
 use Rattle.occ_model.proofs.Phases.{IsFresh-step}
 use Rattle.occ_model.proofs.Arrivals.{held-remove, held_before, rise}
 
@@ -59,33 +59,16 @@ module _ (old : World) (inv : Invariant old) (session : ℕ) (row : LogRow) (sta
   touched_turned start question still touched = to_log (λ l. is_touched start question l ≡ true)
       (Turns.is_touched-turn row turned r.later refl refl refl start question still r.before (from_log (λ l. is_touched start question l ≡ true) touched))
 
-  -- the latest row of each session: the turned one, or what it was
-  pub latest_turned : (s : ℕ) (later : LogRow) → latest s (turn session standing old.log) ≡ Some later → ((s ≡ session) × (later ≡ turned)) ⊎ ((s ≡ session → ⊥) × (latest s old.log ≡ Some later))
-  latest_turned s later is = tests.decided (s == session)
-      (λ same. let e : s ≡ session = eqb-true s session same in
-      let at : latest session (turn session standing old.log) ≡ Some turned = to_log (λ l. latest session l ≡ Some turned) (latest-at session turned r.before r.later r.none_later r.session_is) in
-      let both : Some turned ≡ Some later = sym at ∙ ap (λ t. latest t (turn session standing old.log)) (sym e) ∙ is in
-      inl (e, cc))
-      (λ other. let ne : s ≡ session → ⊥ = λ e. tests.clash (s == session) (eq-eqb s session e) other in
-      inr (ne, from_was s (skip s ne r.before) later is))
-    where
-      unlike : (s : ℕ) (x : LogRow) → x.session ≡ session → (s ≡ session → ⊥) → (x.session == s) ≡ false
-      unlike s x is ne = tests.decided (x.session == s) (λ e. absurd (ne (sym (eqb-true x.session s e) ∙ is))) (λ e. e)
-
-      skip : (s : ℕ) → (s ≡ session → ⊥) → (before : List LogRow) → latest s (before ++ turned ∷ r.later) ≡ latest s (before ++ row ∷ r.later)
-      skip s ne [] =
-          ap (λ b. elim (latest s r.later) as (λ _. Option LogRow) [ None ↦ if b then Some turned else None | Some l ↦ Some l ]) (unlike s row r.session_is ne)
-          ∙ sym (ap (λ b. elim (latest s r.later) as (λ _. Option LogRow) [ None ↦ if b then Some row else None | Some l ↦ Some l ]) (unlike s row r.session_is ne))
-      skip s ne (x ∷ xs) = ap (λ l. elim l as (λ _. Option LogRow) [ None ↦ if x.session == s then Some x else None | Some l ↦ Some l ]) (skip s ne xs)
-
-      from_was : (s : ℕ) → latest s (r.before ++ turned ∷ r.later) ≡ latest s (r.before ++ row ∷ r.later) → (later : LogRow) → latest s (turn session standing old.log) ≡ Some later → latest s old.log ≡ Some later
-      from_was s same later is = ap (latest s) r.was ∙ sym same ∙ sym (ap (latest s) r.now) ∙ is
-
   pub under_way_turned : is_done standing ≡ false → (s : ℕ) → is_held old s ≡ true → (later : LogRow) → latest s (turn session standing old.log) ≡ Some later → is_done later.standing ≡ false
-  under_way_turned not_done s held later is = elim (latest_turned s later is) [
+  under_way_turned not_done s held later is = elim (Turns.latest_turned session row standing old.log r s later is) [
     | inl here ↦ ap (λ l. is_done l.standing) here.1 ∙ not_done
     | inr there ↦ inv.held_under_way s held later there.1
   ]
+
+  pub entered_turned_held : (s : ℕ) → is_held old s ≡ true → 1 ≤ last_folded old.base s + length (numbers s (turn session standing old.log))
+  entered_turned_held s held = to_log (λ l. 1 ≤ last_folded old.base s + length (numbers s l))
+      (subst (λ l. 1 ≤ last_folded old.base s + length l) (sym (Turns.numbers-turn row turned r.later refl refl refl s r.before))
+      (from_log (λ l. 1 ≤ last_folded old.base s + length (numbers s l)) (inv.held_entered s held)))
 
 -- A row that is decided.
 
@@ -138,6 +121,7 @@ module _ (old : World) (inv : Invariant old) (session index : ℕ) (case : Case)
         one_under_way = one_turned old inv session row (Writing 0) r (λ a. was_active);
         active_held = held_turned old inv session row (Writing 0) r (λ a. was_active);
         held_under_way = under_way_turned old inv session row (Writing 0) r refl;
+        held_entered = entered_turned_held old inv session row (Writing 0) r;
       }
 
   backing : (cause : Cause) → commits (verdict case) ≡ false → Invariant (record old { log = turn session (Back cause) old.log })
@@ -168,6 +152,7 @@ module _ (old : World) (inv : Invariant old) (session index : ℕ) (case : Case)
         one_under_way = one_turned old inv session row (Back cause) r (λ (a : false ≡ true). cc a);
         active_held = held_turned old inv session row (Back cause) r (λ (a : false ≡ true). cc a);
         held_under_way = under_way_turned old inv session row (Back cause) r refl;
+        held_entered = entered_turned_held old inv session row (Back cause) r;
       }
     where
       untouched : (start : ℕ) → (finished_after start row.standing || is_writing row.standing) ≡ true → ⊥
@@ -236,6 +221,7 @@ module _ (old : World) (inv : Invariant old) (session done : ℕ) (row : LogRow)
         one_under_way = one_turned old inv session row (Writing (done + 1)) r (λ a. was_active);
         active_held = held_turned old inv session row (Writing (done + 1)) r (λ a. was_active);
         held_under_way = under_way_turned old inv session row (Writing (done + 1)) r refl;
+        held_entered = entered_turned_held old inv session row (Writing (done + 1)) r;
       }
 
   pub keeps_write : (reply : Reply) (new : World) → WritesOne old session row done reply new → Invariant new
@@ -281,13 +267,14 @@ module _ (old : World) (inv : Invariant old) (session done : ℕ) (row : LogRow)
         in_order = order_turned old inv session row (Done number) r;
         one_under_way = one;
         active_held = Turns.ActiveAreHeld-free old.held (sets.remove old.held session) session (held-remove old.held session) (turn session (Done number) old.log) one
-            (λ later is. elim (latest_turned old inv session row (Done number) r session later is) [ inl here ↦ ap (λ l. is_active l.standing) here.1 | inr there' ↦ absurd (there'.0 refl) ])
+            (λ later is. elim (Turns.latest_turned session row (Done number) old.log r session later is) [ inl here ↦ ap (λ l. is_active l.standing) here.1 | inr there' ↦ absurd (there'.0 refl) ])
             (held_turned old inv session row (Done number) r (λ (a : false ≡ true). cc a));
         held_under_way = λ s held later is. let h = held_before old.held session s held in
-            elim (latest_turned old inv session row (Done number) r s later is) [
+            elim (Turns.latest_turned session row (Done number) old.log r s later is) [
               | inl here ↦ absurd (h.0 here.0)
               | inr other ↦ inv.held_under_way s h.1 later other.1
             ];
+        held_entered = λ s held. entered_turned_held old inv session row (Done number) r s (held_before old.held session s held).1;
       }
 
 -- A session is let go whose transaction was backed up.
@@ -302,6 +289,7 @@ keeps_back old session inv back = record {
   active_held = Turns.ActiveAreHeld-free old.held (sets.remove old.held session) session (held-remove old.held session) old.log inv.one_under_way
       (λ row is. idle row.standing (sym (ap (λ l. elim l as (λ _. Bool) [ None ↦ true | Some r ↦ is_back r.standing ]) is) ∙ back)) inv.active_held;
   held_under_way = λ s held. inv.held_under_way s (held_before old.held session s held).1;
+  held_entered = λ s held. inv.held_entered s (held_before old.held session s held).1;
 }
   where
     idle : (s : Standing) → is_back s ≡ true → is_active s ≡ false

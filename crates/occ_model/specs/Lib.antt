@@ -11,5 +11,6 @@ pub mod Invariant
 pub mod Content
 pub mod Poll
 pub mod Laws
+pub mod EndLaws
 pub mod RangeLaws
 pub mod Examples

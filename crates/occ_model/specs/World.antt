@@ -9,7 +9,7 @@ use Rattle.std.specs.FinSet.{FinSet}
 use Rattle.occ_types.specs.Schema.{Schema}
 use Rattle.occ_types.specs.Question.{Question}
 use Rattle.occ_model.specs.State.{State, Observation}
-use Rattle.occ_model.specs.Log.{LogRow, Standing, Base, last_folded, is_active}
+use Rattle.occ_model.specs.Log.{LogRow, Standing, Base, last_folded, is_active, numbers}
 use Rattle.occ_model.specs.Validity.{window_low}
 
 -- what a store is opened with: its sessions are 1 to `sessions`, and the last `keep` write sets are kept for testing
@@ -84,6 +84,10 @@ turn session standing (row ∷ rows) = elim (latest session rows) [
 abbrev pub last_entered : World → ℕ → ℕ
 last_entered world session =
     elim (latest session world.log) [ None ↦ last_folded world.base session | Some row ↦ row.number ]
+
+-- how many transactions of the session entered, those that were folded too
+abbrev pub entered_count : World → ℕ → ℕ
+entered_count world session = last_folded world.base session + length (numbers session world.log)
 
 -- the number that is due to enter
 abbrev pub due : World → ℕ → ℕ

@@ -4,6 +4,7 @@
 //! function with an empty body.
 #![tactic(auto)]
 
+pub mod ends;
 pub mod examples;
 pub mod laws;
 pub mod ranges;
