@@ -116,7 +116,7 @@ impl<A: Allocator> WriteSet<A> {
 }
 
 impl<A: Allocator + Copy> WriteSet<A> {
-    /// The rows that a table answers to a question, with the writes of the set over them, in the order of the keys: what a transaction with these writes sees. There may be any number of rows. It takes no memory where none of the writes is asked for, and is refused with `Memory` where there is none for the others.
+    /// The rows that a table answers to a question, with the writes of the set over them, in the order of the keys: what a transaction with these writes sees. There may be any number of rows. Refused with `Memory` where there is none for the writes that are asked for.
     pub fn over(
         &self,
         question: &Question<A>,
@@ -147,7 +147,7 @@ impl<A: Allocator + Copy> WriteSet<A> {
 
     /// Writes an object of a table, or deletes it where `row` is none. A new object goes last; one that is there keeps its place and takes the new row. What others share is copied first.
     ///
-    /// A new object is refused with `SetFull` where there are 256 writes or more, and else with `Memory` where the set cannot grow. An object that is there is refused only where there is no memory for that copy. A refusal leaves the set as it was and hands the write back.
+    /// A new object is refused with `SetFull` where there are 256 writes or more. Any write is refused with `Memory` where the set cannot grow or be copied. A refusal leaves the set as it was and hands the write back.
     pub fn set(
         &mut self,
         table: usize,
