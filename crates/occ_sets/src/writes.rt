@@ -70,6 +70,19 @@ impl<A: Allocator> WriteSet<A> {
         self.content.get()
     }
 
+    // The writes for one owner alone: themselves where nobody else shares them, and else a copy. The set is handed back where there is no memory for that copy.
+    pub(crate) fn into_own(self) -> Result<OwnWrites<A>, WriteSet<A>>
+    where
+        A: Copy,
+        ensures ok { IfOk result (λ writes. writes ≡ self) }
+        ensures handed_back { IfErr result (λ set. set ≡ self) }
+    {
+        match self.content.into_plain() {
+            Ok(writes) => Ok(writes),
+            Err(content) => Err(WriteSet { content }),
+        }
+    }
+
     /// How many objects are written.
     pub fn len(&self) -> usize
         ensures value { result ≡ length self.now }
