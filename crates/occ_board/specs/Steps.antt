@@ -1,5 +1,5 @@
 -- What each kind of atomic step on the board does (our own choice).
-use Rattle.std.specs.Prelude.{◌≡◌, ℕ, ◌-◌, ◌≤◌, [], slice_set}
+use Rattle.std.specs.Prelude.{◌≡◌, ℕ, ◌≤◌, []}
 use Rattle.atomic_table.specs.Table.{Me, Step}
 use Rattle.occ_types.specs.declared.limits.TheConstants.{MAX_COUNTER}
 use Rattle.occ_board.specs.declared.words.Last.{Last}
@@ -7,7 +7,7 @@ use Rattle.occ_board.specs.declared.words.Words.{Words}
 use Rattle.occ_board.specs.declared.rule.Seen.{Seen}
 use Rattle.occ_board.specs.declared.rule.Known.{Known}
 use Rattle.occ_board.specs.declared.rule.Known.TheVariants.{Publishes, Reads}
-use Rattle.occ_board.specs.Words.{HasRoom, word_of, counted}
+use Rattle.occ_board.specs.Words.{HasRoom, word_of, counted, placed}
 use Rattle.occ_board.specs.Rule.{unseen, started, polled, Rises}
 
 abbrev Mine : Type 0
@@ -34,4 +34,4 @@ stored_counter step mine stored new = (words : Words) → mine.0 ≡ Publishes w
 -- a store of a session's word
 abbrev pub stored_word : Step (Unit {0}) → Mine → ℕ → Mine → Type 0
 stored_word step mine stored new = (words : Words) (last : Last) → mine.0 ≡ Publishes words → HasRoom last → stored ≡ word_of last
-    → new ≡ (Publishes (record words { sessions = slice_set words.sessions (step.word - 1) last }), mine.1)
+    → new ≡ (Publishes (placed words step.word last), mine.1)

@@ -1,5 +1,5 @@
 -- What stands on the board, and how it is written in words of 64 bits (our own choice).
-use Rattle.std.specs.Prelude.{◌≡◌, ℕ, ◌+◌, ◌-◌, ◌*◌, ◌<◌, ◌≤◌, List, [], ◌∷◌, map, length, replicate, slice_index_or, slice_set, Option, None, Some, All}
+use Rattle.std.specs.Prelude.{ℕ, ◌+◌, ◌-◌, ◌*◌, ◌<◌, ◌≤◌, List, ◌∷◌, map, length, replicate, slice_index_or, slice_set, Option, None, Some, All}
 use Rattle.occ_types.specs.declared.limits.TheConstants.{MAX_COUNTER, MAX_NUMBER}
 use Rattle.occ_model.specs.declared.verdict.Cause.TheVariants.{Conflict, TooOld}
 use Rattle.occ_model.specs.declared.verdict.Verdict.{Verdict}
@@ -43,13 +43,18 @@ HasSession words session = (0 < session) × (session ≤ length words.sessions)
 abbrev pub counted : Words → ℕ → Words
 counted words tn = record words { counter = tn }
 
--- A transaction of a session is over: where it committed, its transaction number is the counter, else that of the last commit stays.
-abbrev pub over : Words → ℕ → ℕ → Verdict → Last
-over words session number Commit = record { number = number; status = Some Commit; tn = words.counter }
-over words session number (BackUp cause) = record { number = number; status = Some (BackUp cause); tn = (last_of words session).tn }
+-- What stands of a session after a transaction that is over: where it committed, its transaction number is the counter, else that of the last commit stays.
+abbrev pub over : ℕ → Last → ℕ → Verdict → Last
+over counter last number Commit = record { number = number; status = Some Commit; tn = counter }
+over counter last number (BackUp cause) = record { number = number; status = Some (BackUp cause); tn = last.tn }
 
+-- the board with another word of a session
+abbrev pub placed : Words → ℕ → Last → Words
+placed words session last = record words { sessions = slice_set words.sessions (session - 1) last }
+
+-- a transaction of a session is over
 abbrev pub settled : Words → ℕ → ℕ → Verdict → Words
-settled words session number verdict = record words { sessions = slice_set words.sessions (session - 1) (over words session number verdict) }
+settled words session number verdict = placed words session (over words.counter (last_of words session) number verdict)
 
 -- the words in memory: the counter, then those of the sessions
 abbrev pub written : Words → List ℕ

@@ -73,7 +73,7 @@ impl<A: Allocator + Copy> Publisher<A> {
         let mut seats = Vec::with_capacity(alloc, sessions)?;
         for place in 0..sessions {
             let board = Arc::try_clone(&self.board)?;
-            seats.push_reserved(Seat::new(board, place + 1));
+            seats.push(Seat::new(board, place + 1))?;
         }
         Ok(seats)
     }
@@ -115,7 +115,9 @@ impl<A: Allocator> Publisher<A> {
         requires { (self.old.counter ≤ tn) × (tn ≤ MAX_COUNTER) }
         ensures { self.new ≡ counted self.old tn }
     {
-        self.board.shared.store::<StoreCounter>(&mut self.pass, 0, tn);
+        self.board
+            .shared
+            .store::<StoreCounter>(&mut self.pass, 0, tn);
         self.counter = tn;
     }
 
@@ -126,17 +128,11 @@ impl<A: Allocator> Publisher<A> {
         requires number { ((last_of self.old session).number ≤ number) × (number ≤ MAX_NUMBER) }
         ensures { self.new ≡ settled self.old session number status }
     {
-        let tn = match status {
-            Verdict::Commit => self.counter,
-            Verdict::BackUp(_) => self.last(session).tn,
-        };
-        let last = Last {
-            number,
-            status: Some(status),
-            tn,
-        };
+        let last = self.sessions[session - 1].over(self.counter, number, status);
         let word = last.word();
-        self.board.shared.store::<StoreWord>(&mut self.pass, session, word);
+        self.board
+            .shared
+            .store::<StoreWord>(&mut self.pass, session, word);
         self.sessions[session - 1] = last;
     }
 

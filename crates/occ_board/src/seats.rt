@@ -31,6 +31,7 @@ impl<A: Allocator> Model for Seat<A> {
     ghost view = { λ s. seen_by s.pass.me.0 };
 
     ghost invariant = { λ s. (s.pass.table_id ≡ (arc_value s.board).shared.table_id)
+        × (0 < s.session)
         × (s.session < (arc_value s.board).shared.table_id.words)
         × (s.pass.me ≡ (Reads (seen_by s.pass.me.0), []))
         × ((seen_by s.pass.me.0).session ≡ s.session) };
@@ -66,7 +67,10 @@ impl<A: Allocator> Seat<A> {
         ensures rises { Rises self.old.last result }
         ensures fits { HasRoom result }
     {
-        let word = self.board.shared.load::<LoadWord>(&mut self.pass, self.session);
+        let word = self
+            .board
+            .shared
+            .load::<LoadWord>(&mut self.pass, self.session);
         Last::of_word(word)
     }
 }

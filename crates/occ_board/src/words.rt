@@ -1,6 +1,6 @@
 //! What a word of the board says.
 ghost use Rattle.std.specs.Prelude.{◌≡◌};
-ghost use Rattle.occ_board.specs.Words.{HasRoom, nothing, word_of};
+ghost use Rattle.occ_board.specs.Words.{HasRoom, nothing, over, word_of};
 
 use occ_model::{Cause, Verdict};
 
@@ -32,6 +32,21 @@ impl Last {
             number: 0,
             status: None,
             tn: 0,
+        }
+    }
+
+    /// What stands after a transaction that is over, at a counter.
+    pub(crate) fn over(&self, counter: u64, number: u64, status: Verdict) -> Last
+        ensures { result ≡ over counter self.now number status }
+    {
+        let tn = match status {
+            Verdict::Commit => counter,
+            Verdict::BackUp(_) => self.tn,
+        };
+        Last {
+            number,
+            status: Some(status),
+            tn,
         }
     }
 
