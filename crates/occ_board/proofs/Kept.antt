@@ -9,6 +9,7 @@ use mathlib.Core.Option.{some, none, some-injective, some-ne-none}
 use native.Mathlib.Decide.{dec_lt, ℕ_discrete}
 use lib.ListN.{get_elem?}
 use Rattle.atomic_table.specs.Table.{State, Me, step, keeps, stepped, opening, Allows, Enters}
+use Rattle.atomic_table.specs.Seated.{TableId}
 use Rattle.atomic_table.proofs.Lists.{at_set, set_else, at_longer, at_snoc}
 use Rattle.occ_types.specs.declared.limits.TheConstants.{MAX_COUNTER, MAX_NUMBER}
 use Rattle.occ_model.specs.declared.verdict.Verdict.{Verdict}
@@ -19,7 +20,7 @@ use Rattle.occ_board.specs.declared.rule.Seen.{Seen}
 use Rattle.occ_board.specs.declared.rule.Known.{Known}
 use Rattle.occ_board.specs.declared.rule.Known.TheVariants.{Publishes, Reads}
 use Rattle.occ_board.specs.Words.{word_of, nothing, blank, last_of, counted, over, placed, written, HasRoom, HasSession, IsSound}
-use Rattle.occ_board.specs.Rule.{unseen, started, polled, seen_by, Rises, IsBelow, Ruled}
+use Rattle.occ_board.specs.Rule.{unseen, started, polled, seen_by, Rises, IsBelow, Ruled, Seated, fresh}
 use Rattle.occ_board.specs.Steps.{seated, loaded_counter, loaded_word, stored_counter, stored_word}
 use Rattle.occ_board.proofs.Codes.{one-word}
 
@@ -278,16 +279,16 @@ still-reads me new seen after is moved =
     (e ∙ ap (λ (m : Mine). (Reads (seen_by m.0), [])) (sym e), ap (λ (m : Mine). seen_by m.0) e)
 
 -- one more seat
-pub one-more : (first count : ℕ) → map unseen (range_with_len first count) ++ unseen (first + count) ∷ [] ≡ map unseen (range_with_len first (count + 1))
-one-more first zero = ap (λ (k : ℕ). unseen k ∷ []) (omega arith)
-one-more first (suc count) =
+one-more : (board : TableId) (first count : ℕ) → map (fresh board) (range_with_len first count) ++ fresh board (first + count) ∷ [] ≡ map (fresh board) (range_with_len first (count + 1))
+one-more board first zero = ap (λ (k : ℕ). fresh board k ∷ []) (omega arith)
+one-more board first (suc count) =
     let e : first + suc count ≡ first + 1 + count = omega arith in
     let e' : suc (count + 1) ≡ suc count + 1 = omega arith in
-    ap (λ (l : List Seen). unseen first ∷ l) (ap (λ (k : ℕ). map unseen (range_with_len (first + 1) count) ++ unseen k ∷ []) e ∙ one-more (first + 1) count)
-    ∙ ap (λ (k : ℕ). map unseen (range_with_len first k)) e'
+    ap (λ (l : List Seated). fresh board first ∷ l) (ap (λ (k : ℕ). map (fresh board) (range_with_len (first + 1) count) ++ fresh board k ∷ []) e ∙ one-more board (first + 1) count)
+    ∙ ap (λ (k : ℕ). map (fresh board) (range_with_len first k)) e'
 
-pub seats_more : (place : ℕ) (before after : List Seen) (seat : Seen) → before ≡ map unseen (range_with_len 1 place) → seat ≡ unseen (place + 1) → after ≡ before ++ seat ∷ []
-    → after ≡ map unseen (range_with_len 1 (place + 1))
-seats_more place before after seat so made pushed =
+pub seats_more : (board : TableId) (place : ℕ) (before after : List Seated) (seat : Seated) → before ≡ map (fresh board) (range_with_len 1 place) → seat ≡ fresh board (place + 1) → after ≡ before ++ seat ∷ []
+    → after ≡ map (fresh board) (range_with_len 1 (place + 1))
+seats_more board place before after seat so made pushed =
     let e : place + 1 ≡ 1 + place = omega arith in
-    pushed ∙ (λ i. so i ++ (made ∙ ap unseen e) i ∷ []) ∙ one-more 1 place
+    pushed ∙ (λ i. so i ++ (made ∙ ap (fresh board) e) i ∷ []) ∙ one-more board 1 place

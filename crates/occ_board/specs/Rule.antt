@@ -3,6 +3,7 @@ use Rattle.std.specs.Prelude.{◌≡◌, ℕ, ◌+◌, ◌≤◌}
 use mathlib.Core.Option.{some}
 use lib.ListN.{get_elem?}
 use Rattle.atomic_table.specs.Table.{State}
+use Rattle.atomic_table.specs.Seated.{TableId}
 use Rattle.occ_board.specs.declared.words.Last.{Last}
 use Rattle.occ_board.specs.declared.words.Words.{Words}
 use Rattle.occ_board.specs.declared.rule.Seen.{Seen}
@@ -44,3 +45,17 @@ pub record Ruled (state : State (Unit {0}) Known) : Type 0 where
   pub written : state.words ≡ written words
   pub sound : IsSound words
   pub below : (seat : ℕ) (seen : Seen) → get_elem? state.views seat ≡ some (Reads seen) → IsBelow words seen
+
+-- What clauses see of the publisher: which board it is, and what stands on it.
+pub record Posted : Type 0 where
+  pub board : TableId
+  pub words : Words
+
+-- What clauses see of a seat: at which board it is, and what it has seen.
+pub record Seated : Type 0 where
+  pub board : TableId
+  pub seen : Seen
+
+-- the seat of a session at a board, which has loaded nothing yet
+abbrev pub fresh : TableId → ℕ → Seated
+fresh board session = record { board = board; seen = unseen session }

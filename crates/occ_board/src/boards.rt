@@ -3,7 +3,7 @@ ghost use Rattle.std.specs.Prelude.{◌≡◌, map, IfOk, IsOkUnless};
 ghost use Rattle.std.specs.List.{range_with_len};
 ghost use Rattle.occ_types.specs.declared.fault.Fault.TheVariants.{Memory};
 ghost use Rattle.occ_board.specs.Words.{blank};
-ghost use Rattle.occ_board.specs.Rule.{unseen};
+ghost use Rattle.occ_board.specs.Rule.{fresh};
 
 use crate::publishing::Publisher;
 use crate::seats::Seat;
@@ -20,8 +20,8 @@ impl Board {
         alloc: A,
         sessions: usize,
     ) -> Result<(Publisher<A>, Vec<Seat<A>, A>), Fault>
-        ensures publisher { IfOk result (λ made. made.0 ≡ blank sessions) }
-        ensures seats { IfOk result (λ made. made.1.items ≡ map unseen (range_with_len 1 sessions)) }
+        ensures publisher { IfOk result (λ made. made.0.words ≡ blank sessions) }
+        ensures seats { IfOk result (λ made. made.1.items ≡ map (fresh made.0.board) (range_with_len 1 sessions)) }
         ensures memory { IsOkUnless result Memory }
     {
         let publisher = Publisher::new(alloc, sessions)?;

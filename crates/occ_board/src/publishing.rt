@@ -5,7 +5,7 @@ ghost use Rattle.occ_types.specs.declared.fault.Fault.TheVariants.{Memory};
 ghost use Rattle.occ_types.specs.declared.limits.TheConstants.{MAX_COUNTER, MAX_NUMBER};
 ghost use Rattle.occ_model.specs.declared.verdict.Verdict.TheVariants.{Commit};
 ghost use Rattle.occ_board.specs.Words.{HasSession, blank, last_of, counted, settled};
-ghost use Rattle.occ_board.specs.Rule.{unseen};
+ghost use Rattle.occ_board.specs.Rule.{fresh};
 
 use crate::rule::{Pass, SharedWords, StoreCounter, StoreWord};
 use crate::seats::Seat;
@@ -29,13 +29,13 @@ pub struct Publisher<A: Allocator> {
 impl<A: Allocator> Model for Publisher<A> {
     ghost use Rattle.std.specs.Prelude.{◌≡◌, [], suc, length};
     ghost use Rattle.std.specs.Arc.{arc_value};
-    ghost use Rattle.occ_board.specs.declared.words.Words.{Words};
     ghost use Rattle.occ_board.specs.declared.rule.Known.TheVariants.{Publishes};
     ghost use Rattle.occ_board.specs.Words.{IsSound};
+    ghost use Rattle.occ_board.specs.Rule.{Posted};
 
-    ghost Value = { Words };
+    ghost Value = { Posted };
 
-    ghost view = { λ p. record { counter = p.counter; sessions = p.sessions.items } };
+    ghost view = { λ p. record { board = p.pass.table_id; words = record { counter = p.counter; sessions = p.sessions.items } } };
 
     ghost invariant = { λ p. (p.pass.table_id ≡ (arc_value p.board).shared.table_id)
         × ((arc_value p.board).shared.table_id.words ≡ suc (length p.sessions.items))
@@ -47,7 +47,7 @@ impl<A: Allocator> Model for Publisher<A> {
 impl<A: Allocator + Copy> Publisher<A> {
     /// The publisher of a new board. Refused with `Memory` where there is none for it.
     pub(crate) fn new(alloc: A, sessions: usize) -> Result<Publisher<A>, Fault>
-        ensures blank { IfOk result (λ publisher. publisher ≡ blank sessions) }
+        ensures blank { IfOk result (λ publisher. publisher.words ≡ blank sessions) }
         ensures memory { IsOkUnless result Memory }
     {
         let mut lasts = Vec::new(alloc);
@@ -66,7 +66,7 @@ impl<A: Allocator + Copy> Publisher<A> {
 
     /// A seat for each session. Refused with `Memory` where there is none for them.
     pub(crate) fn seats(&self, alloc: A) -> Result<Vec<Seat<A>, A>, Fault>
-        ensures unseen { IfOk result (λ seats. seats.items ≡ map unseen (range_with_len 1 (length self.now.sessions))) }
+        ensures unseen { IfOk result (λ seats. seats.items ≡ map (fresh self.now.board) (range_with_len 1 (length self.now.words.sessions))) }
         ensures memory { IsOkUnless result Memory }
     {
         let sessions = self.sessions.len();
@@ -82,38 +82,38 @@ impl<A: Allocator + Copy> Publisher<A> {
 impl<A: Allocator> Publisher<A> {
     /// The transaction counter.
     pub fn tnc(&self) -> u64
-        ensures { result ≡ self.now.counter }
+        ensures { result ≡ self.now.words.counter }
     {
         self.counter
     }
 
     /// How many sessions there are; they are numbered from 1.
     pub fn sessions(&self) -> usize
-        ensures { result ≡ length self.now.sessions }
+        ensures { result ≡ length self.now.words.sessions }
     {
         self.sessions.len()
     }
 
     /// What the word of a session says.
     pub fn last(&self, session: usize) -> Last
-        requires { HasSession self.now session }
-        ensures { result ≡ last_of self.now session }
+        requires { HasSession self.now.words session }
+        ensures { result ≡ last_of self.now.words session }
     {
         self.sessions[session - 1]
     }
 
     /// The number of the last transaction of a session that is over.
     pub fn number(&self, session: usize) -> u64
-        requires { HasSession self.now session }
-        ensures { result ≡ (last_of self.now session).number }
+        requires { HasSession self.now.words session }
+        ensures { result ≡ (last_of self.now.words session).number }
     {
         self.last(session).number
     }
 
     /// Stores the transaction counter, in one atomic step.
     pub fn counter(&mut self, tn: u64)
-        requires { (self.old.counter ≤ tn) × (tn ≤ MAX_COUNTER) }
-        ensures { self.new ≡ counted self.old tn }
+        requires { (self.old.words.counter ≤ tn) × (tn ≤ MAX_COUNTER) }
+        ensures { self.new ≡ record self.old { words = counted self.old.words tn } }
     {
         self.board
             .shared
@@ -124,9 +124,9 @@ impl<A: Allocator> Publisher<A> {
     /// A transaction of a session is over: its word is stored, in one atomic step. A commit's transaction number is the counter, which is
     /// therefore stored before.
     pub fn settled(&mut self, session: usize, number: u64, status: Verdict)
-        requires session { HasSession self.old session }
-        requires number { ((last_of self.old session).number ≤ number) × (number ≤ MAX_NUMBER) }
-        ensures { self.new ≡ settled self.old session number status }
+        requires session { HasSession self.old.words session }
+        requires number { ((last_of self.old.words session).number ≤ number) × (number ≤ MAX_NUMBER) }
+        ensures { self.new ≡ record self.old { words = settled self.old.words session number status } }
     {
         let last = self.sessions[session - 1].over(self.counter, number, status);
         let word = last.word();
@@ -138,10 +138,10 @@ impl<A: Allocator> Publisher<A> {
 
     /// A transaction of a session has finished: the counter is stored and then the session's word, in two atomic steps.
     pub fn finished(&mut self, session: usize, number: u64, tn: u64)
-        requires session { HasSession self.old session }
-        requires number { ((last_of self.old session).number ≤ number) × (number ≤ MAX_NUMBER) }
-        requires counter { (self.old.counter ≤ tn) × (tn ≤ MAX_COUNTER) }
-        ensures { self.new ≡ settled (counted self.old tn) session number Commit }
+        requires session { HasSession self.old.words session }
+        requires number { ((last_of self.old.words session).number ≤ number) × (number ≤ MAX_NUMBER) }
+        requires counter { (self.old.words.counter ≤ tn) × (tn ≤ MAX_COUNTER) }
+        ensures { self.new ≡ record self.old { words = settled (counted self.old.words tn) session number Commit } }
     {
         self.counter(tn);
         self.settled(session, number, Verdict::Commit);

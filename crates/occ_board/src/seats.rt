@@ -3,7 +3,7 @@ ghost use Rattle.std.specs.Prelude.{◌≡◌, ◌≤◌, ◌<◌};
 ghost use Rattle.std.specs.Arc.{arc_value};
 ghost use Rattle.occ_types.specs.declared.limits.TheConstants.{MAX_COUNTER};
 ghost use Rattle.occ_board.specs.Words.{HasRoom};
-ghost use Rattle.occ_board.specs.Rule.{unseen, started, polled, Rises};
+ghost use Rattle.occ_board.specs.Rule.{fresh, started, polled, Rises};
 
 use crate::rule::{LoadCounter, LoadWord, Pass, SeatIsMade, SharedWords};
 use crate::words::Last;
@@ -22,13 +22,12 @@ pub struct Seat<A: Allocator> {
 impl<A: Allocator> Model for Seat<A> {
     ghost use Rattle.std.specs.Prelude.{◌≡◌, ◌<◌, []};
     ghost use Rattle.std.specs.Arc.{arc_value};
-    ghost use Rattle.occ_board.specs.declared.rule.Seen.{Seen};
     ghost use Rattle.occ_board.specs.declared.rule.Known.TheVariants.{Reads};
-    ghost use Rattle.occ_board.specs.Rule.{seen_by};
+    ghost use Rattle.occ_board.specs.Rule.{Seated, seen_by};
 
-    ghost Value = { Seen };
+    ghost Value = { Seated };
 
-    ghost view = { λ s. seen_by s.pass.me.0 };
+    ghost view = { λ s. record { board = s.pass.table_id; seen = seen_by s.pass.me.0 } };
 
     ghost invariant = { λ s. (s.pass.table_id ≡ (arc_value s.board).shared.table_id)
         × (0 < s.session)
@@ -41,7 +40,7 @@ impl<A: Allocator> Seat<A> {
     /// The seat of a session, which has loaded nothing yet.
     pub(crate) fn new(board: Arc<SharedWords<A>, A>, session: usize) -> Seat<A>
         requires { (0 < session) × (session < (arc_value board).shared.table_id.words) }
-        ensures { result ≡ unseen session }
+        ensures { result ≡ fresh (arc_value board).shared.table_id session }
     {
         let (_, pass) = board.shared.load_new_seat::<SeatIsMade>(session);
         Seat {
@@ -54,8 +53,8 @@ impl<A: Allocator> Seat<A> {
     /// The transaction counter, by one atomic load: the start of a transaction. It is at least every transaction number that this
     /// seat has seen.
     pub fn start(&mut self) -> u64
-        ensures loaded { self.new ≡ started self.old result }
-        ensures rises { (self.old.counter ≤ result) × (self.old.last.tn ≤ result) }
+        ensures loaded { self.new ≡ record self.old { seen = started self.old.seen result } }
+        ensures rises { (self.old.seen.counter ≤ result) × (self.old.seen.last.tn ≤ result) }
         ensures fits { result ≤ MAX_COUNTER }
     {
         self.board.shared.load::<LoadCounter>(&mut self.pass, 0)
@@ -63,8 +62,8 @@ impl<A: Allocator> Seat<A> {
 
     /// The last transaction of the session that is over, by one atomic load.
     pub fn last(&mut self) -> Last
-        ensures loaded { self.new ≡ polled self.old result }
-        ensures rises { Rises self.old.last result }
+        ensures loaded { self.new ≡ record self.old { seen = polled self.old.seen result } }
+        ensures rises { Rises self.old.seen.last result }
         ensures fits { HasRoom result }
     {
         let word = self

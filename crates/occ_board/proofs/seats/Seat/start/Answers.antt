@@ -11,7 +11,7 @@ invariant_of-self g c = let i = c.self.invariant in let told = c.load.ensures.2 
 
 pub returns-clause-rises : goal.returns-clause-rises
 returns-clause-rises g c = let i = c.self.invariant in let told = c.load.ensures.2 _ (ap (λ m. m.0) i.3) in
-    (subst (λ s. s.counter ≤ c.load.result) c.self.view_is told.1, subst (λ s. s.last.tn ≤ c.load.result) c.self.view_is told.2)
+    (subst (λ s. s.seen.counter ≤ c.load.result) c.self.view_is told.1, subst (λ s. s.seen.last.tn ≤ c.load.result) c.self.view_is told.2)
 
 pub returns-clause-fits : goal.returns-clause-fits
 returns-clause-fits g c = let told = c.load.ensures.2 _ (ap (λ m. m.0) c.self.invariant.3) in told.3
