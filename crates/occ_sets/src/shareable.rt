@@ -51,8 +51,8 @@ impl<T: Drop, A: Allocator> Shareable<T, A> {
         }
     }
 
-    // The value for one owner alone: from its only owner itself, and else a copy. It is handed back where there is no memory for the copy.
-    fn into_plain(self) -> Result<T, Shareable<T, A>>
+    /// The value for one owner alone: from its only owner itself, and else a copy. It is handed back where there is no memory for the copy.
+    pub(crate) fn into_plain(self) -> Result<T, Shareable<T, A>>
     where
         T: Clone,
         ensures ok { IfOk result (λ value. (value ≡ held self) ⊎ T.is_clone (held self) value) }

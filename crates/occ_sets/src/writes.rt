@@ -70,6 +70,19 @@ impl<A: Allocator> WriteSet<A> {
         self.content.get()
     }
 
+    // The writes for one owner alone: themselves where nobody else shares them, and else a copy. The set is handed back where there is no memory for that copy.
+    pub(crate) fn into_own(self) -> Result<OwnWrites<A>, WriteSet<A>>
+    where
+        A: Copy,
+        ensures ok { IfOk result (λ writes. writes ≡ self) }
+        ensures handed_back { IfErr result (λ set. set ≡ self) }
+    {
+        match self.content.into_plain() {
+            Ok(writes) => Ok(writes),
+            Err(content) => Err(WriteSet { content }),
+        }
+    }
+
     /// How many objects are written.
     pub fn len(&self) -> usize
         ensures value { result ≡ length self.now }
@@ -116,7 +129,7 @@ impl<A: Allocator> WriteSet<A> {
 }
 
 impl<A: Allocator + Copy> WriteSet<A> {
-    /// The rows that a table answers to a question, with the writes of the set over them, in the order of the keys: what a transaction with these writes sees. There may be any number of rows. It takes no memory where none of the writes is asked for, and is refused with `Memory` where there is none for the others.
+    /// The rows that a table answers to a question, with the writes of the set over them, in the order of the keys: what a transaction with these writes sees. There may be any number of rows. Refused with `Memory` where there is none for the writes that are asked for.
     pub fn over(
         &self,
         question: &Question<A>,
@@ -147,7 +160,7 @@ impl<A: Allocator + Copy> WriteSet<A> {
 
     /// Writes an object of a table, or deletes it where `row` is none. A new object goes last; one that is there keeps its place and takes the new row. What others share is copied first.
     ///
-    /// A new object is refused with `SetFull` where there are 256 writes or more, and else with `Memory` where the set cannot grow. An object that is there is refused only where there is no memory for that copy. A refusal leaves the set as it was and hands the write back.
+    /// A new object is refused with `SetFull` where there are 256 writes or more. Any write is refused with `Memory` where the set cannot grow or be copied. A refusal leaves the set as it was and hands the write back.
     pub fn set(
         &mut self,
         table: usize,
