@@ -176,9 +176,9 @@ impl<A: Allocator> Log<A> {
         count_foldable(&self.rows, low)
     }
 
-    /// So many rows go from the beginning, and the log begins so many places later; the rows that stay keep theirs. The memory of the
-    /// rows goes back to the allocator. The vectors that list them keep their room, and so a session that had room for one more row
-    /// has it still. It takes no memory, and costs as much as there are rows and sessions.
+    /// So many rows go from the beginning, and the log begins so many places later; the rows that stay keep theirs. The vectors that list
+    /// them keep their room, and so a session that had room for one more row has it still. It takes no memory, and costs as much as
+    /// there are rows and sessions.
     pub fn fold(&mut self, count: usize)
         requires count { count ≤ length self.old.rows }
         requires places { self.old.first + length self.old.rows < 2 ^ 64 }

@@ -2,6 +2,7 @@
 ghost use Rattle.std.specs.Prelude.{◌≡◌, not, is_some};
 ghost use Rattle.std.specs.Option.{option_copied, option_map};
 ghost use Rattle.occ_types.specs.PlainData.{object_of, question_of};
+ghost use Rattle.occ_types.specs.Question.{asks};
 ghost use Rattle.occ_model.specs.State.{meets_question};
 ghost use Rattle.occ_model.specs.Overlay.{own};
 ghost use Rattle.occ_sets.specs.PlainSets.{writes_of};
@@ -42,7 +43,12 @@ pub(crate) fn is_new<A: Allocator>(writes: &[Write<A>], object: &Object<A>) -> b
 pub(crate) fn meets_few<A: Allocator>(writes: &[Write<A>], question: &Question<A>) -> bool
     ensures { result ≡ meets_question (writes_of writes.now) (question_of question.now) }
 {
-    writes
-        .iter()
-        .any(|write| question.asks(write.0.table, &write.0.key))
+    writes.iter().any(|write| is_asked_for(write, question))
+}
+
+// Whether a write is of what the question asks for.
+fn is_asked_for<A: Allocator>(write: &Write<A>, question: &Question<A>) -> bool
+    ensures { result ≡ asks (question_of question.now) (object_of write.now.0) }
+{
+    question.asks(write.0.table, &write.0.key)
 }
