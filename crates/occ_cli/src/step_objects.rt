@@ -15,7 +15,7 @@ pub(crate) fn object_named<A: Allocator>(
 ) -> Result<Object<A>, Fault>
     ensures { result_map_both object_of (λ fault. fault) result ≡ object_named schema.now table.now (key_of key) }
 {
-    let table = schema.table_named(table).ok_or(Fault::NoTable)?;
+    let table = schema.place(table).ok_or(Fault::NoTable)?;
     schema.check_key(table, &key)?;
     Ok(Object { table, key })
 }
@@ -24,7 +24,7 @@ pub(crate) fn object_named<A: Allocator>(
 pub(crate) fn place_named<A: Allocator>(schema: &Schema<A>, table: &str) -> usize
     ensures { result ≡ place_named schema.now table.now }
 {
-    match schema.table_named(table) {
+    match schema.place(table) {
         None => schema.tables().len(),
         Some(place) => place,
     }
@@ -39,7 +39,7 @@ pub(crate) fn span_named<A: Allocator>(
 ) -> Result<Question<A>, Fault>
     ensures { result_map_both question_of (λ fault. fault) result ≡ span_named schema.now table.now (end_of lower) (end_of upper) }
 {
-    let table = schema.table_named(table).ok_or(Fault::NoTable)?;
+    let table = schema.place(table).ok_or(Fault::NoTable)?;
     let question = Question::Span {
         table,
         lower,

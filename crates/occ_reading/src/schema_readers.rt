@@ -28,7 +28,7 @@ fn place_of<A: Allocator>(schema: &Schema<A>, token: &[u8]) -> Option<usize>
     ensures { result ≡ place_of schema.now token.now }
 {
     let name = name(token)?;
-    schema.table_named(name)
+    schema.place(name)
 }
 
 /// A key of the table at a place, in a text of a version.

@@ -1,6 +1,6 @@
 //! Taking a whole book from an input.
 
-ghost use Rattle.std.specs.Prelude.{ℕ, List, ◌≡◌, ◌≤◌, ◌^◌, ◌-◌, ◌++◌, ◌∷◌, [], ◌||◌, IfOk, IfErr, IsOkUnless, Ok, None, map, codes};
+ghost use Rattle.std.specs.Prelude.{ℕ, List, ◌≡◌, ◌≤◌, ◌^◌, ◌-◌, ◌++◌, ◌∷◌, [], ◌||◌, IfOk, IfErr, IsOkUnless, Ok, None, map, length, codes};
 ghost use Rattle.std.specs.FinMap as finite;
 ghost use Rattle.std.specs.List.{AllByRecursion};
 ghost use Rattle.std.specs.Str.{bytes_eq};
@@ -160,6 +160,7 @@ fn take_entries<R: Read, A: Allocator + Copy>(
     count: u64,
 ) -> Result<Tables<A>, ReadFault>
     ensures taken { (sessions : ℕ) → TakesFrom result (entries_to_come section (frame_of version schema.now sessions) count None) (λ _. behind_entries section (frame_of version schema.now sessions)) (λ tables. map (entry_line section schema.now) (finite.entries tables.state)) (λ tables. AllFit (AtFits version schema.now) count (finite.entries tables.state)) (position_of input.old (R.remaining reader.old)) (position_of input.new (R.remaining reader.new)) }
+    ensures tables { IfOk result (λ tables. tables.tables ≡ length schema.now) }
     ensures cause { IfErr result (λ fault. fault ≡ read_faults.Read → HasFailed input.new) }
 {
     let mut tables = unless_refused(Tables::new(alloc, schema.tables().len()))?;
@@ -184,6 +185,7 @@ fn take_folded<R: Read, A: Allocator + Copy>(
 ) -> Result<Base<A>, ReadFault>
     requires { BaseHeadFits head }
     ensures taken { TakesFrom result (numbers_to_come sections.Base (frame_of version schema.now sessions) head.rows head.numbers 0) (λ _. Log (frame_of version schema.now sessions)) (λ base. map (number_line sections.Base) (finite.entries base.base.last) ++ map (entry_line sections.Base schema.now) (finite.entries base.base.state)) (λ base. BaseFits version schema.now sessions base.base × IsBaseOf head base.base) (position_of input.old (R.remaining reader.old)) (position_of input.new (R.remaining reader.new)) }
+    ensures sizes { IfOk result (λ base. (base.tables ≡ length schema.now) × (base.sessions ≡ sessions)) }
     ensures cause { IfErr result (λ fault. fault ≡ read_faults.Read → HasFailed input.new) }
 {
     let last = take_numbers(alloc, input, reader, Section::Base, sessions, head.numbers)?;
@@ -211,6 +213,7 @@ fn take_front<R: Read, A: Allocator + Copy>(
 ) -> Result<Front<A>, ReadFault>
     requires { BeganFits began }
     ensures taken { TakesFrom result (behind_began (frame_of version schema.now sessions) began) (λ front. rows_to_come (frame_of version schema.now sessions) front.rows) (λ front. but_first (front_lines schema.now front.base.base front.rows)) (λ front. BaseFits version schema.now sessions front.base.base × (front_lines schema.now front.base.base front.rows ≡ began_text began ∷ but_first (front_lines schema.now front.base.base front.rows))) (position_of input.old (R.remaining reader.old)) (position_of input.new (R.remaining reader.new)) }
+    ensures sizes { IfOk result (λ front. (front.base.tables ≡ length schema.now) × (front.base.sessions ≡ sessions)) }
     ensures cause { IfErr result (λ fault. fault ≡ read_faults.Read → HasFailed input.new) }
 {
     match began {
@@ -251,6 +254,7 @@ fn take_state<R: Read, A: Allocator + Copy>(
     schema: &Schema<A>,
 ) -> Result<Tables<A>, ReadFault>
     ensures taken { (sessions : ℕ) → TakesFrom result (State (frame_of version schema.now sessions)) (λ _. Counter) (λ tables. state_lines schema.now tables.state) (λ tables. AllByRecursion (AtFits version schema.now) (finite.entries tables.state) × (finite.len tables.state ≤ 2 ^ 64 - 1)) (position_of input.old (R.remaining reader.old)) (position_of input.new (R.remaining reader.new)) }
+    ensures tables { IfOk result (λ tables. tables.tables ≡ length schema.now) }
     ensures cause { IfErr result (λ fault. fault ≡ read_faults.Read → HasFailed input.new) }
 {
     let count = take_count(input, reader, "state", 0, u64::MAX)?;
@@ -295,6 +299,8 @@ pub fn take_book<R: Read, A: Allocator + Copy>(
     requires { input.old.number ≡ 0 }
     ensures taken { IfOk result (λ printed. IsBookText (prepend_known input.old.unread (R.remaining reader.old)) (printed_book printed)) }
     ensures sessions { IfOk result (λ printed. printed.book.marks.sessions ≡ printed.header.limits.sessions) }
+    ensures base_sizes { IfOk result (λ printed. (printed.book.base.tables ≡ length printed.header.schema) × (printed.book.base.sessions ≡ printed.header.limits.sessions)) }
+    ensures tables { IfOk result (λ printed. printed.book.table.tables ≡ length printed.header.schema) }
     ensures led { EndsFrom result VersionAt (position_of input.old (R.remaining reader.old)) (prepend_known input.new.unread (R.remaining reader.new)) }
     ensures cause { IfErr result (λ fault. fault ≡ read_faults.Read → HasFailed input.new) }
 {

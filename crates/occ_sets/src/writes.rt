@@ -129,22 +129,26 @@ impl<A: Allocator> WriteSet<A> {
 }
 
 impl<A: Allocator + Copy> WriteSet<A> {
-    /// The rows that a table answers to a question, with the writes of the set over them, in the order of the keys: what a transaction with these writes sees. There may be any number of rows. Refused with `Memory` where there is none for the writes that are asked for.
+    /// The rows that a table answers to a question, with the writes of the set over them, in the order of the keys: what a transaction with these writes sees. There may be any number of rows. Refused with `Memory`, and the rows handed back, where there is none for the writes that are asked for.
     pub fn over(
         &self,
         question: &Question<A>,
         rows: Vec<(Key<A>, Row<A>), A>,
-    ) -> Result<Vec<(Key<A>, Row<A>), A>, Fault>
+    ) -> Result<Vec<(Key<A>, Row<A>), A>, Refused<Vec<(Key<A>, Row<A>), A>>>
         requires answered { (state : State) × (answer (question_of question.now) state ≡ Rows (rows_of rows.items)) }
         ensures seen { IfOk result (λ seen. rows_of seen.items ≡ rows_over (question_of question.now) self.now (rows_of rows.items)) }
-        ensures memory { IsOkUnless result Memory }
+        ensures handed_back { IfErr result (λ refused. (refused.value ≡ rows) × (refused.fault ≡ Memory)) }
     {
         let alloc = self.own_writes().allocator();
-        let own = own_asked(alloc, question, self.own_writes())?;
+        let Ok(own) = own_asked(alloc, question, self.own_writes()) else {
+            return Err(no_memory(rows));
+        };
         if own.len() == 0 {
             return Ok(rows);
         }
-        let room = Vec::with_capacity(alloc, rows.len() + own.len())?;
+        let Ok(room) = Vec::with_capacity(alloc, rows.len() + own.len()) else {
+            return Err(no_memory(rows));
+        };
         Ok(merge(own, room, rows))
     }
 
@@ -202,6 +206,16 @@ impl<A: Allocator + Copy> WriteSet<A> {
         ensures memory { IfErr result (λ refused. refused.fault ≡ Memory) }
     {
         insert_in(&mut self.content, (Object { table, key }, row))
+    }
+}
+
+// There is no memory for what was handed in.
+fn no_memory<T>(value: T) -> Refused<T>
+    ensures { result ≡ record { value = value; fault = Memory } }
+{
+    Refused {
+        value,
+        fault: Fault::Memory,
     }
 }
 

@@ -1,7 +1,7 @@
 -- The steps of the loops that check cells and tables.
-use Rattle.std.proofs.Common.{◌≡◌, ℕ, zero, suc, arith, ◌+◌, ◌<◌, ◌≤◌, Bool, true, ◌||◌, cond, List, [], ◌∷◌, Option, None, Some, length, get_or, drop, refl, sym, ap, ◌∙◌, add-one, drop-cons}
+use Rattle.std.proofs.Common.{◌≡◌, ℕ, zero, suc, arith, ◌+◌, ◌<◌, ◌≤◌, Bool, true, ◌||◌, cond, List, [], ◌∷◌, ◌++◌, Option, None, Some, length, get_or, drop, refl, sym, ap, ◌∙◌, add-one, drop-cons}
 use Rattle.std.proofs.lemmas.Iterator.Adapters.{position_from-zero}
-use Rattle.std.proofs.lemmas.List.{drop_all}
+use Rattle.std.proofs.lemmas.List.{append_assoc, drop_all, map-append}
 use Rattle.std.proofs.lemmas.Option.{slice_get_within, get_or_from_slice_get}
 use Rattle.std.specs.Prelude.{map, slice_get}
 use Rattle.std.specs.List.{list_any, position, position_from}
@@ -69,6 +69,17 @@ position-hit p f xs ys i x seen walked h e hit =
 pub position-none : {X Y : Type 0} (p : Y → Bool) (f : X → Y) (xs : List X) (ys : List Y) (i : ℕ) → map f xs ≡ ys → position_from p i (map f (drop i xs)) ≡ position_from p 0 (map f xs) → length xs ≤ i → None ≡ position p ys
 position-none p f xs ys i seen walked h =
     sym (ap (λ zs. position_from p i (map f zs)) (drop_all i xs h)) ∙ walked ∙ sym (position_from-zero p (map f xs)) ∙ ap (position p) seen
+
+-- what is taken moves from the rest to what was taken before
+pub taken_next : {X Y : Type 0} (f : X → Y) (done after : List X) (all : List Y) (i : ℕ) (x : X) (y : Y) → after ≡ done ++ x ∷ [] → f x ≡ y → slice_get all i ≡ Some y → map f done ++ drop i all ≡ all → map f after ++ drop (i + 1) all ≡ all
+taken_next f done after all i x y more is here so_far =
+    let rest = drop_at all i y y (slice_get_within all i y here) (sym (get_or_from_slice_get all i y y here)) in
+    ap (λ xs. map f xs ++ drop (i + 1) all) more
+    ∙ ap (λ ys. ys ++ drop (i + 1) all) (map-append f done (x ∷ []))
+    ∙ append_assoc (map f done) (f x ∷ []) (drop (i + 1) all)
+    ∙ ap (λ z. map f done ++ z ∷ drop (i + 1) all) is
+    ∙ ap (λ ys. map f done ++ ys) (sym rest)
+    ∙ so_far
 
 -- the lemma on a test through a function
 pub ruleset through = (list_any-map)

@@ -1,14 +1,16 @@
 -- What clauses see of the code's types: the plain data of the other files.
 use Rattle.std.specs.Prelude.{◌≡◌, ℕ, List, [], ◌∷◌, map, Option, None, Some, refl}
 use Rattle.std.proofs.Common.{ap}
+use Rattle.std.specs.Borrow.{Bor}
 use Rattle.std.specs.Option.{option_map}
-use Rattle.std.specs.Arc.{arc_slice_items}
 use Rattle.occ_types.specs.declared.cells.Cell as code_cell
 use Rattle.occ_types.specs.declared.cells.Cell.TheVariants as cells
 use Rattle.occ_types.specs.declared.key_parts.KeyPart as code_part
 use Rattle.occ_types.specs.declared.key_parts.KeyPart.TheVariants as code_parts
 use Rattle.occ_types.specs.declared.keys.Key as code_key
 use Rattle.occ_types.specs.declared.keys.Key.TheVariants as keys
+use Rattle.occ_types.specs.declared.kind.KeyKind.{KeyKind}
+use Rattle.occ_types.specs.declared.kind.Kind.{Kind}
 use Rattle.occ_types.specs.declared.objects.Object as code_object
 use Rattle.occ_types.specs.declared.questions.Question as code_question
 use Rattle.occ_types.specs.declared.rows.Cells as code_cells
@@ -27,6 +29,10 @@ use Rattle.occ_types.specs.Schema.{Table, Schema}
 abbrev pub table_asked : Question → ℕ
 table_asked (One table key) = table
 table_asked (Span table lower upper) = table
+
+-- the table of a name, the kind of its keys and the kinds of its columns
+abbrev pub named_table : Bor (List ℕ) × KeyKind × Bor (List Kind) → Table
+named_table t = record { name = t.0.now; key = t.1; columns = t.2.now }
 
 module _ {Z : Type 0} where
   -- the plain cell
@@ -52,7 +58,7 @@ module _ {Z : Type 0} where
   -- what a row keeps, as a list
   abbrev pub cells_in : code_cells.Cells Z → List (code_cell.Cell Z)
   cells_in (kept.One cell) = cell ∷ []
-  cells_in (kept.List cells) = arc_slice_items cells
+  cells_in (kept.List cells) = cells.value.items
 
   -- the plain cells, in their order
   abbrev pub row_of : List (code_cell.Cell Z) → Row

@@ -1,7 +1,8 @@
 //! Cells of a row.
-ghost use Rattle.std.specs.Prelude.{◌≡◌};
+ghost use Rattle.std.specs.Prelude.{◌≡◌, option_map, IfOk};
 ghost use Rattle.std.specs.Ordering.{on};
 ghost use Rattle.std.specs.Cmp.{on_per, on_equiv, partial_equiv_from_equiv};
+ghost use Rattle.occ_types.specs.Row.{Int, Text as PlainText, int_in, text_in};
 ghost use Rattle.occ_types.specs.Same.{cell_same, cell_same_equiv};
 ghost use Rattle.occ_types.specs.PlainData.{cell_of};
 
@@ -16,6 +17,45 @@ pub enum Cell<A: Allocator> {
     Int(i64),
     /// A text.
     Text(Text<A>),
+}
+
+impl<A: Allocator> From<i64> for Cell<A> {
+    ghost from_gives = { λ number cell. cell_of cell ≡ Int number };
+
+    fn from(number: i64) -> Cell<A> {
+        Cell::Int(number)
+    }
+}
+
+impl<A: Allocator> Cell<A> {
+    /// The number of the cell, where it is one.
+    pub fn as_int(&self) -> Option<i64>
+        ensures { result ≡ int_in (cell_of self.now) }
+    {
+        match self {
+            Cell::Int(number) => Some(*number),
+            Cell::Text(_) => None,
+        }
+    }
+
+    /// The text of the cell, where it is one.
+    pub fn as_str(&self) -> Option<&str>
+        ensures { option_map (λ text. text.now) result ≡ text_in (cell_of self.now) }
+    {
+        match self {
+            Cell::Int(_) => None,
+            Cell::Text(text) => Some(text.as_str()),
+        }
+    }
+}
+
+impl<A: Allocator + Clone> Cell<A> {
+    /// The cell of a text; an error where there is no memory for it.
+    pub fn text(alloc: A, text: &str) -> Result<Cell<A>, AllocError>
+        ensures { IfOk result (λ cell. cell_of cell ≡ PlainText text.now) }
+    {
+        Ok(Cell::Text(Text::new(alloc, text)?))
+    }
 }
 
 impl<A: Allocator> Clone for Cell<A> {

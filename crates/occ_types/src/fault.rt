@@ -3,65 +3,95 @@ ghost use Rattle.std.specs.Prelude.{◌≡◌};
 ghost use Rattle.occ_types.specs.declared.fault.Fault.TheVariants.{Memory};
 
 use std::alloc::{AllocError, AllocFailed};
+use thiserror::Error;
 
-/// Why a call is refused. A refused call leaves everything as it was, and hands back what was handed in.
-#[derive(Clone, Copy, Debug, PartialEq, Eq)]
+/// Why a call is refused. A refused call leaves everything as it was, and hands back what was handed in. `Display` tells the word that
+/// texts have for it, `F1` to `F28`, and a sentence.
+#[derive(Clone, Copy, Debug, PartialEq, Eq, Error)]
 pub enum Fault {
-    /// There is no such table.
+    /// `F1`: there is no such table.
+    #[error("F1: there is no such table")]
     NoTable,
-    /// A key or a cell is of another kind than its table's.
+    /// `F2`: a key or a cell is of another kind than its table's.
+    #[error("F2: a key or a cell is of another kind than its table's")]
     WrongKind,
-    /// A row has another number of cells than its table has columns.
+    /// `F3`: a row has another number of cells than its table has columns.
+    #[error("F3: a row has another number of cells than its table has columns")]
     WrongColumns,
-    /// A text key or a text cell is over its limit.
+    /// `F4`: a text key or a text cell is over its limit.
+    #[error("F4: a text key or a text cell is over its limit")]
     TooLong,
-    /// A range whose lower end is not below its upper end.
+    /// `F5`: a range whose lower end is not below its upper end.
+    #[error("F5: the lower end of a range is not below its upper end")]
     EmptyRange,
-    /// A schema with too many or too few tables or columns, a bad name, or one name twice.
+    /// `F6`: a schema with too many or too few tables or columns, a bad name, or one name twice.
+    #[error("F6: a schema has too many or too few tables or columns, a bad name, or one name twice")]
     BadSchema,
-    /// A set already has all the keys, questions or operations that it may have.
+    /// `F7`: a set already has all the keys, questions or operations that it may have.
+    #[error("F7: a set has all the keys, questions or operations that it may have")]
     SetFull,
-    /// A request for memory was refused.
+    /// `F8`: a request for memory was refused.
+    #[error("F8: a request for memory was refused")]
     Memory,
-    /// The queue was full at some moment of the call.
+    /// `F9`: the queue was full at some moment of the call.
+    #[error("F9: the queue of the session is full")]
     QueueFull,
-    /// The client has closed the session.
+    /// `F10`: the client has closed the session.
+    #[error("F10: the client has closed the session")]
     Closed,
-    /// Only the number of the closing mark is left.
+    /// `F11`: only the number of the closing mark is left.
+    #[error("F11: only the number of the closing mark is left")]
     NumbersExhausted,
-    /// There is no such session.
+    /// `F12`: there is no such session.
+    #[error("F12: there is no such session")]
     NoSession,
-    /// The closing mark of the session has entered.
+    /// `F13`: the closing mark of the session has entered.
+    #[error("F13: the closing mark of the session has entered")]
     SessionClosed,
-    /// The number is not the one that is due, or not one that may have a read phase.
+    /// `F14`: the number is not the one that is due, or not one that may have a read phase.
+    #[error("F14: the number is not the one that is due, or not one that may have a read phase")]
     OutOfTurn,
-    /// The session's earlier row is neither finished nor backed up.
+    /// `F15`: the session's earlier row is neither finished nor backed up.
+    #[error("F15: the session's earlier row is neither finished nor backed up")]
     SessionBusy,
-    /// The start lies above the transaction counter.
+    /// `F16`: the start lies above the transaction counter.
+    #[error("F16: the start lies above the transaction counter")]
     FutureStart,
-    /// The read phase of this number was registered with another start.
+    /// `F17`: the read phase of this number was registered with another start.
+    #[error("F17: the read phase of this number has another start")]
     StartDiffers,
-    /// The session has no row between its entry and its finish or back-up.
+    /// `F18`: the session has no row between its entry and its finish or back-up.
+    #[error("F18: the session has no row between its entry and its finish or back-up")]
     NothingEntered,
-    /// The row is not decided yet.
+    /// `F19`: the row is not decided yet.
+    #[error("F19: the row is not decided yet")]
     NotDecided,
-    /// The row was decided before, or the other way.
+    /// `F20`: the row was decided before, or the other way.
+    #[error("F20: the row was decided before, or the other way")]
     AlreadyDecided,
-    /// Single writes of the row are left.
+    /// `F21`: single writes of the row are left.
+    #[error("F21: single writes of the row are left")]
     WritesLeft,
-    /// The log has as many rows as it may have.
+    /// `F22`: the log has as many rows as it may have.
+    #[error("F22: the log has as many rows as it may have")]
     LogFull,
-    /// The transaction counter has no room for the rows that are under way and one more.
+    /// `F23`: the transaction counter has no room for the rows that are under way and one more.
+    #[error("F23: the transaction counter has no room for the rows that are under way and one more")]
     CounterExhausted,
-    /// The answer of a range has more rows than an answer may have.
+    /// `F24`: the answer of a range has more rows than an answer may have.
+    #[error("F24: the answer of a range has more rows than an answer may have")]
     RangeTooLarge,
-    /// A row is Open or Writing; for a checkpoint, a row is Open.
+    /// `F25`: a row is open or writing; for a checkpoint, a row is open.
+    #[error("F25: a row is under way")]
     StoreBusy,
-    /// The verdict is for another row's case.
+    /// `F26`: the verdict is for another row's case.
+    #[error("F26: the verdict is for another row's case")]
     WrongCase,
-    /// A transaction of this session is open; for a run alone, its number has a read phase.
+    /// `F27`: a transaction of this session is open; for a run alone, its number has a read phase.
+    #[error("F27: a transaction of this session is open, or the number has a read phase")]
     ReadOpen,
-    /// No transaction of this session is open.
+    /// `F28`: no transaction of this session is open.
+    #[error("F28: no transaction of this session is open")]
     NoReadOpen,
 }
 

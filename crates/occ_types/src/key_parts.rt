@@ -1,8 +1,8 @@
 //! Parts of a key of two parts, and their one total order.
-ghost use Rattle.std.specs.Prelude.{◌≡◌, List, ◌++◌, refl};
+ghost use Rattle.std.specs.Prelude.{◌≡◌, List, ◌++◌, IfOk, refl};
 ghost use Rattle.std.specs.Ordering.{on, eq_by_cmp, as_partial_cmp};
 ghost use Rattle.std.specs.Cmp.{on_per, on_equiv, on_total, on_po, po, eq_by_cmp_equiv, partial_equiv_from_equiv};
-ghost use Rattle.occ_types.specs.KeyPart.{part_cmp, part_cmp_total};
+ghost use Rattle.occ_types.specs.KeyPart.{Num, Text as PlainText, part_cmp, part_cmp_total};
 ghost use Rattle.occ_types.specs.Same.{part_same, part_same_equiv, part_po, part_fed, part_fed_alike};
 ghost use Rattle.occ_types.specs.PlainData.{part_of};
 
@@ -19,6 +19,23 @@ pub enum KeyPart<A: Allocator> {
     Num(u64),
     /// A text.
     Text(Text<A>),
+}
+
+impl<A: Allocator> From<u64> for KeyPart<A> {
+    ghost from_gives = { λ number part. part_of part ≡ Num number };
+
+    fn from(number: u64) -> KeyPart<A> {
+        KeyPart::Num(number)
+    }
+}
+
+impl<A: Allocator + Clone> KeyPart<A> {
+    /// The part of a text; an error where there is no memory for it.
+    pub fn text(alloc: A, text: &str) -> Result<KeyPart<A>, AllocError>
+        ensures { IfOk result (λ part. part_of part ≡ PlainText text.now) }
+    {
+        Ok(KeyPart::Text(Text::new(alloc, text)?))
+    }
 }
 
 impl<A: Allocator> Clone for KeyPart<A> {

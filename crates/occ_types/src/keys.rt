@@ -1,11 +1,14 @@
 //! Keys of a row, and their one total order.
-ghost use Rattle.std.specs.Prelude.{◌≡◌, List, ◌++◌, refl};
+ghost use Rattle.std.specs.Prelude.{◌≡◌, List, ◌++◌, IfOk, MatchResult, refl};
 ghost use Rattle.std.specs.Ordering.{on, eq_by_cmp, as_partial_cmp};
 ghost use Rattle.std.specs.Cmp.{on_per, on_equiv, on_total, on_po, po, eq_by_cmp_equiv, partial_equiv_from_equiv};
-ghost use Rattle.occ_types.specs.Key.{key_cmp, key_cmp_total};
+ghost use Rattle.occ_types.specs.Key.{Num, Text as PlainText, Pair as PlainPair, key_cmp, key_cmp_total};
 ghost use Rattle.occ_types.specs.Same.{key_same, key_same_equiv, key_po, key_fed, key_fed_alike};
-ghost use Rattle.occ_types.specs.PlainData.{key_of};
+ghost use Rattle.occ_types.specs.declared.fault.Fault.TheVariants.{Memory};
+ghost use Rattle.occ_types.specs.PlainData.{key_of, part_of};
 
+use crate::fault::Refused;
+use crate::key_parts::KeyPart;
 use crate::pairs::Pair;
 use crate::texts::Text;
 use std::alloc::{AllocError, Allocator};
@@ -23,6 +26,41 @@ pub enum Key<A: Allocator> {
     Text(Text<A>),
     /// Two parts, as an account and a number within it.
     Pair(Pair<A>),
+}
+
+impl<A: Allocator> From<u64> for Key<A> {
+    ghost from_gives = { λ number key. key_of key ≡ Num number };
+
+    fn from(number: u64) -> Key<A> {
+        Key::Num(number)
+    }
+}
+
+impl<A: Allocator> Key<A> {
+    /// The key of two parts. Refused with `Memory`, and the parts handed back, where there is no memory for it.
+    pub fn pair(
+        alloc: A,
+        first: KeyPart<A>,
+        second: KeyPart<A>,
+    ) -> Result<Key<A>, Refused<(KeyPart<A>, KeyPart<A>)>>
+        ensures { MatchResult result
+            (λ key. key_of key ≡ PlainPair (part_of first) (part_of second))
+            (λ refused. (refused.fault ≡ Memory) × (refused.value.0 ≡ first) × (refused.value.1 ≡ second)) }
+    {
+        match Pair::new(alloc, first, second) {
+            Ok(pair) => Ok(Key::Pair(pair)),
+            Err(refused) => Err(refused),
+        }
+    }
+}
+
+impl<A: Allocator + Clone> Key<A> {
+    /// The key of a text; an error where there is no memory for it.
+    pub fn text(alloc: A, text: &str) -> Result<Key<A>, AllocError>
+        ensures { IfOk result (λ key. key_of key ≡ PlainText text.now) }
+    {
+        Ok(Key::Text(Text::new(alloc, text)?))
+    }
 }
 
 impl<A: Allocator> Clone for Key<A> {

@@ -1,14 +1,15 @@
 //! Rows of a table, which are seen as their cells.
-ghost use Rattle.std.specs.Prelude.{◌≡◌, ◌==◌, List, [], ◌∷◌, length, slice_get, IfOk, IsOk};
+ghost use Rattle.std.specs.Prelude.{◌≡◌, ◌==◌, List, [], ◌∷◌, length, slice_get, IfOk, IsOk, MatchResult};
 ghost use Rattle.std.specs.Cmp.{partial_equiv_from_equiv};
 ghost use Rattle.std.specs.Option.{option_map};
+ghost use Rattle.occ_types.specs.Row.{Int, int_at, text_at};
 ghost use Rattle.occ_types.specs.Same.{row_same, row_same_equiv};
 ghost use Rattle.occ_types.specs.PlainData.{cell_of, row_of};
 
 use crate::cells::Cell;
-use std::alloc::{AllocError, Allocator};
+use std::alloc::{AllocError, AllocFailed, Allocator};
 use std::marker::Model;
-use std::sync::ArcSlice;
+use std::sync::Arc;
 
 /// A row of a table, which clauses see as its cells in the order of the columns. A row of one number has no memory of its own, and the
 /// copies of a longer one share its cells, so that a copy takes no memory.
@@ -23,7 +24,7 @@ pub struct Row<A: Allocator> {
 #[derive_where(Debug)]
 pub(crate) enum Cells<A: Allocator> {
     One(Cell<A>),
-    List(ArcSlice<Cell<A>, A>),
+    List(Arc<Vec<Cell<A>, A>, A>),
 }
 
 impl<A: Allocator> Model for Row<A> {
@@ -57,6 +58,40 @@ impl<A: Allocator> Row<A> {
         }
     }
 
+    /// The number in the cell at a place, where that cell is there and is a number.
+    pub fn int(&self, place: usize) -> Option<i64>
+        ensures { result ≡ int_at self.now place }
+    {
+        match self.cell(place) {
+            Some(cell) => cell.as_int(),
+            None => None,
+        }
+    }
+
+    /// The text in the cell at a place, where that cell is there and is a text.
+    pub fn text(&self, place: usize) -> Option<&str>
+        ensures { option_map (λ text. text.now) result ≡ text_at self.now place }
+    {
+        match self.cell(place) {
+            Some(cell) => cell.as_str(),
+            None => None,
+        }
+    }
+
+    /// Copies of the cells, in the order of the columns; an error where there is no memory for the list.
+    pub fn to_cells(&self, alloc: A) -> Result<Vec<Cell<A>, A>, AllocError>
+        ensures { IfOk result (λ cells. row_of cells.items ≡ self.now) }
+    {
+        let mut cells = Vec::new(alloc);
+        for place in 0..self.len() {
+            match self.cell(place) {
+                Some(cell) => cells.push(cell.clone()?)?,
+                None => return Ok(cells),
+            }
+        }
+        Ok(cells)
+    }
+
     /// How many cells the row has.
     pub fn len(&self) -> usize
         ensures { result ≡ length self.now }
@@ -75,10 +110,27 @@ impl<A: Allocator> Row<A> {
     }
 }
 
+impl<A: Allocator> From<Cell<A>> for Row<A> {
+    ghost from_gives = { λ cell row. row ≡ cell_of cell ∷ [] };
+
+    fn from(cell: Cell<A>) -> Row<A> {
+        Row::from_cell(cell)
+    }
+}
+
+impl<A: Allocator> From<i64> for Row<A> {
+    ghost from_gives = { λ number row. row ≡ Int number ∷ [] };
+
+    fn from(number: i64) -> Row<A> {
+        Row::from_cell(Cell::Int(number))
+    }
+}
+
 impl<A: Allocator + Clone> Row<A> {
-    /// The row of some cells. One cell alone takes no memory; an error where there is none for what the copies of others share.
-    pub fn from_cells(cells: Vec<Cell<A>, A>) -> Result<Row<A>, AllocError>
-        ensures row { IfOk result (λ row. row ≡ row_of cells.items) }
+    /// The row of some cells. One cell alone takes no memory. Refused, and the cells handed back, where there is none for what the
+    /// copies of others share.
+    pub fn from_cells(cells: Vec<Cell<A>, A>) -> Result<Row<A>, AllocFailed<Vec<Cell<A>, A>>>
+        ensures row { MatchResult result (λ row. row ≡ row_of cells.items) (λ failed. failed.value ≡ cells) }
         ensures single { length cells.items ≡ 1 → IsOk result }
     {
         let mut cells = cells;
@@ -87,9 +139,15 @@ impl<A: Allocator + Clone> Row<A> {
         {
             return Ok(Row::from_cell(cell));
         }
-        Ok(Row {
-            cells: Cells::List(ArcSlice::from_vec(cells)?),
-        })
+        let Ok(alloc) = cells.allocator().clone() else {
+            return Err(AllocFailed { value: cells });
+        };
+        match Arc::new(alloc, cells) {
+            Ok(cells) => Ok(Row {
+                cells: Cells::List(cells),
+            }),
+            Err(failed) => Err(failed),
+        }
     }
 }
 
@@ -100,7 +158,7 @@ impl<A: Allocator> Clone for Row<A> {
         match &self.cells {
             Cells::One(cell) => Ok(Row::from_cell(cell.clone()?)),
             Cells::List(cells) => Ok(Row {
-                cells: Cells::List(cells.clone()?),
+                cells: Cells::List(Arc::try_clone(cells)?),
             }),
         }
     }

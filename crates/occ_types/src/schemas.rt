@@ -1,19 +1,21 @@
 //! The tables of a store, and the checks of keys, rows and questions against them.
-ghost use Rattle.std.specs.Prelude.{◌≡◌, ℕ, length, Option, None, Some, IfSome, MatchResult, slice_get};
+ghost use Rattle.std.specs.Prelude.{◌≡◌, ◌⊎◌, ℕ, length, map, Option, None, Some, IfOk, IfSome, IfErr, MatchResult, slice_get};
 ghost use Rattle.std.specs.List.{position};
 ghost use Rattle.std.specs.Result.{result_err};
 ghost use Rattle.occ_types.specs.Schema.{check_tables, are_tables, check_key, check_row, check_question, is_empty_range};
 ghost use Rattle.occ_types.specs.Fits.{check_range, has_name};
 ghost use Rattle.occ_types.specs.Question.{Span};
-ghost use Rattle.occ_types.specs.declared.fault.Fault.TheVariants.{NoTable};
-ghost use Rattle.occ_types.specs.PlainData.{key_of, end_of, question_of, table_of, tables_of};
+ghost use Rattle.occ_types.specs.declared.fault.Fault.TheVariants.{NoTable, Memory};
+ghost use Rattle.occ_types.specs.PlainData.{named_table, key_of, end_of, question_of, table_of, tables_of};
 
 use crate::fault::{Fault, Refused};
 use crate::keys::Key;
+use crate::kind::{KeyKind, Kind};
 use crate::limits::MAX_TABLES;
 use crate::questions::Question;
 use crate::rows::Row;
 use crate::tables::TableDef;
+use crate::texts::Text;
 use std::alloc::Allocator;
 use std::marker::Model;
 
@@ -61,8 +63,8 @@ impl<A: Allocator> Schema<A> {
         self.tables.as_slice()
     }
 
-    /// The place of the table with this name.
-    pub fn table_named(&self, name: &str) -> Option<usize>
+    /// The place of the table with this name; none where no table has it.
+    pub fn place(&self, name: &str) -> Option<usize>
         ensures { result ≡ position (has_name name.now) self.now }
     {
         let tables = self.tables.as_slice();
@@ -122,6 +124,40 @@ impl<A: Allocator> Schema<A> {
     {
         check_range(self.table_at(table)?, lower, upper)
     }
+}
+
+impl<A: Allocator + Clone> Schema<A> {
+    /// The schema of tables of these names, kinds of keys and kinds of columns, each at its place. Refused with `BadSchema` where
+    /// `new` refuses them, and with `Memory` where there is none for them.
+    pub fn of(alloc: A, tables: &[(&str, KeyKind, &[Kind])]) -> Result<Schema<A>, Fault>
+        ensures { MatchResult result
+            (λ schema. (check_tables (map named_table tables.now) ≡ None) × (schema ≡ map named_table tables.now))
+            (λ fault. (fault ≡ Memory) ⊎ (check_tables (map named_table tables.now) ≡ Some fault)) }
+    {
+        let mut list = Vec::new(alloc.clone()?);
+        for table in tables {
+            list.push(table_of(alloc.clone()?, table)?)?;
+        }
+        let schema = Schema::new(list)?;
+        Ok(schema)
+    }
+}
+
+// The table of a name, the kind of its keys and the kinds of its columns; `Memory` where there is none for it.
+fn table_of<A: Allocator + Clone>(
+    alloc: A,
+    table: &(&str, KeyKind, &[Kind]),
+) -> Result<TableDef<A>, Fault>
+    ensures ok { IfOk result (λ made. table_of made ≡ named_table table.now) }
+    ensures memory { IfErr result (λ fault. fault ≡ Memory) }
+{
+    let name = Text::new(alloc.clone()?, table.0)?;
+    let columns = Vec::from_slice(alloc, table.2)?;
+    Ok(TableDef {
+        name,
+        key: table.1,
+        columns,
+    })
 }
 
 // Whether a range fits its table.

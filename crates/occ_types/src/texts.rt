@@ -1,5 +1,5 @@
 //! Texts, which are seen as their bytes.
-ghost use Rattle.std.specs.Prelude.{◌≡◌, ℕ, ◌==◌, List, length, Some, IfOk, nat_eq, refl, string_bytes};
+ghost use Rattle.std.specs.Prelude.{◌≡◌, ℕ, ◌==◌, List, length, Some, IfOk, MatchResult, nat_eq, refl, string_bytes};
 ghost use Rattle.std.specs.Ordering.{nat_cmp};
 ghost use Rattle.std.specs.Cmp.{partial_equiv_from_equiv};
 ghost use Rattle.std.specs.Cmp.Lexicographic.{pointwise, slice_cmp, nat_list_eq_equiv, nat_list_cmp_total, texts_po, texts_ties};
@@ -7,26 +7,25 @@ ghost use Rattle.std.specs.Cmp.Rules.{hashing};
 ghost use Rattle.std.specs.Hash as fed;
 ghost use Rattle.std.proofs.Common.{rules};
 
-use std::alloc::{AllocError, Allocator};
+use std::alloc::{AllocError, AllocFailed, Allocator};
 use std::cmp::Ordering;
 use std::hash::{Hash, Hasher};
 use std::marker::Model;
-use std::sync::ArcStr;
+use std::sync::Arc;
 
 /// A text of UTF-8, which clauses see as its bytes. Its copies share these, so that a copy takes no memory.
 #[derive(Drop)]
 #[derive_where(Debug)]
 pub struct Text<A: Allocator> {
-    text: ArcStr<A>,
+    text: Arc<String<A>, A>,
 }
 
 impl<A: Allocator> Model for Text<A> {
-    ghost use Rattle.std.specs.Prelude.{ℕ, List};
-    ghost use Rattle.std.specs.Arc.{arc_str_bytes};
+    ghost use Rattle.std.specs.Prelude.{ℕ, List, string_bytes};
 
     ghost Value = { List ℕ };
 
-    ghost view = { λ t. arc_str_bytes t.text };
+    ghost view = { λ t. string_bytes t.text.value };
 }
 
 impl<A: Allocator + Clone> Text<A> {
@@ -34,16 +33,22 @@ impl<A: Allocator + Clone> Text<A> {
     pub fn new(alloc: A, text: &str) -> Result<Text<A>, AllocError>
         ensures { IfOk result (λ t. t ≡ text.now) }
     {
-        Text::from_string(String::from_str(alloc, text)?)
+        let text = Text::from_string(String::from_str(alloc, text)?)?;
+        Ok(text)
     }
 
-    /// The text of a string, which keeps the room that the string has; an error where there is no memory for what its copies share.
-    pub fn from_string(text: String<A>) -> Result<Text<A>, AllocError>
-        ensures { IfOk result (λ t. t ≡ string_bytes text) }
+    /// The text of a string, which keeps the room that the string has. Refused, and the string handed back, where there is no memory
+    /// for what the copies of the text share.
+    pub fn from_string(text: String<A>) -> Result<Text<A>, AllocFailed<String<A>>>
+        ensures { MatchResult result (λ t. t ≡ string_bytes text) (λ failed. failed.value ≡ text) }
     {
-        Ok(Text {
-            text: ArcStr::from_string(text)?,
-        })
+        let Ok(alloc) = text.allocator().clone() else {
+            return Err(AllocFailed { value: text });
+        };
+        match Arc::new(alloc, text) {
+            Ok(text) => Ok(Text { text }),
+            Err(failed) => Err(failed),
+        }
     }
 }
 
@@ -52,14 +57,15 @@ impl<A: Allocator> Text<A> {
     pub fn as_str(&self) -> &str
         ensures { result.now ≡ self.now }
     {
-        self.text.as_str()
+        let text: &String<A> = &self.text;
+        text.as_str()
     }
 
     /// The bytes of the text.
     pub fn as_bytes(&self) -> &[u8]
         ensures { result.now ≡ self.now }
     {
-        self.text.as_bytes()
+        self.as_str().as_bytes()
     }
 
     /// How many bytes the text has.
@@ -82,7 +88,7 @@ impl<A: Allocator> Clone for Text<A> {
 
     fn clone(&self) -> Result<Text<A>, AllocError> {
         Ok(Text {
-            text: self.text.clone()?,
+            text: Arc::try_clone(&self.text)?,
         })
     }
 }

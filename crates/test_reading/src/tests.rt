@@ -1,7 +1,7 @@
 //! Books that are right, wrong and malformed, and devices that fail.
 
-use occ_reading::audit_text;
 use occ_devices::Device;
+use occ_reading::audit_text;
 use occ_text::trouble::Trouble;
 use std::alloc::{AllocError, Global};
 use std::test::Fail;
@@ -153,6 +153,20 @@ fn finds_the_malformed_line_of_a_header(rt: HostRuntime) -> Result<(), Fail> {
             is_malformed(rt.alloc(), LOST_UPDATE, change)?,
             "{change:?}"
         );
+    }
+    Ok(())
+}
+
+// A count takes no room before its lines come, so the largest one is malformed at the line that isn't one of them.
+#[test]
+fn the_largest_count_is_malformed_behind_its_lines(rt: HostRuntime) -> Result<(), Fail> {
+    let changes: [(&str, (&str, &str, u64)); 3] = [
+        (LOST_UPDATE, ("marks 0", "marks 18446744073709551615", 17)),
+        (LOST_UPDATE, ("state 1", "state 18446744073709551615", 19)),
+        (WIDE, ("'a 'o 2", "'a 'o 18446744073709551615", 15)),
+    ];
+    for (text, change) in changes {
+        assert!(rt; is_malformed(rt.alloc(), text, change)?, "{change:?}");
     }
     Ok(())
 }

@@ -48,7 +48,7 @@ fn object(key: u64) -> Object<Global> {
 fn row(alloc: Global, number: i64) -> Result<Row<Global>, AllocError> {
     let mut cells = Vec::new(alloc);
     cells.push(Cell::Int(number))?;
-    Row::from_cells(cells)
+    Ok(Row::from_cells(cells)?)
 }
 
 /// One table `t` with keys of a kind and one column of whole numbers.

@@ -255,9 +255,9 @@ fn schemas(rt: HostRuntime) -> Result<(), Fail> {
         return Ok(());
     };
     assert_eq!(rt; schema.tables().len(), 2);
-    assert_eq!(rt; schema.table_named("goods"), Some(0));
-    assert_eq!(rt; schema.table_named("stock"), Some(1));
-    assert_eq!(rt; schema.table_named("good"), None);
+    assert_eq!(rt; schema.place("goods"), Some(0));
+    assert_eq!(rt; schema.place("stock"), Some(1));
+    assert_eq!(rt; schema.place("good"), None);
     let twice = shop(alloc)?;
     let mut more = shop(alloc)?;
     for table in twice {
@@ -270,6 +270,49 @@ fn schemas(rt: HostRuntime) -> Result<(), Fail> {
     assert_eq!(rt; refused.fault, Fault::BadSchema);
     assert_eq!(rt; refused.value.len(), 4);
     assert!(rt; Schema::new(Vec::<TableDef<Global>>::new(alloc)).is_err());
+    Ok(())
+}
+
+#[test]
+fn schemas_of_names(rt: HostRuntime) -> Result<(), Fail> {
+    let alloc = rt.alloc();
+    let columns: &[Kind] = &[Kind::Int, Kind::Text];
+    let schema = Schema::of(alloc, &[("stock", KeyKind::Num, columns)])?;
+    assert_eq!(rt; schema.place("stock"), Some(0));
+    assert_eq!(rt; schema.place("stoc"), None);
+    let number: Cell<Global> = Cell::from(3i64);
+    let row = Row::from_cells(vec![in alloc; number, Cell::text(alloc, "pears")?]?)?;
+    assert_eq!(rt; schema.check_row(0, &row), Ok(()));
+    let key: Key<Global> = Key::from(7u64);
+    assert_eq!(rt; schema.check_key(0, &key), Ok(()));
+    let refused = Schema::of(alloc, &[("Stock", KeyKind::Num, columns)]);
+    assert!(rt; matches!(refused, Err(Fault::BadSchema)));
+    Ok(())
+}
+
+#[test]
+fn cells_of_rows(rt: HostRuntime) -> Result<(), Fail> {
+    let alloc = rt.alloc();
+    let number: Cell<Global> = Cell::from(3i64);
+    let row = Row::from_cells(vec![in alloc; number, Cell::text(alloc, "pears")?]?)?;
+    assert_eq!(rt; (row.int(0), row.int(1), row.int(2)), (Some(3), None, None));
+    assert_eq!(rt; (row.text(0), row.text(1)), (None, Some("pears")));
+    assert!(rt; Row::from_cells(row.to_cells(alloc)?)? == row);
+    let single: Row<Global> = Row::from(4i64);
+    assert!(rt; single == Row::from_cell(Cell::Int(4)));
+    Ok(())
+}
+
+#[test]
+fn faults_are_told(rt: HostRuntime) -> Result<(), Fail> {
+    let alloc = rt.alloc();
+    let told = format!(in alloc; "{}", Fault::QueueFull)?;
+    assert_eq!(rt; told.as_str(), "F9: the queue of the session is full");
+    let last = format!(in alloc; "{}", Fault::NoReadOpen)?;
+    assert_eq!(rt;
+        last.as_str(),
+        "F28: no transaction of this session is open"
+    );
     Ok(())
 }
 

@@ -13,12 +13,12 @@ use Rattle.occ_sets.proofs.writes.WriteSet.over.Goals as goal
 pub returns-then-len-eq0-clause-seen : goal.returns-then-len-eq0-clause-seen
 returns-then-len-eq0-clause-seen g c =
     let q = question_of c.args.question.now in
-    let own = c.in_ok-own.own.entries in
+    let own = c.in-Ok.own.entries in
     let rows = c.args.rows.items in
     let count : length own ≡ 0 = omega (arith, c.len.ensures.len, c.if-len-eq0.true) in
     let none : own ≡ [] = nil_from_length own count in
     sym (ap (λ own. rows_of (merged (on key_of key_cmp) rows own)) none ∙ ap rows_of (merged_none rows))
-    ∙ merged_over q c.requires.answered.0 c.own_writes-2.result.now rows own c.requires.answered.1 c.len.ensures.ordered c.in_ok-own.ensures
+    ∙ merged_over q c.requires.answered.0 c.own_writes-2.result.now rows own c.requires.answered.1 c.len.ensures.ordered c.in-Ok.ensures
     ∙ ap (λ writes. rows_over q writes (rows_of rows)) c.own_writes-2.ensures
 
 -- the writes that are asked for are laid over the rows
@@ -27,5 +27,5 @@ returns-clause-seen g c =
     let q = question_of c.args.question.now in
     let rows = c.args.rows.items in
     ap rows_of c.merge.ensures.rows
-    ∙ merged_over q c.requires.answered.0 c.own_writes-2.result.now rows c.in_ok-own.own.entries c.requires.answered.1 c.merge.ensures.ordered c.in_ok-own.ensures
+    ∙ merged_over q c.requires.answered.0 c.own_writes-2.result.now rows c.in-Ok.own.entries c.requires.answered.1 c.merge.ensures.ordered c.in-Ok.ensures
     ∙ ap (λ writes. rows_over q writes (rows_of rows)) c.own_writes-2.ensures

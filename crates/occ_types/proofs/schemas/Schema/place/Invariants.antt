@@ -2,7 +2,7 @@ use Rattle.std.proofs.Common.{◌≡◌, drop}
 use Rattle.std.specs.List.{position_from}
 use Rattle.occ_types.specs.Fits.{has_name}
 use Rattle.occ_types.specs.PlainData.{tables_of}
-use Rattle.occ_types.proofs.schemas.Schema.table_named.Given as goal
+use Rattle.occ_types.proofs.schemas.Schema.place.Given as goal
 
 -- the search among the tables that are left answers for all of them
 abbrev pub invariant-loop-place : goal.invariant-loop-place

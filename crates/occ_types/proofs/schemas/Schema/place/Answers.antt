@@ -3,7 +3,7 @@ use Rattle.std.specs.Cmp.Lexicographic.{pointwise}
 use Rattle.occ_types.specs.Fits.{has_name}
 use Rattle.occ_types.specs.PlainData.{table_of, tables_of}
 use Rattle.occ_types.proofs.Walks.{position-hit, position-none}
-use Rattle.occ_types.proofs.schemas.Schema.table_named.Goals as goal
+use Rattle.occ_types.proofs.schemas.Schema.place.Goals as goal
 
 -- the table here is the first that has the name
 pub returns-then-eq : goal.returns-then-eq
