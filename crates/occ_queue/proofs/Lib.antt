@@ -1,1 +1,4 @@
+pub mod Beginnings
+pub mod Ends
+pub mod Passing
 pub mod Turns

@@ -24,7 +24,7 @@ unused_in_turn limit = record {
 }
 
 -- what holds where none of three tests has a fault
-none_of_three : (a b c : Bool) (f g h : Fault) → first_fault (fault_if a f ∷ fault_if b g ∷ fault_if c h ∷ []) ≡ None → (a ≡ false) × (b ≡ false) × (c ≡ false)
+pub none_of_three : (a b c : Bool) (f g h : Fault) → first_fault (fault_if a f ∷ fault_if b g ∷ fault_if c h ∷ []) ≡ None → (a ≡ false) × (b ≡ false) × (c ≡ false)
 none_of_three false false false f g h e = (refl, refl, refl)
 none_of_three true b c f g h e = cc
 none_of_three false true c f g h e = cc

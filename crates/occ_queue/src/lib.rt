@@ -1,10 +1,20 @@
-//! What a session hands in, and the queue in which it waits.
+//! What a session hands in, and the queue in which it waits: a queue of one owner, or a lane of two ends that threads share.
 #![tactic(auto)]
 
 mod items;
+mod lanes;
+mod news;
 mod queues;
+mod receivers;
+mod rules;
+mod senders;
 mod session_queues;
 
 pub use items::Item;
+pub use lanes::lane;
+pub use news::News;
 pub use queues::Queue;
+pub use receivers::Receiver;
+pub use rules::{InOrder, Knowledge};
+pub use senders::Sender;
 pub use session_queues::SessionQueue;

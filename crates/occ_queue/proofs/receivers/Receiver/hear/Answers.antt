@@ -1,0 +1,8 @@
+use Rattle.occ_queue.proofs.Passing.{hears, learns}
+use Rattle.occ_queue.proofs.receivers.Receiver.hear.Goals as goal
+
+pub absorb-requires-clause-rule : goal.absorb-requires-clause-rule
+absorb-requires-clause-rule g c = hears _ _ _ _
+
+pub learn_as-requires-clause-rule : goal.learn_as-requires-clause-rule
+learn_as-requires-clause-rule g c = learns _ _

@@ -1,0 +1,115 @@
+//! The rule under which the two ends of a lane share its queue.
+use crate::items::Item;
+use crossbeam_queue::RuledArrayQueue;
+use crossbeam_queue::protocol::{Join, Lesson, Outcome, Protocol, Split};
+use std::alloc::Allocator;
+use std::collections::LinkedList;
+
+/// What a pass may do, and what it knows as pushed and as taken. No value of it is made.
+pub struct Knowledge<A: Allocator> {
+    pub sends: bool,
+    pub takes: bool,
+    pub pushed: LinkedList<Item<A>>,
+    pub taken: LinkedList<Item<A>>,
+}
+
+/// The items of a lane on their way.
+pub(crate) type Line<A> = RuledArrayQueue<Item<A>, Knowledge<A>, InOrder, A>;
+
+/// The pass of an end.
+pub(crate) type Pass<A> = crossbeam_queue::Pass<Item<A>, Knowledge<A>>;
+
+/// What was pushed is what was taken, followed by what is held.
+pub struct InOrder;
+
+impl<A: Allocator> Protocol<Item<A>, Knowledge<A>> for InOrder {
+    ghost use Rattle.std.specs.Prelude.{true, []};
+    ghost use Rattle.occ_queue.specs.Rule.{knowledge, Kept};
+
+    ghost holds = { Kept };
+
+    ghost first = { knowledge true true [] [] };
+}
+
+/// The first pass becomes the sender's, and another the receiver's.
+pub(crate) struct Ends;
+
+impl<A: Allocator> Split<Knowledge<A>> for Ends {
+    ghost use Rattle.std.specs.Prelude.{true, false};
+    ghost use Rattle.occ_queue.specs.Rule.{knowledge};
+
+    ghost left = { λ v. knowledge true false v.pushed v.taken };
+
+    ghost right = { λ v. knowledge false true v.pushed v.taken };
+}
+
+/// Another pass that knows as much, and may do nothing.
+pub(crate) struct Telling;
+
+impl<A: Allocator> Split<Knowledge<A>> for Telling {
+    ghost use Rattle.std.specs.Prelude.{false};
+    ghost use Rattle.occ_queue.specs.Rule.{knowledge};
+
+    ghost left = { λ v. v };
+
+    ghost right = { λ v. knowledge false false v.pushed v.taken };
+}
+
+/// A pass learns what another one knows.
+pub(crate) struct Hearing;
+
+impl<A: Allocator> Join<Knowledge<A>> for Hearing {
+    ghost use Rattle.std.specs.Prelude.{false, []};
+    ghost use Rattle.occ_queue.specs.Rule.{knowledge, hearing};
+
+    ghost both = { hearing };
+
+    ghost spent = { knowledge false false [] [] };
+}
+
+/// A push; and of a full queue, that what is held and what is known as taken is no more than what was pushed.
+pub(crate) struct Pushes;
+
+impl<A: Allocator> Outcome<Item<A>, Knowledge<A>> for Pushes {
+    ghost use Rattle.std.specs.Prelude.{◌≡◌, [], ◌∷◌, ◌++◌};
+    ghost use Rattle.occ_queue.specs.Rule.{knowledge};
+
+    ghost then = { λ v x w. w ≡ knowledge v.sends v.takes (v.pushed ++ x ∷ []) v.taken };
+}
+
+impl<A: Allocator> Lesson<Item<A>, Knowledge<A>> for Pushes {
+    ghost use Rattle.std.specs.Prelude.{◌≤◌, ◌+◌, length};
+
+    ghost fact = { λ v items. length v.taken + length items ≤ length v.pushed };
+}
+
+/// A pop; and of an empty queue, that what is known as pushed was taken.
+pub(crate) struct Takes;
+
+impl<A: Allocator> Outcome<Item<A>, Knowledge<A>> for Takes {
+    ghost use Rattle.std.specs.Prelude.{◌≡◌, [], ◌∷◌, ◌++◌};
+    ghost use Rattle.occ_queue.specs.Items.{items_of};
+    ghost use Rattle.occ_queue.specs.Lanes.{AreOfOne};
+    ghost use Rattle.occ_queue.specs.Rule.{knowledge};
+
+    ghost then = { λ v x w. (w ≡ knowledge v.sends v.takes v.pushed (v.taken ++ x ∷ [])) × AreOfOne (items_of v.pushed) (items_of (v.taken ++ x ∷ [])) };
+}
+
+impl<A: Allocator> Lesson<Item<A>, Knowledge<A>> for Takes {
+    ghost use Rattle.std.specs.Prelude.{◌++◌};
+    ghost use mathlib.Core.List.{IsPrefix};
+
+    ghost fact = { λ v items. IsPrefix v.pushed (v.taken ++ items) };
+}
+
+/// What the rule tells of what a pass knows.
+pub(crate) struct Law;
+
+impl<A: Allocator> Lesson<Item<A>, Knowledge<A>> for Law {
+    ghost use Rattle.std.specs.Prelude.{◌≡◌, true};
+    ghost use mathlib.Core.List.{IsPrefix};
+    ghost use Rattle.occ_queue.specs.Items.{items_of};
+    ghost use Rattle.occ_queue.specs.Lanes.{AreOfOne};
+
+    ghost fact = { λ v items. AreOfOne (items_of v.pushed) (items_of v.taken) × (v.sends ≡ true → IsPrefix (items_of v.taken) (items_of v.pushed)) };
+}
