@@ -16,3 +16,4 @@ pub mod SerialEnding
 pub mod RunsAlone
 pub mod Placed
 pub mod Checkpoints
+pub mod OpenCases

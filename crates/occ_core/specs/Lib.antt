@@ -7,3 +7,4 @@ pub mod AtOnce
 pub mod RunningAlone
 pub mod Runs
 pub mod Folding
+pub mod OpenCases

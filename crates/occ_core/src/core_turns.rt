@@ -8,6 +8,7 @@ ghost use Rattle.occ_log.specs.Logs.{row_at};
 ghost use Rattle.occ_log.specs.SessionStates.{row_under_way, back_fault, writes_done, finish_fault};
 ghost use Rattle.occ_log.specs.Rows.{log_row_of, standing_of};
 ghost use Rattle.occ_core.specs.Core.{Transition};
+ghost use Rattle.occ_core.specs.OpenCases.{open_case, IsRight};
 ghost use Rattle.occ_core.specs.Folding.{under_way_fault, back_fault_of};
 ghost use Rattle.occ_core.specs.Replies.{decision, single, written_in, next_object, IsNextWrite, finishing, backing};
 ghost use Rattle.occ_core.specs.declared.core_turns.SingleWrite.TheVariants.{Wrote};
@@ -89,6 +90,35 @@ impl<A: Allocator> Core<A> {
         let verdict = verdict(open.case());
         self.log.stand(place, decided(verdict));
         Ok(verdict)
+    }
+
+    /// Decides the transaction that the session has entered by a verdict on its case that was reached elsewhere, as outside a lock.
+    /// Refused as `decide` is, in the same order. It takes no memory.
+    pub fn decide_as(&mut self, session: usize, reached: Verdict) -> Result<Verdict, Fault>
+        requires right { IsRight self.old.world session reached }
+        ensures { Transition self.old (Decide session) (decision result) self.new }
+    {
+        let (place, row) = under_way(&self.sessions, &self.log, session)?;
+        let Standing::Open(_open) = &row.standing else {
+            return Err(Fault::AlreadyDecided);
+        };
+        self.log.stand(place, decided(reached));
+        Ok(reached)
+    }
+
+    /// The case of the transaction that the session has entered, or none where there is no such session, where nothing of it is under
+    /// way, and where that is decided.
+    pub fn open_case(&self, session: usize) -> Option<&OpenCase<A>>
+        ensures { option_map (λ c. c.now) result ≡ open_case self.now.world session }
+    {
+        let row = match under_way(&self.sessions, &self.log, session) {
+            Ok((_place, row)) => row,
+            Err(_fault) => return None,
+        };
+        match &row.standing {
+            Standing::Open(open) => Some(open),
+            _ => None,
+        }
     }
 
     /// Ends the write phase of the transaction that the session has under way: it takes the next transaction number, which is

@@ -250,3 +250,44 @@ impl<A: Allocator + Clone> Log<A> {
         Ok(shared)
     }
 }
+
+// A row with one more owner of its sets and of its case.
+fn share_row<A: Allocator + Clone>(
+    row: &LogRow<A, OpenCase<A>>,
+) -> Result<LogRow<A, OpenCase<A>>, AllocError>
+    ensures { IfOk result (λ shared. log_row_of shared ≡ log_row_of row.now) }
+{
+    Ok(LogRow {
+        place: row.place,
+        session: row.session,
+        number: row.number,
+        start: row.start,
+        finish: row.finish,
+        reads: row.reads.clone()?,
+        writes: row.writes.clone()?,
+        standing: share_standing(&row.standing)?,
+    })
+}
+
+// How a row stands, with one more owner of its case.
+fn share_standing<A: Allocator + Clone>(
+    standing: &Standing<OpenCase<A>>,
+) -> Result<Standing<OpenCase<A>>, AllocError>
+    ensures { IfOk result (λ shared. standing_of shared ≡ standing_of standing.now) }
+{
+    match standing {
+        Standing::Open(open) => Ok(Standing::Open(open.clone()?)),
+        Standing::Writing(done) => Ok(Standing::Writing(*done)),
+        Standing::Done(number) => Ok(Standing::Done(*number)),
+        Standing::Back(cause) => Ok(Standing::Back(*cause)),
+    }
+}
+
+fn share_row_by_clone<A: Allocator + Clone>(
+    row: &LogRow<A, OpenCase<A>>,
+) -> Result<LogRow<A, OpenCase<A>>, AllocError>
+    ensures { IfOk result (λ shared. log_row_of shared ≡ log_row_of row.now) }
+{
+    let shared = row.clone()?;
+    Ok(shared)
+}

@@ -1,0 +1,22 @@
+use Rattle.std.proofs.Common.{ap, sym, ◌∙◌}
+use Rattle.occ_core.specs.Core.{parts_of}
+use Rattle.occ_core.specs.OpenCases.{case_of}
+use Rattle.occ_log.specs.Rows.{log_row_of, standing_of}
+use Rattle.occ_log.proofs.Changes.{not_open}
+use Rattle.occ_core.proofs.OpenCases.{case_none, case_found, case_closed}
+use Rattle.occ_core.proofs.Placed.{fault_in, in_log}
+use Rattle.occ_core.proofs.core_state.Core.open_case.Goals as goal
+
+pub returns-in-Err : goal.returns-in-Err
+returns-in-Err g c =
+    sym (case_none (parts_of c.self.inside) c.args.self.now.world (ap (λ s. s.world) c.self.view_is) c.self.invariant.sound c.args.session c.in-Err._fault (fault_in c.self.inside.log c.self.inside.sessions c.args.session c.self.invariant.log_match.begins c.in-Err.ensures.err))
+
+pub returns-in-Open : goal.returns-in-Open
+returns-in-Open g c =
+    sym (case_found (parts_of c.self.inside) c.args.self.now.world (ap (λ s. s.world) c.self.view_is) c.self.invariant.sound c.args.session c.in-Ok._place (log_row_of c.in-Ok.row.now)
+    c.in-Ok.ensures.place (in_log c.self.inside.log c.in-Ok._place (log_row_of c.in-Ok.row.now) c.self.invariant.log_match.begins c.in-Ok.ensures.row) ∙ ap (λ s. case_of (standing_of s)) c.in-Open.is)
+
+pub returns-in_default : goal.returns-in_default
+returns-in_default g c =
+    sym (case_closed (parts_of c.self.inside) c.args.self.now.world (ap (λ s. s.world) c.self.view_is) c.self.invariant.sound c.args.session c.in-Ok._place (log_row_of c.in-Ok.row.now)
+    c.in-Ok.ensures.place (in_log c.self.inside.log c.in-Ok._place (log_row_of c.in-Ok.row.now) c.self.invariant.log_match.begins c.in-Ok.ensures.row) (not_open c.in-Ok.row.now.standing c.in_default.not-Open))
