@@ -1,10 +1,13 @@
 -- The open case of a session, over plain parts.
-use Rattle.std.proofs.Common.{◌≡◌, ℕ, zero, suc, Bool, true, false, cond, Option, None, Some, Result, Ok, Err, refl, sym, ap, subst, ◌∙◌, arith}
+use Rattle.std.proofs.Common.{◌≡◌, ℕ, zero, suc, Bool, true, false, not, cond, [], ◌∷◌, Option, None, Some, Result, Ok, Err, refl, sym, ap, subst, ◌∙◌, arith}
 use Rattle.std.specs.Prelude.{option_and_then}
 use Rattle.occ_types.specs.declared.fault.Fault.{Fault}
 use Rattle.occ_types.specs.declared.fault.Fault.TheVariants as faults
 use Rattle.occ_model.specs.Log.{LogRow, Standing, Open, Writing, Done, Back, Case, is_active, is_open}
 use Rattle.occ_model.specs.Validity.{verdict}
+use Rattle.occ_model.specs.Event.{Decide}
+use Rattle.occ_model.specs.Refusal.{refusal}
+use Rattle.occ_types.specs.Schema.{fault_if, first_fault}
 use Rattle.occ_model.specs.World.{World, latest}
 use Rattle.occ_model.specs.declared.verdict.Verdict.{Verdict}
 use Rattle.occ_log.specs.SessionStates.{row_under_way}
@@ -13,7 +16,7 @@ use Rattle.occ_core.specs.Folding.{under_way_fault}
 use Rattle.occ_core.specs.OpenCases.{case_of, open_case, IsRight}
 use Rattle.occ_core.proofs.Counting.{act, idle}
 use Rattle.occ_log.proofs.Places.{held_latest}
-use Rattle.occ_core.proofs.Calls.{found_row, found_is, held_slot, gone_none}
+use Rattle.occ_core.proofs.Calls.{found_row, found_is, held_slot, gone_none, let_through, latest_reads}
 use Rattle.occ_core.proofs.Nexts.{not_held}
 
 abbrev in_row : Option LogRow → Option (ℕ × Case)
@@ -72,6 +75,17 @@ case_closed parts world seen sound session place row found at closed = case_foun
     go (Writing done) e = refl
     go (Done number) e = refl
     go (Back cause) e = refl
+
+-- and a row that is open may be decided
+pub case_free : (parts : Parts) (world : World) → world_of parts ≡ world → AreSound parts → (session place : ℕ) (row : LogRow) (index : ℕ) (case : Case) → row_under_way parts.slots session ≡ Ok place → found_at parts place ≡ Some row
+    → row.standing ≡ Open index case → refusal world (Decide session) ≡ None
+case_free parts world seen sound session place row index case found at stands =
+    let u = found_row parts session place sound found row at in
+    let own : u.row.standing ≡ Open index case = ap (λ r. r.standing) (found_is parts session place u row at) ∙ stands in
+    ap (λ w. refusal w (Decide session)) (sym seen) ∙ ap (λ s. refusal (world_of parts) (Decide s)) u.session_is
+    ∙ let_through parts u.slot_at u.slot u.hold _ sound u.there u.holds
+    ∙ ap (λ b. first_fault (fault_if (not b) faults.AlreadyDecided ∷ []))
+    (latest_reads parts.log (suc u.slot_at) u.row false (λ r. is_open r.standing) (held_latest (suc u.slot_at) u.index parts.log u.row u.row_there) ∙ ap is_open own)
 
 -- a verdict that is right for the open case is right for the row's
 pub right_for : (parts : Parts) (world : World) → world_of parts ≡ world → AreSound parts → (session place : ℕ) (row : LogRow) (index : ℕ) (case : Case) → row_under_way parts.slots session ≡ Ok place → found_at parts place ≡ Some row

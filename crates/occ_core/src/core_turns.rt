@@ -107,9 +107,10 @@ impl<A: Allocator> Core<A> {
     }
 
     /// The case of the transaction that the session has entered, or none where there is no such session, where nothing of it is under
-    /// way, and where that is decided.
+    /// way, and where that is decided. Where there is one, it may be decided.
     pub fn open_case(&self, session: usize) -> Option<&OpenCase<A>>
-        ensures { option_map (λ c. c.now) result ≡ open_case self.now.world session }
+        ensures case { option_map (λ c. c.now) result ≡ open_case self.now.world session }
+        ensures free { IsSome result → refusal self.now.world (Decide session) ≡ None }
     {
         let row = match under_way(&self.sessions, &self.log, session) {
             Ok((_place, row)) => row,

@@ -1,16 +1,16 @@
 -- What clauses see of a core with the file of its cases, what ties the two, and what the calls do.
-use Rattle.std.specs.Prelude.{◌≡◌, ℕ, zero, suc, Bool, true, false, ◌==◌, List, length, Option, None, Some, Result, Ok, Err, IfOk, option_map, slice_get, slice_set}
+use Rattle.std.specs.Prelude.{◌≡◌, ℕ, zero, suc, Bool, true, false, ◌==◌, List, length, Option, None, Some, Result, Ok, Err, IfOk, option_map, get_or, slice_set}
 use Rattle.boxcar.specs.Table.{Shelves, Where, Shows}
 use Rattle.occ_types.specs.declared.fault.Fault.{Fault}
 use Rattle.occ_types.specs.declared.fault.Fault.TheVariants.{WrongCase}
 use Rattle.occ_model.specs.Log.{Case}
 use Rattle.occ_model.specs.World.{World}
-use Rattle.occ_model.specs.Event.{Item, Event, Enter, Decide, Decided, Reply, Entered}
+use Rattle.occ_model.specs.Event.{Item, Event, Enter, Decide, Reply, Entered}
 use Rattle.occ_model.specs.Refusal.{refusal}
 use Rattle.occ_model.specs.Step.{Step}
 use Rattle.occ_model.specs.declared.verdict.Verdict.{Verdict}
 use Rattle.occ_core.specs.OpenCases.{open_case}
-use Rattle.occ_core.specs.Replies.{replied}
+use Rattle.occ_core.specs.Replies.{decision}
 
 -- of each session in order, what shows the case of its last entry, where that was filed
 abbrev pub Tokens : Type 0
@@ -25,7 +25,7 @@ pub record Filed : Type 0 where
 -- what shows the case of a session's last entry
 abbrev pub token_of : Tokens → ℕ → Option (Where Case)
 token_of tokens zero = None
-token_of tokens (suc place) = elim (slice_get tokens place) [ None ↦ None | Some token ↦ token ]
+token_of tokens (suc place) = get_or tokens place None
 
 -- the same with another one for a session
 abbrev pub kept : Tokens → ℕ → Option (Where Case) → Tokens
@@ -40,8 +40,9 @@ abbrev pub has_index : Option (Where Case) → ℕ → Bool
 has_index None index = false
 has_index (Some token) index = token.index == index
 
--- Each token is of the file, and shows the case of its session's latest row, where that is open.
+-- There is room for each session's token. Each token is of the file, and shows the case of its session's latest row, where that is open.
 pub record AreTied (world : World) (file : Shelves) (tokens : Tokens) : Type 0 where
+  pub each_session : length tokens ≡ world.settings.sessions
   pub of_file : (session : ℕ) (token : Where Case) → token_of tokens session ≡ Some token → Shows file token
   pub of_row : (session : ℕ) (token : Where Case) → token_of tokens session ≡ Some token
       → (index : ℕ) (case : Case) → open_case world session ≡ Some (index, case) → token.value ≡ case
@@ -66,7 +67,7 @@ abbrev pub DecidesBy : Filed → ℕ → ℕ → Result Verdict Fault → Filed 
 DecidesBy old session index result new = elim (refusal old.world (Decide session)) [
   | Some fault ↦ (result ≡ Err fault) × (new ≡ old)
   | None ↦ elim (has_index (token_of old.tokens session) index) [
-    | true ↦ Moves old (Decide session) (replied Decided result) new
+    | true ↦ Moves old (Decide session) (decision result) new
     | false ↦ (result ≡ Err WrongCase) × (new ≡ old)
   ]
 ]

@@ -1,10 +1,10 @@
 //! The decision, by the core or by a verdict that was reached outside the lock.
 ghost use Rattle.std.specs.Prelude.{◌≡◌, true};
 ghost use Rattle.boxcar.specs.Table.{Shows};
-ghost use Rattle.occ_model.specs.Event.{Decide, Decided};
+ghost use Rattle.occ_model.specs.Event.{Decide};
 ghost use Rattle.occ_model.specs.Validity.{verdict};
 ghost use Rattle.occ_core.specs.OpenCases.{IsRight};
-ghost use Rattle.occ_core.specs.Replies.{replied};
+ghost use Rattle.occ_core.specs.Replies.{decision};
 ghost use Rattle.occ_filed.specs.Filed.{Moves, DecidesBy, token_of, has_index};
 
 use crate::filed_core::FiledCore;
@@ -15,7 +15,7 @@ use std::alloc::Allocator;
 impl<A: Allocator> FiledCore<A> {
     /// Decides the transaction that the session has entered, as `Core::decide` does: the verdict is reached now.
     pub fn decide(&mut self, session: usize) -> Result<Verdict, Fault>
-        ensures { Moves self.old (Decide session) (replied Decided result) self.new }
+        ensures { Moves self.old (Decide session) (decision result) self.new }
     {
         self.core.decide(session)
     }

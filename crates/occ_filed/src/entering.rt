@@ -1,15 +1,15 @@
 //! Entry, with the case of a request filed.
-ghost use Rattle.std.specs.Prelude.{◌≡◌, ◌×◌, ℕ, Option, None, Some, IfOk, IfErr, IfSome};
+ghost use Rattle.std.specs.Prelude.{◌≡◌, ◌×◌, ℕ, Option, None, Some, Ok, IfOk, IfErr, IfSome};
 ghost use Rattle.boxcar.specs.Table.{Where, Shows};
 ghost use Rattle.occ_model.specs.Log.{Case as PlainCase};
 ghost use Rattle.occ_core.specs.OpenCases.{open_case};
-ghost use Rattle.occ_core.specs.Replies.{replied_back, outcome_of, CanEnter};
+ghost use Rattle.occ_core.specs.Replies.{entering};
 ghost use Rattle.occ_queue.specs.Items.{item_of};
-ghost use Rattle.occ_filed.specs.Filed.{Enters, index_of, kept_after};
+ghost use Rattle.occ_filed.specs.Filed.{Enters, index_of, kept_after, token_of};
 
 use crate::filed_core::FiledCore;
 use occ_case::{CaseFile, CaseToken};
-use occ_core::{Core, Outcome};
+use occ_core::{Core, Entry};
 use occ_queue::Item;
 use occ_types::Refused;
 use std::alloc::Allocator;
@@ -20,7 +20,7 @@ use std::sync::Wait;
 #[derive_where(Debug)]
 pub struct FiledOutcome<A: Allocator> {
     /// What came of the entry.
-    pub outcome: Outcome<A>,
+    pub outcome: Entry<A>,
     /// The index under which the case of a request was filed. None where the file found no memory for it, and for what has no case.
     pub case: Option<u64>,
 }
@@ -35,8 +35,8 @@ impl<A: Allocator + Copy> FiledCore<A> {
         session: usize,
         item: Item<A>,
     ) -> Result<FiledOutcome<A>, Refused<Item<A>>>
-        ensures step { (token : Option (Where PlainCase)) × Enters self.old session (item_of item) token (replied_back (λ filed. outcome_of filed.outcome) result) self.new × IfOk result (λ filed. filed.case ≡ index_of token) }
-        ensures outcome { IfOk result (λ filed. CanEnter (item_of item) filed.outcome) }
+        ensures step { (token : Option (Where PlainCase)) × Enters self.old session (item_of item) token (entering (result_map (λ filed. filed.outcome) result)) self.new × IfOk result (λ filed. filed.case ≡ index_of token) }
+        ensures shown { IfOk result (λ filed. (index : ℕ) → filed.case ≡ Some index → index_of (token_of self.new.tokens session) ≡ Some index) }
         ensures handed_back { IfErr result (λ refused. item_of refused.value ≡ item_of item) }
     {
         match self.enter_unfiled(session, item) {
@@ -54,14 +54,13 @@ impl<A: Allocator + Copy> FiledCore<A> {
         &mut self,
         session: usize,
         item: Item<A>,
-    ) -> Result<Outcome<A>, Refused<Item<A>>>
-        ensures step { Enters self.old session (item_of item) None (replied_back outcome_of result) self.new }
-        ensures outcome { IfOk result (CanEnter (item_of item)) }
+    ) -> Result<Entry<A>, Refused<Item<A>>>
+        ensures step { Enters self.old session (item_of item) None (entering result) self.new }
         ensures handed_back { IfErr result (λ refused. item_of refused.value ≡ item_of item) }
     {
         match self.core.enter(session, item) {
             Ok(outcome) => {
-                if let Outcome::Entered { .. } = &outcome {
+                if let Entry::Entered { .. } = &outcome {
                     self.tokens.keep(session, None);
                 }
                 Ok(outcome)
@@ -71,10 +70,10 @@ impl<A: Allocator + Copy> FiledCore<A> {
     }
 
     // Files the case of what has entered, and answers the index under which it was filed.
-    fn file_entered<R: Wait>(&mut self, rt: &R, session: usize, outcome: &Outcome<A>) -> Option<u64>
-        ensures { (token : Option (Where PlainCase)) × (self.new ≡ record self.old { tokens = kept_after self.old.tokens session token (outcome_of outcome.now) }) × (result ≡ index_of token) }
+    fn file_entered<R: Wait>(&mut self, rt: &R, session: usize, outcome: &Entry<A>) -> Option<u64>
+        ensures { (token : Option (Where PlainCase)) × (self.new ≡ record self.old { tokens = kept_after self.old.tokens session token (entering (Ok outcome.now)) }) × (result ≡ index_of token) }
     {
-        let Outcome::Entered { .. } = outcome else {
+        let Entry::Entered { .. } = outcome else {
             return None;
         };
         let token = push_open(&self.core, &self.file, rt, session);

@@ -1,10 +1,10 @@
 //! A core with the file of its cases.
-ghost use Rattle.std.specs.Prelude.{◌≡◌, IfOk, IfErr, IfSome, None, option_map};
+ghost use Rattle.std.specs.Prelude.{◌≡◌, ℕ, length, IfOk, IfErr, IfSome, None, option_map};
 ghost use Rattle.std.specs.Arc.{arc_value};
 ghost use Rattle.boxcar.specs.Table.{Shows};
 ghost use Rattle.occ_types.specs.declared.fault.Fault.TheVariants.{Memory};
 ghost use Rattle.occ_model.specs.World.{opened};
-ghost use Rattle.occ_filed.specs.Filed.{token_of};
+ghost use Rattle.occ_filed.specs.Filed.{AreTied, token_of};
 
 use crate::tokens::CaseTokens;
 use occ_case::{CaseFile, CaseToken};
@@ -48,7 +48,7 @@ impl<A: Allocator + Copy> FiledCore<A> {
         keep: usize,
     ) -> Result<FiledCore<A>, Refused<Schema<A>>>
         ensures opened { IfOk result (λ filed. filed.world ≡ opened (record { schema = schema; sessions = sessions; keep = keep })) }
-        ensures empty { IfOk result (λ filed. (session : _) → token_of filed.tokens session ≡ None) }
+        ensures empty { IfOk result (λ filed. (session : ℕ) → token_of filed.tokens session ≡ None) }
         ensures handed_back { IfErr result (λ refused. (refused.value ≡ schema) × (refused.fault ≡ Memory)) }
     {
         let (file, tokens) = match room(alloc, sessions) {
@@ -66,7 +66,16 @@ impl<A: Allocator + Copy> FiledCore<A> {
 }
 
 impl<A: Allocator> FiledCore<A> {
-    /// The core, for all that it shows.
+    /// What holds of every core with its file, between any two calls, for a caller to rest on: there is room for each session's token;
+    /// and each is of the file, and shows the case of its session's latest row while that is open. It computes nothing.
+    pub fn law(&self)
+        ensures { AreTied self.now.world self.now.file self.now.tokens }
+    {
+        // It is opened by a look at its fields, and what its type says is known then.
+        let _core = &self.core;
+    }
+
+    /// The core, for all that it shows. It has the law of `Core::law`.
     pub fn core(&self) -> &Core<A>
         ensures { result.now.world ≡ self.now.world }
     {
@@ -105,7 +114,8 @@ fn room<A: Allocator + Copy>(
     alloc: A,
     sessions: usize,
 ) -> Result<(Arc<CaseFile<A>, A>, CaseTokens<A>), Fault>
-    ensures tokens { IfOk result (λ parts. (session : _) → token_of parts.1 session ≡ None) }
+    ensures count { IfOk result (λ parts. length parts.1 ≡ sessions) }
+    ensures none { IfOk result (λ parts. (session : ℕ) → token_of parts.1 session ≡ None) }
     ensures memory { IfErr result (λ fault. fault ≡ Memory) }
 {
     let file = CaseFile::new(alloc)?;

@@ -1,5 +1,5 @@
 //! What shows the cases that sessions filed last.
-ghost use Rattle.std.specs.Prelude.{◌≡◌, IfOk, None, option_map};
+ghost use Rattle.std.specs.Prelude.{◌≡◌, ℕ, IfOk, None, length, option_map};
 ghost use Rattle.occ_filed.specs.Filed.{token_of, kept};
 
 use occ_case::CaseToken;
@@ -27,7 +27,8 @@ impl<A: Allocator> Model for CaseTokens<A> {
 impl<A: Allocator> CaseTokens<A> {
     /// None for so many sessions. An error where there is no memory for them.
     pub(crate) fn new(alloc: A, sessions: usize) -> Result<CaseTokens<A>, AllocError>
-        ensures { IfOk result (λ made. (session : _) → token_of made session ≡ None) }
+        ensures count { IfOk result (λ made. length made ≡ sessions) }
+        ensures none { IfOk result (λ made. (session : ℕ) → token_of made session ≡ None) }
     {
         let mut tokens = Vec::with_capacity(alloc, sessions)?;
         for _session in 0..sessions {
