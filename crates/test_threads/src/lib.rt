@@ -1,0 +1,2 @@
+//! Tests of what threads share, each by threads that really run.
+#![tactic(auto)]
