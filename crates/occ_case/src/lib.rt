@@ -3,11 +3,13 @@
 #![tactic(auto)]
 
 mod cases;
+mod crossing;
 mod file;
 mod judged;
 mod verdicts;
 
 pub use cases::{Case, OpenCase, SharedCase};
+pub use crossing::cases_cross_threads;
 pub use file::{CaseFile, CaseToken};
 pub use judged::{Judged, judge};
 pub use occ_model::{Cause, Verdict};

@@ -22,7 +22,7 @@ opens (Done number) index case e = cc
 opens (Back cause) index case e = cc
 
 row_of : (world : World) (session index : ℕ) (case : Case) → open_case world session ≡ Some (index, case) → (row : LogRow) × (latest session world.log ≡ Some row) × (row.standing ≡ Open index case)
-row_of world session index case open = at (latest session world.log) refl open
+row_of world session index case there_is = at (latest session world.log) refl there_is
   where
     at : (o : Option LogRow) → latest session world.log ≡ o → option_and_then (λ row. case_of row.standing) o ≡ Some (index, case) → (row : LogRow) × (latest session world.log ≡ Some row) × (row.standing ≡ Open index case)
     at None there e = cc
@@ -38,7 +38,7 @@ pub still : (file : Shelves) (tokens : Tokens) (old new : World) (event : Event)
 still file tokens old new event reply step none tied = record {
   each_session = tied.each_session ∙ sym (ap (λ s. s.sessions) (same_settings old new event reply step));
   of_file = tied.of_file;
-  of_row = λ session token is index case open. let r = row_of new session index case open in
+  of_row = λ session token is index case at. let r = row_of new session index case at in
       go session token is index case r.0 r.2 (cases_stay old new event reply step session index case r.0 r.1 r.2);
 }
   where
@@ -63,5 +63,5 @@ keeps world file tokens session token shows right tied = record {
     file_at other now (inr was) = tied.of_file other now was
 
     row_at : (other : ℕ) (now : Where Case) → (token ≡ Some now) × (other ≡ session) ⊎ (token_of tokens other ≡ Some now) → (index : ℕ) (case : Case) → open_case world other ≡ Some (index, case) → now.value ≡ case
-    row_at other now (inl own) index case open = right now own.0 index case (sym (ap (open_case world) own.1) ∙ open)
-    row_at other now (inr was) index case open = tied.of_row other now was index case open
+    row_at other now (inl own) index case at = right now own.0 index case (sym (ap (open_case world) own.1) ∙ at)
+    row_at other now (inr was) index case at = tied.of_row other now was index case at

@@ -28,7 +28,8 @@ impl<A: Allocator> FiledCore<A> {
     /// takes no memory.
     pub fn decide_by(&mut self, session: usize, judged: Judged<A>) -> Result<Verdict, Fault>
         requires own_file { Shows self.old.file judged }
-        ensures { DecidesBy self.old session judged.index result self.new }
+        ensures decides { DecidesBy self.old session judged.index result self.new }
+        ensures file { self.new.file ≡ self.old.file }
     {
         if self.core.open_case(session).is_some() && !self.is_own(session, &judged) {
             return Err(Fault::WrongCase);

@@ -31,7 +31,7 @@ impl<A: Allocator> CaseTokens<A> {
         ensures none { IfOk result (λ made. (session : ℕ) → token_of made session ≡ None) }
     {
         let mut tokens = Vec::with_capacity(alloc, sessions)?;
-        for _session in 0..sessions {
+        for _ in 0..sessions {
             tokens.push(None)?;
         }
         Ok(CaseTokens { tokens })
