@@ -2,7 +2,7 @@
 use crate::dice::Dice;
 use crate::loads::{Shape, amount};
 use occ_case::Verdict;
-use occ_core::{Core, Ended, Entry, SingleWrite};
+use occ_core::{Core, Outcome, SingleWrite};
 use occ_queue::Item;
 use occ_sets::{Op, PrivateCopy};
 use occ_types::{Cell, Fault, Key, KeyKind, Kind, Row, Schema, TableDef, Text};
@@ -91,7 +91,7 @@ impl<A: Allocator + Copy> Store<A> {
         let mut committed = 0u64;
         for session in 1..=self.shape.together {
             let operations = self.operations()?;
-            let _done = self.core.run_alone(session, number, &operations)?;
+            let _done = self.core.run_alone(session, number, operations)?;
             committed = committed.saturating_add(1);
         }
         Ok(committed)
@@ -211,7 +211,7 @@ fn fill<A: Allocator + Copy>(
     for part in 0..rows.div_ceil(PUTS) {
         let first = part.saturating_mul(PUTS);
         let puts = puts(alloc, first, rows.min(first.saturating_add(PUTS)))?;
-        let _done = core.run_alone(session, part.saturating_add(1), &puts)?;
+        let _done = core.run_alone(session, part.saturating_add(1), puts)?;
     }
     Ok(())
 }
@@ -246,8 +246,8 @@ fn end_serially<A: Allocator + Copy>(
     copy: PrivateCopy<A>,
 ) -> Result<bool, Fault> {
     match core.serial_end(session, request(copy))? {
-        Ended::Committed(_) => Ok(true),
-        Ended::BackedUp(_) | Ended::RanAlone { .. } | Ended::MarkedClosed => Ok(false),
+        Outcome::Committed { .. } => Ok(true),
+        _ => Ok(false),
     }
 }
 
@@ -257,7 +257,7 @@ fn end_by_steps<A: Allocator + Copy>(
     session: usize,
     copy: PrivateCopy<A>,
 ) -> Result<bool, Fault> {
-    let _entry: Entry<A> = core.enter(session, request(copy))?;
+    let _entered: Outcome<A> = core.enter(session, request(copy))?;
     match core.decide(session)? {
         Verdict::Commit => {
             write_all(core, session)?;

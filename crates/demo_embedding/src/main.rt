@@ -1,7 +1,7 @@
 //! The store in a program of one's own: two sessions pay into one account at the same time, and one of them has to try again. Then the log is shortened.
 #![tactic(auto)]
 
-use occ_core::{Core, Ended};
+use occ_core::{Core, Outcome};
 use occ_queue::Item;
 use occ_sets::{Op, PrivateCopy};
 use occ_types::{Cell, Fault, Key, KeyKind, Kind, Row, Schema, TableDef, Text};
@@ -102,8 +102,8 @@ fn commit(
         writes,
     };
     match store.serial_end(session, request)? {
-        Ended::Committed(number) => Ok(Some(number)),
-        Ended::BackedUp(_) | Ended::RanAlone { .. } | Ended::MarkedClosed => Ok(None),
+        Outcome::Committed { tn } => Ok(Some(tn)),
+        _ => Ok(None),
     }
 }
 
@@ -114,13 +114,13 @@ fn pay_alone(
     number: u64,
     amount: i64,
 ) -> Result<u64, Fault> {
-    let payment = [Op::Add {
+    let payment = vec![Op::Add {
         table: ACCOUNTS,
         key: ACCOUNT,
         amount,
-    }];
-    let (number, _answers) = store.run_alone(session, number, &payment)?;
-    Ok(number)
+    }]?;
+    let (tn, _answers) = store.run_alone(session, number, payment)?;
+    Ok(tn)
 }
 
 /// Folds the settled beginning of the log, as a service does every so often. What was paid stays.

@@ -1,7 +1,7 @@
 //! Lists of operations that run alone: what they are answered, and what they leave.
-use crate::stores::{Outcome, add, delete, end, get, put, ran, request, scan, store, told};
+use crate::stores::{Ended, add, delete, end, get, put, ran, request, scan, store, told};
 use occ_audit::audit_rows;
-use occ_core::Entry;
+use occ_core::Outcome;
 use occ_queue::Item;
 use occ_sets::Op;
 use occ_types::Fault;
@@ -12,9 +12,9 @@ use std::test::Fail;
 fn a_list_of_operations_runs_alone(rt: HostRuntime) -> Result<(), Fail> {
     let alloc = rt.alloc();
     let mut core = store(alloc, 8)?;
-    assert!(rt; end(&mut core, 1, request(alloc, 1, Some(4))?) == Ok(Outcome::Committed(1)));
-    let operations = [add(1, i64::MAX), get(1), scan()];
-    let words = ran(alloc, &mut core, 2, &operations)?;
+    assert!(rt; end(&mut core, 1, request(alloc, 1, Some(4))?) == Ok(Ended::Committed(1)));
+    let operations = vec![in alloc; add(1, i64::MAX), get(1), scan()]?;
+    let words = ran(alloc, &mut core, 2, operations)?;
     assert_eq!(rt;
         words.as_str(),
         "as 2: 9223372036854775807; [1 is 9223372036854775807; ]; "
@@ -36,11 +36,11 @@ fn operations_run_alone_by_entry(rt: HostRuntime) -> Result<(), Fail> {
             operations,
         },
     );
-    let Ok(Entry::RanAlone { number, answers }) = entered else {
+    let Ok(Outcome::RanAlone { tn, answers }) = entered else {
         assert!(rt; false, "it ran alone");
         return Ok(());
     };
-    assert_eq!(rt; told(alloc, number, &answers)?.as_str(), "as 1: 4; ");
+    assert_eq!(rt; told(alloc, tn, &answers)?.as_str(), "as 1: 4; ");
     Ok(())
 }
 
@@ -68,9 +68,9 @@ fn deleted_and_asked(alloc: Global) -> Result<Vec<Op<Global>, Global>, Fault> {
 fn operations_see_what_was_put_before_them(rt: HostRuntime) -> Result<(), Fail> {
     let alloc = rt.alloc();
     let mut core = store(alloc, 8)?;
-    assert!(rt; end(&mut core, 1, request(alloc, 1, Some(4))?) == Ok(Outcome::Committed(1)));
+    assert!(rt; end(&mut core, 1, request(alloc, 1, Some(4))?) == Ok(Ended::Committed(1)));
     let operations = put_and_asked(alloc)?;
-    let words = ran(alloc, &mut core, 2, operations.as_slice())?;
+    let words = ran(alloc, &mut core, 2, operations)?;
     assert_eq!(rt; words.as_str(), "as 2: 5; [1 is 4; 2 is 5; ]; ");
     assert!(rt; core.row(2, 1).is_some_and(|row| row.reads.len() == 1));
     Ok(())
@@ -81,9 +81,9 @@ fn operations_see_what_was_put_before_them(rt: HostRuntime) -> Result<(), Fail> 
 fn operations_see_what_was_deleted_before_them(rt: HostRuntime) -> Result<(), Fail> {
     let alloc = rt.alloc();
     let mut core = store(alloc, 8)?;
-    assert!(rt; end(&mut core, 1, request(alloc, 1, Some(4))?) == Ok(Outcome::Committed(1)));
+    assert!(rt; end(&mut core, 1, request(alloc, 1, Some(4))?) == Ok(Ended::Committed(1)));
     let operations = deleted_and_asked(alloc)?;
-    let words = ran(alloc, &mut core, 2, operations.as_slice())?;
+    let words = ran(alloc, &mut core, 2, operations)?;
     assert_eq!(rt; words.as_str(), "as 2: none; []; ");
     assert!(rt; audit_rows(alloc, &core.view()) == Ok(true));
     Ok(())
@@ -94,8 +94,8 @@ fn what_was_put_alone_stands(rt: HostRuntime) -> Result<(), Fail> {
     let alloc = rt.alloc();
     let mut core = store(alloc, 8)?;
     let written = put_and_asked(alloc)?;
-    assert!(rt; core.run_alone(1, 1, written.as_slice()).is_ok());
-    let read = ran(alloc, &mut core, 2, &[get(2)])?;
+    assert!(rt; core.run_alone(1, 1, written).is_ok());
+    let read = ran(alloc, &mut core, 2, vec![in alloc; get(2)]?)?;
     assert_eq!(rt; read.as_str(), "as 2: 5; ");
     Ok(())
 }

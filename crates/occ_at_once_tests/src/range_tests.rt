@@ -14,23 +14,23 @@ fn fill(alloc: Global, core: &mut Core<Global>, keys: usize) -> Result<(), Fault
     for key in 0..keys {
         operations.push(put(alloc, key as u64, 0)?)?;
         if operations.len() == MAX_OPERATIONS {
-            core.run_alone(1, number, operations.as_slice())?;
-            operations.clear();
+            core.run_alone(1, number, operations)?;
+            operations = Vec::new(alloc);
             number += 1;
         }
     }
-    core.run_alone(1, number, operations.as_slice())?;
+    core.run_alone(1, number, operations)?;
     Ok(())
 }
 
 // How many rows a question for the whole table is answered by a transaction of session 2 that runs alone.
-fn rows_alone(core: &mut Core<Global>) -> Result<usize, Fault> {
+fn rows_alone(alloc: Global, core: &mut Core<Global>) -> Result<usize, Fault> {
     let whole = Op::Scan {
         table: 0,
         lower: None,
         upper: None,
     };
-    let (_number, answers) = core.run_alone(2, 1, &[whole])?;
+    let (_number, answers) = core.run_alone(2, 1, vec![in alloc; whole]?)?;
     match answers.get(0) {
         Some(Answer::Rows(rows)) => Ok(rows.len()),
         _ => Ok(0),
@@ -44,7 +44,7 @@ fn a_range_may_have_any_number_of_rows_alone(rt: HostRuntime) -> Result<(), Fail
     fill(alloc, &mut core, MAX_ANSWER_ROWS + 1)?;
     let start = core.tnc();
     assert!(rt; core.scan(2, 1, start, 0, &None, &None).err() == Some(Fault::RangeTooLarge));
-    assert!(rt; rows_alone(&mut core) == Ok(MAX_ANSWER_ROWS + 1));
+    assert!(rt; rows_alone(alloc, &mut core) == Ok(MAX_ANSWER_ROWS + 1));
     assert_eq!(rt; core.tnc(), start.saturating_add(1));
     Ok(())
 }

@@ -12,20 +12,24 @@ fn refused(
     core: &mut Core<Global>,
     session: usize,
     number: u64,
-    operations: &[Op<Global>],
+    operations: Vec<Op<Global>, Global>,
 ) -> Option<Fault> {
-    core.run_alone(session, number, operations).err()
+    match core.run_alone(session, number, operations) {
+        Ok(_ran) => None,
+        Err(refused) => Some(refused.fault),
+    }
 }
 
 #[test]
 fn whose_turn_it_is(rt: HostRuntime) -> Result<(), Fail> {
-    let mut core = store(rt.alloc(), 8)?;
+    let alloc = rt.alloc();
+    let mut core = store(alloc, 8)?;
     assert!(rt; finds_none(&mut core, 1));
-    assert!(rt; refused(&mut core, 3, 1, &[]) == Some(Fault::NoSession));
-    assert!(rt; refused(&mut core, 1, 2, &[]) == Some(Fault::OutOfTurn));
-    assert!(rt; refused(&mut core, 1, 1, &[]) == Some(Fault::ReadOpen));
+    assert!(rt; refused(&mut core, 3, 1, Vec::new(alloc)) == Some(Fault::NoSession));
+    assert!(rt; refused(&mut core, 1, 2, Vec::new(alloc)) == Some(Fault::OutOfTurn));
+    assert!(rt; refused(&mut core, 1, 1, Vec::new(alloc)) == Some(Fault::ReadOpen));
     assert!(rt; core.forget(1, 1) == Ok(true));
-    assert!(rt; refused(&mut core, 1, 1, &[]) == None);
+    assert!(rt; refused(&mut core, 1, 1, Vec::new(alloc)) == None);
     Ok(())
 }
 
@@ -46,9 +50,9 @@ fn how_many_operations_and_of_which_table(rt: HostRuntime) -> Result<(), Fail> {
     let alloc = rt.alloc();
     let mut core = store(alloc, 8)?;
     let many = deletions(alloc, 257)?;
-    assert!(rt; refused(&mut core, 1, 1, many.as_slice()) == Some(Fault::SetFull));
+    assert!(rt; refused(&mut core, 1, 1, many) == Some(Fault::SetFull));
     let fewer = deletions(alloc, 256)?;
-    assert!(rt; refused(&mut core, 1, 1, fewer.as_slice()) == Some(Fault::NoTable));
+    assert!(rt; refused(&mut core, 1, 1, fewer) == Some(Fault::NoTable));
     assert_eq!(rt; core.tnc(), 0);
     Ok(())
 }
@@ -70,7 +74,7 @@ fn neither_while_another_is_active(rt: HostRuntime) -> Result<(), Fail> {
     let alloc = rt.alloc();
     let mut core = store(alloc, 8)?;
     assert!(rt; begin_to_write(alloc, &mut core) == Ok(Verdict::Commit));
-    assert!(rt; refused(&mut core, 2, 1, &[]) == Some(Fault::StoreBusy));
+    assert!(rt; refused(&mut core, 2, 1, Vec::new(alloc)) == Some(Fault::StoreBusy));
     assert!(rt; end(&mut core, 2, request(alloc, 1, None)?) == Err(Fault::StoreBusy));
     assert!(rt; end(&mut core, 1, request(alloc, 2, None)?) == Err(Fault::SessionBusy));
     Ok(())
@@ -80,12 +84,13 @@ fn neither_while_another_is_active(rt: HostRuntime) -> Result<(), Fail> {
 fn alone_after_another_has_finished(rt: HostRuntime) -> Result<(), Fail> {
     let alloc = rt.alloc();
     let mut core = store(alloc, 8)?;
-    let operations = [add(1, 5), get(1)];
     assert!(rt; begin_to_write(alloc, &mut core) == Ok(Verdict::Commit));
-    assert!(rt; refused(&mut core, 2, 1, &operations) == Some(Fault::StoreBusy));
+    assert!(rt;
+        refused(&mut core, 2, 1, vec![in alloc; add(1, 5), get(1)]?) == Some(Fault::StoreBusy)
+    );
     assert!(rt; write_and_finish(&mut core) == Ok(1));
     assert_eq!(rt;
-        ran(alloc, &mut core, 2, &operations)?.as_str(),
+        ran(alloc, &mut core, 2, vec![in alloc; add(1, 5), get(1)]?)?.as_str(),
         "as 2: 6; "
     );
     Ok(())

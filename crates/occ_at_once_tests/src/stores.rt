@@ -1,6 +1,6 @@
 //! A small store, what the tests hand in, and what comes of it.
 use occ_case::Cause;
-use occ_core::{Core, Ended};
+use occ_core::{Core, Outcome};
 use occ_queue::Item;
 use occ_sets::{Answer, Op, WriteSet};
 use occ_types::{Cell, Fault, Key, KeyKind, Kind, Row, Schema, TableDef, Text};
@@ -34,11 +34,12 @@ pub(crate) fn request(alloc: Global, number: u64, put: Option<i64>) -> Result<It
 
 /// What comes of a serial end, with how many answers there are to operations that ran alone.
 #[derive(Clone, Copy, Debug, PartialEq, Eq)]
-pub(crate) enum Outcome {
+pub(crate) enum Ended {
     Committed(u64),
     BackedUp(Cause),
-    RanAlone { number: u64, answers: usize },
+    RanAlone { tn: u64, answers: usize },
     MarkedClosed,
+    Entered,
 }
 
 /// What comes of a serial end; where it is refused, why.
@@ -46,15 +47,16 @@ pub(crate) fn end(
     core: &mut Core<Global>,
     session: usize,
     item: Item<Global>,
-) -> Result<Outcome, Fault> {
+) -> Result<Ended, Fault> {
     match core.serial_end(session, item) {
-        Ok(Ended::Committed(number)) => Ok(Outcome::Committed(number)),
-        Ok(Ended::BackedUp(cause)) => Ok(Outcome::BackedUp(cause)),
-        Ok(Ended::RanAlone { number, answers }) => Ok(Outcome::RanAlone {
-            number,
+        Ok(Outcome::Committed { tn }) => Ok(Ended::Committed(tn)),
+        Ok(Outcome::BackedUp(cause)) => Ok(Ended::BackedUp(cause)),
+        Ok(Outcome::RanAlone { tn, answers }) => Ok(Ended::RanAlone {
+            tn,
             answers: answers.len(),
         }),
-        Ok(Ended::MarkedClosed) => Ok(Outcome::MarkedClosed),
+        Ok(Outcome::MarkedClosed) => Ok(Ended::MarkedClosed),
+        Ok(Outcome::Entered { .. }) => Ok(Ended::Entered),
         Err(refused) => Err(refused.fault),
     }
 }
@@ -113,21 +115,21 @@ pub(crate) fn ran(
     alloc: Global,
     core: &mut Core<Global>,
     session: usize,
-    operations: &[Op<Global>],
+    operations: Vec<Op<Global>, Global>,
 ) -> Result<String<Global>, Fault> {
-    let (number, answers) = core.run_alone(session, 1, operations)?;
-    let words = told(alloc, number, &answers)?;
+    let (tn, answers) = core.run_alone(session, 1, operations)?;
+    let words = told(alloc, tn, &answers)?;
     Ok(words)
 }
 
 /// A transaction number and answers, in words.
 pub(crate) fn told(
     alloc: Global,
-    number: u64,
+    tn: u64,
     answers: &Vec<Answer<Global>, Global>,
 ) -> Result<String<Global>, AllocError> {
     let mut words = String::new(alloc);
-    write!(words, "as {number}: ")?;
+    write!(words, "as {tn}: ")?;
     for answer in answers {
         match answer {
             Answer::Found(None) => words.push_str("none; ")?,

@@ -1,7 +1,7 @@
 //! What enters, is decided, writes, finishes, is backed up and closes, and where that is refused.
 use crate::stores::{one_write, refused, request, stock};
 use occ_case::{Cause, Verdict};
-use occ_core::{Core, Entry, SingleWrite};
+use occ_core::{Core, Outcome, SingleWrite};
 use occ_queue::Item;
 use occ_sets::WriteSet;
 use occ_types::Fault;
@@ -14,7 +14,7 @@ fn commits(rt: HostRuntime) -> Result<(), Fail> {
     let alloc = rt.alloc();
     let mut core = stock(alloc)?;
     let entered = core.enter(1, request(alloc, 7, 100)?);
-    assert!(rt; entered.is_ok_and(|entry| matches!(&entry, Entry::Entered { place: 0, index: 0 })));
+    assert!(rt; entered.is_ok_and(|outcome| matches!(&outcome, Outcome::Entered { place: 0 })));
     assert_eq!(rt; core.active(), 1);
     assert!(rt; core.decide(1) == Ok(Verdict::Commit));
     assert!(rt; core.finish(1) == Err(Fault::WritesLeft));
@@ -77,7 +77,7 @@ fn turned_away(
 // Whether the closing mark of a session closes it; where it is refused, why.
 fn close(core: &mut Core<Global>, session: usize, number: u64) -> Result<bool, Fault> {
     match core.enter(session, Item::Close { number }) {
-        Ok(entry) => Ok(matches!(&entry, Entry::MarkedClosed)),
+        Ok(entry) => Ok(matches!(&entry, Outcome::MarkedClosed)),
         Err(refused) => Err(refused.fault),
     }
 }
@@ -145,12 +145,14 @@ fn shows(rt: HostRuntime) -> Result<(), Fail> {
 
 #[test]
 fn a_full_log_takes_no_more(rt: HostRuntime) -> Result<(), Fail> {
-    let mut core = stock(rt.alloc())?;
+    let alloc = rt.alloc();
+    let mut core = stock(alloc)?;
     let rows = MAX_LOG_ROWS as u64;
     for number in 1..=rows {
-        assert!(rt; core.run_alone(1, number, &[]).is_ok());
+        assert!(rt; core.run_alone(1, number, Vec::new(alloc)).is_ok());
     }
-    assert!(rt; core.run_alone(1, rows + 1, &[]).err() == Some(Fault::LogFull));
+    let refused = core.run_alone(1, rows + 1, Vec::new(alloc)).err();
+    assert!(rt; refused.is_some_and(|refused| refused.fault == Fault::LogFull));
     assert!(rt; close(&mut core, 1, rows + 1) == Ok(true));
     assert_eq!(rt; core.log().len(), MAX_LOG_ROWS);
     Ok(())

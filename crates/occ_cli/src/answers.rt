@@ -6,6 +6,8 @@ ghost use Rattle.std.specs.List.{flat_map};
 ghost use Rattle.occ_sets.specs.PlainSets.{rows_of};
 ghost use Rattle.occ_types.specs.PlainData.{key_of, object_of};
 ghost use Rattle.occ_types.specs.declared.fault.Fault.TheVariants as faults;
+ghost use Rattle.occ_types.specs.Schema.{Schema as PlainSchema};
+ghost use Rattle.occ_core.specs.Replies.{outcome_of};
 ghost use Rattle.occ_core.specs.Runs.{reply_of};
 ghost use Rattle.occ_cli.specs.Answers as says;
 ghost use Rattle.occ_cli.specs.Answers.{answer_of, answer_text, reply_text, object_text, name_at, fault_number, verdict_text, found_text, rows_text, counts_text};
@@ -14,7 +16,7 @@ use crate::pairs::write_pairs;
 use crate::refusals::Refusal;
 use crate::tokens::write_ran_alone;
 use occ_case::{Cause, Verdict};
-use occ_core::Reply;
+use occ_core::{Outcome, Reply};
 use occ_text::writers::{write_key, write_row};
 use occ_types::{Fault, Key, Object, Row, Schema};
 use std::alloc::{AllocError, Allocator};
@@ -141,18 +143,28 @@ fn write_reply<A: Allocator>(
         Reply::Found(row) => write_found(line, row),
         Reply::Rows(rows) => write_rows(line, rows.as_slice()),
         Reply::Forgotten(_known) => line.push_str("ok"),
-        Reply::Entered { place, .. } => write!(line, "entered {place}"),
-        Reply::Closed => line.push_str("closed"),
+        Reply::Outcome(outcome) => write_outcome(line, outcome),
         Reply::Decided(verdict) => line.push_str(verdict_text(*verdict)),
         Reply::Wrote(object) => write_written(line, schema, object),
         Reply::NoMore => line.push_str("nomore"),
-        Reply::Finished(number) => write!(line, "finished {number}"),
+        Reply::Finished { tn } => write!(line, "finished {tn}"),
         Reply::BackedUp(number) => write!(line, "backed {number}"),
         Reply::Folded(count) => write!(line, "folded {count}"),
-        Reply::EndedBack(cause) => line.push_str(verdict_text(Verdict::BackUp(*cause))),
-        Reply::RanAlone { number, answers } => write_ran_alone(line, *number, answers.as_slice()),
         Reply::Refused(fault) => write_refused(line, *fault),
         Reply::RefusedItem(refused) => write_refused(line, refused.fault),
+    }
+}
+
+/// Appends what came of what a session handed in.
+fn write_outcome<A: Allocator>(line: &mut String<A>, outcome: &Outcome<A>) -> Result<(), AllocError>
+    ensures { (schema : PlainSchema) → OnOk result (string_bytes line.new ≡ string_bytes line.old ++ reply_text schema (outcome_of outcome.now)) }
+{
+    match outcome {
+        Outcome::Entered { place } => write!(line, "entered {place}"),
+        Outcome::Committed { tn } => write!(line, "finished {tn}"),
+        Outcome::BackedUp(cause) => line.push_str(verdict_text(Verdict::BackUp(*cause))),
+        Outcome::RanAlone { tn, answers } => write_ran_alone(line, *tn, answers.as_slice()),
+        Outcome::MarkedClosed => line.push_str("closed"),
     }
 }
 

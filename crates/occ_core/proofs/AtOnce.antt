@@ -26,7 +26,7 @@ use Rattle.occ_core.proofs.Moves.{each_slot}
 use Rattle.occ_core.proofs.Placed.{has_push}
 use Rattle.occ_log.proofs.Opponents.{finished-push}
 use Rattle.occ_log.proofs.Places.{slice_get-below, count-push, length-set}
-use Rattle.occ_core.proofs.Reading.{there}
+use Rattle.occ_core.proofs.ReadPhases.{there}
 use Rattle.occ_log.proofs.WindowMoves.{advanced-moved}
 use Rattle.occ_log.proofs.Windows.{window_moved, moved_size, moved_window}
 

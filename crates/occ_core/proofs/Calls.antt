@@ -13,7 +13,7 @@ use Rattle.occ_model.specs.Refusal.{refusal}
 use Rattle.occ_model.specs.Step.{Step, refused, decided}
 use Rattle.occ_model.specs.declared.verdict.Verdict.{Verdict}
 use Rattle.occ_model.proofs.Tests as tests
-use Rattle.occ_core.specs.Replies.{decision, backing}
+use Rattle.occ_core.specs.Replies.{replied}
 use Rattle.occ_log.specs.SessionStates.{Slot, Hold, IsHeldAt, row_under_way, last_of, back_fault}
 use Rattle.occ_core.specs.CoreParts.{Parts, world_of, found_at, HasRow, AreSound}
 use Rattle.occ_core.specs.Folding.{under_way_fault, back_fault_of}
@@ -228,9 +228,9 @@ decide_done parts session place row index case sound found at stands log is =
 
 -- The exits of the decision, seen from outside.
 
-pub decide_exit : (parts : Parts) (world : World) → world_of parts ≡ world → AreSound parts → (session : ℕ) (reply : Result Verdict Fault) (fault : Fault) → reply ≡ Err fault → under_way_fault parts.slots (found_at parts) session ≡ Some fault → Step world (Decide session) (decision reply) world
+pub decide_exit : (parts : Parts) (world : World) → world_of parts ≡ world → AreSound parts → (session : ℕ) (reply : Result Verdict Fault) (fault : Fault) → reply ≡ Err fault → under_way_fault parts.slots (found_at parts) session ≡ Some fault → Step world (Decide session) (replied Decided reply) world
 decide_exit parts world seen sound session reply fault is found =
-    subst (λ r. Step world (Decide session) (decision r) world) (sym is) (subst (λ w. Step w (Decide session) (Refused fault) w) seen (decide_refused parts session fault sound found))
+    subst (λ r. Step world (Decide session) (replied Decided r) world) (sym is) (subst (λ w. Step w (Decide session) (Refused fault) w) seen (decide_refused parts session fault sound found))
 
 pub decide_exit_late : (parts : Parts) (world : World) → world_of parts ≡ world → AreSound parts → (session place : ℕ) (row : LogRow) → row_under_way parts.slots session ≡ Ok place → found_at parts place ≡ Some row → is_open row.standing ≡ false
     → Step world (Decide session) (Refused faults.AlreadyDecided) world
@@ -294,9 +294,9 @@ back_refusal parts sound session place h =
     at None away = none_told (gone_none parts session place sound h away)
     at (Some row) there = at_row row there ((sound.slots_true h.slot_at h.slot h.there).row_is h.hold h.holds)
 
-pub back_exit : (parts : Parts) (world : World) → world_of parts ≡ world → AreSound parts → (session : ℕ) (reply : Result ℕ Fault) (fault : Fault) → reply ≡ Err fault → row_under_way parts.slots session ≡ Err fault → Step world (BackUp session) (backing reply) world
+pub back_exit : (parts : Parts) (world : World) → world_of parts ≡ world → AreSound parts → (session : ℕ) (reply : Result ℕ Fault) (fault : Fault) → reply ≡ Err fault → row_under_way parts.slots session ≡ Err fault → Step world (BackUp session) (replied BackedUp reply) world
 back_exit parts world seen sound session reply fault is found =
-    subst (λ r. Step world (BackUp session) (backing r) world) (sym is)
+    subst (λ r. Step world (BackUp session) (replied BackedUp r) world) (sym is)
     (subst (λ w. Step w (BackUp session) (Refused fault) w) seen (refused fault (told parts session fault _ sound found) refl refl))
 
 pub back_kept : (parts : Parts) (world : World) → world_of parts ≡ world → AreSound parts → (session place : ℕ) (fault : Fault) → row_under_way parts.slots session ≡ Ok place → back_fault_of (found_at parts place) ≡ Some fault

@@ -12,7 +12,7 @@ use Rattle.occ_model.specs.Log.{Case, LogRow, Standing, Open, Writing, Done, Bac
 use Rattle.occ_model.specs.Content.{QuestionFits, RowFits, WriteIs, RowIs}
 use Rattle.occ_model.specs.Event.{Checkpoint, Folded, Refused}
 use Rattle.occ_model.specs.Refusal.{refusal, foldable}
-use Rattle.occ_model.specs.Step.{Step, refused, taken, foldable_part, folded}
+use Rattle.occ_model.specs.Step.{Step, refused, starved, taken, foldable_part, folded}
 use Rattle.occ_model.specs.Validity.{finished_within}
 use Rattle.occ_model.specs.World.{World, latest, low, last_entered, active_count}
 use Rattle.occ_model.proofs.Checkpoints.{checkpoint_folds}
@@ -26,7 +26,7 @@ use Rattle.occ_log.specs.Rows.{log_of, log_row_of}
 use Rattle.occ_log.specs.SessionStates.{Hold, IsHeldAt}
 use Rattle.occ_log.proofs.Opponents.{some_finished, any-finished}
 use Rattle.occ_log.proofs.Places.{none-later}
-use Rattle.occ_core.specs.declared.core_checkpoint.TheConstants.{MAX_PLACE}
+use Rattle.occ_core.specs.declared.checkpoint.TheConstants.{MAX_PLACE}
 use Rattle.occ_core.specs.Folding.{AllFit}
 use Rattle.occ_core.specs.CoreParts.{Parts, world_of, low_of, HasRow, AreSound}
 use Rattle.occ_core.proofs.RunsAlone.{key_placed}
@@ -99,6 +99,10 @@ finished-later test (x ∷ xs) ys counter low start are =
 count-later : (xs ys : List LogRow) → length (filter (λ row. is_active row.standing) ys) ≤ length (filter (λ row. is_active row.standing) (xs ++ ys))
 count-later xs ys = simp (filter-append, length-append) (omega arith)
 
+-- a base into which nothing is folded is as it was
+unfolded : (base : Base) → folded base [] ≡ base
+unfolded base = let same : base.place + 0 ≡ base.place = omega arith in ap (λ n. record base { place = n }) same
+
 -- What a checkpoint does.
 module _ (old : Parts) (sound : AreSound old) (none : refusal (world_of old) Checkpoint ≡ None) where
   abbrev part : List LogRow
@@ -157,9 +161,6 @@ module _ (old : Parts) (sound : AreSound old) (none : refusal (world_of old) Che
       no_rows : (rows : List LogRow) → length rows ≡ 0 → rows ≡ []
       no_rows [] none = refl
       no_rows (row ∷ rows) none = absurd (omega arith)
-
-      unfolded : (base : Base) → folded base [] ≡ base
-      unfolded base = let same : base.place + 0 ≡ base.place = omega arith in ap (λ n. record base { place = n }) same
 
       fewer : (counter new all was : ℕ) → new ≤ all → was ≡ all → counter + was ≤ Rattle.occ_types.specs.declared.limits.TheConstants.MAX_COUNTER → counter + new ≤ Rattle.occ_types.specs.declared.limits.TheConstants.MAX_COUNTER
       fewer counter new all was less is left = omega arith
@@ -246,3 +247,17 @@ module _ {Z : Type 0} where
   first_fit tables sessions zero rows all = tt
   first_fit tables sessions (suc n) [] all = tt
   first_fit tables sessions (suc n) (row ∷ rows) all = (record { session = all.0.session; placed = all.0.placed }, first_fit tables sessions n rows all.1)
+
+-- where no row can be folded nothing moves
+pub nothing_folds : (parts : Parts) (world : World) → world_of parts ≡ world → AreSound parts → false ≡ list_any (λ row. is_open row.standing) parts.log
+    → (count : ℕ) → count ≡ length (foldable_part (low world) world.log) → count ≡ 0 → Step world Checkpoint (Folded count) world
+nothing_folds parts world seen sound free count count_is none =
+    let room = sound.place_room in
+    subst (λ new. Step world Checkpoint (Folded count) new) seen
+    (checkpoint_whole parts world seen sound free count count_is (omega arith)
+    parts.base (sym (ap (λ n. folded parts.base (take n parts.log)) none ∙ unfolded parts.base)) parts.log (sym (ap (λ n. drop n parts.log) none))).0
+
+-- there is no memory for the base, which is as it was
+pub checkpoint_starved : (parts : Parts) (world : World) → world_of parts ≡ world → false ≡ list_any (λ row. is_open row.standing) parts.log → (base : Base) → base ≡ parts.base → Step world Checkpoint (Refused faults.Memory) (world_of (record parts { base = base }))
+checkpoint_starved parts world seen free base same =
+    starved (subst (λ w. refusal w Checkpoint ≡ None) seen (quiet parts free)) refl refl (ap (λ b. world_of (record parts { base = b })) same ∙ seen)

@@ -20,9 +20,9 @@ use Rattle.occ_core.specs.Reads.{session_fault, closed_fault}
 use Rattle.occ_core.specs.EntryFaults.{due_fault, busy_fault, turn_to_close}
 use Rattle.occ_log.specs.SessionStates.{last_of}
 use Rattle.occ_core.specs.CoreParts.{Parts, world_of, AreSound}
-use Rattle.occ_core.proofs.Entering.{busy_is}
+use Rattle.occ_core.proofs.Entries.{busy_is}
 use Rattle.occ_core.proofs.Moves.{slot_same}
-use Rattle.occ_core.proofs.Reading.{session_is, last_is}
+use Rattle.occ_core.proofs.ReadPhases.{session_is, last_is}
 
 -- When it is refused.
 

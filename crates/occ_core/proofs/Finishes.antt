@@ -15,15 +15,15 @@ use Rattle.occ_model.specs.Refusal as refusals
 use Rattle.occ_model.specs.Refusal.{refusal, takes_memory, puts_next}
 use Rattle.occ_model.specs.Step.{Step, refused, starved}
 use Rattle.occ_model.proofs.Logs.{standing_at}
-use Rattle.occ_core.specs.Replies.{single, written_in, finishing}
+use Rattle.occ_core.specs.Replies.{replied, wrote, written_in}
 use Rattle.occ_log.specs.SessionStates.{Slot, Hold, row_under_way, last_of, written_at, writes_done, finish_fault, HoldsArePlaced}
 use Rattle.occ_book.specs.Undo.{ArePlaced}
 use Rattle.occ_log.specs.Window.{Window, advanced}
 use Rattle.occ_core.specs.CoreParts.{Parts, world_of, row_placed, found_at, AreSound}
 use Rattle.occ_core.specs.Folding.{under_way_fault}
 use Rattle.occ_core.proofs.Placed.{at_index, from_index}
-use Rattle.occ_core.specs.declared.core_turns.SingleWrite.{SingleWrite}
-use Rattle.occ_core.specs.declared.core_turns.SingleWrite.TheVariants as code_write
+use Rattle.occ_core.specs.declared.writing.SingleWrite.{SingleWrite}
+use Rattle.occ_core.specs.declared.writing.SingleWrite.TheVariants as code_write
 use Rattle.occ_log.proofs.Places.{held_latest, length-set, slice_get-set}
 use Rattle.occ_log.proofs.WindowMoves.{advanced-moved}
 use Rattle.occ_core.proofs.Calls.{UnderWay, found_row, found_is, held_world, told_gone, let_through, latest_reads, latest_none}
@@ -104,9 +104,9 @@ gone_guards parts session others none =
 
 -- The end of a write phase.
 
-pub finish_exit : (parts : Parts) (world : World) → world_of parts ≡ world → AreSound parts → (session : ℕ) (reply : Result ℕ Fault) (fault : Fault) → reply ≡ Err fault → under_way_fault parts.slots (found_at parts) session ≡ Some fault → Step world (Finish session) (finishing reply) world
+pub finish_exit : (parts : Parts) (world : World) → world_of parts ≡ world → AreSound parts → (session : ℕ) (reply : Result ℕ Fault) (fault : Fault) → reply ≡ Err fault → under_way_fault parts.slots (found_at parts) session ≡ Some fault → Step world (Finish session) (replied Finished reply) world
 finish_exit parts world seen sound session reply fault is found =
-    subst (λ r. Step world (Finish session) (finishing r) world) (sym is)
+    subst (λ r. Step world (Finish session) (replied Finished r) world) (sym is)
     (subst (λ w. Step w (Finish session) (Refused fault) w) seen (refused fault (told_gone parts session fault (λ s. refusals.not_decided (world_of parts) s ∷ fault_if (refusals.row_is_back (world_of parts) s) faults.AlreadyDecided ∷ fault_if (refusals.has_writes_left (world_of parts) s) faults.WritesLeft ∷ []) sound found
     (λ s none. gone_guards parts s (fault_if (refusals.has_writes_left (world_of parts) s) faults.WritesLeft ∷ []) none)) refl refl))
 
@@ -181,18 +181,18 @@ finish_whole parts world seen sound session place row found at free hold gives s
 
 -- The single writes.
 
-pub write_exit : (parts : Parts) (world : World) → world_of parts ≡ world → AreSound parts → (session : ℕ) (reply : Result SingleWrite Fault) (fault : Fault) → reply ≡ Err fault → under_way_fault parts.slots (found_at parts) session ≡ Some fault → Step world (WriteOne session) (single world reply) world
+pub write_exit : (parts : Parts) (world : World) → world_of parts ≡ world → AreSound parts → (session : ℕ) (reply : Result SingleWrite Fault) (fault : Fault) → reply ≡ Err fault → under_way_fault parts.slots (found_at parts) session ≡ Some fault → Step world (WriteOne session) (replied (wrote world) reply) world
 write_exit parts world seen sound session reply fault is found =
-    subst (λ r. Step world (WriteOne session) (single world r) world) (sym is)
+    subst (λ r. Step world (WriteOne session) (replied (wrote world) r) world) (sym is)
     (subst (λ w. Step w (WriteOne session) (Refused fault) w) seen (refused fault (told_gone parts session fault (λ s. refusals.not_decided (world_of parts) s ∷ fault_if (refusals.row_is_back (world_of parts) s) faults.AlreadyDecided ∷ []) sound found
     (λ s none. gone_guards parts s [] none)) refl refl))
 
 pub write_kept : (parts : Parts) (world : World) → world_of parts ≡ world → AreSound parts → (session place : ℕ) (row : LogRow) (reply : Result SingleWrite Fault) (fault : Fault) → reply ≡ Err fault → row_under_way parts.slots session ≡ Ok place → found_at parts place ≡ Some row → writes_done row.standing ≡ Err fault
-    → Step world (WriteOne session) (single world reply) world
+    → Step world (WriteOne session) (replied (wrote world) reply) world
 write_kept parts world seen sound session place row reply fault is found at why =
     let u = found_row parts session place sound found row at in
     let undone = sym (ap (λ (r : LogRow). is_done r.standing) (found_is parts session place u row at)) ∙ unfinished parts session place sound u in
-    subst (λ r. Step world (WriteOne session) (single world r) world) (sym is)
+    subst (λ r. Step world (WriteOne session) (replied (wrote world) r) world) (sym is)
     (subst (λ w. Step w (WriteOne session) (Refused fault) w) seen
     (subst (λ s. Step (world_of parts) (WriteOne s) (Refused fault) (world_of parts)) (sym u.session_is)
     (refused fault (write_refusal parts sound session place u row at ∙ write_guards row.standing fault undone why) refl refl)))
@@ -238,8 +238,8 @@ write_starved parts world seen sound session place row done write found at goes 
     (starved (may_write parts sound session place u row done at stands) wants refl refl)))
 
 -- a write that is refused for memory is replied so
-pub write_err : (old new after : World) (session : ℕ) (reply : Result SingleWrite Fault) → reply ≡ Err faults.Memory → Step old (WriteOne session) (Refused faults.Memory) new → Step old (WriteOne session) (single after reply) new
-write_err old new after session reply is step = subst (λ r. Step old (WriteOne session) (single after r) new) (sym is) step
+pub write_err : (old new after : World) (session : ℕ) (reply : Result SingleWrite Fault) → reply ≡ Err faults.Memory → Step old (WriteOne session) (Refused faults.Memory) new → Step old (WriteOne session) (replied (wrote after) reply) new
+write_err old new after session reply is step = subst (λ r. Step old (WriteOne session) (replied (wrote after) r) new) (sym is) step
 
 placed_at : (tables : ℕ) (writes : List Write) (k : ℕ) (write : Write) → ArePlaced tables writes → slice_get writes k ≡ Some write → write.0.0 < tables
 placed_at tables [] k write placed at = cc
@@ -270,7 +270,7 @@ write_named world parts based place row standing done write at is next =
 
 pub write_whole : (parts : Parts) (world : World) → world_of parts ≡ world → AreSound parts → (session place : ℕ) (row : LogRow) (done : ℕ) (write : Write) → row_under_way parts.slots session ≡ Ok place → found_at parts place ≡ Some row → writes_done row.standing ≡ Ok done
     → slice_get row.writes done ≡ Some write → (log : List LogRow) → log ≡ slice_set parts.log (place - parts.base.place) (record row { standing = Writing (done + 1) }) → (table : State) → table ≡ put parts.table write
-    → Step world (WriteOne session) (single (world_of (record parts { log = log; table = table })) (Ok (code_write.Wrote place done))) (world_of (record parts { log = log; table = table })) × AreSound (record parts { log = log; table = table })
+    → Step world (WriteOne session) (replied (wrote (world_of (record parts { log = log; table = table }))) (Ok (code_write.Wrote place done))) (world_of (record parts { log = log; table = table })) × AreSound (record parts { log = log; table = table })
 write_whole parts world seen sound session place row done write found at goes next log log_is table table_is =
     let u = found_row parts session place sound found row at in
     let same = found_is parts session place u row at in
@@ -286,8 +286,8 @@ write_whole parts world seen sound session place row done write found at goes ne
     let step = subst (λ p. Step (world_of parts) (WriteOne (suc u.slot_at)) (Wrote write.0) (world_of p)) moved
     (moves.written_step parts u.slot_at u.slot u.index u.row sound u.there u.row_there done write stood there none) in
     let after = world_of (record parts { log = log; table = table }) in
-    let named : single after (Ok (code_write.Wrote place done)) ≡ Wrote write.0 = ap (λ o. elim o as (λ _. Reply) [ None ↦ NoMore | Some object ↦ Wrote object ]) (write_named after parts refl place row (Writing (done + 1)) done write at log_is next) in (
-      subst (λ w. Step w (WriteOne session) (single after (Ok (code_write.Wrote place done))) (world_of (record parts { log = log; table = table }))) seen
+    let named : replied (wrote after) (Ok (code_write.Wrote place done)) ≡ Wrote write.0 = ap (λ o. elim o as (λ _. Reply) [ None ↦ NoMore | Some object ↦ Wrote object ]) (write_named after parts refl place row (Writing (done + 1)) done write at log_is next) in (
+      subst (λ w. Step w (WriteOne session) (replied (wrote after) (Ok (code_write.Wrote place done))) (world_of (record parts { log = log; table = table }))) seen
           (subst (λ r. Step (world_of parts) (WriteOne session) r (world_of (record parts { log = log; table = table }))) (sym named)
           (subst (λ s. Step (world_of parts) (WriteOne s) (Wrote write.0) (world_of (record parts { log = log; table = table }))) (sym u.session_is) step)),
       subst AreSound moved (moves.written_sound parts u.slot_at u.slot u.index u.row sound u.there u.row_there done write stood there none),

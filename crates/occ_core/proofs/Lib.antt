@@ -2,9 +2,9 @@ pub mod Moves
 pub mod Calls
 pub mod Openings
 pub mod Finishes
-pub mod Reading
+pub mod ReadPhases
 pub mod Counting
-pub mod Entering
+pub mod Entries
 pub mod Nexts
 pub mod SingleWrites
 pub mod Replied
@@ -16,4 +16,6 @@ pub mod SerialEnding
 pub mod RunsAlone
 pub mod Placed
 pub mod Checkpoints
+pub mod Performing
+pub mod OpenRows
 pub mod OpenCases

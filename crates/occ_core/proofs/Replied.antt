@@ -1,27 +1,23 @@
 -- What each step is replied, and a list of them.
-use Rattle.std.proofs.Common.{◌≡◌, List, [], ◌∷◌, ◌++◌, Some, Result, Ok, Err, ℕ, refl, sym, ap, subst, inl, inr, ◌⊎◌, IfErr, Vec, option_map}
-use Rattle.std.specs.Result.{result_err}
-use Rattle.occ_model.specs.Event.{Event, Reply, Alone}
-use Rattle.occ_model.specs.Step.{Run}
-use Rattle.occ_core.specs.Core.{Seen, Transition}
-use Rattle.occ_core.specs.Replies.{entering}
-use Rattle.occ_core.specs.AtOnce.{ending_item}
-use Rattle.occ_core.specs.RunningAlone.{running_item}
-use Rattle.occ_core.specs.declared.core_serial.Ended as code_ended
-use Rattle.occ_core.specs.declared.core_serial.Ended.TheVariants as ends
-use Rattle.occ_sets.specs.declared.operations.Op as code_op
-use Rattle.occ_sets.specs.declared.reads.Answer as code_answer
-use Rattle.occ_sets.specs.Operations.{ops_of}
-use Rattle.occ_core.specs.declared.core_entries.Entry as code_entry
-use Rattle.occ_core.specs.declared.core_entries.Entry.TheVariants as entries
+use Rattle.std.proofs.Common.{◌≡◌, List, [], ◌∷◌, ◌++◌, Some, None, Result, Err, ℕ, refl, sym, ap, subst, inl, inr, ◌⊎◌, ◌∙◌, MatchResult}
+use Rattle.occ_types.specs.declared.fault.Fault.{Fault}
 use Rattle.occ_types.specs.declared.fault.Refused as refusals
-use Rattle.occ_queue.specs.declared.items.Item as items
-use Rattle.occ_queue.specs.Items.{item_of}
-use Rattle.occ_core.specs.Runs.{event_of, reply_of, handed_back, owed, IsPutOff, Answers, Runs}
+use Rattle.occ_model.specs.World.{World}
+use Rattle.occ_model.specs.Event.{Event, Reply, Item, Refused}
+use Rattle.occ_model.specs.Step.{Step, Run}
+use Rattle.occ_core.specs.Core.{Seen, Transition}
+use Rattle.occ_core.specs.Replies.{replied}
+use Rattle.occ_core.specs.Runs.{event_of, reply_of, handed_in, handed_back, owed, IsPutOff, Answers, Runs}
 use Rattle.occ_core.specs.declared.steps.Step as code_step
 use Rattle.occ_core.specs.declared.steps.Step.TheVariants as steps
 use Rattle.occ_core.specs.declared.replies.Reply as code_reply
 use Rattle.occ_core.specs.declared.replies.Reply.TheVariants as replies
+use Rattle.occ_queue.specs.declared.items.Item as items
+use Rattle.occ_queue.specs.Items.{item_of}
+
+-- a fault is replied as it is
+pub replied_err : {X : Type 0} (answer : X → Reply) (old new : World) (event : Event) (called : Result X Fault) (fault : Fault) → called ≡ Err fault → Step old event (Refused fault) new → Step old event (replied answer called) new
+replied_err answer old new event called fault is step = subst (λ r. Step old event (replied answer r) new) (sym is) step
 
 module _ {Z : Type 0} where
   -- a reply that is the model's
@@ -33,28 +29,22 @@ module _ {Z : Type 0} where
       → handed_back reply ≡ owed named (reply_of reply) → Answers old step reply new
   answered_as old step named reply said new name is stepped back = subst (λ s. Answers old s reply new) (sym name) (answered old named reply said new is stepped back)
 
-  -- an entry that is refused has its own item handed back
-  pub entry_owed : (session : ℕ) (item : items.Item Z) (called : Result (code_entry.Entry Z) (refusals.Refused (items.Item Z))) → IfErr called (λ refused. item_of refused.value ≡ item_of item)
-      → option_map (λ (r : refusals.Refused (items.Item Z)). item_of r.value) (result_err called) ≡ owed {Z = Z} (steps.Enter session item) (entering called)
-  entry_owed session item (Ok (entries.Entered place index)) back = refl
-  entry_owed session item (Ok (entries.RanAlone number answers)) back = refl
-  entry_owed session item (Ok entries.MarkedClosed) back = refl
-  entry_owed session item (Err refused) back = ap Some back
+  -- a refusal that ends a step early
+  told_err : (old : Seen) (step : code_step.Step Z) (new : Seen) (result : Result (code_reply.Reply Z) (code_reply.Reply Z)) (reply : code_reply.Reply Z) → result ≡ Err reply → Answers old step reply new
+      → MatchResult result (λ reply. Answers old step reply new) (λ refusal. Answers old step refusal new)
+  told_err old step new result reply is answers = subst (λ r. MatchResult r (λ reply. Answers old step reply new) (λ refusal. Answers old step refusal new)) (sym is) answers
 
-  -- and so has a serial end
-  pub end_owed : (session : ℕ) (item : items.Item Z) (called : Result (code_ended.Ended Z) (refusals.Refused (items.Item Z))) → IfErr called (λ refused. item_of refused.value ≡ item_of item)
-      → option_map (λ (r : refusals.Refused (items.Item Z)). item_of r.value) (result_err called) ≡ owed {Z = Z} (steps.SerialEnd session item) (ending_item called)
-  end_owed session item (Ok (ends.Committed number)) back = refl
-  end_owed session item (Ok (ends.BackedUp cause)) back = refl
-  end_owed session item (Ok (ends.RanAlone number answers)) back = refl
-  end_owed session item (Ok ends.MarkedClosed) back = refl
-  end_owed session item (Err refused) back = ap Some back
+  -- of a step that is handed no item
+  pub refused_as : (old : Seen) (step named : code_step.Step Z) (fault : Fault) (new : Seen) (result : Result (code_reply.Reply Z) (code_reply.Reply Z)) (reply : code_reply.Reply Z) → step ≡ named → result ≡ Err reply → reply ≡ replies.Refused fault
+      → Transition old (event_of named) (Refused fault) new → handed_in named ≡ None → MatchResult result (λ reply. Answers old step reply new) (λ refusal. Answers old step refusal new)
+  refused_as old step named fault new result reply name is said stepped none =
+      told_err old step new result reply is (answered_as old step named reply (Refused fault) new name (ap reply_of said) stepped (subst (λ r. handed_back r ≡ owed named (reply_of r)) (sym said) (sym none)))
 
-  -- and a refused list of operations comes back as an item
-  pub run_owed : (session number : ℕ) (operations : Vec (code_op.Op Z) Z) (called : Result (ℕ × Vec (code_answer.Answer Z) Z) (refusals.Refused (items.Item Z))) → IfErr called (λ refused. item_of refused.value ≡ Alone number (ops_of operations.items))
-      → option_map (λ (r : refusals.Refused (items.Item Z)). item_of r.value) (result_err called) ≡ owed {Z = Z} (steps.RunAlone session number operations) (running_item called)
-  run_owed session number operations (Ok done) back = refl
-  run_owed session number operations (Err refused) back = ap Some back
+  -- of one that hands its item back
+  pub refused_back : (old : Seen) (step named : code_step.Step Z) (item : Item) (refused : refusals.Refused (items.Item Z)) (new : Seen) (result : Result (code_reply.Reply Z) (code_reply.Reply Z)) (reply : code_reply.Reply Z) → step ≡ named → result ≡ Err reply → reply ≡ replies.RefusedItem refused
+      → Transition old (event_of named) (Refused refused.fault) new → item_of refused.value ≡ item → handed_in named ≡ Some item → MatchResult result (λ reply. Answers old step reply new) (λ refusal. Answers old step refusal new)
+  refused_back old step named item refused new result reply name is said stepped back given =
+      told_err old step new result reply is (answered_as old step named reply (Refused refused.fault) new name (ap reply_of said) stepped (subst (λ r. handed_back r ≡ owed named (reply_of r)) (sym said) (ap Some back ∙ sym given)))
 
   -- one step more
   pub runs_more : (old mid new : Seen) (done : List (code_step.Step Z)) (replies : List (code_reply.Reply Z)) (step : code_step.Step Z) (reply : code_reply.Reply Z)
@@ -79,15 +69,12 @@ module _ {Z : Type 0} where
   put_off old (steps.WriteOne session) (replies.Found row) new off = absurd off
   put_off old (steps.WriteOne session) (replies.Rows rows) new off = absurd off
   put_off old (steps.WriteOne session) (replies.Forgotten there) new off = absurd off
-  put_off old (steps.WriteOne session) (replies.Entered place index) new off = absurd off
-  put_off old (steps.WriteOne session) replies.Closed new off = absurd off
+  put_off old (steps.WriteOne session) (replies.Outcome outcome) new off = absurd off
   put_off old (steps.WriteOne session) (replies.Decided verdict) new off = absurd off
   put_off old (steps.WriteOne session) (replies.Wrote object) new off = absurd off
   put_off old (steps.WriteOne session) replies.NoMore new off = absurd off
-  put_off old (steps.WriteOne session) (replies.Finished number) new off = absurd off
+  put_off old (steps.WriteOne session) (replies.Finished tn) new off = absurd off
   put_off old (steps.WriteOne session) (replies.BackedUp number) new off = absurd off
-  put_off old (steps.WriteOne session) (replies.EndedBack cause) new off = absurd off
-  put_off old (steps.WriteOne session) (replies.RanAlone number answers) new off = absurd off
   put_off old (steps.WriteOne session) (replies.Folded count) new off = absurd off
   put_off old (steps.WriteOne session) (replies.Refused fault) new off = off.3
   put_off old (steps.WriteOne session) (replies.RefusedItem refused) new off = absurd off

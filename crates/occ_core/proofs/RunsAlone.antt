@@ -32,9 +32,9 @@ use Rattle.occ_core.specs.RunningAlone.{read_open_fault, count_fault, turn_to_ru
 use Rattle.occ_log.specs.SessionStates.{active_from}
 use Rattle.occ_book.specs.Undo.{ArePlaced}
 use Rattle.occ_core.proofs.Closing.{close_refusal}
-use Rattle.occ_core.proofs.Entering.{nest, nest_last, counter_is}
+use Rattle.occ_core.proofs.Entries.{nest, nest_last, counter_is}
 use Rattle.occ_log.proofs.Places.{slice_get-below}
-use Rattle.occ_core.proofs.Reading.{nested}
+use Rattle.occ_core.proofs.ReadPhases.{nested}
 use Rattle.occ_core.proofs.SerialEnding.{quiet_is}
 
 -- When it is refused.
@@ -191,10 +191,6 @@ module _ (w : World) (session number : ℕ) (operations : List Operation) (none 
     alone_returns answer answer_is new new_is =
         subst (Step w (RunAlone session number operations) (RanAlone answer progress.answers)) (sym (new_is ∙ commits))
         (subst (λ r. Step w (RunAlone session number operations) r (committed w session number w.counter done.reads done.writes)) (λ i. RanAlone (sym answer_is i) (sym is i).answers) alone_step)
-
--- a fault is replied as it is
-pub running_err : {X : Type 0} (reply_of : Result X Fault → Reply) (old new : World) (event : Event) (reply : Result X Fault) (fault : Fault) → reply ≡ Err fault → Step old event (reply_of (Err fault)) new → Step old event (reply_of reply) new
-running_err reply_of old new event reply fault is step = subst (λ r. Step old event (reply_of r) new) (sym is) step
 
 -- Operations that are handed in as an item run as they do by themselves.
 

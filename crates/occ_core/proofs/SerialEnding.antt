@@ -11,7 +11,7 @@ use Rattle.occ_model.specs.State.{Write, Observation}
 use Rattle.occ_model.specs.Log.{LogRow, Case, is_active}
 use Rattle.occ_model.specs.Validity.{verdict}
 use Rattle.occ_model.specs.World.{World, active_count, reads_under, low}
-use Rattle.occ_model.specs.Event.{Event, Item, Reply, Request, Close, Enter, SerialEnd, Refused, Finished, EndedBack}
+use Rattle.occ_model.specs.Event.{Event, Item, Reply, Request, Close, Enter, SerialEnd, Refused, Closed, Finished, EndedBack}
 use Rattle.occ_model.specs.Content.{IsLawful}
 use Rattle.occ_model.specs.Refusal as refusals
 use Rattle.occ_model.specs.Refusal.{refusal, refusal_of_request, store_busy, check_writes}
@@ -23,18 +23,16 @@ use Rattle.occ_model.proofs.AtEntry.{verdict-validity}
 use Rattle.occ_model.proofs.Phases.{not_refused}
 use Rattle.occ_model.proofs.Admitted.{passed, admitted}
 use Rattle.occ_model.proofs.InSchema.{keeps_lawful}
-use Rattle.occ_core.specs.AtOnce.{committed, backed, MayEnd, quiet_fault, turn_to_end, ending, ending_item}
+use Rattle.occ_core.specs.AtOnce.{committed, backed, MayEnd, quiet_fault, turn_to_end}
 use Rattle.occ_core.specs.EntryFaults.{spare_fault, turn_to_close, log_fault, counter_fault, room_to_enter}
 use Rattle.occ_core.specs.CoreParts.{Parts, world_of, found_at, AreSound}
 use Rattle.occ_core.specs.Reads.{start_fault}
 use Rattle.occ_log.specs.SessionStates.{active_from}
 use Rattle.occ_book.specs.Undo.{ArePlaced}
-use Rattle.occ_core.specs.declared.core_serial.Ended as code_ended
-use Rattle.occ_core.specs.declared.core_serial.Ended.TheVariants as ends
 use Rattle.occ_core.proofs.Closing.{close_refusal}
 use Rattle.occ_core.proofs.Counting.{active_counted}
-use Rattle.occ_core.proofs.Entering.{nest, nest_last, counter_is, checks_placed, open_case}
-use Rattle.occ_core.proofs.Reading.{nested, reads_are}
+use Rattle.occ_core.proofs.Entries.{nest, nest_last, counter_is, checks_placed, open_case}
+use Rattle.occ_core.proofs.ReadPhases.{nested, reads_are}
 
 -- When it is refused.
 
@@ -208,22 +206,17 @@ module _ (w : World) (session number start : ℕ) (writes : List Write) (none : 
         subst (Step w (SerialEnd session (Request number start writes)) (EndedBack cause)) (sym (new_is ∙ backs cause))
         (back_step cause (valid ∙ ap (λ v. validity_of v session number start writes) kept))
 
--- a fault is replied as it is
-pub ending_err : {Z : Type 0} (old new : World) (event : Event) (reply : Result (code_ended.Ended Z) Fault) (fault : Fault) → reply ≡ Err fault → Step old event (Refused fault) new → Step old event (ending reply) new
-ending_err old new event reply fault is step = subst (λ r. Step old event (ending r) new) (sym is) step
-
 -- The end of what a session hands in.
-
--- an end is told alike, whether a refusal hands back its item or not
-pub end_told : {Z : Type 0} (old new : World) (event : Event) (told : code_ended.Ended Z) → Step old event (ending (Ok told)) new → Step old event (ending_item {Z = Z} (Ok told)) new
-end_told old new event (ends.Committed number) step = step
-end_told old new event (ends.BackedUp cause) step = step
-end_told old new event (ends.RanAlone number answers) step = step
-end_told old new event ends.MarkedClosed step = step
 
 -- the serial end of a request is that of the item which it is
 pub end_of : (old new : World) (session : ℕ) (item own : Item) (reply : Reply) → Step old (SerialEnd session own) reply new → own ≡ item → Step old (SerialEnd session item) reply new
 end_of old new session item own reply step is = subst (λ i. Step old (SerialEnd session i) reply new) is step
+
+-- a mark that enters ends
+pub end_marked : (old new : World) (session number : ℕ) → Step old (Enter session (Close number)) Closed new → Step old (SerialEnd session (Close number)) Closed new
+end_marked old new session number (refused why told reply same) = cc
+end_marked old new session number (starved none takes reply same) = cc
+end_marked old new session number (taken none t) = taken none t
 
 -- a mark is refused for what refuses its entry
 pub end_unmarked : (old new : World) (session number : ℕ) (fault : Fault) → Step old (Enter session (Close number)) (Refused fault) new → Step old (SerialEnd session (Close number)) (Refused fault) new

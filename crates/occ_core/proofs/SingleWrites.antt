@@ -1,5 +1,5 @@
 -- A single write is of the object that was known beforehand.
-use Rattle.std.proofs.Common.{◌≡◌, ℕ, Option, None, Some, Result, Ok, Err, refl, sym, ap, ◌∙◌, MatchOption, slice_get, option_map}
+use Rattle.std.proofs.Common.{◌≡◌, ℕ, Option, None, Some, Result, Ok, Err, refl, sym, ap, subst, ◌∙◌, MatchOption, slice_get, option_map}
 use Rattle.occ_types.specs.declared.fault.Fault.{Fault}
 use Rattle.occ_types.specs.Object.{Object}
 use Rattle.occ_model.specs.State.{Write}
@@ -7,13 +7,13 @@ use Rattle.occ_model.specs.Log.{remaining, rest}
 use Rattle.occ_model.specs.World.{World}
 use Rattle.occ_model.specs.Event.{Reply, WriteOne, Refused, Wrote, NoMore}
 use Rattle.occ_model.specs.Step.{Step, refused, starved, taken}
-use Rattle.occ_core.specs.Replies.{single, written_in, first_object, next_object, writing}
-use Rattle.occ_core.specs.declared.core_turns.SingleWrite.{SingleWrite}
-use Rattle.occ_core.specs.declared.core_turns.SingleWrite.TheVariants as writes
+use Rattle.occ_core.specs.Replies.{replied, wrote, written_in, first_object, next_object}
+use Rattle.occ_core.specs.declared.writing.SingleWrite.{SingleWrite}
+use Rattle.occ_core.specs.declared.writing.SingleWrite.TheVariants as writes
 use Rattle.occ_core.proofs.Nexts.{first_dropped}
 
 -- what is said of a write that may be there
-abbrev of_object : Option Object → Reply
+abbrev pub of_object : Option Object → Reply
 of_object None = NoMore
 of_object (Some object) = Wrote object
 
@@ -34,21 +34,19 @@ taken_is old session o new (taken free t) =
     ∙ ap of_object (sym (ap (λ l. elim l as (λ _. Option Object) [ None ↦ None | Some row ↦ first_object (rest row) ]) t.2
     ∙ ap (λ s. first_object (remaining t.0.writes s)) t.3 ∙ first_dropped t.1 t.0.writes))
 
-pub single_is : (old : World) (session : ℕ) (called : Result SingleWrite Fault) (new : World) → Step old (WriteOne session) (single new called) new → single new called ≡ writing (next_object old session) called
+single_is : (old : World) (session : ℕ) (called : Result SingleWrite Fault) (new : World) → Step old (WriteOne session) (replied (wrote new) called) new → replied (wrote new) called ≡ replied (λ _. of_object (next_object old session)) called
 single_is old session (Err fault) new stepped = refl
-single_is old session (Ok writes.NoMore) new stepped = taken_is old session None new stepped ∙ same (next_object old session)
-  where
-    same : (o : Option Object) → of_object o ≡ writing o (Ok writes.NoMore)
-    same None = refl
-    same (Some object) = refl
+single_is old session (Ok writes.NoMore) new stepped = taken_is old session None new stepped
 single_is old session (Ok (writes.Wrote row write)) new stepped =
     go (written_in new row write) stepped
   where
-    same : (o : Option Object) → of_object o ≡ writing o (Ok (writes.Wrote row write))
-    same None = refl
-    same (Some object) = refl
-
     go : (o : Option Object) → Step old (WriteOne session) (elim o as (λ _. Reply) [ None ↦ NoMore | Some object ↦ Wrote object ]) new
-        → (elim o as (λ _. Reply) [ None ↦ NoMore | Some object ↦ Wrote object ]) ≡ writing (next_object old session) (Ok (writes.Wrote row write))
-    go None stepped = taken_is old session None new stepped ∙ same (next_object old session)
-    go (Some object) stepped = taken_is old session (Some object) new stepped ∙ same (next_object old session)
+        → (elim o as (λ _. Reply) [ None ↦ NoMore | Some object ↦ Wrote object ]) ≡ of_object (next_object old session)
+    go None stepped = taken_is old session None new stepped
+    go (Some object) stepped = taken_is old session (Some object) new stepped
+
+-- so a single write is known by the object that was shown beforehand
+pub write_said : (old : World) (session : ℕ) (next : Option Object) (called : Result SingleWrite Fault) (new : World) → next ≡ next_object old session → Step old (WriteOne session) (replied (wrote new) called) new
+    → Step old (WriteOne session) (replied (λ _. of_object next) called) new
+write_said old session next called new is stepped =
+    subst (λ r. Step old (WriteOne session) r new) (single_is old session called new stepped ∙ ap (λ n. replied (λ _. of_object n) called) (sym is)) stepped

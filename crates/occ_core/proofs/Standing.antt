@@ -11,7 +11,7 @@ use Rattle.occ_model.specs.Content.{IsInSchema}
 use Rattle.occ_model.specs.Log.{Audited, last_folded, numbers}
 use Rattle.occ_model.specs.World.{World, next_place, empty_base, active_count, has_session, last_entered}
 use Rattle.occ_core.specs.CoreParts.{Parts, world_of, AreSound}
-use Rattle.occ_core.proofs.Reading.{there}
+use Rattle.occ_core.proofs.ReadPhases.{there}
 
 pub record Lawful (world : World) : Type 0 where
   pub invariant : Invariant world

@@ -1,26 +1,20 @@
--- Whole transactions in one step: what such a step leaves, when it is refused, and what it replies.
-use Rattle.std.specs.Prelude.{◌≡◌, ℕ, ◌+◌, ◌<◌, true, false, nat_lt, List, [], ◌∷◌, ◌++◌, map, length, Option, Result, Ok, Err}
+-- Whole transactions in one step: what such a step leaves, and when it is refused.
+use Rattle.std.specs.Prelude.{◌≡◌, ℕ, ◌+◌, ◌<◌, true, false, nat_lt, List, [], ◌∷◌, ◌++◌, length, Option}
 use Rattle.std.specs.FinMap as finite
 use Rattle.std.specs.FinMap.{FinMap}
 use Rattle.std.specs.Ordering.{nat_cmp}
 use Rattle.occ_types.specs.declared.fault.Fault.{Fault}
 use Rattle.occ_types.specs.declared.fault.Fault.TheVariants.{StoreBusy}
-use Rattle.occ_types.specs.declared.fault.Refused as refused
 use Rattle.occ_types.specs.declared.limits.TheConstants.{MAX_NUMBER, MAX_LOG_ROWS, MAX_COUNTER}
 use Rattle.occ_types.specs.Schema.{fault_if, first_fault}
 use Rattle.occ_model.specs.State.{Write, Observation, apply}
 use Rattle.occ_model.specs.Log.{LogRow, Done, Back}
 use Rattle.occ_model.specs.World.{World, ReadPhase, phase_cmp, active_count, has_session, is_held}
 use Rattle.occ_model.specs.Step.{entering}
-use Rattle.occ_model.specs.Event.{Reply, Refused, Closed, Finished, EndedBack, RanAlone}
 use Rattle.occ_model.specs.declared.verdict.Cause.{Cause}
-use Rattle.occ_queue.specs.declared.items.Item as items
-use Rattle.occ_sets.specs.PlainSets.{answer_of}
 use Rattle.occ_core.specs.Reads.{start_fault}
 use Rattle.occ_core.specs.EntryFaults.{spare_fault, turn_to_close}
 use Rattle.occ_log.specs.SessionStates.{Slot, active_from}
-use Rattle.occ_core.specs.declared.core_serial.Ended as code_ended
-use Rattle.occ_core.specs.declared.core_serial.Ended.TheVariants as ends
 
 -- A transaction committed at once: its row stands at the end of the log under the next transaction number, its writes are done, and its read phase is over.
 abbrev pub committed : World → ℕ → ℕ → ℕ → List Observation → List Write → World
@@ -58,20 +52,3 @@ turn_to_end slots marks log phases counter session number start = first_fault (
     ∷ spare_fault number
     ∷ start_fault (finite.get phases (session, number)) counter start
     ∷ [])
-
-module _ {Z : Type 0} where
-  -- what the end of a transaction replies
-  abbrev pub ending : Result (code_ended.Ended Z) Fault → Reply
-  ending (Ok (ends.Committed number)) = Finished number
-  ending (Ok (ends.BackedUp cause)) = EndedBack cause
-  ending (Ok (ends.RanAlone number answers)) = RanAlone number (map answer_of answers.items)
-  ending (Ok ends.MarkedClosed) = Closed
-  ending (Err fault) = Refused fault
-
-  -- and so where it hands back what is refused
-  abbrev pub ending_item : Result (code_ended.Ended Z) (refused.Refused (items.Item Z)) → Reply
-  ending_item (Ok (ends.Committed number)) = Finished number
-  ending_item (Ok (ends.BackedUp cause)) = EndedBack cause
-  ending_item (Ok (ends.RanAlone number answers)) = RanAlone number (map answer_of answers.items)
-  ending_item (Ok ends.MarkedClosed) = Closed
-  ending_item (Err refusal) = Refused refusal.fault

@@ -9,7 +9,7 @@ use Rattle.occ_model.specs.Validity.{AreSame, finished_opponents}
 use Rattle.occ_model.specs.World.{Settings, World, ReadPhase, phase_cmp, empty_base, low, latest, last_entered, active_count}
 use Rattle.occ_model.specs.Content.{IsLawful}
 use Rattle.occ_log.specs.SessionStates.{Slot, Hold, held_from, IsHeldAt}
-use Rattle.occ_core.specs.declared.core_checkpoint.TheConstants.{MAX_PLACE}
+use Rattle.occ_core.specs.declared.checkpoint.TheConstants.{MAX_PLACE}
 
 -- The row at a place in the order of entry, in a log whose first row has this place. A row before it does not stand there.
 unfoldable pub row_placed : ℕ → List LogRow → ℕ → Option LogRow

@@ -1,8 +1,8 @@
 -- Which rows a base has room for, and what is said of rows that may be folded.
-use Rattle.std.specs.Prelude.{ℕ, List, Option, None, Some, Ok, Err}
+use Rattle.std.specs.Prelude.{ℕ, Bool, false, List, Option, None, Some, Ok, Err}
 use Rattle.std.specs.List.{AllByRecursion}
 use Rattle.occ_model.specs.Content.{IsSession}
-use Rattle.occ_model.specs.Log.{LogRow}
+use Rattle.occ_model.specs.Log.{LogRow, is_open}
 use Rattle.occ_book.specs.Undo.{ArePlaced}
 use Rattle.occ_log.specs.SessionStates.{Slot, row_under_way, back_fault}
 use Rattle.occ_types.specs.declared.fault.Fault.{Fault}
@@ -16,6 +16,18 @@ pub record Fits (tables sessions : ℕ) (row : LogRow) : Type 0 where
 -- and for each of some rows
 abbrev pub AllFit : ℕ → ℕ → List LogRow → Type 0
 AllFit tables sessions = AllByRecursion (Fits tables sessions)
+
+-- the row of a session that is held is open; rows are found by their places
+abbrev pub holds_open : (ℕ → Option LogRow) → Slot → Bool
+holds_open log slot = elim slot.hold [
+  | None ↦ false
+  | Some hold ↦ elim (log hold.place) [ None ↦ false | Some row ↦ is_open row.standing ]
+]
+
+-- and so of a session that may be there
+abbrev pub open_at : (ℕ → Option LogRow) → Option Slot → Bool
+open_at log None = false
+open_at log (Some slot) = holds_open log slot
 
 -- why a session's row that is under way is not found: there may be no such session, nothing may have entered, or the row may be folded, which was decided then
 abbrev pub under_way_fault : List Slot → (ℕ → Option LogRow) → ℕ → Option Fault

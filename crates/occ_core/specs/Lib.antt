@@ -7,4 +7,5 @@ pub mod AtOnce
 pub mod RunningAlone
 pub mod Runs
 pub mod Folding
+pub mod Performed
 pub mod OpenCases

@@ -1,55 +1,63 @@
 -- What the calls of a core reply, as replies of the model.
-use Rattle.std.specs.Prelude.{◌≡◌, ◌<◌, ℕ, Bool, List, [], ◌∷◌, map, length, Option, None, Some, Result, Ok, Err, Vec}
+use Rattle.std.specs.Prelude.{◌≡◌, ◌<◌, ⊤, ℕ, List, [], ◌∷◌, map, length, Option, None, Some, Result, Ok, Err, Vec}
 use Rattle.occ_types.specs.declared.fault.Fault.{Fault}
-use Rattle.occ_types.specs.declared.keys.Key as code_key
+use Rattle.occ_types.specs.declared.fault.Refused as refused
 use Rattle.occ_types.specs.Object.{Object}
-use Rattle.occ_types.specs.Row.{Row}
-use Rattle.occ_model.specs.State.{Write, Found, Rows}
+use Rattle.occ_model.specs.State.{Write}
 use Rattle.occ_model.specs.Log.{LogRow, Writing, rest}
 use Rattle.occ_model.specs.World.{World, latest}
-use Rattle.occ_model.specs.Event.{Reply, Refused, Answered, Forgotten, Entered, Closed, Decided, Wrote, NoMore, Finished, BackedUp, RanAlone, Folded}
-use Rattle.occ_model.specs.declared.verdict.Verdict.{Verdict}
-use Rattle.occ_sets.specs.PlainSets.{rows_of, answer_of}
+use Rattle.occ_model.specs.Event.{Item, Request, Alone, Close, Reply, Refused, Entered, Closed, Wrote, NoMore, Finished, EndedBack, RanAlone}
+use Rattle.occ_sets.specs.PlainSets.{answer_of}
+use Rattle.occ_sets.specs.declared.reads.Answer as code_answer
 use Rattle.occ_log.specs.SessionStates.{written_at}
 use Rattle.occ_core.specs.CoreParts.{row_placed}
-use Rattle.occ_core.specs.declared.core_entries.Entry as code_entry
-use Rattle.occ_core.specs.declared.core_entries.Entry.TheVariants as entries
-use Rattle.occ_queue.specs.declared.items.Item as items
-use Rattle.occ_types.specs.declared.fault.Refused as refused
-use Rattle.occ_core.specs.declared.core_turns.SingleWrite.{SingleWrite}
-use Rattle.occ_core.specs.declared.core_turns.SingleWrite.TheVariants as writes
+use Rattle.occ_core.specs.declared.outcomes.Outcome as code_outcome
+use Rattle.occ_core.specs.declared.outcomes.Outcome.TheVariants as outcomes
+use Rattle.occ_core.specs.declared.writing.SingleWrite.{SingleWrite}
+use Rattle.occ_core.specs.declared.writing.SingleWrite.TheVariants as writes
 
-abbrev pub decision : Result Verdict Fault → Reply
-decision (Ok verdict) = Decided verdict
-decision (Err fault) = Refused fault
+-- a call replies by what it answers, or that it was refused
+abbrev pub replied : {X : Type 0} → (X → Reply) → Result X Fault → Reply
+replied answer (Ok x) = answer x
+replied answer (Err fault) = Refused fault
+
+-- and so where it hands back what is refused
+abbrev pub replied_back : {X Y : Type 0} → (X → Reply) → Result X (refused.Refused Y) → Reply
+replied_back answer (Ok x) = answer x
+replied_back answer (Err refusal) = Refused refusal.fault
 
 module _ {Z : Type 0} where
-  -- a request that enters replies the place of its row and the index of its case, and operations what their run replies
-  abbrev pub entry : Result (code_entry.Entry Z) Fault → Reply
-  entry (Ok (entries.Entered place index)) = Entered place index
-  entry (Ok (entries.RanAlone number answers)) = RanAlone number (map answer_of answers.items)
-  entry (Ok entries.MarkedClosed) = Closed
-  entry (Err fault) = Refused fault
+  -- what a run alone replies
+  abbrev pub ran : ℕ × Vec (code_answer.Answer Z) Z → Reply
+  ran done = RanAlone done.0 (map answer_of done.1.items)
 
-  -- and so where it hands back what is refused
-  abbrev pub entering : Result (code_entry.Entry Z) (refused.Refused (items.Item Z)) → Reply
-  entering (Ok (entries.Entered place index)) = Entered place index
-  entering (Ok (entries.RanAlone number answers)) = RanAlone number (map answer_of answers.items)
-  entering (Ok entries.MarkedClosed) = Closed
-  entering (Err refusal) = Refused refusal.fault
+  -- what is replied by what came of what was handed in; the index of a case is the place of its row
+  abbrev pub outcome_of : code_outcome.Outcome Z → Reply
+  outcome_of (outcomes.Entered place) = Entered place place
+  outcome_of (outcomes.Committed tn) = Finished tn
+  outcome_of (outcomes.BackedUp cause) = EndedBack cause
+  outcome_of (outcomes.RanAlone tn answers) = RanAlone tn (map answer_of answers.items)
+  outcome_of outcomes.MarkedClosed = Closed
 
-abbrev pub finishing : Result ℕ Fault → Reply
-finishing (Ok number) = Finished number
-finishing (Err fault) = Refused fault
+  -- operations ran alone
+  abbrev pub IsRunAlone : code_outcome.Outcome Z → Type 0
+  IsRunAlone (outcomes.RanAlone tn answers) = ⊤
+  IsRunAlone outcome = ⊥
 
-abbrev pub backing : Result ℕ Fault → Reply
-backing (Ok last) = BackedUp last
-backing (Err fault) = Refused fault
+  -- what can come of an entry
+  abbrev pub CanEnter : Item → code_outcome.Outcome Z → Type 0
+  CanEnter (Request number start writes) (outcomes.Entered place) = ⊤
+  CanEnter (Alone number operations) outcome = IsRunAlone outcome
+  CanEnter (Close number) outcomes.MarkedClosed = ⊤
+  CanEnter item outcome = ⊥
 
--- what a checkpoint replies
-abbrev pub folding : Result ℕ Fault → Reply
-folding (Ok count) = Folded count
-folding (Err fault) = Refused fault
+  -- what can come of a serial end
+  abbrev pub CanEnd : Item → code_outcome.Outcome Z → Type 0
+  CanEnd (Request number start writes) (outcomes.Committed tn) = ⊤
+  CanEnd (Request number start writes) (outcomes.BackedUp cause) = ⊤
+  CanEnd (Alone number operations) outcome = IsRunAlone outcome
+  CanEnd (Close number) outcomes.MarkedClosed = ⊤
+  CanEnd item outcome = ⊥
 
 -- the row at a place in the order of entry, where it stands in the log
 abbrev pub row_in : World → ℕ → Option LogRow
@@ -77,27 +85,6 @@ pub record IsNextWrite (world : World) (session row write : ℕ) : Type 0 where
   pub left : write < length found.writes
 
 -- a single write is named by its places: that of its row in the order of entry, and its own in the row
-abbrev pub single : World → Result SingleWrite Fault → Reply
-single world (Ok (writes.Wrote row write)) = elim (written_in world row write) [ None ↦ NoMore | Some object ↦ Wrote object ]
-single world (Ok writes.NoMore) = NoMore
-single world (Err fault) = Refused fault
-
--- what a single write replies whose object is known beforehand, if one is left
-abbrev pub writing : Option Object → Result SingleWrite Fault → Reply
-writing next (Ok done) = elim next [ None ↦ NoMore | Some object ↦ Wrote object ]
-writing next (Err fault) = Refused fault
-
--- what a read of one key replies
-abbrev pub reading : Result (Option Row) Fault → Reply
-reading (Ok row) = Answered (Found row)
-reading (Err fault) = Refused fault
-
-abbrev pub forgetting : Result Bool Fault → Reply
-forgetting (Ok there) = Forgotten there
-forgetting (Err fault) = Refused fault
-
-module _ {Z : Type 0} where
-  -- what a read of a range replies
-  abbrev pub scanning : Result (Vec (code_key.Key Z × Row) Z) Fault → Reply
-  scanning (Ok rows) = Answered (Rows (rows_of rows.items))
-  scanning (Err fault) = Refused fault
+abbrev pub wrote : World → SingleWrite → Reply
+wrote world (writes.Wrote row write) = elim (written_in world row write) [ None ↦ NoMore | Some object ↦ Wrote object ]
+wrote world writes.NoMore = NoMore

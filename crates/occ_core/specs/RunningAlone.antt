@@ -1,21 +1,16 @@
--- When a list of operations is not run alone, over the parts of a core, and what its run replies.
-use Rattle.std.specs.Prelude.{ℕ, nat_lt, List, [], ◌∷◌, map, length, Option, Result, Ok, Err, Vec}
+-- When a list of operations is not run alone, over the parts of a core.
+use Rattle.std.specs.Prelude.{ℕ, nat_lt, List, [], ◌∷◌, length, Option}
 use Rattle.std.specs.FinMap as finite
 use Rattle.std.specs.FinMap.{FinMap}
 use Rattle.std.specs.Ordering.{nat_cmp}
 use Rattle.occ_types.specs.declared.fault.Fault.{Fault}
 use Rattle.occ_types.specs.declared.fault.Fault.TheVariants.{ReadOpen, SetFull}
-use Rattle.occ_types.specs.declared.fault.Refused as refused
 use Rattle.occ_types.specs.declared.limits.TheConstants.{MAX_OPERATIONS}
 use Rattle.occ_types.specs.Schema.{Schema, fault_if, first_fault}
-use Rattle.occ_model.specs.Event.{Reply, Refused, RanAlone}
 use Rattle.occ_model.specs.Log.{LogRow}
 use Rattle.occ_model.specs.Operations.{Operation}
 use Rattle.occ_model.specs.Refusal.{check_operations}
 use Rattle.occ_model.specs.World.{ReadPhase, phase_cmp}
-use Rattle.occ_sets.specs.PlainSets.{answer_of}
-use Rattle.occ_sets.specs.declared.reads.Answer as code_answer
-use Rattle.occ_queue.specs.declared.items.Item as items
 use Rattle.occ_core.specs.AtOnce.{quiet_fault}
 use Rattle.occ_core.specs.EntryFaults.{spare_fault, turn_to_close, log_fault, counter_fault}
 use Rattle.occ_log.specs.SessionStates.{Slot, active_from}
@@ -45,14 +40,3 @@ room_to_run schema slots rows log counter operations = first_fault (
     ∷ log_fault rows
     ∷ counter_fault counter (length (active_from log slots))
     ∷ [])
-
-module _ {Z : Type 0} where
-  -- what a run alone replies
-  abbrev pub running : Result (ℕ × Vec (code_answer.Answer Z) Z) Fault → Reply
-  running (Ok done) = RanAlone done.0 (map answer_of done.1.items)
-  running (Err fault) = Refused fault
-
-  -- and so where it hands back what is refused
-  abbrev pub running_item : Result (ℕ × Vec (code_answer.Answer Z) Z) (refused.Refused (items.Item Z)) → Reply
-  running_item (Ok done) = RanAlone done.0 (map answer_of done.1.items)
-  running_item (Err refusal) = Refused refusal.fault

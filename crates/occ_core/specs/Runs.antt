@@ -1,13 +1,14 @@
 -- What a list of steps does to a core, and what it is replied: a run of the model.
-use Rattle.std.specs.Prelude.{◌≡◌, ◌⊎◌, true, List, [], ◌∷◌, map, Option, None, Some}
+use Rattle.std.specs.Prelude.{◌≡◌, ◌⊎◌, true, List, [], ◌∷◌, Option, None, Some}
 use Rattle.occ_types.specs.declared.fault.Fault.TheVariants.{Memory}
 use Rattle.occ_types.specs.Question.{One, Span}
 use Rattle.occ_types.specs.PlainData.{key_of, end_of, object_of}
 use Rattle.occ_model.specs.State.{Found, Rows}
-use Rattle.occ_model.specs.Event.{Event, Item, Alone, Read, Forget, Enter, Decide, WriteOne, Finish, BackUp, SerialEnd, RunAlone, Checkpoint, Reply, Refused, Answered, Forgotten, Entered, Closed, Decided, Wrote, NoMore, Finished, BackedUp, EndedBack, RanAlone, Folded}
+use Rattle.occ_model.specs.Event.{Event, Item, Alone, Read, Forget, Enter, Decide, WriteOne, Finish, BackUp, SerialEnd, RunAlone, Checkpoint, Reply, Refused, Answered, Forgotten, Decided, Wrote, NoMore, Finished, BackedUp, Folded}
 use Rattle.occ_model.specs.Refusal.{refusal, has_writes_left}
 use Rattle.occ_core.specs.Core.{Seen, Transition}
-use Rattle.occ_sets.specs.PlainSets.{rows_of, answer_of}
+use Rattle.occ_core.specs.Replies.{outcome_of}
+use Rattle.occ_sets.specs.PlainSets.{rows_of}
 use Rattle.occ_sets.specs.Operations.{ops_of}
 use Rattle.occ_queue.specs.Items.{item_of}
 use Rattle.occ_core.specs.declared.steps.Step as code_step
@@ -35,15 +36,12 @@ module _ {Z : Type 0} where
   reply_of (replies.Found row) = Answered (Found row)
   reply_of (replies.Rows rows) = Answered (Rows (rows_of rows.items))
   reply_of (replies.Forgotten there) = Forgotten there
-  reply_of (replies.Entered place index) = Entered place index
-  reply_of replies.Closed = Closed
+  reply_of (replies.Outcome outcome) = outcome_of outcome
   reply_of (replies.Decided verdict) = Decided verdict
   reply_of (replies.Wrote object) = Wrote (object_of object)
   reply_of replies.NoMore = NoMore
-  reply_of (replies.Finished number) = Finished number
+  reply_of (replies.Finished tn) = Finished tn
   reply_of (replies.BackedUp number) = BackedUp number
-  reply_of (replies.EndedBack cause) = EndedBack cause
-  reply_of (replies.RanAlone number answers) = RanAlone number (map answer_of answers.items)
   reply_of (replies.Folded count) = Folded count
   reply_of (replies.Refused fault) = Refused fault
   reply_of (replies.RefusedItem refused) = Refused refused.fault
@@ -53,11 +51,16 @@ module _ {Z : Type 0} where
   handed_back (replies.RefusedItem refused) = Some (item_of refused.value)
   handed_back reply = None
 
-  -- the item that is to be handed back: that of an entry or a serial end which is refused, or that which a refused list of operations is
+  -- the item that is handed in: that of an entry or a serial end, or that which a list of operations is
+  abbrev pub handed_in : code_step.Step Z → Option Item
+  handed_in (steps.Enter session item) = Some (item_of item)
+  handed_in (steps.SerialEnd session item) = Some (item_of item)
+  handed_in (steps.RunAlone session number operations) = Some (Alone number (ops_of operations.items))
+  handed_in step = None
+
+  -- it is to be handed back where it is refused
   abbrev pub owed : code_step.Step Z → Reply → Option Item
-  owed (steps.Enter session item) (Refused fault) = Some (item_of item)
-  owed (steps.SerialEnd session item) (Refused fault) = Some (item_of item)
-  owed (steps.RunAlone session number operations) (Refused fault) = Some (Alone number (ops_of operations.items))
+  owed step (Refused fault) = handed_in step
   owed step reply = None
 
   -- A single write is put off where there is one left, nothing refuses it, and there is no memory to name its object in the reply. (Of a deletion the model says that it takes none; its name may.)

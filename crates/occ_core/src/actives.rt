@@ -1,11 +1,13 @@
-//! The active transactions, found through the sessions, without a pass over the log.
+//! The active transactions and the open rows, found through the sessions, without a pass over the log.
 ghost use Rattle.std.specs.Prelude.{◌≡◌, length, slice_get, IfOk, option_map};
-ghost use Rattle.occ_model.specs.Log.{is_active};
+ghost use Rattle.std.specs.List.{list_any};
+ghost use Rattle.occ_model.specs.Log.{is_active, is_open};
 ghost use Rattle.occ_model.specs.World.{active_count};
 ghost use Rattle.occ_log.specs.Logs.{row_at};
 ghost use Rattle.occ_log.specs.Rows.{standing_of};
 ghost use Rattle.occ_log.specs.SessionStates.{active_from};
 ghost use Rattle.occ_core.specs.EntryFaults.{active_at};
+ghost use Rattle.occ_core.specs.Folding.{holds_open, open_at};
 
 use crate::core_state::Core;
 use occ_book::Standing;
@@ -64,6 +66,46 @@ pub(crate) fn count_active<A: Allocator>(sessions: &Sessions<A>, log: &Log<A>) -
         }
     }
     count
+}
+
+// Whether a row is open: entered, and not decided.
+pub(crate) fn has_open<A: Allocator>(sessions: &Sessions<A>, log: &Log<A>) -> bool
+    ensures { result ≡ list_any (holds_open (row_at log.now)) sessions.now }
+{
+    for place in 0..sessions.len() {
+        if is_open_at(sessions, log, place) {
+            return true;
+        }
+    }
+    false
+}
+
+// Whether the row of the session at a place is open.
+fn is_open_at<A: Allocator>(sessions: &Sessions<A>, log: &Log<A>, place: usize) -> bool
+    ensures { result ≡ open_at (row_at log.now) (slice_get sessions.now place) }
+{
+    let Some(state) = sessions.get(place) else {
+        return false;
+    };
+    let Some(held) = &state.held else {
+        return false;
+    };
+    match log.row(held.place) {
+        None => false,
+        Some(row) => is_open(&row.standing),
+    }
+}
+
+// Whether a row that stands so is open.
+fn is_open<A: Allocator>(standing: &Standing<OpenCase<A>>) -> bool
+    ensures { result ≡ is_open (standing_of standing.now) }
+{
+    match standing {
+        Standing::Open(_) => true,
+        Standing::Writing(_) => false,
+        Standing::Done(_) => false,
+        Standing::Back(_) => false,
+    }
 }
 
 // A clone of the writes of each active transaction, found through the sessions.

@@ -1,23 +1,18 @@
 //! The core of the store: the world of the model, kept.
-ghost use Rattle.std.specs.Prelude.{◌≡◌, ◌<◌, ◌≤◌, ◌+◌, ◌^◌, ℕ, [], length, IfOk, IfErr, IsOkUnless, true, Some, option_map};
+ghost use Rattle.std.specs.Prelude.{◌≡◌, ◌<◌, ◌≤◌, ◌+◌, ◌^◌, ℕ, [], length, IfOk, IfErr, IsOkUnless, true, Some};
 ghost use Rattle.std.specs.FinMap as finite;
 ghost use Rattle.occ_types.specs.declared.fault.Fault.TheVariants.{Memory};
-ghost use Rattle.occ_types.specs.PlainData.{object_of};
 ghost use Rattle.occ_types.specs.declared.limits.TheConstants.{MAX_COUNTER, MAX_LOG_ROWS, MAX_NUMBER};
 ghost use Rattle.occ_model.specs.Invariant.{Invariant};
 ghost use Rattle.occ_model.specs.Content.{IsInSchema};
 ghost use Rattle.occ_model.specs.Log.{Audited};
-ghost use Rattle.occ_model.specs.Poll.{row_numbered};
 ghost use Rattle.occ_model.specs.World.{opened, low, empty_base, active_count, has_session, last_entered, next_place};
-ghost use Rattle.occ_core.specs.Replies.{written_in};
 ghost use Rattle.occ_log.specs.Logs.{IsBegun};
 ghost use Rattle.occ_log.specs.SessionStates.{idle_slots};
-ghost use Rattle.occ_log.specs.Rows.{log_of, log_row_of};
 
-use occ_book::{Base, LogRow, Marks, Tables};
-use occ_case::OpenCase;
+use occ_book::{Base, Marks, Tables};
 use occ_log::{Log, ReadPhases, Sessions, Window};
-use occ_types::{Fault, Object, Refused, Schema};
+use occ_types::{Fault, Refused, Schema};
 use std::alloc::Allocator;
 use std::marker::Model;
 
@@ -119,37 +114,6 @@ impl<A: Allocator> Core<A> {
         ensures { result ≡ low self.now.world }
     {
         self.counter.saturating_sub(self.window.keep() as u64)
-    }
-
-    /// The decision log: the rows that stand in it, in the order of entry.
-    pub fn log(&self) -> &[LogRow<A, OpenCase<A>>]
-        ensures { log_of result.now ≡ self.now.world.log }
-    {
-        self.log.rows()
-    }
-
-    /// The row of a session's transaction with this number, or none where it does not stand in the log. It is found at once, however
-    /// long the log is: the core keeps the places of each session's rows, and their numbers have no gap.
-    pub fn row(&self, session: usize, number: u64) -> Option<&LogRow<A, OpenCase<A>>>
-        ensures { option_map (λ r. log_row_of r.now) result ≡ row_numbered session number self.now.world.log }
-    {
-        self.log.numbered(session, number)
-    }
-
-    /// The closing marks: of each session that is closed, the number of its mark.
-    pub fn marks(&self) -> &Marks<A>
-        ensures marks { result.now.marks ≡ self.now.world.marks }
-        ensures sessions { result.now.sessions ≡ self.now.world.settings.sessions }
-    {
-        &self.marks
-    }
-
-    /// The object of a write in the log: by the place of its row in the order of entry, and by its own place in the order of the first
-    /// writes. None where the row does not stand in the log any more, or has no such write.
-    pub fn written(&self, row: usize, write: usize) -> Option<&Object<A>>
-        ensures { option_map (λ o. object_of o.now) result ≡ written_in self.now.world row write }
-    {
-        self.log.written(row, write)
     }
 }
 

@@ -1,5 +1,5 @@
 //! Driving a core by steps.
-ghost use Rattle.std.specs.Prelude.{◌≡◌, List, IfOk, IfErr, OnOk, OnErr};
+ghost use Rattle.std.specs.Prelude.{◌≡◌, List, IfOk, IfErr, OnOk, OnErr, MatchResult};
 ghost use Rattle.occ_types.specs.declared.fault.Fault.TheVariants.{Memory};
 ghost use Rattle.occ_model.specs.Event.{Event, Reply as Said};
 ghost use Rattle.occ_model.specs.Step.{Run};
@@ -7,10 +7,7 @@ ghost use Rattle.occ_core.specs.declared.steps.Step.TheVariants as steps;
 ghost use Rattle.occ_core.specs.Runs.{Answers, Runs};
 
 use crate::core_state::Core;
-use crate::replies::{
-    Reply, to_back_up, to_checkpoint, to_decision, to_entry, to_finish, to_forget, to_no_write,
-    to_read, to_run_alone, to_scan, to_serial_end, to_write,
-};
+use crate::replies::Reply;
 use crate::steps::Step;
 use occ_types::{Fault, Refused};
 use std::alloc::Allocator;
@@ -50,6 +47,16 @@ impl<A: Allocator + Copy> Core<A> {
     pub fn take(&mut self, step: Step<A>) -> Reply<A>
         ensures { Answers self.old step result self.new }
     {
+        match self.answer(step) {
+            Ok(reply) => reply,
+            Err(refusal) => refusal,
+        }
+    }
+
+    // Does one step. The error is the reply to one that is refused.
+    fn answer(&mut self, step: Step<A>) -> Result<Reply<A>, Reply<A>>
+        ensures { MatchResult result (λ reply. Answers self.old step reply self.new) (λ refusal. Answers self.old step refusal self.new) }
+    {
         match step {
             Step::Read {
                 session,
@@ -57,7 +64,7 @@ impl<A: Allocator + Copy> Core<A> {
                 start,
                 table,
                 key,
-            } => to_read(self.read(session, number, start, table, &key)),
+            } => Ok(Reply::Found(self.read(session, number, start, table, &key)?)),
             Step::Scan {
                 session,
                 number,
@@ -65,33 +72,39 @@ impl<A: Allocator + Copy> Core<A> {
                 table,
                 lower,
                 upper,
-            } => to_scan(self.scan(session, number, start, table, &lower, &upper)),
-            Step::Forget { session, number } => to_forget(self.forget(session, number)),
-            Step::Enter { session, item } => to_entry(self.enter(session, item)),
-            Step::Decide(session) => to_decision(self.decide(session)),
-            Step::WriteOne(session) => self.take_write(session),
-            Step::Finish(session) => to_finish(self.finish(session)),
-            Step::BackUp(session) => to_back_up(self.back_up(session)),
-            Step::SerialEnd { session, item } => to_serial_end(self.serial_end(session, item)),
+            } => Ok(Reply::Rows(self.scan(session, number, start, table, &lower, &upper)?)),
+            Step::Forget { session, number } => Ok(Reply::Forgotten(self.forget(session, number)?)),
+            Step::Enter { session, item } => Ok(Reply::Outcome(self.enter(session, item)?)),
+            Step::Decide(session) => Ok(Reply::Decided(self.decide(session)?)),
+            Step::WriteOne(session) => self.answer_write(session),
+            Step::Finish(session) => Ok(Reply::Finished {
+                tn: self.finish(session)?,
+            }),
+            Step::BackUp(session) => Ok(Reply::BackedUp(self.back_up(session)?)),
+            Step::SerialEnd { session, item } => Ok(Reply::Outcome(self.serial_end(
+                session, item,
+            )?)),
             Step::RunAlone {
                 session,
                 number,
                 operations,
-            } => to_run_alone(self.take_alone(session, number, operations)),
-            Step::Checkpoint => to_checkpoint(self.checkpoint()),
+            } => Ok(Reply::Outcome(self.take_alone(session, number, operations)?)),
+            Step::Checkpoint => Ok(Reply::Folded(self.checkpoint()?)),
         }
     }
 
     // Does the next single write of a session, whose object is copied before that.
-    fn take_write(&mut self, session: usize) -> Reply<A>
-        ensures { Answers self.old (steps.WriteOne session) result self.new }
+    fn answer_write(&mut self, session: usize) -> Result<Reply<A>, Reply<A>>
+        ensures { MatchResult result (λ reply. Answers self.old (steps.WriteOne session) reply self.new) (λ refusal. Answers self.old (steps.WriteOne session) refusal self.new) }
     {
         let Some(next) = self.next_write(session) else {
-            return to_no_write(self.write_one(session));
+            self.write_one(session)?;
+            return Ok(Reply::NoMore);
         };
         let Ok(object) = next.clone() else {
-            return Reply::Refused(Fault::Memory);
+            return Err(Reply::Refused(Fault::Memory));
         };
-        to_write(object, self.write_one(session))
+        self.write_one(session)?;
+        Ok(Reply::Wrote(object))
     }
 }

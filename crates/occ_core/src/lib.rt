@@ -3,27 +3,32 @@
 #![tactic(auto)]
 
 mod actives;
+mod alone;
+mod asking;
 mod at_once;
-mod core_alone;
-mod core_book;
-mod core_checkpoint;
-mod core_closing;
-mod core_entries;
-mod core_reads;
-mod core_serial;
+mod checkpoint;
 mod core_state;
-mod core_turns;
+mod deciding;
 mod driving;
+mod ending;
+mod entering;
 mod entry_checks;
+mod outcomes;
+mod performed;
 mod read_checks;
+mod reading;
 mod replies;
+mod serial;
+mod showing;
 mod steps;
+mod sums;
+mod writing;
 
-pub use core_checkpoint::MAX_PLACE;
-pub use core_entries::Entry;
-pub use core_serial::Ended;
+pub use checkpoint::MAX_PLACE;
 pub use core_state::Core;
-pub use core_turns::SingleWrite;
 pub use driving::drive;
+pub use outcomes::Outcome;
+pub use performed::{Performed, perform_all};
 pub use replies::Reply;
 pub use steps::Step;
+pub use writing::SingleWrite;

@@ -7,6 +7,8 @@ mod checkpoint_tests;
 #[cfg(test)]
 mod life_tests;
 #[cfg(test)]
+mod operation_tests;
+#[cfg(test)]
 mod stores;
 #[cfg(test)]
 mod telling;

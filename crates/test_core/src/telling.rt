@@ -1,5 +1,5 @@
 //! What is replied to steps, in words.
-use occ_core::{Core, Reply, Step, drive};
+use occ_core::{Core, Outcome, Reply, Step, drive};
 use occ_queue::Item;
 use occ_types::{Cell, Fault, Key, Object, Refused, Row};
 use std::alloc::{AllocError, Global};
@@ -27,21 +27,28 @@ fn tell(words: &mut String<Global>, reply: &Reply<Global>) -> Result<(), AllocEr
             write!(words, "{count} rows; ")
         }
         Reply::Forgotten(there) => write!(words, "forgotten {there}; "),
-        Reply::Entered { place, .. } => write!(words, "entered {place}; "),
-        Reply::Closed => words.push_str("closed; "),
+        Reply::Outcome(outcome) => tell_outcome(words, outcome),
         Reply::Decided(verdict) => write!(words, "{verdict:?}; "),
         Reply::Wrote(object) => tell_key(words, object),
         Reply::NoMore => words.push_str("no more; "),
-        Reply::Finished(number) => write!(words, "finished {number}; "),
+        Reply::Finished { tn } => write!(words, "finished {tn}; "),
         Reply::BackedUp(number) => write!(words, "backed {number}; "),
-        Reply::EndedBack(cause) => write!(words, "ended back by {cause:?}; "),
-        Reply::RanAlone { number, answers } => {
-            let count = answers.len();
-            write!(words, "ran alone as {number} with {count}; ")
-        }
         Reply::Folded(count) => write!(words, "folded {count}; "),
         Reply::Refused(fault) => write!(words, "refused {fault:?}; "),
         Reply::RefusedItem(refused) => tell_refusal(words, refused),
+    }
+}
+
+fn tell_outcome(words: &mut String<Global>, outcome: &Outcome<Global>) -> Result<(), AllocError> {
+    match outcome {
+        Outcome::Entered { place } => write!(words, "entered {place}; "),
+        Outcome::Committed { tn } => write!(words, "finished {tn}; "),
+        Outcome::BackedUp(cause) => write!(words, "ended back by {cause:?}; "),
+        Outcome::RanAlone { tn, answers } => {
+            let count = answers.len();
+            write!(words, "ran alone as {tn} with {count}; ")
+        }
+        Outcome::MarkedClosed => words.push_str("closed; "),
     }
 }
 

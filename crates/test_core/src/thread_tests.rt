@@ -22,7 +22,7 @@ fn commit(
         let _written = core.lock(rt).take(Step::WriteOne(session));
     }
     let finished = core.lock(rt).take(Step::Finish(session));
-    matches!(&finished, Reply::Finished(_))
+    matches!(&finished, Reply::Finished { .. })
 }
 
 // Two sessions, each in a thread of its own. Whether both finished.

@@ -63,13 +63,18 @@ impl<A: Allocator + Copy> Client<A> {
     }
 
     /// Runs operations alone.
-    pub(crate) fn run(&mut self, session: usize, number: u64, operations: &[Op<A>]) -> Option<()> {
+    pub(crate) fn run(
+        &mut self,
+        session: usize,
+        number: u64,
+        operations: Vec<Op<A>, A>,
+    ) -> Option<()> {
         let before = self.shown()?;
         match self.core.run_alone(session, number, operations) {
             Ok(ran) => self.hear(&ran),
-            Err(fault) => {
-                self.check(fault, &before)?;
-                let ran = self.core.run_alone(session, number, operations).ok()?;
+            Err(refused) => {
+                self.check(refused.fault, &before)?;
+                let ran = self.core.run_alone(session, number, refused.value).ok()?;
                 self.hear(&ran)
             }
         }

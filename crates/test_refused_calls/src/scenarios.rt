@@ -82,7 +82,7 @@ impl<A: Allocator + Copy> Client<A> {
         self.end(1, request(first))?;
         self.end(2, request(second))?;
         let operations = self.operations()?;
-        self.run(3, 1, operations.as_slice())?;
+        self.run(3, 1, operations)?;
         self.end(4, alone(operations))?;
         self.end(4, Item::Close { number: 2 })?;
         self.take_book()

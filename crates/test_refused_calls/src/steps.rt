@@ -115,12 +115,11 @@ impl<A: Allocator + Copy> Client<A> {
             Reply::Found(row) => self.hear(row),
             Reply::Rows(rows) => self.hear(rows),
             Reply::Forgotten(there) => self.hear(there),
-            Reply::Entered { place, index } => self.hear(&(*place, *index)),
+            Reply::Outcome(outcome) => self.hear(outcome),
             Reply::Decided(verdict) => self.hear(verdict),
             Reply::Wrote(object) => self.hear(object),
-            Reply::Finished(number) => self.hear(number),
+            Reply::Finished { tn } => self.hear(tn),
             Reply::BackedUp(number) => self.hear(number),
-            Reply::RanAlone { answers, .. } => self.hear(answers),
             _ => None,
         }
     }

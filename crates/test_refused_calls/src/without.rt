@@ -3,7 +3,7 @@ use crate::client::Client;
 use crate::copies::request;
 use crate::values::key;
 use occ_case::{Cause, Verdict};
-use occ_core::{Entry, SingleWrite};
+use occ_core::{Outcome, SingleWrite};
 use occ_queue::{Item, SessionQueue};
 use occ_refusing::{Plan, Refusing};
 use occ_sets::Op;
@@ -100,7 +100,7 @@ impl<A: Allocator + Copy> Client<A> {
         holds(self.core.back_up(2) == Ok(1))?;
         holds(self.core.forget(3, 1) == Ok(true))?;
         let marked = self.core.enter(3, Item::Close { number: 1 }).ok()?;
-        holds(matches!(&marked, Entry::MarkedClosed))
+        holds(matches!(&marked, Outcome::MarkedClosed))
     }
 
     // A put wants memory, and nothing moves.
@@ -173,8 +173,8 @@ impl<A: Allocator + Copy> Client<A> {
     // A run alone, a queue and a copy.
     fn others_want_memory(&mut self) -> Option<()> {
         let operations: Vec<Op<A>, A> = Vec::new(self.alloc);
-        let refused = self.core.run_alone(1, 1, operations.as_slice()).err()?;
-        holds(refused == Fault::Memory)?;
+        let refused = self.core.run_alone(1, 1, operations).err()?;
+        holds(refused.fault == Fault::Memory)?;
         holds(SessionQueue::new(self.alloc, 1).err() == Some(Fault::Memory))
     }
 }

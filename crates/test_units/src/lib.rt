@@ -9,7 +9,6 @@ mod book;
 #[cfg(test)]
 mod log;
 #[cfg(test)]
-mod operations;
 #[cfg(test)]
 mod phases;
 #[cfg(test)]

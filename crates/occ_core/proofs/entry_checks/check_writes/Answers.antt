@@ -1,7 +1,7 @@
 use Rattle.std.proofs.Common.{◌<◌, length, ap, sym, ◌∙◌, Some, arith}
 use Rattle.std.specs.Result.{result_err}
 use Rattle.std.proofs.lemmas.Result.{err_from_is_err_and}
-use Rattle.occ_core.proofs.Entering.{checks_first, checks_next}
+use Rattle.occ_core.proofs.Entries.{checks_first, checks_next}
 use Rattle.occ_core.proofs.entry_checks.check_writes.Goals as goal
 
 pub returns-in_err-check_write : goal.returns-in_err-check_write

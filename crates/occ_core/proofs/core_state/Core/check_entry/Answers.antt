@@ -3,7 +3,7 @@ use Rattle.std.specs.Result.{result_err}
 use Rattle.std.proofs.lemmas.Result.{err_from_is_err_and}
 use Rattle.occ_core.specs.EntryFaults.{room_to_enter}
 use Rattle.occ_core.specs.Core.{parts_of}
-use Rattle.occ_core.proofs.Entering.{entry_turned, entry_roomed}
+use Rattle.occ_core.proofs.Entries.{entry_turned, entry_roomed}
 use Rattle.occ_core.proofs.Placed.{rows_found}
 use Rattle.occ_core.proofs.core_state.Core.check_entry.Goals as goal
 

@@ -4,7 +4,7 @@ use Rattle.std.proofs.lemmas.Result.{err_from_is_err_and}
 use Rattle.occ_types.specs.Question.{Span}
 use Rattle.occ_types.specs.PlainData.{end_of}
 use Rattle.occ_core.specs.Core.{parts_of}
-use Rattle.occ_core.proofs.Reading.{read_refused, refused_turn, refused_question, refused_size, last_decides}
+use Rattle.occ_core.proofs.ReadPhases.{read_refused, refused_turn, refused_question, refused_size, last_decides}
 use Rattle.occ_core.proofs.core_state.Core.check_scan.Goals as goal
 
 pub returns-in_err-check_turn_to_read : goal.returns-in_err-check_turn_to_read

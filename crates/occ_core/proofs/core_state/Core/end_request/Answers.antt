@@ -1,13 +1,15 @@
 use Rattle.std.proofs.Common.{ap, sym, ◌∙◌, Some, refl}
 use Rattle.std.proofs.lemmas.Result.{err_from_is_err_and}
 use Rattle.occ_model.specs.Step.{refused}
-use Rattle.occ_core.proofs.SerialEnding.{ending_err, quiet_kept, room_kept, placed_kept, commit_lawful, commit_returns, back_lawful, back_returns}
+use Rattle.occ_core.proofs.Replied.{replied_err}
+use Rattle.occ_core.specs.Replies.{outcome_of}
+use Rattle.occ_core.proofs.SerialEnding.{quiet_kept, room_kept, placed_kept, commit_lawful, commit_returns, back_lawful, back_returns}
 use Rattle.occ_core.proofs.core_state.Core.end_request.Goals as goal
 
 pub returns-in_err-check_serial-clause-step : goal.returns-in_err-check_serial-clause-step
 returns-in_err-check_serial-clause-step g c =
     let p = err_from_is_err_and c.from_residual.result c.from_residual.ensures.1 in
-    ending_err _ _ _ _ p.0 p.1 (refused p.0 (sym c.in_err-check_serial.ensures ∙ ap Some (sym p.2)) refl refl)
+    replied_err outcome_of _ _ _ _ p.0 p.1 (refused p.0 (sym c.in_err-check_serial.ensures ∙ ap Some (sym p.2)) refl refl)
 
 pub tested-requires-clause-quiet : goal.tested-requires-clause-quiet
 tested-requires-clause-quiet g c =
@@ -39,10 +41,10 @@ back_up_at_once-requires-clause-room g c =
     let t = c.args.transaction in
     room_kept c.args.self.now.world t.session t.number t.start c.args.writes.now (sym c.in_ok-check_serial.ensures) c.shared_reads.new.self.world (ap (λ s. s.world) c.in_ok-reads.ensures.kept) c.in_ok-reads.reads c.in_ok-reads.ensures.reads c.share.new.self c.in_ok-share.ensures.kept
 
-pub returns-in_ok-number-in-Commit-clause-step : goal.returns-in_ok-number-in-Commit-clause-step
-returns-in_ok-number-in-Commit-clause-step g c =
+pub returns-in_ok-tn-in-Commit-clause-step : goal.returns-in_ok-tn-in-Commit-clause-step
+returns-in_ok-tn-in-Commit-clause-step g c =
     let t = c.args.transaction in
-    commit_returns c.args.self.now.world t.session t.number t.start c.args.writes.now (sym c.in_ok-check_serial.ensures) c.shared_reads.new.self.world (ap (λ s. s.world) c.in_ok-reads.ensures.kept) c.in_ok-reads.reads c.in_ok-reads.ensures.reads c.share.new.self c.in_ok-share.ensures.kept (c.in-Commit.ensures c.args.writes.now) c.in_ok-number-in-Commit.number c.in_ok-number-in-Commit.ensures.number c.commit_at_once.new.self.world c.in_ok-number-in-Commit.ensures.ok
+    commit_returns c.args.self.now.world t.session t.number t.start c.args.writes.now (sym c.in_ok-check_serial.ensures) c.shared_reads.new.self.world (ap (λ s. s.world) c.in_ok-reads.ensures.kept) c.in_ok-reads.reads c.in_ok-reads.ensures.reads c.share.new.self c.in_ok-share.ensures.kept (c.in-Commit.ensures c.args.writes.now) c.in_ok-tn-in-Commit.tn c.in_ok-tn-in-Commit.ensures.number c.commit_at_once.new.self.world c.in_ok-tn-in-Commit.ensures.ok
 
 pub returns-in_ok-back_up_at_once-in-BackUp-clause-step : goal.returns-in_ok-back_up_at_once-in-BackUp-clause-step
 returns-in_ok-back_up_at_once-in-BackUp-clause-step g c =

@@ -1,20 +1,23 @@
 use Rattle.std.proofs.Common.{rules}
 use Rattle.occ_core.proofs.Closing.{close_of}
-use Rattle.occ_core.proofs.Entering.{entry_of, entry_told}
-use Rattle.occ_core.proofs.RunsAlone.{alone_of}
+use Rattle.occ_core.proofs.Entries.{entry_of}
+use Rattle.occ_core.proofs.RunsAlone.{alone_of, alone_entered}
 use Rattle.occ_core.proofs.core_state.Core.enter.Goals as goal
 
 pub returns-in-Ok-clause-step : goal.returns-in-Ok-clause-step
-returns-in-Ok-clause-step g c = entry_of _ _ _ _ _ _ _ _ (entry_told _ _ _ c.in-Ok.entry c.in-Ok.ensures.step) (search rules)
+returns-in-Ok-clause-step g c = entry_of _ _ _ _ _ _ _ _ c.in-Ok.ensures.step (search rules)
 
 pub returns-in-Err-clause-step : goal.returns-in-Err-clause-step
 returns-in-Err-clause-step g c = entry_of _ _ _ _ _ _ _ _ c.in-Err.ensures.step (search rules)
 
 pub returns-in-Alone-clause-step : goal.returns-in-Alone-clause-step
-returns-in-Alone-clause-step g c = alone_of _ _ _ _ _ _ c.enter_alone.ensures.step (search rules)
+returns-in-Alone-clause-step g c = alone_of _ _ _ _ _ _ (alone_entered _ _ _ _ _ _ c.take_alone.ensures.step) (search rules)
 
 pub returns-in-Err-enter_close-clause-step : goal.returns-in-Err-enter_close-clause-step
 returns-in-Err-enter_close-clause-step g c = close_of _ _ _ _ _ _ c.in-Err-enter_close.ensures (search rules)
 
 pub returns-in-Alone-clause-handed_back : goal.returns-in-Alone-clause-handed_back
-returns-in-Alone-clause-handed_back g c = rw c.in-Alone.is c.enter_alone.ensures.handed_back
+returns-in-Alone-clause-handed_back g c = rw c.in-Alone.is c.take_alone.ensures.handed_back
+
+pub returns-in-Alone-clause-outcome : goal.returns-in-Alone-clause-outcome
+returns-in-Alone-clause-outcome g c = rw c.in-Alone.is c.take_alone.ensures.outcome

@@ -3,13 +3,14 @@ use Rattle.std.proofs.lemmas.Result.{err_from_is_err_and}
 use Rattle.occ_model.specs.Step.{refused}
 use Rattle.occ_core.specs.Core.{parts_of}
 use Rattle.occ_core.proofs.Closing.{close_there, close_whole}
-use Rattle.occ_core.proofs.Entering.{entry_err}
+use Rattle.occ_core.proofs.Replied.{replied_err}
+use Rattle.occ_model.specs.Event.{Closed}
 use Rattle.occ_core.proofs.core_state.Core.enter_close.Goals as goal
 
 pub returns-in_err-check_close : goal.returns-in_err-check_close
 returns-in_err-check_close g c =
     let p = err_from_is_err_and c.from_residual.result c.from_residual.ensures.1 in
-    entry_err _ _ _ _ p.0 p.1 (refused p.0 (sym c.in_err-check_close.ensures ∙ ap Some (sym p.2)) refl refl)
+    replied_err (λ _. Closed) _ _ _ _ p.0 p.1 (refused p.0 (sym c.in_err-check_close.ensures ∙ ap Some (sym p.2)) refl refl)
 
 pub set-requires-clause-first : goal.set-requires-clause-first
 set-requires-clause-first g c =

@@ -1,7 +1,7 @@
 use Rattle.std.proofs.Common.{◌≤◌, Some, refl, ap, sym, subst, ◌∙◌, ◌-◌, length, [], ◌∷◌, ◌++◌, arith, slice_set}
 use Rattle.std.specs.FinMap as finite
 use Rattle.std.proofs.lemmas.Result.{err_from_is_err_and}
-use Rattle.occ_model.specs.Event.{Enter, Request, Refused}
+use Rattle.occ_model.specs.Event.{Enter, Request, Refused, Entered}
 use Rattle.occ_model.specs.Log.{LogRow, Open}
 use Rattle.occ_model.specs.World.{next_place, reads_under}
 use Rattle.occ_model.specs.Step.{Step, refused}
@@ -11,21 +11,22 @@ use Rattle.occ_log.specs.Logs.{HasRoom}
 use Rattle.occ_log.specs.Rows.{log_row_of}
 use Rattle.occ_log.proofs.Places.{length-set}
 use Rattle.occ_core.proofs.Staying.{base_kept}
-use Rattle.occ_core.proofs.Entering.{entry_err, entry_starved, entry_roomless, sound_kept, entering_place, open_row_kept, enter_from, enter_below, enter_whole, enter_placed, held_placed}
+use Rattle.occ_core.proofs.Replied.{replied_err}
+use Rattle.occ_core.proofs.Entries.{entry_starved, entry_roomless, sound_kept, entering_place, open_row_kept, enter_from, enter_below, enter_whole, enter_placed, held_placed}
 use Rattle.occ_core.proofs.Placed.{next_kept}
 use Rattle.occ_core.proofs.core_state.Core.enter_request.Goals as goal
 
 pub returns-in_err-check_entry-clause-step : goal.returns-in_err-check_entry-clause-step
 returns-in_err-check_entry-clause-step g c =
     let p = err_from_is_err_and c.from_residual.result c.from_residual.ensures.1 in
-    entry_err _ _ _ _ p.0 p.1 (refused p.0 (sym c.in_err-check_entry.ensures ∙ ap Some (sym p.2)) refl refl)
+    replied_err (λ place. Entered place place) _ _ _ _ p.0 p.1 (refused p.0 (sym c.in_err-check_entry.ensures ∙ ap Some (sym p.2)) refl refl)
 
 pub returns-in_err-shared-clause-step : goal.returns-in_err-shared-clause-step
 returns-in_err-shared-clause-step g c =
     let p = err_from_is_err_and c.from_residual-in_err-shared.result c.from_residual-in_err-shared.ensures.1 in
     let world = c.args.self.now.world in
     let event = Enter c.args.transaction.session (Request c.args.transaction.number c.args.transaction.start c.args.writes.now) in
-    entry_err _ _ _ _ p.0 p.1 (subst (λ f. Step world event (Refused f) (world_of (record (parts_of c.self.inside) { phases = c.share-2.new.self }))) (sym p.2)
+    replied_err (λ place. Entered place place) _ _ _ _ p.0 p.1 (subst (λ f. Step world event (Refused f) (world_of (record (parts_of c.self.inside) { phases = c.share-2.new.self }))) (sym p.2)
     (entry_starved (parts_of c.self.inside) world (ap (λ s. s.world) c.self.view_is) c.args.transaction.session c.args.transaction.number c.args.transaction.start c.args.writes.now (sym c.in_ok-check_entry.ensures) c.share-2.new.self c.share-2.ensures.kept))
 
 pub reserve-requires-clause-from : goal.reserve-requires-clause-from
@@ -44,7 +45,7 @@ returns-in_err-reserve-clause-step g c =
     let p = err_from_is_err_and c.from_residual-in_err-reserve.result c.from_residual-in_err-reserve.ensures.1 in
     let world = c.args.self.now.world in
     let event = Enter c.args.transaction.session (Request c.args.transaction.number c.args.transaction.start c.args.writes.now) in
-    entry_err _ _ _ _ p.0 p.1 (subst (λ f. Step world event (Refused f) (world_of (record (parts_of c.self.inside) { log = c.reserve.new.self.rows; phases = c.share-2.new.self }))) (sym p.2)
+    replied_err (λ place. Entered place place) _ _ _ _ p.0 p.1 (subst (λ f. Step world event (Refused f) (world_of (record (parts_of c.self.inside) { log = c.reserve.new.self.rows; phases = c.share-2.new.self }))) (sym p.2)
     (entry_roomless (parts_of c.self.inside) world (ap (λ s. s.world) c.self.view_is) c.args.transaction.session c.args.transaction.number c.args.transaction.start c.args.writes.now (sym c.in_ok-check_entry.ensures)
     c.reserve.new.self.rows c.in_err-reserve.ensures.rows c.share-2.new.self c.share-2.ensures.kept))
 

@@ -1,7 +1,7 @@
 use Rattle.std.proofs.Common.{ap, sym, ◌∙◌, Some}
 use Rattle.std.proofs.lemmas.Result.{err_from_is_err_and}
 use Rattle.occ_core.specs.Core.{parts_of}
-use Rattle.occ_core.proofs.Reading.{forget_exit, forget_sound, phases_core}
+use Rattle.occ_core.proofs.ReadPhases.{forget_exit, forget_sound, phases_core}
 use Rattle.occ_core.proofs.core_state.Core.forget.Goals as goal
 
 pub returns-in_err-check_session : goal.returns-in_err-check_session

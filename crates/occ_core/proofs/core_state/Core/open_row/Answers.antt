@@ -5,8 +5,8 @@ use Rattle.occ_model.specs.World.{reads_under}
 use Rattle.std.specs.FinMap as finite
 use Rattle.occ_log.specs.SessionStates.{active_from}
 use Rattle.occ_core.specs.Core.{parts_of}
-use Rattle.occ_core.proofs.Reading.{reads_are}
-use Rattle.occ_core.proofs.Entering.{open_case, open_row}
+use Rattle.occ_core.proofs.ReadPhases.{reads_are}
+use Rattle.occ_core.proofs.Entries.{open_case, open_row}
 use Rattle.occ_core.proofs.Placed.{rows_found, next_is}
 use Rattle.occ_core.proofs.core_state.Core.open_row.Goals as goal
 

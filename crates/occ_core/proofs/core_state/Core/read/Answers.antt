@@ -6,18 +6,20 @@ use Rattle.occ_model.specs.State.{Found}
 use Rattle.occ_model.specs.Step.{refused, starved}
 use Rattle.occ_sets.specs.PlainSets.{observation_of}
 use Rattle.occ_core.specs.Core.{parts_of}
-use Rattle.occ_core.proofs.Reading.{read_roomy, read_starved, read_whole, phases_core, reading_err}
+use Rattle.occ_core.proofs.ReadPhases.{read_roomy, read_starved, read_whole, phases_core}
+use Rattle.occ_core.proofs.Replied.{replied_err}
+use Rattle.occ_model.specs.Event.{Answered}
 use Rattle.occ_core.proofs.core_state.Core.read.Goals as goal
 
 pub returns-in_err-check_read : goal.returns-in_err-check_read
 returns-in_err-check_read g c =
     let p = err_from_is_err_and c.from_residual.result c.from_residual.ensures.1 in
-    reading_err _ _ _ _ _ p.1 (refused p.0 (sym c.in_err-check_read.ensures ∙ ap Some (sym p.2)) refl refl)
+    replied_err (λ row. Answered (Found row)) _ _ _ _ _ p.1 (refused p.0 (sym c.in_err-check_read.ensures ∙ ap Some (sym p.2)) refl refl)
 
 pub returns-in_err-seen : goal.returns-in_err-seen
 returns-in_err-seen g c =
     let p = err_from_is_err_and c.from_residual-in_err-seen.result c.from_residual-in_err-seen.ensures.1 in
-    reading_err _ _ _ _ _ (p.1 ∙ ap Err (p.2 ∙ c.in_err-seen.ensures.memory)) (starved (sym c.in_ok-check_read.ensures) refl refl refl)
+    replied_err (λ row. Answered (Found row)) _ _ _ _ _ (p.1 ∙ ap Err (p.2 ∙ c.in_err-seen.ensures.memory)) (starved (sym c.in_ok-check_read.ensures) refl refl refl)
 
 pub note-requires : goal.note-requires
 note-requires g c = record {
@@ -28,7 +30,7 @@ note-requires g c = record {
 pub returns-in_err-note : goal.returns-in_err-note
 returns-in_err-note g c =
     let p = err_from_is_err_and c.from_residual-in_err-note.result c.from_residual-in_err-note.ensures.1 in
-    reading_err _ _ _ _ _ (p.1 ∙ ap Err (p.2 ∙ c.in_err-note.ensures.memory)) (read_starved (parts_of c.self.inside) c.args.self.now.world (ap (λ s. s.world) c.self.view_is) c.self.invariant.sound c.args.session c.args.number c.args.start
+    replied_err (λ row. Answered (Found row)) _ _ _ _ _ (p.1 ∙ ap Err (p.2 ∙ c.in_err-note.ensures.memory)) (read_starved (parts_of c.self.inside) c.args.self.now.world (ap (λ s. s.world) c.self.view_is) c.self.invariant.sound c.args.session c.args.number c.args.start
     (One c.args.table (key_of c.args.key.now)) (sym c.in_ok-check_read.ensures) c.note.new.phases c.in_err-note.ensures.err).0
 
 pub invariant_of-self : goal.invariant_of-self

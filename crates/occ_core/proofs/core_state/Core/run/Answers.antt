@@ -1,0 +1,31 @@
+use Rattle.std.proofs.Common.{ap, sym, ◌∙◌, Some, refl}
+use Rattle.std.proofs.lemmas.Result.{err_from_is_err_and}
+use Rattle.occ_model.specs.Operations.{Progress}
+use Rattle.occ_model.specs.Step.{refused}
+use Rattle.occ_core.specs.Performed.{progress_of}
+use Rattle.occ_sets.specs.Operations.{ops_of}
+use Rattle.occ_core.specs.Replies.{ran}
+use Rattle.occ_core.proofs.RunsAlone.{alone_room, alone_placed, alone_lawful, alone_returns}
+use Rattle.occ_core.proofs.Replied.{replied_err}
+use Rattle.occ_core.proofs.core_state.Core.run.Goals as goal
+
+pub returns-in_err-check_alone : goal.returns-in_err-check_alone
+returns-in_err-check_alone g c =
+    let p = err_from_is_err_and c.from_residual.result c.from_residual.ensures.1 in
+    replied_err ran _ _ _ _ p.0 p.1 (refused p.0 (sym c.in_err-check_alone.ensures ∙ ap Some (sym p.2)) refl refl)
+
+pub commit_at_once-requires-clause-lawful : goal.commit_at_once-requires-clause-lawful
+commit_at_once-requires-clause-lawful g c =
+    alone_lawful c.args.self.now.world c.args.session c.args.number (ops_of c.args.operations.now) (sym c.in_ok-check_alone.ensures) c.tnc.result c.tnc.ensures (progress_of c.in_ok-done.done) c.in_ok-done.ensures.performed (record { invariant = c.law.ensures.invariant; content = c.law.ensures.content })
+
+pub commit_at_once-requires-clause-room : goal.commit_at_once-requires-clause-room
+commit_at_once-requires-clause-room g c = alone_room c.args.self.now.world c.args.session c.args.number (ops_of c.args.operations.now) (sym c.in_ok-check_alone.ensures)
+
+pub commit_at_once-requires-clause-placed : goal.commit_at_once-requires-clause-placed
+commit_at_once-requires-clause-placed g c =
+    alone_placed c.args.self.now.world c.args.session c.args.number (ops_of c.args.operations.now) (sym c.in_ok-check_alone.ensures) c.in_ok-done.done.writes (ap (λ (p : Progress). p.writes) c.in_ok-done.ensures.performed)
+
+pub returns : goal.returns
+returns g c =
+    alone_returns c.args.self.now.world c.args.session c.args.number (ops_of c.args.operations.now) (sym c.in_ok-check_alone.ensures) c.tnc.result c.tnc.ensures (progress_of c.in_ok-done.done) c.in_ok-done.ensures.performed
+    c.in_ok-tn.tn c.in_ok-tn.ensures.number c.commit_at_once.new.self.world c.in_ok-tn.ensures.ok

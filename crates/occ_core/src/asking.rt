@@ -1,0 +1,95 @@
+//! Questions, as an operation of a list sees their answers.
+ghost use Rattle.std.specs.Prelude.{◌≡◌, ◌++◌, [], ◌∷◌, IfOk, OnOk, IsOkUnless};
+ghost use Rattle.std.specs.Option.{option_copied};
+ghost use Rattle.occ_types.specs.declared.fault.Fault.TheVariants.{Memory};
+ghost use Rattle.occ_types.specs.Question.{Span};
+ghost use Rattle.occ_types.specs.PlainData.{end_of, object_of, question_of};
+ghost use Rattle.occ_model.specs.Operations.{asked, seen};
+ghost use Rattle.occ_model.specs.State.{Found, Rows, answer};
+ghost use Rattle.occ_sets.specs.PlainSets.{rows_of};
+ghost use Rattle.occ_core.specs.Performed.{so_far, one};
+
+use occ_book::Tables;
+use occ_sets::{Answer, ReadSet, WriteSet};
+use occ_types::{Fault, Key, Object, Question, Row};
+use std::alloc::Allocator;
+
+// The row of an object as the list sees it. Its own write isn't asked of the table; what the table answers is registered.
+pub(crate) fn ask<'a, A: Allocator + Copy>(
+    reads: &mut ReadSet<A>,
+    writes: &'a WriteSet<A>,
+    tables: &'a Tables<A>,
+    object: Object<A>,
+) -> Result<Option<&'a Row<A>>, Fault>
+    ensures registered { OnOk result (reads.new ≡ asked tables.now.state (one (object_of object)) (so_far reads.old writes.now)) }
+    ensures seen { IfOk result (λ row. Found (option_copied row) ≡ seen tables.now.state (one (object_of object)) (so_far reads.old writes.now)) }
+    ensures memory { IsOkUnless result Memory }
+{
+    match writes.own(&object) {
+        Some(row) => Ok(row),
+        None => register(reads, tables, object),
+    }
+}
+
+// The row that the tables have of an object, which is registered.
+#[tactic(auto, unfolding(occ_model::specs::State::answer))]
+fn register<'a, A: Allocator + Copy>(
+    reads: &mut ReadSet<A>,
+    tables: &'a Tables<A>,
+    object: Object<A>,
+) -> Result<Option<&'a Row<A>>, Fault>
+    ensures registered { OnOk result (reads.new ≡ reads.old ++ (one (object_of object), answer (one (object_of object)) tables.now.state) ∷ []) }
+    ensures found { IfOk result (λ row. Found (option_copied row) ≡ answer (one (object_of object)) tables.now.state) }
+    ensures memory { IsOkUnless result Memory }
+{
+    let row = tables.row(object.table, &object.key);
+    reads.push(Question::One(object), Answer::Found(copied(row)?))?;
+    Ok(row)
+}
+
+// The rows of a range as the list sees them: those that the tables have, which are registered, with its own writes over them.
+pub(crate) fn ask_range<A: Allocator + Copy>(
+    reads: &mut ReadSet<A>,
+    writes: &WriteSet<A>,
+    tables: &Tables<A>,
+    table: usize,
+    lower: &Option<Key<A>>,
+    upper: &Option<Key<A>>,
+) -> Result<Vec<(Key<A>, Row<A>), A>, Fault>
+    ensures registered { OnOk result (reads.new ≡ asked tables.now.state (Span table (end_of lower.now) (end_of upper.now)) (so_far reads.old writes.now)) }
+    ensures seen { IfOk result (λ rows. Rows (rows_of rows.items) ≡ seen tables.now.state (Span table (end_of lower.now) (end_of upper.now)) (so_far reads.old writes.now)) }
+    ensures memory { IsOkUnless result Memory }
+{
+    let question = span(table, lower, upper)?;
+    let rows = tables.rows(table, lower, upper)?;
+    let seen = writes.over(&question, tables.rows(table, lower, upper)?)?;
+    reads.push(question, Answer::Rows(rows))?;
+    Ok(seen)
+}
+
+// The question for a range.
+pub(crate) fn span<A: Allocator + Clone>(
+    table: usize,
+    lower: &Option<Key<A>>,
+    upper: &Option<Key<A>>,
+) -> Result<Question<A>, Fault>
+    ensures value { IfOk result (λ question. question_of question ≡ Span table (end_of lower.now) (end_of upper.now)) }
+    ensures memory { IsOkUnless result Memory }
+{
+    Ok(Question::Span {
+        table,
+        lower: lower.clone()?,
+        upper: upper.clone()?,
+    })
+}
+
+// A copy of a row, where there is one.
+pub(crate) fn copied<A: Allocator + Clone>(row: Option<&Row<A>>) -> Result<Option<Row<A>>, Fault>
+    ensures value { IfOk result (λ copy. copy ≡ option_copied row.entry) }
+    ensures memory { IsOkUnless result Memory }
+{
+    match row {
+        None => Ok(None),
+        Some(row) => Ok(Some(row.clone()?)),
+    }
+}

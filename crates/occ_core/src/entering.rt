@@ -1,0 +1,199 @@
+//! The entry of what a session hands in: a transaction, a list of operations, or a closing mark.
+ghost use Rattle.std.specs.Prelude.{◌≡◌, IfOk, IfErr};
+ghost use Rattle.std.specs.Result.{result_err};
+ghost use Rattle.occ_model.specs.Log.{Case as PlainCase, Open};
+ghost use Rattle.occ_model.specs.World.{next_place, reads_under};
+ghost use Rattle.occ_model.specs.Event.{Enter, Request, Entered, Close, Closed};
+ghost use Rattle.occ_core.specs.EntryFaults.{turn_to_close};
+ghost use Rattle.occ_model.specs.Refusal.{refusal};
+ghost use Rattle.occ_model.specs.Step.{IsCaseOf, entering as entering_row};
+ghost use Rattle.occ_log.specs.Rows.{log_row_of};
+ghost use Rattle.occ_core.specs.Core.{Transition};
+ghost use Rattle.occ_core.specs.Replies.{replied, replied_back, outcome_of, CanEnter};
+ghost use Rattle.occ_queue.specs.Items.{item_of};
+
+use crate::actives::active_writes;
+use crate::core_state::Core;
+use crate::entry_checks::{check_due, check_idle, check_room_to_enter, check_turn_to_enter};
+use crate::outcomes::Outcome;
+use crate::read_checks::{check_session, check_unclosed};
+use occ_book::{LogRow, Marks, Standing};
+use occ_case::{Case, OpenCase};
+use occ_log::{Held, Sessions, Transaction};
+use occ_queue::Item;
+use occ_sets::{ReadSet, WriteSet};
+use occ_types::{Fault, Refused};
+use std::alloc::{AllocError, Allocator};
+
+impl<A: Allocator + Copy> Core<A> {
+    /// Enters what a session hands in. A request is a transaction that ends its read phase with this number, start and writes. Its
+    /// row, with what was read under the number, comes into the log and is open. Its case is fixed now, however late its decision
+    /// comes: its opponents are the transactions that are active, and of those that finished since its start the ones in the window.
+    /// Operations that run alone do now what `Core::run_alone` does with them, and are refused as there. A closing mark ends the
+    /// session: it is noted, and what the session has read under any number is dropped. That takes no memory.
+    ///
+    /// Refused, the first of these that holds: where there is no such session; where it is closed; where the number is not the one that is
+    /// due; where the session has a row under way; and a request also where only the number of the closing mark is left; where the read
+    /// phase has another start, or there is none and the start lies above the counter; where a write does not fit the schema; where the
+    /// log is full; where the counter has no room for one more; and where there is no memory. The item is handed back then, and nothing
+    /// moves.
+    pub fn enter(&mut self, session: usize, item: Item<A>) -> Result<Outcome<A>, Refused<Item<A>>>
+        ensures step { Transition self.old (Enter session (item_of item)) (replied_back outcome_of result) self.new }
+        ensures outcome { IfOk result (CanEnter (item_of item)) }
+        ensures handed_back { IfErr result (λ refused. item_of refused.value ≡ item_of item) }
+    {
+        match item {
+            Item::Request {
+                number,
+                start,
+                mut writes,
+            } => {
+                let transaction = Transaction {
+                    session,
+                    number,
+                    start,
+                };
+                match self.enter_request(transaction, &mut writes) {
+                    Ok(place) => Ok(Outcome::Entered { place }),
+                    Err(fault) => Err(Refused {
+                        value: Item::Request {
+                            number,
+                            start,
+                            writes,
+                        },
+                        fault,
+                    }),
+                }
+            }
+            Item::Alone { number, operations } => self.take_alone(session, number, operations),
+            Item::Close { number } => match self.enter_close(session, number) {
+                Ok(()) => Ok(Outcome::MarkedClosed),
+                Err(fault) => Err(Refused {
+                    value: Item::Close { number },
+                    fault,
+                }),
+            },
+        }
+    }
+
+    // Enters a request, whose writes are shared from now on, and answers the place of its row in the order of entry.
+    fn enter_request(
+        &mut self,
+        transaction: Transaction,
+        writes: &mut WriteSet<A>,
+    ) -> Result<usize, Fault>
+        ensures step { Transition self.old (Enter transaction.session (Request transaction.number transaction.start writes.old)) (replied (λ place. Entered place place) result) self.new }
+        ensures kept { writes.new ≡ writes.old }
+    {
+        let session = transaction.session;
+        let number = transaction.number;
+        self.check_entry(transaction, writes)?;
+        writes.share()?;
+        let reads = self.phases.share(self.alloc, session, number)?;
+        let row = self.open_row(transaction, reads, writes)?;
+        let place = row.place;
+        let shared = writes.clone()?;
+        self.log.reserve(session)?;
+        self.log.push(row);
+        let _reads = self.phases.take(session, number);
+        let held = Held {
+            place,
+            writes: shared,
+        };
+        self.sessions.hold(session - 1, number, held);
+        Ok(place)
+    }
+
+    // Whether a request may enter.
+    fn check_entry(&self, transaction: Transaction, writes: &WriteSet<A>) -> Result<(), Fault>
+        ensures { result_err result ≡ refusal self.now.world (Enter transaction.session (Request transaction.number transaction.start writes.now)) }
+    {
+        check_turn_to_enter(
+            &self.sessions,
+            &self.marks,
+            &self.phases,
+            self.counter,
+            transaction,
+        )?;
+        check_room_to_enter(
+            &self.schema,
+            &self.sessions,
+            &self.log,
+            self.counter,
+            writes,
+        )
+    }
+
+    // The row of a request that has read this, open, with its case.
+    fn open_row(
+        &self,
+        transaction: Transaction,
+        reads: ReadSet<A>,
+        writes: &WriteSet<A>,
+    ) -> Result<LogRow<A, OpenCase<A>>, AllocError>
+        requires { reads ≡ reads_under self.now.world transaction.session transaction.number }
+        ensures { IfOk result (λ row. (case : PlainCase) × IsCaseOf self.now.world transaction.session transaction.number transaction.start writes.now case × (log_row_of row ≡ entering_row self.now.world transaction.session transaction.number transaction.start (reads_under self.now.world transaction.session transaction.number) writes.now (Open (next_place self.now.world) case))) }
+    {
+        let start = transaction.start;
+        let low = self.low();
+        let skip = start.saturating_sub(low) as usize;
+        let finished = self.window.shared_from(self.alloc, skip)?;
+        let active = active_writes(self.alloc, &self.sessions, &self.log)?;
+        let case = Case::new(
+            start,
+            low,
+            reads.clone()?,
+            writes.clone()?,
+            finished,
+            active,
+        );
+        let place = self.log.next_place();
+        let Ok(open_case) = OpenCase::new(self.alloc, place as u64, case) else {
+            return Err(AllocError);
+        };
+        Ok(LogRow {
+            place,
+            session: transaction.session,
+            number: transaction.number,
+            start,
+            finish: self.counter,
+            reads,
+            writes: writes.clone()?,
+            standing: Standing::Open(open_case),
+        })
+    }
+}
+
+impl<A: Allocator> Core<A> {
+    // Enters the closing mark of a session, which takes no memory.
+    pub(crate) fn enter_close(&mut self, session: usize, number: u64) -> Result<(), Fault>
+        ensures { Transition self.old (Enter session (Close number)) (replied (λ _. Closed) result) self.new }
+    {
+        self.check_close(session, number)?;
+        self.marks.set(session, number);
+        self.phases.drop_session(session);
+        Ok(())
+    }
+
+    // Whether a closing mark may enter.
+    fn check_close(&self, session: usize, number: u64) -> Result<(), Fault>
+        ensures { result_err result ≡ refusal self.now.world (Enter session (Close number)) }
+    {
+        check_turn_to_close(&self.sessions, &self.marks, session, number)
+    }
+}
+
+// Whether a session may close under a number.
+pub(crate) fn check_turn_to_close<A: Allocator>(
+    sessions: &Sessions<A>,
+    marks: &Marks<A>,
+    session: usize,
+    number: u64,
+) -> Result<(), Fault>
+    ensures { result_err result ≡ turn_to_close sessions.now marks.now.marks session number }
+{
+    check_session(sessions, session)?;
+    check_unclosed(marks, session)?;
+    check_due(sessions.last(session - 1), number)?;
+    check_idle(sessions.get(session - 1))
+}

@@ -1,0 +1,191 @@
+//! What a transaction reads of the tables in its read phase.
+ghost use Rattle.std.specs.Prelude.{◌≡◌, IfOk, OnOk, OnErr, IsOkUnless, None};
+ghost use Rattle.std.specs.FinMap as finite;
+ghost use Rattle.std.specs.Result.{result_err};
+ghost use Rattle.occ_types.specs.Question.{One, Span};
+ghost use Rattle.occ_types.specs.PlainData.{key_of, end_of};
+ghost use Rattle.occ_model.specs.Event.{Read, Forget, Answered, Forgotten};
+ghost use Rattle.occ_model.specs.Refusal.{refusal};
+ghost use Rattle.occ_model.specs.State.{answer, Found, Rows};
+ghost use Rattle.occ_sets.specs.PlainSets.{observation_of, rows_of};
+ghost use Rattle.occ_core.specs.Reads.{room_to_read, noted};
+ghost use Rattle.occ_types.specs.declared.fault.Fault.TheVariants.{Memory};
+ghost use Rattle.occ_core.specs.Core.{Transition};
+ghost use Rattle.occ_core.specs.Replies.{replied};
+
+use crate::asking::{copied, span};
+use crate::core_state::Core;
+use crate::read_checks::{check_room_to_read, check_session, check_size, check_turn_to_read};
+use occ_book::Tables;
+use occ_log::{ReadPhases, Transaction};
+use occ_sets::{Answer, Observation};
+use occ_types::{Fault, Key, Object, Question, Row};
+use std::alloc::{AllocError, Allocator};
+
+impl<A: Allocator> Core<A> {
+    /// Forgets what a session has read under a number, and answers whether it has read anything. The number may then be read under
+    /// from another start. Refused where there is no such session. It takes no memory.
+    pub fn forget(&mut self, session: usize, number: u64) -> Result<bool, Fault>
+        ensures { Transition self.old (Forget session number) (replied Forgotten result) self.new }
+    {
+        check_session(&self.sessions, session)?;
+        let phase = self.phases.take(session, number);
+        Ok(phase.is_some())
+    }
+}
+
+impl<A: Allocator + Copy> Core<A> {
+    /// A copy of the row under a key of a table, or none where there is none, as the tables have it now. The question is noted with its answer
+    /// in the read phase of the number, which begins with it from this start where it is not under way.
+    ///
+    /// Refused, the first of these that holds: where there is no such session; where it is closed; where the number is not the one that is due or among
+    /// the 1,025 after it; where the read phase has another start, or there is none and the start lies above the counter; where the
+    /// key does not fit the schema; where 256 questions are noted; and where there is no memory for the copies. Nothing moves then.
+    pub fn read(
+        &mut self,
+        session: usize,
+        number: u64,
+        start: u64,
+        table: usize,
+        key: &Key<A>,
+    ) -> Result<Option<Row<A>>, Fault>
+        ensures { Transition self.old (Read session number start (One table (key_of key.now))) (replied (λ row. Answered (Found row)) result) self.new }
+    {
+        let transaction = Transaction {
+            session,
+            number,
+            start,
+        };
+        self.check_read(transaction, table, key)?;
+        let (seen, row) = observe_row(&self.tables, table, key)?;
+        note(&mut self.phases, self.alloc, transaction, seen)?;
+        Ok(row)
+    }
+
+    /// Copies of the rows of a table from the lower end on and below the upper one, with their keys and in the order of the keys, as
+    /// the table has them now. The question is noted with its answer as by `read`.
+    ///
+    /// Refused as `read` is, where the ends must fit the schema and the lower one be below the upper one; and after that, before the
+    /// room for questions is looked at, where the answer has more than 1,024 rows. They are counted before any is copied.
+    pub fn scan(
+        &mut self,
+        session: usize,
+        number: u64,
+        start: u64,
+        table: usize,
+        lower: &Option<Key<A>>,
+        upper: &Option<Key<A>>,
+    ) -> Result<Vec<(Key<A>, Row<A>), A>, Fault>
+        ensures { Transition self.old (Read session number start (Span table (end_of lower.now) (end_of upper.now))) (replied (λ rows. Answered (Rows (rows_of rows.items))) result) self.new }
+    {
+        let transaction = Transaction {
+            session,
+            number,
+            start,
+        };
+        self.check_scan(transaction, table, lower, upper)?;
+        let (seen, rows) = observe_rows(&self.tables, table, lower, upper)?;
+        note(&mut self.phases, self.alloc, transaction, seen)?;
+        Ok(rows)
+    }
+}
+
+impl<A: Allocator + Clone> Core<A> {
+    // Whether a key of a table may be read for a transaction. Its read phase is looked up once.
+    fn check_read(&self, transaction: Transaction, table: usize, key: &Key<A>) -> Result<(), Fault>
+        ensures { result_err result ≡ refusal self.now.world (Read transaction.session transaction.number transaction.start (One table (key_of key.now))) }
+    {
+        let begun = self.phases.get(transaction.session, transaction.number);
+        check_turn_to_read(
+            &self.sessions,
+            &self.marks,
+            begun,
+            self.counter,
+            transaction,
+        )?;
+        self.schema.check_key(table, key)?;
+        check_room_to_read(begun)
+    }
+
+    // Whether a range of a table may be read for a transaction. Its read phase is looked up once.
+    fn check_scan(
+        &self,
+        transaction: Transaction,
+        table: usize,
+        lower: &Option<Key<A>>,
+        upper: &Option<Key<A>>,
+    ) -> Result<(), Fault>
+        ensures { result_err result ≡ refusal self.now.world (Read transaction.session transaction.number transaction.start (Span table (end_of lower.now) (end_of upper.now))) }
+    {
+        let begun = self.phases.get(transaction.session, transaction.number);
+        check_turn_to_read(
+            &self.sessions,
+            &self.marks,
+            begun,
+            self.counter,
+            transaction,
+        )?;
+        self.schema.check_range(table, lower, upper)?;
+        check_size(&self.tables, table, lower, upper)?;
+        check_room_to_read(begun)
+    }
+}
+
+// Notes an observation in the read phase of a transaction, which has room for it.
+fn note<A: Allocator + Copy>(
+    phases: &mut ReadPhases<A>,
+    alloc: A,
+    transaction: Transaction,
+    seen: Observation<A>,
+) -> Result<(), Fault>
+    requires few { room_to_read (finite.get phases.old (transaction.session, transaction.number)) ≡ None }
+    ensures ok { OnOk result (phases.new ≡ noted phases.old transaction.session transaction.number transaction.start (observation_of seen)) }
+    ensures err { OnErr result (phases.new ≡ phases.old) }
+    ensures memory { IsOkUnless result Memory }
+{
+    phases.note(alloc, transaction, seen.question, seen.answer)
+}
+
+// The question for the row under a key and what the tables answer, and a copy of the row.
+fn observe_row<A: Allocator + Clone>(
+    tables: &Tables<A>,
+    table: usize,
+    key: &Key<A>,
+) -> Result<(Observation<A>, Option<Row<A>>), Fault>
+    ensures answered { IfOk result (λ copies. (observation_of copies.0 ≡ (One table (key_of key.now), answer (One table (key_of key.now)) tables.now.state)) × (Found copies.1 ≡ answer (One table (key_of key.now)) tables.now.state)) }
+    ensures memory { IsOkUnless result Memory }
+{
+    let found = tables.row(table, key);
+    let question = Question::One(Object {
+        table,
+        key: key.clone()?,
+    });
+    let answer = Answer::Found(copied(found)?);
+    let row = copied(found)?;
+    Ok((Observation { question, answer }, row))
+}
+
+// The question for a range and what the tables answer, and a copy of the rows. The tables are asked once.
+fn observe_rows<A: Allocator + Clone>(
+    tables: &Tables<A>,
+    table: usize,
+    lower: &Option<Key<A>>,
+    upper: &Option<Key<A>>,
+) -> Result<(Observation<A>, Vec<(Key<A>, Row<A>), A>), Fault>
+    ensures memory { IsOkUnless result Memory }
+    ensures answered { IfOk result (λ copies. (observation_of copies.0 ≡ (Span table (end_of lower.now) (end_of upper.now), answer (Span table (end_of lower.now) (end_of upper.now)) tables.now.state)) × (Rows (rows_of copies.1.items) ≡ answer (Span table (end_of lower.now) (end_of upper.now)) tables.now.state)) }
+{
+    let question = span(table, lower, upper)?;
+    let rows = tables.rows(table, lower, upper)?;
+    let answer = Answer::Rows(copy_rows(&rows)?);
+    Ok((Observation { question, answer }, rows))
+}
+
+// A copy of the rows of a range, with their keys.
+fn copy_rows<A: Allocator + Clone>(
+    rows: &Vec<(Key<A>, Row<A>), A>,
+) -> Result<Vec<(Key<A>, Row<A>), A>, AllocError>
+    ensures { IfOk result (λ copied. rows_of copied.items ≡ rows_of rows.now.items) }
+{
+    Ok(rows.clone()?)
+}
