@@ -1,13 +1,15 @@
 //! What the verdict on a transaction depends on.
-ghost use Rattle.std.specs.Prelude.{◌≡◌, map, IfOk};
+ghost use Rattle.std.specs.Prelude.{◌≡◌, map, IfOk, MatchResult};
+ghost use Rattle.occ_types.specs.declared.fault.Fault.TheVariants.{Memory};
 
 use occ_sets::{ReadSet, WriteSet};
-use std::alloc::{AllocError, Allocator};
+use occ_types::{Fault, Refused};
+use std::alloc::{AllocError, AllocFailed, Allocator};
 use std::marker::Model;
+use std::sync::Arc;
 
 /// What the verdict on a transaction depends on, fixed at its entry: its own start, reads and writes, the lower end of the window,
-/// and the write sets of its opponents, those that had finished apart from those that were active. A clone is one more owner of
-/// those sets that are shared, and copies none of them. Clauses see the plain case.
+/// and the write sets of its opponents, those that had finished apart from those that were active. Clauses see the plain case.
 #[derive(Drop)]
 pub struct Case<A: Allocator> {
     pub(crate) start: u64,
@@ -64,27 +66,59 @@ impl<A: Allocator> Case<A> {
     }
 }
 
-impl<A: Allocator + Clone> Clone for Case<A> {
-    ghost is_clone = { λ source copy. copy ≡ source };
+/// One owner of a case that several own, also across threads: the row that is open, and the file of cases. None of them changes it.
+/// Clauses see the plain case.
+#[derive(Drop)]
+pub struct SharedCase<A: Allocator> {
+    case: Arc<Case<A>, A>,
+}
 
-    fn clone(&self) -> Result<Case<A>, AllocError> {
-        Ok(Case {
-            start: self.start,
-            low: self.low,
-            reads: self.reads.clone()?,
-            writes: self.writes.clone()?,
-            finished: self.finished.clone()?,
-            active: self.active.clone()?,
+impl<A: Allocator> Model for SharedCase<A> {
+    ghost use Rattle.occ_model.specs.Log.{Case as PlainCase};
+
+    ghost Value = { PlainCase };
+
+    ghost view = { λ s. s.case.value };
+}
+
+impl<A: Allocator> SharedCase<A> {
+    /// A case behind a handle. Refused with `Memory`, and the case handed back, where there is no memory for it.
+    pub fn new(alloc: A, case: Case<A>) -> Result<SharedCase<A>, Refused<Case<A>>>
+        ensures { MatchResult result (λ made. made ≡ case) (λ refused. (refused.value ≡ case) × (refused.fault ≡ Memory)) }
+    {
+        match Arc::new(alloc, case) {
+            Ok(case) => Ok(SharedCase { case }),
+            Err(AllocFailed { value, .. }) => Err(Refused {
+                value,
+                fault: Fault::Memory,
+            }),
+        }
+    }
+
+    /// The case.
+    pub fn case(&self) -> &Case<A>
+        ensures { result.now ≡ self.now }
+    {
+        &self.case
+    }
+
+    /// One more owner of the same case. An error where it has too many owners to be counted. It copies nothing.
+    pub fn share(&self) -> Result<SharedCase<A>, AllocError>
+        ensures { IfOk result (λ shared. shared ≡ self.now) }
+    {
+        Ok(SharedCase {
+            case: Arc::try_clone(&self.case)?,
         })
     }
 }
 
 /// The case of a transaction that is not decided yet, with the index that names it. The case stands behind a handle, so that the
-/// row of the log that has it is short, also when it is decided. Clauses see the index and the plain case.
+/// row of the log that has it is short, also when it is decided, and that others may own it too. Clauses see the index and the
+/// plain case.
 #[derive(Drop)]
 pub struct OpenCase<A: Allocator> {
     index: u64,
-    case: Box<Case<A>, A>,
+    case: SharedCase<A>,
 }
 
 impl<A: Allocator> Model for OpenCase<A> {
@@ -93,15 +127,15 @@ impl<A: Allocator> Model for OpenCase<A> {
 
     ghost Value = { ℕ × PlainCase };
 
-    ghost view = { λ o. (o.index, o.case.value) };
+    ghost view = { λ o. (o.index, o.case) };
 }
 
 impl<A: Allocator> OpenCase<A> {
-    /// A case under an index. An error where there is no memory for its handle.
-    pub fn new(alloc: A, index: u64, case: Case<A>) -> Result<OpenCase<A>, AllocError>
-        ensures { IfOk result (λ made. made ≡ (index, case)) }
+    /// A case under an index. Refused with `Memory`, and the case handed back, where there is no memory for its handle.
+    pub fn new(alloc: A, index: u64, case: Case<A>) -> Result<OpenCase<A>, Refused<Case<A>>>
+        ensures { MatchResult result (λ made. made ≡ (index, case)) (λ refused. (refused.value ≡ case) × (refused.fault ≡ Memory)) }
     {
-        let case = Box::new(alloc, case)?;
+        let case = SharedCase::new(alloc, case)?;
         Ok(OpenCase { index, case })
     }
 
@@ -116,17 +150,26 @@ impl<A: Allocator> OpenCase<A> {
     pub fn case(&self) -> &Case<A>
         ensures { result.now ≡ self.now.1 }
     {
-        &self.case
+        self.case.case()
+    }
+
+    /// One more owner of the case. An error where it has too many owners to be counted. It copies nothing.
+    pub fn share(&self) -> Result<SharedCase<A>, AllocError>
+        ensures { IfOk result (λ shared. shared ≡ self.now.1) }
+    {
+        let shared = self.case.share()?;
+        Ok(shared)
     }
 }
 
+/// One more owner of the same case, under the same index. An error where it has too many owners to be counted. It copies nothing.
 impl<A: Allocator + Clone> Clone for OpenCase<A> {
     ghost is_clone = { λ source copy. copy ≡ source };
 
     fn clone(&self) -> Result<OpenCase<A>, AllocError> {
         Ok(OpenCase {
             index: self.index,
-            case: self.case.clone()?,
+            case: self.case.share()?,
         })
     }
 }

@@ -1,9 +1,16 @@
-//! Cases and verdicts: what a validation depends on, fixed at the entry of a transaction, and what it says.
+//! Cases and verdicts: what a validation depends on, fixed at the entry of a transaction, what it says, and the file of cases that lets it
+//! be said outside a lock.
 #![tactic(auto)]
 
 mod cases;
+mod crossing;
+mod file;
+mod judged;
 mod verdicts;
 
-pub use cases::{Case, OpenCase};
+pub use cases::{Case, OpenCase, SharedCase};
+pub use crossing::cases_cross_threads;
+pub use file::{CaseFile, CaseToken};
+pub use judged::{Judged, judge};
 pub use occ_model::{Cause, Verdict};
 pub use verdicts::verdict;

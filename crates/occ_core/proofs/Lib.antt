@@ -18,3 +18,4 @@ pub mod Placed
 pub mod Checkpoints
 pub mod Performing
 pub mod OpenRows
+pub mod OpenCases

@@ -20,7 +20,7 @@ use Rattle.occ_core.proofs.Calls.{found_row, found_is, held_slot, gone_none}
 use Rattle.occ_core.proofs.Finishes.{writing_is, may_write}
 
 -- a session that has nothing under way is not held
-not_held : (parts : Parts) (session : ℕ) (fault : Fault) → row_under_way parts.slots session ≡ Err fault → sets.contains (held_from 1 parts.slots) session ≡ false
+pub not_held : (parts : Parts) (session : ℕ) (fault : Fault) → row_under_way parts.slots session ≡ Err fault → sets.contains (held_from 1 parts.slots) session ≡ false
 not_held parts zero fault e = below_first 1 0 parts.slots (omega arith)
 not_held parts (suc k) fault e =
     ap (sets.contains (held_from 1 parts.slots)) (let n : suc k ≡ 1 + k = omega arith in n) ∙ contains-held 1 parts.slots k ∙ free parts.slots k e

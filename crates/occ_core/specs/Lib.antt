@@ -8,3 +8,4 @@ pub mod RunningAlone
 pub mod Runs
 pub mod Folding
 pub mod Performed
+pub mod OpenCases

@@ -1,12 +1,14 @@
 //! The decision of a transaction that has entered, and the row that a session has under way.
-ghost use Rattle.std.specs.Prelude.{◌≡◌, ◌≤◌, IfOk, IfErr, OnOk, Some, Ok};
+ghost use Rattle.std.specs.Prelude.{◌≡◌, ◌≤◌, IfOk, IfErr, OnOk, IsSome, Some, None, Ok, option_map};
 ghost use Rattle.occ_model.specs.Event.{Decide, Decided};
+ghost use Rattle.occ_model.specs.Refusal.{refusal};
 ghost use Rattle.occ_model.specs.Step.{decided};
 ghost use Rattle.occ_log.specs.Logs.{row_at};
 ghost use Rattle.occ_log.specs.SessionStates.{row_under_way};
 ghost use Rattle.occ_log.specs.Rows.{log_row_of, standing_of};
 ghost use Rattle.occ_core.specs.Core.{Transition};
 ghost use Rattle.occ_core.specs.Folding.{under_way_fault};
+ghost use Rattle.occ_core.specs.OpenCases.{open_case, IsRight};
 ghost use Rattle.occ_core.specs.Replies.{replied};
 
 use crate::core_state::Core;
@@ -29,6 +31,36 @@ impl<A: Allocator> Core<A> {
         let verdict = verdict(open.case());
         self.log.stand(place, decided(verdict));
         Ok(verdict)
+    }
+
+    /// Decides the transaction that the session has entered by a verdict on its case that was reached elsewhere, as outside a lock.
+    /// Refused as `decide` is, in the same order. It takes no memory.
+    pub fn decide_as(&mut self, session: usize, reached: Verdict) -> Result<Verdict, Fault>
+        requires right { IsRight self.old.world session reached }
+        ensures { Transition self.old (Decide session) (replied Decided result) self.new }
+    {
+        let (place, row) = under_way(&self.sessions, &self.log, session)?;
+        let Standing::Open(_open) = &row.standing else {
+            return Err(Fault::AlreadyDecided);
+        };
+        self.log.stand(place, decided(reached));
+        Ok(reached)
+    }
+
+    /// The case of the transaction that the session has entered, or none where there is no such session, where nothing of it is under
+    /// way, and where that is decided. Where there is one, it may be decided.
+    pub fn open_case(&self, session: usize) -> Option<&OpenCase<A>>
+        ensures case { option_map (λ c. c.now) result ≡ open_case self.now.world session }
+        ensures free { IsSome result → refusal self.now.world (Decide session) ≡ None }
+    {
+        let row = match under_way(&self.sessions, &self.log, session) {
+            Ok((_place, row)) => row,
+            Err(_fault) => return None,
+        };
+        match &row.standing {
+            Standing::Open(open) => Some(open),
+            _ => None,
+        }
     }
 }
 

@@ -148,7 +148,9 @@ impl<A: Allocator + Copy> Core<A> {
             active,
         );
         let place = self.log.next_place();
-        let open_case = OpenCase::new(self.alloc, place as u64, case)?;
+        let Ok(open_case) = OpenCase::new(self.alloc, place as u64, case) else {
+            return Err(AllocError);
+        };
         Ok(LogRow {
             place,
             session: transaction.session,

@@ -241,12 +241,47 @@ fn drop_front<T: Drop, A: Allocator>(items: &mut Vec<T, A>, count: usize)
 }
 
 impl<A: Allocator + Clone> Log<A> {
-    /// A clone of each row, in their order. Its write set and read set are shared with the log. Refused with `AllocError` where there is
-    /// no memory for them, or a set has too many owners to be counted.
+    /// A clone of each row, in their order. Its sets and its case are shared with the log. Refused with `AllocError` where there is no
+    /// memory for the list, or a set or a case has too many owners to be counted.
     pub fn share_rows(&self) -> Result<Vec<LogRow<A, OpenCase<A>>, A>, AllocError>
         ensures { IfOk result (λ shared. log_of shared.items ≡ self.now.rows) }
     {
-        let shared = self.rows.clone()?;
+        let mut shared = Vec::with_capacity(self.rows.allocator().clone()?, self.rows.len())?;
+        for place in 0..self.rows.len() {
+            shared.push(share_row(&self.rows[place])?)?;
+        }
         Ok(shared)
+    }
+}
+
+// A row with one more owner of its sets and of its case.
+fn share_row<A: Allocator + Clone>(
+    row: &LogRow<A, OpenCase<A>>,
+) -> Result<LogRow<A, OpenCase<A>>, AllocError>
+    ensures { IfOk result (λ shared. shared ≡ row.now) }
+{
+    Ok(LogRow {
+        place: row.place,
+        session: row.session,
+        number: row.number,
+        start: row.start,
+        finish: row.finish,
+        reads: row.reads.clone()?,
+        writes: row.writes.clone()?,
+        standing: share_standing(&row.standing)?,
+    })
+}
+
+// How a row stands, with one more owner of its case.
+fn share_standing<A: Allocator + Clone>(
+    standing: &Standing<OpenCase<A>>,
+) -> Result<Standing<OpenCase<A>>, AllocError>
+    ensures { IfOk result (λ shared. shared ≡ standing.now) }
+{
+    match standing {
+        Standing::Open(open) => Ok(Standing::Open(open.clone()?)),
+        Standing::Writing(done) => Ok(Standing::Writing(*done)),
+        Standing::Done(number) => Ok(Standing::Done(*number)),
+        Standing::Back(cause) => Ok(Standing::Back(*cause)),
     }
 }

@@ -3,3 +3,5 @@
 
 #[cfg(test)]
 mod board_tests;
+#[cfg(test)]
+mod filed;

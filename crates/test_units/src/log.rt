@@ -138,6 +138,12 @@ fn a_row_comes_in_after_all_have_folded(rt: HostRuntime) -> Result<(), Fail> {
     Ok(())
 }
 
+// How a row stands that has this case.
+fn open(alloc: Global, case: Case<Global>) -> Result<Standing<OpenCase<Global>>, Fault> {
+    let open = OpenCase::new(alloc, 0, case)?;
+    Ok(Standing::Open(open))
+}
+
 #[test]
 fn an_open_row_is_seen(rt: HostRuntime) -> Result<(), Fail> {
     let alloc = rt.alloc();
@@ -151,13 +157,7 @@ fn an_open_row_is_seen(rt: HostRuntime) -> Result<(), Fail> {
         Vec::new(alloc),
         Vec::new(alloc),
     );
-    enter(
-        alloc,
-        &mut log,
-        1,
-        3,
-        Standing::Open(OpenCase::new(alloc, 0, case)?),
-    )?;
+    enter(alloc, &mut log, 1, 3, open(alloc, case)?)?;
     assert!(rt; log.has_open());
     assert_eq!(rt; log.foldable(9), 3);
     Ok(())

@@ -22,7 +22,7 @@ returns g c =
           (ap (λ (k : Case). k.writes) c.new-case.ensures ∙ c.in_ok-clone-2.ensures.cases)
           (ap (λ (k : Case). k.finished) c.new-case.ensures ∙ c.in_ok-finished.ensures ∙ ap (λ n. drop n c.self.inside.window.sets) (c.saturating_sub-skip.ensures ∙ ap (λ l. c.args.transaction.start - l) c.low-low.ensures))
           (ap (λ (k : Case). k.active) c.new-case.ensures ∙ c.in_ok-active.ensures ∙ ap (λ at. active_from at c.self.inside.sessions) (rows_found c.self.inside.log c.self.invariant.log_match.begins)),
-      open_row (parts_of c.self.inside) c.args.self.now.world seen c.args.transaction.session c.args.transaction.number c.args.transaction.start _ (c.reads.view_is ∙ reads_is) c.args.writes.now _ c.in_ok-clone-3.ensures.cases c.next_place-place.result (c.next_place-place.ensures ∙ next_is c.self.inside.log c.self.invariant.log_match.begins) c.new-case.result (Open c.in_ok-open_case.open_case.0 c.in_ok-open_case.open_case.1) (ap (λ (o : ℕ × Case). Open o.0 o.1) c.in_ok-open_case.ensures),
+      open_row (parts_of c.self.inside) c.args.self.now.world seen c.args.transaction.session c.args.transaction.number c.args.transaction.start _ (c.reads.view_is ∙ reads_is) c.args.writes.now _ c.in_ok-clone-3.ensures.cases c.next_place-place.result (c.next_place-place.ensures ∙ next_is c.self.inside.log c.self.invariant.log_match.begins) c.new-case.result (Open c.in-Ok.open_case.0 c.in-Ok.open_case.1) (ap (λ (o : ℕ × Case). Open o.0 o.1) c.in-Ok.ensures),
     )
 
 pub next_place-place-requires : goal.next_place-place-requires

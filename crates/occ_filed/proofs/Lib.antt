@@ -1,0 +1,3 @@
+pub mod CasesStay
+pub mod Tokens
+pub mod Tied
