@@ -1,2 +1,5 @@
 //! Tests of what threads share, each by threads that really run.
 #![tactic(auto)]
+
+#[cfg(test)]
+mod lane_tests;
