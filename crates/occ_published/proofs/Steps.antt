@@ -1,10 +1,9 @@
 -- What the steps of a store say of its sessions and of what its polls show.
-use Rattle.std.proofs.Common.{◌≡◌, ℕ, ◌+◌, ◌-◌, ◌≤◌, ◌⊎◌, inl, inr, Bool, true, false, ◌&&◌, not, List, ◌∷◌, Option, None, Some, refl, sym, ap, subst, ◌∙◌, arith}
-use Rattle.std.specs.Prelude.{MatchOption, slice_get, nat_le, if◌then◌else◌}
+use Rattle.std.proofs.Common.{◌≡◌, ℕ, ◌+◌, ◌-◌, ◌≤◌, Bool, true, false, ◌&&◌, not, List, ◌∷◌, Option, None, Some, refl, sym, ap, subst, ◌∙◌, arith}
+use Rattle.std.specs.Prelude.{MatchOption, slice_get, if◌then◌else◌}
 use Rattle.occ_types.specs.Schema.{first_fault}
 use Rattle.occ_types.specs.declared.fault.Fault.{Fault}
 use Rattle.occ_types.specs.declared.fault.Fault.TheVariants as faults
-use Rattle.occ_types.specs.declared.limits.TheConstants.{MAX_NUMBER}
 use Rattle.occ_model.specs.State.{Write, put}
 use Rattle.occ_model.specs.Log.{Writing}
 use Rattle.occ_model.specs.World.{World, turn, has_session, last_entered, is_held}

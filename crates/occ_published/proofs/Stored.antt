@@ -1,28 +1,26 @@
 -- A store stays shown on its board, by what its publisher stores after each step.
-use Rattle.std.proofs.Common.{◌≡◌, ℕ, ◌+◌, ◌-◌, ◌<◌, ◌≤◌, Bool, true, false, ◌&&◌, List, length, Option, None, Some, option_and_then, refl, sym, ap, subst, ◌∙◌, suc, arith}
+use Rattle.std.proofs.Common.{◌≡◌, ℕ, ◌+◌, ◌-◌, ◌≤◌, true, ◌&&◌, Option, None, Some, option_and_then, refl, sym, ap, subst, ◌∙◌, arith}
 use Rattle.std.specs.Prelude.{◌==◌, nat_le, unwrap_or, if◌then◌else◌}
 use Rattle.std.proofs.lemmas.Bool.{eqb-true, eq-eqb, leb-true}
 use Rattle.std.specs.FinSet as sets
 use Rattle.std.specs.FinMap as finite
 use Rattle.std.specs.Ordering.{nat_cmp}
-use Rattle.occ_types.specs.declared.limits.TheConstants.{MAX_COUNTER, MAX_NUMBER}
+use Rattle.occ_types.specs.declared.limits.TheConstants.{MAX_NUMBER}
 use Rattle.occ_model.specs.Log.{LogRow, Back, last_folded}
-use Rattle.occ_model.specs.World.{Settings, World, opened, empty_base, active_count, has_session, is_held, last_entered, latest}
-use Rattle.occ_model.specs.Event.{Event, Reply, BackUp, BackedUp, EndedBack}
-use Rattle.occ_model.specs.Step.{Step}
-use Rattle.occ_model.specs.Invariant.{Invariant}
+use Rattle.occ_model.specs.World.{Settings, World, opened, empty_base, has_session, latest}
+use Rattle.occ_model.specs.Event.{BackUp, BackedUp, EndedBack}
 use Rattle.occ_model.specs.Poll.{Poll, poll, outcome, row_numbered, settled_number}
-use Rattle.occ_model.specs.EndLaws.{session_of, Commits, BacksUp, Fades, IsToBackUp}
+use Rattle.occ_model.specs.EndLaws.{BacksUp, Fades}
 use Rattle.occ_model.specs.declared.verdict.Verdict.{Verdict}
 use Rattle.occ_model.specs.declared.verdict.Verdict.TheVariants as verdicts
 use Rattle.occ_model.specs.declared.verdict.Cause.{Cause}
-use Rattle.occ_model.proofs.Tests.{and_true, both_true, clash, decided}
+use Rattle.occ_model.proofs.Tests.{and_true, clash, decided}
 use Rattle.occ_model.proofs.InSchema.{same_settings}
 use Rattle.occ_model.proofs.EndsShown.{steps_show}
 use Rattle.occ_board.specs.declared.words.Last.{Last}
 use Rattle.occ_board.specs.declared.words.Words.{Words}
 use Rattle.occ_board.specs.Words.{HasSession, blank, last_of, counted, placed, over}
-use Rattle.occ_published.specs.Published.{IsShown, Published, ends, tells_end, number_told, NumbersFit, CommitMayBeStored, BackUpMayBeStored, MayTell}
+use Rattle.occ_published.specs.Published.{IsShown, Published, NumbersFit, BackUpMayBeStored}
 use Rattle.occ_published.specs.Laws.{OpenedIsPublished, StepsBetweenStayPublished, CommitsAreStored, BackUpsAreStored, SerialBackUpsAreStored, CausesOfRowsMayBeTold, CausesKeptMayBeTold}
 use Rattle.occ_published.proofs.Words.{placed_sessions, placed_own, placed_other, blank_shows, blank_length}
 use Rattle.occ_published.proofs.Steps.{some_is, exists, tells_none, fades, at_session, number_ends, commits, settled_most}

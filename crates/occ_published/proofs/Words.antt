@@ -1,5 +1,5 @@
 -- The words of a board, as one of them is stored.
-use Rattle.std.proofs.Common.{◌≡◌, ℕ, ◌+◌, ◌-◌, ◌<◌, ◌≤◌, zero, suc, length, replicate, get_or, set, refl, sym, ap, subst, ◌∙◌, arith, length-set}
+use Rattle.std.proofs.Common.{◌≡◌, ℕ, ◌-◌, ◌<◌, zero, suc, length, replicate, get_or, refl, ap, arith, length-set}
 use Rattle.std.proofs.lemmas.List.{get_or-set_same, get_or-set_other}
 use Rattle.occ_board.specs.declared.words.Last.{Last}
 use Rattle.occ_board.specs.declared.words.Words.{Words}

@@ -1,5 +1,5 @@
 -- The rows of the log, from their lines.
-use Rattle.std.proofs.Common.{◌≡◌, ℕ, ◌≤◌, ◌^◌, ◌-◌, Bool, true, false, cond, List, ◌∷◌, ◌++◌, map, length, Option, Some, None, refl, sym, ap, subst, ◌∙◌, []}
+use Rattle.std.proofs.Common.{◌≡◌, ℕ, ◌≤◌, ◌^◌, ◌-◌, Bool, true, false, cond, List, ◌∷◌, ◌++◌, map, length, Option, Some, None, refl, sym, ap, subst, ◌∙◌, arith, length-append, []}
 use Rattle.occ_reading.proofs.Common.{AllByRecursion, AllFit, AskedFits, AskedSpan, Conflict, FailsFrom, Head, HeadFits, InRow, IsAbove, IsDistinctWrites, IsRowOf, IsSession, Key, LogRow, LogRowFits, Object, Observation, One, PairFits, Position, Question, ReadFault, ReadFits, ReadOf, RisesFrom, Row, Rows, Schema, Span, Stand, StandFits, Standing, StandingFits, StandsSo, TooOld, Took, Version, Write, WriteFits, asked_text, codes, decimal, eq_by_cmp, fails, flat_map, frame_of, head_text, in_row, is_some, last_key, line_text, object_cmp, own, pair_line, pairs_to_come, question_text, read_lines, reads_to_come, row_line, row_lines, rows_to_come, set, spelled, stand_tokens, standing_text, table_asked, write_line, writes_to_come, ◌and◌}
 use Rattle.occ_model.proofs.OwnWrites.{sets_own}
 use Rattle.occ_book.specs.declared.rows.Standing.TheVariants as stands
@@ -21,6 +21,10 @@ set-absent (write ∷ writes) object row h =
 -- so no object is written twice
 pub distinct-more : (writes now : List Write) (object : Object) (row : Option Row) → own writes object ≡ None → now ≡ writes ++ (object, row) ∷ [] → IsDistinctWrites writes → IsDistinctWrites now
 distinct-more writes now object row h is so_far = subst IsDistinctWrites (set-absent writes object row h ∙ sym is) ((sets_own writes object row).distinct so_far)
+
+-- what has one more isn't empty, so nothing is said of its room
+pub room-more : {X : Type 0} (before after : List X) (x : X) (capacity : ℕ) → after ≡ before ++ x ∷ [] → length after ≡ 0 → capacity ≡ 0
+room-more before after x capacity more none = let n = ap length more in absurd (omega (arith, length-append before (x ∷ [])))
 
 -- ---- ranges
 

@@ -1,6 +1,6 @@
 //! Taking the rows of the log, each with its reads and writes.
 
-ghost use Rattle.std.specs.Prelude.{◌≡◌, ◌++◌, ◌∷◌, ℕ, true, false, None, [], map, is_some, IfOk, IfErr, OnOk};
+ghost use Rattle.std.specs.Prelude.{◌≡◌, ◌≤◌, ◌++◌, ◌∷◌, ℕ, true, false, None, [], map, min, length, is_some, vec_capacity, IfOk, IfErr, OnOk};
 ghost use Rattle.std.specs.List.{flat_map};
 ghost use Rattle.occ_types.specs.PlainData.{object_of};
 ghost use Rattle.occ_model.specs.Overlay.{own};
@@ -28,6 +28,16 @@ use occ_types::{Key, Object, Question, Row, Schema};
 use std::alloc::{AllocError, Allocator};
 use std::io::Read;
 
+/// Keeps what a line told behind what others told. No room stands ready for the first: the count of a text may be any, so room
+/// is asked for as the lines come.
+fn keep<T: Drop, A: Allocator>(kept: &mut Vec<T, A>, told: T) -> Result<(), AllocError>
+    requires { length kept.old.items ≡ 0 → vec_capacity kept.old ≡ 0 }
+    ensures { OnOk result (kept.new.items ≡ kept.old.items ++ told ∷ []) }
+{
+    kept.push(told)?;
+    Ok(())
+}
+
 /// Takes the rows that a range of a table answered.
 fn take_pairs<R: Read, A: Allocator + Copy>(
     alloc: A,
@@ -52,7 +62,7 @@ fn take_pairs<R: Read, A: Allocator + Copy>(
             table,
             rows.as_slice(),
         )?;
-        rows.push(pair)?;
+        keep(&mut rows, pair)?;
     }
     Ok(rows)
 }
@@ -95,24 +105,30 @@ fn note<A: Allocator + Copy>(reads: &mut ReadSet<A>, read: Observation<A>) -> Re
     }
 }
 
-// How many of the reads, and of the writes, of a row get their room at once. No count is trusted with more.
-const FIRST_ROOM: usize = 4;
+// How many of so many reads, or writes, get their room at once. No count is trusted with more than four.
+fn first_room(count: usize) -> usize
+    ensures { result ≡ min count 4 }
+{
+    count.min(4)
+}
 
-/// No reads, with room for the first of so many.
-fn no_reads<A: Allocator + Copy>(alloc: A, count: usize) -> Result<ReadSet<A>, AllocError>
+/// No reads, with room for the first few.
+fn no_reads<A: Allocator + Copy>(alloc: A, room: usize) -> Result<ReadSet<A>, AllocError>
+    requires { room ≤ 4 }
     ensures { IfOk result (λ reads. reads ≡ []) }
 {
-    match ReadSet::with_capacity(alloc, count.min(FIRST_ROOM)) {
+    match ReadSet::with_capacity(alloc, room) {
         Ok(reads) => Ok(reads),
         Err(_fault) => Err(AllocError),
     }
 }
 
-/// No writes, with room for the first of so many.
-fn no_writes<A: Allocator + Copy>(alloc: A, count: usize) -> Result<WriteSet<A>, AllocError>
+/// No writes, with room for the first few.
+fn no_writes<A: Allocator + Copy>(alloc: A, room: usize) -> Result<WriteSet<A>, AllocError>
+    requires { room ≤ 4 }
     ensures { IfOk result (λ writes. writes ≡ []) }
 {
-    match WriteSet::with_capacity(alloc, count.min(FIRST_ROOM)) {
+    match WriteSet::with_capacity(alloc, room) {
         Ok(writes) => Ok(writes),
         Err(_fault) => Err(AllocError),
     }
@@ -130,7 +146,7 @@ fn take_reads<R: Read, A: Allocator + Copy>(
     ensures taken { (row : InRow) → TakesFrom result (reads_to_come (framed version schema.now row) count) (λ _. writes_to_come (framed version schema.now row) row.head.writes []) (flat_map (read_lines schema.now)) (AllFit (ReadFits version schema.now) count) (position_of input.old (R.remaining reader.old)) (position_of input.new (R.remaining reader.new)) }
     ensures cause { IfErr result (λ fault. fault ≡ read_faults.Read → HasFailed input.new) }
 {
-    let mut reads = no_reads(alloc, count)?;
+    let mut reads = no_reads(alloc, first_room(count))?;
     for _ in 0..count {
         let read = take_read(alloc, input, reader, version, schema)?;
         note(&mut reads, read)?;
@@ -172,7 +188,7 @@ fn take_writes<R: Read, A: Allocator + Copy>(
 {
     // its tables make a schema, so no other write has the line of one
     let _tables = schema.tables();
-    let mut writes = no_writes(alloc, count)?;
+    let mut writes = no_writes(alloc, first_room(count))?;
     for _ in 0..count {
         let (object, row) = take_write(alloc, input, reader, version, schema)?;
         read_at_line(add_write(&mut writes, object, row), input.number())?;
@@ -230,7 +246,7 @@ pub(crate) fn take_rows<R: Read, A: Allocator + Copy>(
     let mut log = Vec::new(alloc);
     for _ in 0..count {
         let row = take_row(alloc, input, reader, version, schema, sessions)?;
-        log.push(row)?;
+        keep(&mut log, row)?;
     }
     Ok(log)
 }

@@ -5,3 +5,5 @@
 mod board_tests;
 #[cfg(test)]
 mod filed;
+#[cfg(test)]
+mod lane_tests;

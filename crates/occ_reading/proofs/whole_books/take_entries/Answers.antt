@@ -49,3 +49,6 @@ returns-in_err-object-clause-taken g c = λ sessions.
     failed c.in_err-object.field-0.0 c.from_residual-in_err-object.result _ _ _ _ _ _ c.from_residual-in_err-object.ensures.1
     (gathered_fails c.in_err-object.field-0.0 _ (λ left. entries_to_come c.args.section frame left last) c.args.count c.loop.counter c.loop-test.true (c.loop.invariant.taken sessions)
     (next_fails (EntryOf c.args.section frame (c.args.count - (c.loop.counter + 1)) last) c.in_err-object.field-0.0 _ _ _ (λ may. may) c.in_err-object.ensures.taken))
+
+pub returns-clause-tables : goal.returns-clause-tables
+returns-clause-tables g c = c.loop.invariant.all

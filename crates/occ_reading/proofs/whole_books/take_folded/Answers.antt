@@ -1,4 +1,4 @@
-use Rattle.std.proofs.Common.{ap}
+use Rattle.std.proofs.Common.{ap, ◌∙◌}
 use Rattle.occ_reading.proofs.Common.{BaseContent, failed, fails}
 use Rattle.occ_reading.proofs.Sections.{folded_taken}
 use Rattle.occ_reading.proofs.whole_books.take_folded.Goals as goal
@@ -16,3 +16,7 @@ pub returns-in_err-state-clause-taken : goal.returns-in_err-state-clause-taken
 returns-in_err-state-clause-taken g c =
     failed c.in_err-state.field-0.0 c.from_residual-in_err-state.result _ _ _ _ _ _ c.from_residual-in_err-state.ensures.1
     (fails c.in_err-state.field-0.0 _ (c.in_ok-last.ensures.taken c.args.version c.args.schema.now c.args.head.rows).0 (c.in_err-state.ensures.taken c.args.sessions))
+
+pub returns-clause-sizes : goal.returns-clause-sizes
+returns-clause-sizes g c =
+    (ap (λ (b : BaseContent). b.tables) c.from_parts.ensures ∙ c.in_ok-state.ensures.tables, ap (λ (b : BaseContent). b.sessions) c.from_parts.ensures ∙ c.in_ok-last.ensures.sessions)

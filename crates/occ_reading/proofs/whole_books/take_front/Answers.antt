@@ -1,5 +1,5 @@
-use Rattle.std.proofs.Common.{ap}
-use Rattle.occ_reading.proofs.Common.{BaseContent, Log, failed, frame_of, next_fails, next_taken, read_fault}
+use Rattle.std.proofs.Common.{ap, sym, length, ◌∙◌}
+use Rattle.occ_reading.proofs.Common.{BaseContent, Log, failed, frame_of, length-map, next_fails, next_taken, read_fault, table_of}
 use Rattle.occ_reading.proofs.Sections.{log_front, base_front, front_fails}
 use Rattle.occ_reading.proofs.whole_books.take_front.Goals as goal
 
@@ -20,3 +20,8 @@ returns-in_err-rows-in-Base-clause-taken g c =
     let fault = read_fault c.in_err-rows-in-Base.field-0.0 in
     failed fault c.from_residual-in_err-rows-in-Base.result _ _ _ _ _ _ c.from_residual-in_err-rows-in-Base.ensures.1
     (front_fails fault _ frame c.args.began c.in-Base.head c.in-Base.is c.in_ok-base-in-Base.ensures.taken.0 (next_fails (Log frame) fault _ _ _ (λ may. may) c.in_err-rows-in-Base.ensures.gives))
+
+pub returns-in_ok-base-in-Log-clause-sizes : goal.returns-in_ok-base-in-Log-clause-sizes
+returns-in_ok-base-in-Log-clause-sizes g c =
+    let made = rw c.in_ok-base-in-Log.ensures.given at c.new.ensures.empty in
+    (ap (λ (b : BaseContent). b.tables) made ∙ sym (length-map c.tables.result.now table_of) ∙ ap length c.tables.ensures.value, ap (λ (b : BaseContent). b.sessions) made)

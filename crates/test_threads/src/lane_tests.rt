@@ -1,0 +1,149 @@
+//! A lane between two threads.
+use occ_queue::{Item, Receiver, Sender, lane};
+use occ_sets::WriteSet;
+use occ_types::{Cell, Fault, Key, Object, Row};
+use std::alloc::Global;
+use std::sync::Wait;
+use std::test::Fail;
+use std::thread;
+use std::thread::Threads;
+
+const REQUESTS: u64 = 1_000;
+
+/// How many items the lane holds, which is much less than are pushed.
+const ROOM: usize = 4;
+
+// The request with this number: it deletes the key of its number, and puts a row under a key beyond all of these.
+fn request(alloc: Global, number: u64) -> Result<Item<Global>, Fault> {
+    let mut writes = WriteSet::new(alloc);
+    writes.set(0, Key::Num(number), None)?;
+    let row = Row::from_cell(Cell::Int(7));
+    writes.set(1, Key::Num(number.saturating_add(REQUESTS)), Some(row))?;
+    Ok(Item::Request {
+        number,
+        start: number.saturating_mul(3),
+        writes,
+    })
+}
+
+fn object(table: usize, key: u64) -> Object<Global> {
+    Object {
+        table,
+        key: Key::Num(key),
+    }
+}
+
+// Whether these are the writes of the request with this number, in their order.
+fn are_writes_of(writes: &WriteSet<Global>, number: u64) -> bool {
+    let row = Row::from_cell(Cell::Int(7));
+    let first = object(0, number);
+    let second = object(1, number.saturating_add(REQUESTS));
+    writes.len() == 2
+        && writes.write_at(0) == Some((&first, None))
+        && writes.write_at(1) == Some((&second, Some(&row)))
+}
+
+// Whether it is the request with this number, as it was handed in.
+fn is_request(item: &Item<Global>, asked: u64) -> bool {
+    match item {
+        Item::Request {
+            number,
+            start,
+            writes,
+        } => {
+            *number == asked && *start == asked.saturating_mul(3) && are_writes_of(writes, asked)
+        }
+        Item::Alone { .. } | Item::Close { .. } => false,
+    }
+}
+
+// Submits an item, again and again while there is no room.
+fn submit(
+    rt: &impl Wait,
+    sender: &mut Sender<Global>,
+    mut item: Item<Global>,
+) -> Result<(), Fault> {
+    for _ in rt.forever() {
+        match sender.submit(rt, item) {
+            Ok(()) => return Ok(()),
+            Err(refused) => {
+                if refused.fault != Fault::QueueFull {
+                    return Err(refused.fault);
+                }
+                item = refused.value;
+                thread::yield_now();
+            }
+        }
+    }
+    unreachable!()
+}
+
+// Closes the lane, as soon as there is room for the mark.
+fn close(rt: &impl Wait, sender: &mut Sender<Global>) -> Result<u64, Fault> {
+    for _ in rt.forever() {
+        match sender.close(rt) {
+            Err(Fault::QueueFull) => thread::yield_now(),
+            closed => return closed,
+        }
+    }
+    unreachable!()
+}
+
+fn submit_all(rt: &impl Wait, alloc: Global, sender: &mut Sender<Global>) -> Result<(), Fault> {
+    for place in 0..REQUESTS {
+        let request = request(alloc, place + 1)?;
+        submit(rt, sender, request)?;
+    }
+    Ok(())
+}
+
+// Submits all requests and closes, also after a fault. The answer is the number of the mark.
+fn send(rt: &impl Wait, alloc: Global, mut sender: Sender<Global>) -> Result<u64, Fault> {
+    let sent = submit_all(rt, alloc, &mut sender);
+    let mark = close(rt, &mut sender);
+    sent?;
+    mark
+}
+
+// Takes until the mark. The answer is its number, or none where a request came that was not the next one as it was handed in.
+fn receive(rt: &impl Wait, mut receiver: Receiver<Global>) -> Option<u64> {
+    let mut next = 1u64;
+    let mut right = true;
+    for _ in rt.forever() {
+        match receiver.take(rt) {
+            None => thread::yield_now(),
+            Some(Item::Close { number }) => {
+                let still = receiver.take(rt).is_none() && receiver.is_closed();
+                return if right && still { Some(number) } else { None };
+            }
+            Some(item) => {
+                right = right && is_request(&item, next);
+                next = next.saturating_add(1);
+            }
+        }
+    }
+    unreachable!()
+}
+
+fn send_and_receive<R: Threads + Wait + Sync>(
+    rt: &R,
+    alloc: Global,
+    sender: Sender<Global>,
+    receiver: Receiver<Global>,
+) -> (Result<u64, Fault>, Option<u64>) {
+    thread::join(
+        rt,
+        move || send(rt, alloc, sender),
+        move || receive(rt, receiver),
+    )
+}
+
+#[test]
+fn what_one_thread_submits_another_takes(rt: HostRuntime) -> Result<(), Fail> {
+    let alloc = rt.alloc();
+    let (sender, receiver) = lane(alloc, ROOM)?;
+    let (sent, taken) = send_and_receive(&rt, alloc, sender, receiver);
+    assert!(rt; sent == Ok(REQUESTS + 1));
+    assert!(rt; taken == Some(REQUESTS + 1));
+    Ok(())
+}
