@@ -1,8 +1,8 @@
 //! Books of one row with many reads and writes.
 
+use occ_print::books::write_book;
 use occ_reading::audit_text;
 use occ_reading::whole_books::take_book;
-use occ_print::books::write_book;
 use occ_text::input::Input;
 use occ_text::output::Output;
 use occ_text::trouble::Trouble;
