@@ -11,12 +11,12 @@ mod loads;
 mod store;
 
 use loads::{Load, Shape};
-use occ_refusing::{Plan, Refusing};
 use occ_types::Fault;
 use std::alloc::{Allocator, Global};
 use std::io;
 use std::process::ExitCode;
 use store::{Store, Way};
+use test_tools::{Plan, Refusing};
 
 /// How many rounds are done where memory is counted.
 const COUNTED: u64 = 1_000;

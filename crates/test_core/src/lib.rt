@@ -1,18 +1,16 @@
-//! Tests of a core that is driven by lists of steps, and of one that two threads share. They are apart from the core, since they are
-//! slow to prove, and audit what it shows.
+//! Tests of a core that is driven by lists of steps, of one that two threads share, and of one whose log is full. They are apart from the
+//! core, since they are slow to prove, and audit what it shows.
 #![tactic(auto)]
 
 #[cfg(test)]
-mod checkpoint_tests;
+mod limit_tests;
 #[cfg(test)]
-mod life_tests;
+mod step_tests;
 #[cfg(test)]
 mod operation_tests;
 #[cfg(test)]
 mod stores;
 #[cfg(test)]
 mod telling;
-#[cfg(test)]
-mod tests;
 #[cfg(test)]
 mod thread_tests;

@@ -34,22 +34,17 @@ pub(crate) fn read(session: usize, key: u64) -> Step<Global> {
     }
 }
 
-/// The entry of the first transaction of a session, which starts at 0.
-pub(crate) fn enter_with(session: usize, writes: WriteSet<Global>) -> Step<Global> {
+/// The entry of the first transaction of a session, which starts at 0 and puts one row, the number 5.
+pub(crate) fn enter(alloc: Global, session: usize, key: u64) -> Result<Step<Global>, Fault> {
+    let mut writes = WriteSet::new(alloc);
+    let row = Row::from_cell(Cell::Int(5));
+    writes.set(0, Key::Num(key), Some(row))?;
     let item = Item::Request {
         number: 1,
         start: 0,
         writes,
     };
-    Step::Enter { session, item }
-}
-
-/// The entry of one that puts one row, the number 5.
-pub(crate) fn enter(alloc: Global, session: usize, key: u64) -> Result<Step<Global>, Fault> {
-    let mut writes = WriteSet::new(alloc);
-    let row = Row::from_cell(Cell::Int(5));
-    writes.set(0, Key::Num(key), Some(row))?;
-    Ok(enter_with(session, writes))
+    Ok(Step::Enter { session, item })
 }
 
 /// The entry of the closing mark of a session.

@@ -1,10 +1,8 @@
-//! Whole replays of texts that are malformed at one line, that are cut anywhere, or that name the greatest numbers.
+//! Whole replays of texts that are cut anywhere.
 
 use occ_cli::{Trouble, replay_text};
 use std::alloc::{AllocError, Global};
 use std::test::Fail;
-
-const HEADER: &str = "occ 1\nsessions 2\nqueue 4\nkeep 8\ntable t num int\nsteps\n";
 
 // How every book of a replay under this header begins.
 const BOOK: &[u8] = b"occ 1\nsessions 2\nqueue 4\nkeep 8\ntable t num int\nlog ";
@@ -60,97 +58,6 @@ fn gives_book(alloc: Global, text: &[u8], answers: &[u8]) -> Result<bool, AllocE
 }
 
 #[test]
-fn a_malformed_line_alone(rt: HostRuntime) -> Result<(), Fail> {
-    for line in [
-        "begin  1",
-        "put 1 t 01 1",
-        "put 1 t 1 -0",
-        "get 1 t '%61",
-        "get 1 t 18446744073709551616",
-        "forge 256 1 0",
-        "forge 1 4294967296 0",
-        "forge 1 1 18446744073709551616",
-        "rawread 256 1 0 t 1",
-        "rawread 1 4294967296 0 t 1",
-        "rawread 1 1 18446744073709551616 t 1",
-        "rawread 1 1 0 t 18446744073709551616",
-        "serial",
-        "serial 256",
-        "serial 1 get:t:1",
-        "alone 1",
-        "alone 256 get:t:1",
-        "alone 1 add:t:1:'a",
-        "alone 1 put:t:1:2:3",
-        "alone 3 get:u:1 get:u:1 get:u:1 get:u:1 got:u:1",
-        // what version 2 alone has
-        "get 1 t 1+1",
-        "put 1 t 1+1 1",
-        "delete 1 t '+'",
-        "rawread 1 1 0 t 1+1",
-        "scan 1 t * 1",
-        "scan 1 t 1 *",
-        "scan 1 t * *",
-        "alone 1 get:t:1+1",
-        "alone 1 scan:t:*:*",
-    ] {
-        let text = format!(in rt.alloc(); "{HEADER}{line}\n")?;
-        assert!(rt;
-            gives(rt.alloc(), text.as_bytes(), Err(Trouble::Malformed(7)), b""),
-            "{line}"
-        );
-    }
-    let told = format!(in rt.alloc(); "{}", Trouble::Malformed(7))?;
-    assert!(rt; told.as_str() == "line 7: malformed");
-    Ok(())
-}
-
-#[test]
-fn a_malformed_line_of_version_two(rt: HostRuntime) -> Result<(), Fail> {
-    for line in [
-        "get 1 t *",
-        "put 1 t * 1",
-        "get 1 t 1+",
-        "get 1 t +1",
-        "get 1 t 1+2+3",
-        "scan 1 t *",
-        "scan 1 t * * *",
-        "scan 1 t ** 1",
-        "scan 1 t 1 *+1",
-        "alone 1 get:t:*",
-        "alone 1 scan:t:*",
-        "alone 1 scan:t:*:*:*",
-    ] {
-        let text = format!(in rt.alloc(); "occ 2{}{line}\n", HEADER.trim_start_matches("occ 1"))?;
-        assert!(rt;
-            gives(rt.alloc(), text.as_bytes(), Err(Trouble::Malformed(7)), b""),
-            "{line}"
-        );
-    }
-    Ok(())
-}
-
-#[test]
-fn a_line_of_8192_bytes(rt: HostRuntime) -> Result<(), Fail> {
-    let mut text = String::from_str(rt.alloc(), HEADER)?;
-    text.push_str("get 1 t '")?;
-    for _ in 0..8183 {
-        text.push('a')?;
-    }
-    let above = format!(in rt.alloc(); "{text}a\n")?;
-    text.push('\n')?;
-    assert!(rt; gives_book(rt.alloc(), text.as_bytes(), b"refused F28\n")?);
-    assert!(rt;
-        gives(
-            rt.alloc(),
-            above.as_bytes(),
-            Err(Trouble::Malformed(7)),
-            b""
-        )
-    );
-    Ok(())
-}
-
-#[test]
 fn a_text_that_is_cut_anywhere(rt: HostRuntime) -> Result<(), Fail> {
     let alloc = rt.alloc();
     let mut text = Vec::new(alloc);
@@ -181,45 +88,5 @@ fn a_text_that_is_cut_anywhere(rt: HostRuntime) -> Result<(), Fail> {
         "occ 1\nsessions 2\nqueue 4\nkeep 8\ntable t num int\nlog 2\nrow 0 1 1 0 0 1 1 done 2\none t 1 none\nput t 2 5\nrow 1 2 1 0 0 0 1 done 1\nput t 1 9\nmarks 0\nstate 2\nat t 1 9\nat t 2 5\ncounter 2 low 0\naudit yes\n",
     )?;
     assert!(rt; gives(alloc, text.as_slice(), Ok(()), answers.as_bytes()));
-    Ok(())
-}
-
-#[test]
-fn the_greatest_numbers(rt: HostRuntime) -> Result<(), Fail> {
-    let alloc = rt.alloc();
-    let mut text = String::from_str(alloc, HEADER)?;
-    let mut wanted = String::new(alloc);
-    for (step, answer) in [
-        ("forge 255 4294967295 18446744073709551615", "refused F12"),
-        (
-            "rawread 255 4294967295 18446744073709551615 t 18446744073709551615",
-            "refused F12",
-        ),
-        ("forge 1 4294967295 18446744073709551615", "refused F14"),
-        (
-            "rawread 1 4294967295 18446744073709551615 t 18446744073709551615",
-            "refused F14",
-        ),
-        ("forge 1 1 18446744073709551615", "refused F16"),
-        (
-            "rawread 1 1 18446744073709551615 t 18446744073709551615",
-            "refused F16",
-        ),
-        ("rawread 1 1 0 t 18446744073709551615", "none"),
-        ("forge 1 1 18446744073709551615", "refused F17"),
-        ("forge 1 1 0", "entered 0"),
-        ("forge 1 4294967295 0", "refused F14"),
-        ("decide 1", "commit"),
-        ("finish 1", "finished 1"),
-        ("rawread 1 4294967295 1 t 1", "refused F14"),
-        ("forge 1 4294967295 1", "refused F14"),
-    ] {
-        write!(text, "{step}\n")?;
-        write!(wanted, "{answer}\n")?;
-    }
-    wanted.push_str(
-        "occ 1\nsessions 2\nqueue 4\nkeep 8\ntable t num int\nlog 1\nrow 0 1 1 0 0 1 0 done 1\none t 18446744073709551615 none\nmarks 0\nstate 0\ncounter 1 low 0\naudit yes\n",
-    )?;
-    assert!(rt; gives(alloc, text.as_bytes(), Ok(()), wanted.as_bytes()));
     Ok(())
 }

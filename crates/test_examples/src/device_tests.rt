@@ -1,9 +1,9 @@
 //! Whole replays over devices that move a few bytes a call, are interrupted at each third one, and fail at each in turn.
 
 use occ_cli::{Trouble, replay_text};
-use occ_devices::Device;
 use std::alloc::{AllocError, Global};
 use std::test::Fail;
+use test_tools::Device;
 
 /// One transaction that commits a row, and the counts.
 const SCHEDULE: &str =

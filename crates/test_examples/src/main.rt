@@ -1,8 +1,7 @@
-//! Replays each example, and tells of each how it ended, whether its text is the one that lies beside it, and what the audit of its book says. Then it audits books that lie there alone. At last it does all of that again, each time with one request for memory refused.
+//! Replays each example, and tells of each how it ended, whether its text is the one that lies beside it, and what the audit of its book says. Then it tries lines that are malformed, and audits books that lie there alone, and some with one change each. At last it does all but the long examples, the malformed lines and the changes again, each time with one request for memory refused.
 #![tactic(auto)]
 
-#[cfg(test)]
-mod alone_tests;
+mod altered;
 #[cfg(test)]
 mod attack_tests;
 #[cfg(test)]
@@ -10,22 +9,23 @@ mod device_tests;
 #[cfg(test)]
 mod limit_tests;
 mod refused;
-#[cfg(test)]
-mod step_tests;
-#[cfg(test)]
-mod text_tests;
 
+use altered::{tell_changed_schedule, tell_changes, tell_lines};
 use occ_cli::{audit_text, replay_text, status_of};
 use refused::{Case, Engine, Tried, refuse_in_turn};
 use std::process::ExitCode;
 use std::{fs, io};
 
 /// The schedules, each in a file `NAME.occ` with its text in `NAME.out`.
-const EXAMPLES: [&str; 40] = [
+const EXAMPLES: [&str; 68] = [
     "abandoned-and-begun-anew",
     "alone-reads-its-own-writes",
+    "alone-sees-its-own-deletions",
     "alone-while-another-writes",
+    "backed-up-row-is-folded",
     "blind-writes",
+    "carriage-return",
+    "closed-session-is-over",
     "closed-sessions",
     "deletion-of-an-absent-key",
     "entries-of-an-account",
@@ -34,15 +34,27 @@ const EXAMPLES: [&str; 40] = [
     "first-commit",
     "folded-twice",
     "forged-and-refused",
+    "forged-request-takes-the-reads",
+    "forged-requests",
     "full-queue",
     "full-read-set",
     "full-write-set",
+    "greatest-numbers",
+    "item-that-never-enters",
+    "items-enter-in-turn",
     "judged-by-its-entry",
+    "kept-item-takes-no-room",
     "keys-of-two-parts",
+    "line-of-8192-bytes",
+    "line-of-8193-bytes",
     "long-range-alone",
     "lost-update",
     "malformed-key",
+    "malformed-operation-behind-256",
     "no-step",
+    "nothing-is-open",
+    "operations-that-never-run",
+    "operations-up-to-256",
     "opponent-backed-up-later",
     "own-writes",
     "phantom-at-a-lower-end",
@@ -50,22 +62,53 @@ const EXAMPLES: [&str; 40] = [
     "range-too-large",
     "read-between-two-writes",
     "refusals",
+    "refusals-of-abandon",
+    "refusals-of-close",
+    "refusals-of-ranges",
     "refused-alone",
     "refused-serial-ends",
+    "serial-end-that-waits",
     "serial-ends",
+    "session-gives-up-and-closes",
+    "sessions-up-to-64",
     "settled-rows-are-folded",
+    "submitted-before-the-mark",
+    "table-33",
+    "tables-up-to-32",
     "text-keys",
     "text-lengths",
     "too-old",
     "torn-line",
     "upper-end-of-a-range",
+    "version-two-with-nothing-new",
+    "well-formed-texts",
     "what-waits-to-run-alone",
     "whole-tables",
     "write-phase-left-open",
+    "writes-up-to-256",
+];
+
+/// Long schedules, which are replayed with ample memory alone.
+const LONG_EXAMPLES: [&str; 2] = ["queue-of-1024", "range-of-1024-rows"];
+
+/// Lines that are malformed, in files `NAME.lines`, each tried behind the schedule `NAME.occ`, whose answers are in `NAME.out`.
+const MALFORMED: [&str; 3] = [
+    "malformed-lines",
+    "malformed-lines-of-version-two",
+    "malformed-texts",
 ];
 
 /// The books, each in a file `NAME.book`.
 const BOOKS: [&str; 3] = ["changed-base", "changed-book", "unchanged-book"];
+
+/// Books, each in a file `NAME.book`, that are audited with each change of `NAME.changes`.
+const CHANGED_BOOKS: [&str; 5] = [
+    "keys-of-two-parts",
+    "last-place",
+    "lost-update-and-its-retry",
+    "one-row-folded",
+    "two-tables",
+];
 
 fn main(rt: HostRuntime) -> ExitCode {
     match tell_all(&rt) {
@@ -79,8 +122,18 @@ fn tell_all(rt: &HostRuntime) -> io::Result<()> {
     for name in EXAMPLES {
         tell(rt, name)?;
     }
+    for name in LONG_EXAMPLES {
+        tell(rt, name)?;
+    }
+    for name in MALFORMED {
+        tell_lines(rt, name)?;
+    }
+    tell_changed_schedule(rt, "no-step-of-one-session")?;
     for name in BOOKS {
         tell_book(rt, name)?;
+    }
+    for name in CHANGED_BOOKS {
+        tell_changes(rt, name)?;
     }
     tell_refusals(rt)
 }

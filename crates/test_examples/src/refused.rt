@@ -1,9 +1,9 @@
 //! Each request for memory refused in turn: a run ends there for want of memory, with a beginning of its text written, or does without and ends as ever. It gives back all memory.
 
 use occ_cli::{Trouble, audit_text, replay_text};
-use occ_refusing::{Plan, Refusing};
 use std::alloc::{Allocator, Global};
 use std::fmt;
+use test_tools::{Plan, Refusing};
 
 /// An engine, from text to text.
 #[derive(Clone, Copy)]

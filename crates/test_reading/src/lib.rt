@@ -1,9 +1,7 @@
-//! Tests of printed books: right, wrong and malformed ones, and devices that fail. They are apart from what reads books, since a crate with tests is
-//! proved twice.
+//! Tests of printed books that end too early or have many lines, and of devices that fail. They are apart from what reads books, since a
+//! crate with tests is proved twice.
 #![tactic(auto)]
 
-#[cfg(test)]
-mod base_tests;
 #[cfg(test)]
 mod count_tests;
 #[cfg(test)]

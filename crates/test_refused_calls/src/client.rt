@@ -9,12 +9,13 @@ use std::fmt;
 /// How many sessions a store has.
 const SESSIONS: usize = 4;
 
-/// A store, what it has answered, and how many calls were made again.
+/// A store, what it has answered, and how many calls were made again. The store is in a box, which is dropped by one call; of a plain one
+/// each part would be dropped by itself, on each way out.
 #[derive(Drop)]
 pub(crate) struct Client<A: Allocator> {
     pub(crate) alloc: A,
     pub(crate) paper: Global,
-    pub(crate) core: Core<A>,
+    pub(crate) core: Box<Core<A>, A>,
     pub(crate) words: String,
     pub(crate) again: u64,
 }
@@ -25,7 +26,7 @@ impl<A: Allocator + Copy> Client<A> {
         Some(Client {
             alloc,
             paper,
-            core: opened(alloc)?,
+            core: boxed(alloc, opened(alloc)?)?,
             words: String::new(paper),
             again: 0,
         })
@@ -69,5 +70,13 @@ fn opened<A: Allocator + Copy>(alloc: A) -> Option<Core<A>> {
     match Core::open(alloc, schema(alloc)?, SESSIONS, 8) {
         Ok(core) => Some(core),
         Err(refused) => Core::open(alloc, refused.value, SESSIONS, 8).ok(),
+    }
+}
+
+// The store in a box. It comes back where there is no memory for one.
+fn boxed<A: Allocator + Copy>(alloc: A, core: Core<A>) -> Option<Box<Core<A>, A>> {
+    match Box::new(alloc, core) {
+        Ok(boxed) => Some(boxed),
+        Err(failed) => Box::new(alloc, failed.value).ok(),
     }
 }

@@ -1,7 +1,7 @@
 //! A scenario, run once for each request for memory that it makes, with that request refused.
 use crate::client::Client;
-use occ_refusing::{Plan, Refusing};
 use std::alloc::{Allocator, Global};
+use test_tools::{Plan, Refusing};
 
 /// What is run.
 #[derive(Clone, Copy)]

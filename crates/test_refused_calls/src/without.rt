@@ -5,10 +5,10 @@ use crate::values::key;
 use occ_case::{Cause, Verdict};
 use occ_core::{Outcome, SingleWrite};
 use occ_queue::{Item, SessionQueue};
-use occ_refusing::{Plan, Refusing};
 use occ_sets::Op;
 use occ_types::{Fault, Key};
 use std::alloc::{Allocator, Global};
+use test_tools::{Plan, Refusing};
 
 /// Whether the calls that take no memory do their work from the moment on at which every request is refused, and whether all memory is
 /// given back then.

@@ -1,6 +1,5 @@
 //! Runs over devices that fail: what clauses say of readers and writers that tell their bytes, seen on ones that don't.
 
-use occ_devices::Device;
 use occ_text::faults::{LineFault, WriteFault};
 use occ_text::input::{Input, MAX_LINE, Next};
 use occ_text::output::Output;
@@ -12,6 +11,7 @@ use occ_text::writers::{write_end, write_key, write_row};
 use std::alloc::{AllocError, Global};
 use std::io::Read;
 use std::test::Fail;
+use test_tools::Device;
 
 /// All lines, each with a bar behind it, and how the text ended.
 fn lines_of<R: Read>(

@@ -1,12 +1,8 @@
-//! Tests of what reads and writes texts: lines over devices that fail, each form of a step and of a header, operations, and printed
-//! books. They are apart from what they test, since a crate with tests is proved twice.
+//! Tests of what reads and writes texts: lines over devices that fail, tokens, and printed books. They are apart from what they test, since
+//! a crate with tests is proved twice.
 #![tactic(auto)]
 
 #[cfg(test)]
 mod devices;
-#[cfg(test)]
-mod grammar;
-#[cfg(test)]
-mod operations;
 #[cfg(test)]
 mod print;

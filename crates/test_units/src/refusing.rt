@@ -1,9 +1,9 @@
 //! What is asked for, refused and given back, by lists, texts and maps.
 
-use occ_refusing::{Plan, Refusing};
 use std::alloc::{AllocError, Allocator, Global};
 use std::collections::BTreeMap;
 use std::test::Fail;
+use test_tools::{Plan, Refusing};
 
 // The sum of so many numbers in a list that is made number by number.
 fn listed<A: Allocator>(alloc: A, count: u64) -> Result<u64, AllocError> {
