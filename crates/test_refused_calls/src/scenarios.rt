@@ -83,6 +83,7 @@ impl<A: Allocator + Copy> Client<A> {
         self.end(2, request(second))?;
         let operations = self.operations()?;
         self.run(3, 1, operations)?;
+        let operations = self.operations()?;
         self.end(4, alone(operations))?;
         self.end(4, Item::Close { number: 2 })?;
         self.take_book()
