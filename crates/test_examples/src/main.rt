@@ -1,4 +1,4 @@
-//! Replays each example, and tells of each how it ended, whether its text is the one that lies beside it, and what the audit of its book says. Then it tries lines that are malformed, and audits books that lie there alone, and some with one change each. At last it does all but the long examples, the malformed lines and the changes again, each time with one request for memory refused.
+//! Replays each example, and tells of each how it ended, whether its text is the one that lies beside it, and what the audit of its book says. Then it tries lines that are malformed, and audits books that lie there alone, and some with one change each. At last it goes over the examples and the books again, each time with one request for memory refused.
 #![tactic(auto)]
 
 mod altered;
@@ -17,15 +17,11 @@ use std::process::ExitCode;
 use std::{fs, io};
 
 /// The schedules, each in a file `NAME.occ` with its text in `NAME.out`.
-const EXAMPLES: [&str; 68] = [
+const EXAMPLES: [&str; 40] = [
     "abandoned-and-begun-anew",
     "alone-reads-its-own-writes",
-    "alone-sees-its-own-deletions",
     "alone-while-another-writes",
-    "backed-up-row-is-folded",
     "blind-writes",
-    "carriage-return",
-    "closed-session-is-over",
     "closed-sessions",
     "deletion-of-an-absent-key",
     "entries-of-an-account",
@@ -34,27 +30,15 @@ const EXAMPLES: [&str; 68] = [
     "first-commit",
     "folded-twice",
     "forged-and-refused",
-    "forged-request-takes-the-reads",
-    "forged-requests",
     "full-queue",
     "full-read-set",
     "full-write-set",
-    "greatest-numbers",
-    "item-that-never-enters",
-    "items-enter-in-turn",
     "judged-by-its-entry",
-    "kept-item-takes-no-room",
     "keys-of-two-parts",
-    "line-of-8192-bytes",
-    "line-of-8193-bytes",
     "long-range-alone",
     "lost-update",
     "malformed-key",
-    "malformed-operation-behind-256",
     "no-step",
-    "nothing-is-open",
-    "operations-that-never-run",
-    "operations-up-to-256",
     "opponent-backed-up-later",
     "own-writes",
     "phantom-at-a-lower-end",
@@ -62,34 +46,53 @@ const EXAMPLES: [&str; 68] = [
     "range-too-large",
     "read-between-two-writes",
     "refusals",
-    "refusals-of-abandon",
-    "refusals-of-close",
-    "refusals-of-ranges",
     "refused-alone",
     "refused-serial-ends",
-    "serial-end-that-waits",
     "serial-ends",
-    "session-gives-up-and-closes",
-    "sessions-up-to-64",
     "settled-rows-are-folded",
-    "submitted-before-the-mark",
-    "table-33",
-    "tables-up-to-32",
     "text-keys",
     "text-lengths",
     "too-old",
     "torn-line",
     "upper-end-of-a-range",
-    "version-two-with-nothing-new",
-    "well-formed-texts",
     "what-waits-to-run-alone",
     "whole-tables",
     "write-phase-left-open",
-    "writes-up-to-256",
 ];
 
-/// Long schedules, which are replayed with ample memory alone.
-const LONG_EXAMPLES: [&str; 2] = ["queue-of-1024", "range-of-1024-rows"];
+/// Further schedules of that kind, which are replayed with ample memory alone.
+const OTHERS: [&str; 30] = [
+    "alone-sees-its-own-deletions",
+    "backed-up-row-is-folded",
+    "carriage-return",
+    "closed-session-is-over",
+    "forged-request-takes-the-reads",
+    "forged-requests",
+    "greatest-numbers",
+    "item-that-never-enters",
+    "items-enter-in-turn",
+    "kept-item-takes-no-room",
+    "line-of-8192-bytes",
+    "line-of-8193-bytes",
+    "malformed-operation-behind-256",
+    "nothing-is-open",
+    "operations-that-never-run",
+    "operations-up-to-256",
+    "queue-of-1024",
+    "range-of-1024-rows",
+    "refusals-of-abandon",
+    "refusals-of-close",
+    "refusals-of-ranges",
+    "serial-end-that-waits",
+    "session-gives-up-and-closes",
+    "sessions-up-to-64",
+    "submitted-before-the-mark",
+    "table-33",
+    "tables-up-to-32",
+    "version-two-with-nothing-new",
+    "well-formed-texts",
+    "writes-up-to-256",
+];
 
 /// Lines that are malformed, in files `NAME.lines`, each tried behind the schedule `NAME.occ`, whose answers are in `NAME.out`.
 const MALFORMED: [&str; 3] = [
@@ -122,7 +125,7 @@ fn tell_all(rt: &HostRuntime) -> io::Result<()> {
     for name in EXAMPLES {
         tell(rt, name)?;
     }
-    for name in LONG_EXAMPLES {
+    for name in OTHERS {
         tell(rt, name)?;
     }
     for name in MALFORMED {
