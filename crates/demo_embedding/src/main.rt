@@ -37,7 +37,7 @@ fn pay_into(alloc: Global, store: &mut Core<Global>, lines: &mut String) -> Resu
     pay_both(alloc, store, lines)?;
     let again = begin(alloc, store, 2, 2, 12)?;
     tell(lines, 2, commit(store, 2, again)?)?;
-    tell(lines, 1, Some(pay_alone(store, 1, 2, 8)?))?;
+    tell(lines, 1, Some(pay_alone(alloc, store, 1, 2, 8)?))?;
     shorten(store, lines)?;
     let balance = balance(store, 1, 3)?;
     writeln!(lines, "the account has {balance}").or(Err(Fault::Memory))
@@ -109,12 +109,13 @@ fn commit(
 
 /// A whole payment in one step, which is never backed up. The answer is the number of its commit.
 fn pay_alone(
+    alloc: Global,
     store: &mut Core<Global>,
     session: usize,
     number: u64,
     amount: i64,
 ) -> Result<u64, Fault> {
-    let payment = vec![Op::Add {
+    let payment = vec![in alloc; Op::Add {
         table: ACCOUNTS,
         key: ACCOUNT,
         amount,
