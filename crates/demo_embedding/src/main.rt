@@ -115,11 +115,13 @@ fn pay_alone(
     number: u64,
     amount: i64,
 ) -> Result<u64, Fault> {
-    let payment = vec![in alloc; Op::Add {
-        table: ACCOUNTS,
-        key: ACCOUNT,
-        amount,
-    }]?;
+    let payment = vec![in alloc;
+        Op::Add {
+            table: ACCOUNTS,
+            key: ACCOUNT,
+            amount,
+        },
+    ]?;
     let (tn, _answers) = store.run_alone(session, number, payment)?;
     Ok(tn)
 }

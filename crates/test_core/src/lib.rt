@@ -5,9 +5,9 @@
 #[cfg(test)]
 mod limit_tests;
 #[cfg(test)]
-mod step_tests;
-#[cfg(test)]
 mod operation_tests;
+#[cfg(test)]
+mod step_tests;
 #[cfg(test)]
 mod stores;
 #[cfg(test)]

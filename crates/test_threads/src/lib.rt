@@ -4,6 +4,4 @@
 #[cfg(test)]
 mod board_tests;
 #[cfg(test)]
-mod filed;
-#[cfg(test)]
 mod lane_tests;

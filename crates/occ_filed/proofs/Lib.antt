@@ -1,3 +1,0 @@
-pub mod CasesStay
-pub mod Tokens
-pub mod Tied
