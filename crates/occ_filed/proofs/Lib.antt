@@ -1,0 +1,4 @@
+pub mod KeptTokens
+pub mod Tied
+pub mod DecidedBy
+pub mod Filing
