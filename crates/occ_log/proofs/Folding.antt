@@ -115,10 +115,6 @@ no_gap-drop (suc count) [] counts = counts
 no_gap-drop (suc count) (row ∷ rows) counts = no_gap-drop count rows (no_gap-later row rows counts)
 
 module _ {Z : Type 0} where
-  pub open_rows : (rows : List (code_row.LogRow Z (ℕ × Case))) → list_any (λ row. is_open (standing_of row.standing)) rows ≡ list_any (λ row. is_open row.standing) (log_of rows)
-  open_rows [] = refl
-  open_rows (row ∷ rows) = ap (λ b. is_open (standing_of row.standing) || b) (open_rows rows)
-
   pub foldable_rows : (low : ℕ) (rows : List (code_row.LogRow Z (ℕ × Case))) → prefix_len (λ row. foldable low (standing_of row.standing)) rows ≡ length (foldable_part low (log_of rows))
   foldable_rows low [] = refl
   foldable_rows low (row ∷ rows) = go (foldable low (standing_of row.standing)) (foldable_rows low rows)

@@ -1,13 +1,13 @@
 //! The decision log.
 ghost use Rattle.std.specs.Prelude.{◌≡◌, ◌<◌, ◌≤◌, ◌+◌, ◌-◌, ◌^◌, ℕ, [], ◌∷◌, ◌++◌, length, drop, is_some, true, IfOk, OnOk, slice_get, slice_set, Some};
-ghost use Rattle.std.specs.List.{list_any, prefix_len};
+ghost use Rattle.std.specs.List.{prefix_len};
 ghost use Rattle.std.specs.Option.{option_map};
 ghost use Rattle.occ_types.specs.PlainData.{object_of};
 ghost use Rattle.occ_log.specs.Listing.{has_room};
 ghost use Rattle.occ_log.specs.Logs.{row_at, HasRoom, IsBegun, HaveNoGap, rows_of};
 ghost use Rattle.occ_log.specs.Rows.{log_row_of, log_of, standing_of};
 ghost use Rattle.occ_log.specs.SessionStates.{written_at};
-ghost use Rattle.occ_model.specs.Log.{LogRow as PlainRow, is_open};
+ghost use Rattle.occ_model.specs.Log.{LogRow as PlainRow};
 ghost use Rattle.occ_model.specs.Poll.{row_numbered};
 ghost use Rattle.occ_model.specs.Refusal.{foldable};
 ghost use Rattle.occ_model.specs.Step.{foldable_part};
@@ -160,14 +160,6 @@ impl<A: Allocator> Log<A> {
         row.standing = standing;
     }
 
-    /// Whether a row is open: entered, and not decided.
-    #[tactic(auto, using(crate::proofs::Folding::open_rows))]
-    pub fn has_open(&self) -> bool
-        ensures { result ≡ list_any (λ row. is_open row.standing) self.now.rows }
-    {
-        some_open(&self.rows)
-    }
-
     /// How many rows the longest beginning has that can be folded, where the window begins at `low`: each of them is backed up, or
     /// finished under a number that is not above `low`.
     pub fn foldable(&self, low: u64) -> usize
@@ -193,24 +185,6 @@ impl<A: Allocator> Log<A> {
     }
 }
 
-// Whether one of some rows is open.
-fn some_open<A: Allocator>(rows: &Vec<LogRow<A, OpenCase<A>>, A>) -> bool
-    ensures { result ≡ list_any (λ row. is_open (standing_of row.standing)) rows.now.items }
-{
-    rows.iter().any(|row| stands_open(&row.standing))
-}
-
-fn stands_open<A: Allocator>(standing: &Standing<OpenCase<A>>) -> bool
-    ensures { result ≡ is_open (standing_of standing.now) }
-{
-    match standing {
-        Standing::Open(_case) => true,
-        Standing::Writing(_done) => false,
-        Standing::Done(_number) => false,
-        Standing::Back(_cause) => false,
-    }
-}
-
 // How many rows come before the first one that can't be folded.
 fn count_foldable<A: Allocator>(rows: &Vec<LogRow<A, OpenCase<A>>, A>, low: u64) -> usize
     ensures { result ≡ prefix_len (λ row. foldable low (standing_of row.standing)) rows.now.items }
@@ -226,7 +200,7 @@ fn can_fold<A: Allocator>(standing: &Standing<OpenCase<A>>, low: u64) -> bool
     match standing {
         Standing::Open(_case) => false,
         Standing::Writing(_done) => false,
-        Standing::Done(number) => *number <= low,
+        Standing::Done(tn) => *tn <= low,
         Standing::Back(_cause) => true,
     }
 }
@@ -281,7 +255,7 @@ fn share_standing<A: Allocator + Clone>(
     match standing {
         Standing::Open(open) => Ok(Standing::Open(open.clone()?)),
         Standing::Writing(done) => Ok(Standing::Writing(*done)),
-        Standing::Done(number) => Ok(Standing::Done(*number)),
+        Standing::Done(tn) => Ok(Standing::Done(*tn)),
         Standing::Back(cause) => Ok(Standing::Back(*cause)),
     }
 }
