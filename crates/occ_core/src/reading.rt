@@ -143,7 +143,8 @@ fn note<A: Allocator + Copy>(
     ensures err { OnErr result (phases.new ≡ phases.old) }
     ensures memory { IsOkUnless result Memory }
 {
-    phases.note(alloc, transaction, seen.question, seen.answer)
+    phases.note(alloc, transaction, seen.question, seen.answer)?;
+    Ok(())
 }
 
 // The question for the row under a key and what the tables answer, and a copy of the row.

@@ -1,5 +1,5 @@
 //! The read phases under way.
-ghost use Rattle.std.specs.Prelude.{◌≡◌, ◌==◌, ◌<◌, ◌++◌, [], ◌∷◌, not, length, OnOk, OnErr, IfOk, IsOkUnless};
+ghost use Rattle.std.specs.Prelude.{◌≡◌, ◌==◌, ◌<◌, ◌++◌, [], ◌∷◌, not, length, OnOk, OnErr, IfOk, IfErr, IsOkUnless};
 ghost use Rattle.std.specs.Option.{option_map};
 ghost use Rattle.std.specs.FinMap as finite;
 ghost use Rattle.occ_types.specs.declared.fault.Fault.TheVariants.{Memory};
@@ -9,8 +9,8 @@ ghost use Rattle.occ_sets.specs.PlainSets.{answer_of};
 ghost use Rattle.occ_log.specs.Phases.{phase_of, reads_of};
 
 use indexmap::IndexMap;
-use occ_sets::{Answer, ReadSet};
-use occ_types::{Fault, Question};
+use occ_sets::{Answer, Observation, ReadSet};
+use occ_types::{Fault, Question, Refused};
 use std::alloc::Allocator;
 use std::hash::{BuildHasherDefault, FoldHasher};
 use std::marker::Model;
@@ -42,9 +42,9 @@ impl<A: Allocator + Copy> Phase<A> {
         start: u64,
         question: Question<A>,
         answer: Answer<A>,
-    ) -> Result<Phase<A>, Fault>
+    ) -> Result<Phase<A>, Refused<Observation<A>>>
         ensures noted { IfOk result (λ phase. (phase.start ≡ start) × (phase.reads ≡ (question_of question, answer_of answer) ∷ [])) }
-        ensures memory { IsOkUnless result Memory }
+        ensures handed_back { IfErr result (λ refused. refused ≡ record { value = record { question = question; answer = answer }; fault = Memory }) }
     {
         let mut reads = ReadSet::new(alloc);
         reads.note(question, answer)?;
@@ -130,18 +130,19 @@ impl<A: Allocator + Copy> ReadPhases<A> {
     /// Notes a question and the tables' answer after the others of a transaction's phase, which has less than `MAX_QUESTIONS` of them. It
     /// begins with this question where it is not under way, and has the transaction's start from now on.
     ///
-    /// Refused with `Memory` where there is none, which leaves the phases as they were.
+    /// Refused with `Memory` where there is none. That leaves the phases as they were and hands back what was to be noted.
     pub fn note(
         &mut self,
         alloc: A,
         transaction: Transaction,
         question: Question<A>,
         answer: Answer<A>,
-    ) -> Result<(), Fault>
+    ) -> Result<(), Refused<Observation<A>>>
         requires few { length (reads_of (finite.get self.old (transaction.session, transaction.number))) < limit.MAX_QUESTIONS }
         ensures ok { OnOk result (self.new ≡ finite.insert self.old (transaction.session, transaction.number) (record { start = transaction.start; reads = reads_of (finite.get self.old (transaction.session, transaction.number)) ++ (question_of question, answer_of answer) ∷ [] })) }
         ensures err { OnErr result (self.new ≡ self.old) }
-        ensures memory { IsOkUnless result Memory }
+        ensures handed_back { IfErr result (λ refused. refused.value ≡ record { question = question; answer = answer }) }
+        ensures memory { IfErr result (λ refused. refused.fault ≡ Memory) }
     {
         let key = (transaction.session, transaction.number);
         if let Some(phase) = self.phases.get_mut(&key) {
@@ -149,8 +150,14 @@ impl<A: Allocator + Copy> ReadPhases<A> {
             phase.start = transaction.start;
             return Ok(());
         }
+        if self.phases.reserve(1).is_err() {
+            return Err(Refused {
+                value: Observation { question, answer },
+                fault: Fault::Memory,
+            });
+        }
         let phase = Phase::first(alloc, transaction.start, question, answer)?;
-        self.phases.insert(key, phase)?;
+        let _inserted = self.phases.insert(key, phase);
         Ok(())
     }
 }

@@ -52,7 +52,8 @@ fn note(
         number,
         start: 5,
     };
-    phases.note(alloc, transaction, question, Answer::Found(None))
+    phases.note(alloc, transaction, question, Answer::Found(None))?;
+    Ok(())
 }
 
 #[test]
