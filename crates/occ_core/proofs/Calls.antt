@@ -16,7 +16,7 @@ use Rattle.occ_model.proofs.Tests as tests
 use Rattle.occ_core.specs.Replies.{replied}
 use Rattle.occ_log.specs.SessionStates.{Slot, Hold, IsHeldAt, row_under_way, last_of, back_fault}
 use Rattle.occ_core.specs.CoreParts.{Parts, world_of, found_at, HasRow, AreSound}
-use Rattle.occ_core.specs.Folding.{under_way_fault, back_fault_of}
+use Rattle.occ_core.specs.Folding.{under_way_fault, back_fault_of, verdict_on}
 use Rattle.occ_core.proofs.Placed.{from_index, before_first}
 use Rattle.occ_log.proofs.Holding.{contains-held, held-is}
 use Rattle.occ_log.proofs.Places.{held-get, held_latest, slice_get-below, length-set}
@@ -246,6 +246,20 @@ decide_whole parts world seen sound session place row index case found at stands
           (subst (λ w. Step (world_of parts) (Decide session) (Decided w) (world_of (record parts { log = log }))) (sym right) d.step),
       d.sound,
     )
+
+-- a row on which there is no verdict is not open
+pub unjudged : (standing : Standing) → None ≡ verdict_on standing → is_open standing ≡ false
+unjudged (Open index case) e = cc
+unjudged (Writing done) e = refl
+unjudged (Done number) e = refl
+unjudged (Back cause) e = refl
+
+-- and one with a verdict is, which is that on its case
+pub judged_open : (standing : Standing) (v : Verdict) → Some v ≡ verdict_on standing → (index : ℕ) × (case : Case) × (standing ≡ Open index case) × (v ≡ verdict case)
+judged_open (Open index case) v e = (index, case, refl, let same : v ≡ verdict case = cc in same)
+judged_open (Writing done) v e = cc
+judged_open (Done number) v e = cc
+judged_open (Back cause) v e = cc
 
 -- The back-up.
 

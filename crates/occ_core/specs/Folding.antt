@@ -2,7 +2,9 @@
 use Rattle.std.specs.Prelude.{ℕ, Bool, false, List, Option, None, Some, Ok, Err}
 use Rattle.std.specs.List.{AllByRecursion}
 use Rattle.occ_model.specs.Content.{IsSession}
-use Rattle.occ_model.specs.Log.{LogRow, is_open}
+use Rattle.occ_model.specs.Log.{LogRow, Standing, Open, Writing, Done, Back, is_open}
+use Rattle.occ_model.specs.Validity.{verdict}
+use Rattle.occ_model.specs.declared.verdict.Verdict.{Verdict}
 use Rattle.occ_book.specs.Undo.{ArePlaced}
 use Rattle.occ_log.specs.SessionStates.{Slot, row_under_way, back_fault}
 use Rattle.occ_types.specs.declared.fault.Fault.{Fault}
@@ -35,6 +37,13 @@ under_way_fault slots log session = elim (row_under_way slots session) [
   | Ok place ↦ elim (log place) [ None ↦ Some AlreadyDecided | Some row ↦ None ]
   | Err fault ↦ Some fault
 ]
+
+-- the verdict on a row that stands so, where it is open
+abbrev pub verdict_on : Standing → Option Verdict
+verdict_on (Open index case) = Some (verdict case)
+verdict_on (Writing done) = None
+verdict_on (Done number) = None
+verdict_on (Back cause) = None
 
 -- why a row can't be backed up, where one that was folded can
 abbrev pub back_fault_of : Option LogRow → Option Fault

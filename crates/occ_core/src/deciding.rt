@@ -7,7 +7,7 @@ ghost use Rattle.occ_log.specs.Logs.{row_at};
 ghost use Rattle.occ_log.specs.SessionStates.{row_under_way};
 ghost use Rattle.occ_log.specs.Rows.{log_row_of, standing_of};
 ghost use Rattle.occ_core.specs.Core.{Transition};
-ghost use Rattle.occ_core.specs.Folding.{under_way_fault};
+ghost use Rattle.occ_core.specs.Folding.{under_way_fault, verdict_on};
 ghost use Rattle.occ_core.specs.OpenCases.{open_case, IsRight};
 ghost use Rattle.occ_core.specs.Replies.{replied};
 
@@ -25,10 +25,9 @@ impl<A: Allocator> Core<A> {
         ensures { Transition self.old (Decide session) (replied Decided result) self.new }
     {
         let (place, row) = under_way(&self.sessions, &self.log, session)?;
-        let Standing::Open(open) = &row.standing else {
+        let Some(verdict) = judged(row) else {
             return Err(Fault::AlreadyDecided);
         };
-        let verdict = verdict(open.case());
         self.log.stand(place, decided(verdict));
         Ok(verdict)
     }
@@ -61,6 +60,18 @@ impl<A: Allocator> Core<A> {
             Standing::Open(open) => Some(open),
             _ => None,
         }
+    }
+}
+
+// The verdict on a row that is open, by its case alone, whatever became of the others since its entry.
+fn judged<A: Allocator>(row: &LogRow<A, OpenCase<A>>) -> Option<Verdict>
+    ensures { result ≡ verdict_on (standing_of row.now.standing) }
+{
+    match &row.standing {
+        Standing::Open(open) => Some(verdict(open.case())),
+        Standing::Writing(_) => None,
+        Standing::Done(_) => None,
+        Standing::Back(_) => None,
     }
 }
 

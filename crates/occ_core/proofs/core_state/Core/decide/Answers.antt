@@ -1,10 +1,8 @@
 use Rattle.std.proofs.Common.{ap, sym, ◌∙◌, ◌-◌, Some, is_some, slice_set}
 use Rattle.std.proofs.lemmas.Result.{err_from_is_err_and}
-use Rattle.occ_model.specs.Validity.{verdict}
 use Rattle.occ_core.specs.Core.{parts_of}
 use Rattle.occ_log.specs.Rows.{log_row_of, standing_of}
-use Rattle.occ_core.proofs.Calls.{decide_exit, decide_exit_late, decide_whole}
-use Rattle.occ_log.proofs.Changes.{not_open}
+use Rattle.occ_core.proofs.Calls.{decide_exit, decide_exit_late, decide_whole, unjudged, judged_open}
 use Rattle.occ_core.proofs.Placed.{fault_in, in_log, stood_in}
 use Rattle.occ_core.proofs.core_state.Core.decide.Goals as goal
 
@@ -15,25 +13,28 @@ returns-in_err-place g c =
 
 pub returns-in_default : goal.returns-in_default
 returns-in_default g c =
-    decide_exit_late (parts_of c.self.inside) c.args.self.now.world (ap (λ s. s.world) c.self.view_is) c.self.invariant.sound c.args.session c.in_ok-place.place (log_row_of c.in_ok-place.row.now) c.in_ok-place.ensures.place (in_log c.self.inside.log c.in_ok-place.place (log_row_of c.in_ok-place.row.now) c.self.invariant.log_match.begins c.in_ok-place.ensures.row) (not_open c.in_ok-place.row.now.standing c.in_default.not-Open)
+    decide_exit_late (parts_of c.self.inside) c.args.self.now.world (ap (λ s. s.world) c.self.view_is) c.self.invariant.sound c.args.session c.in_ok-place.place (log_row_of c.in_ok-place.row.now) c.in_ok-place.ensures.place (in_log c.self.inside.log c.in_ok-place.place (log_row_of c.in_ok-place.row.now) c.self.invariant.log_match.begins c.in_ok-place.ensures.row) (unjudged (standing_of c.in_ok-place.row.now.standing) c.in_default.ensures)
 
 pub stand-requires : goal.stand-requires
 stand-requires g c = ap is_some c.in_ok-place.ensures.row
 
 pub invariant_of-self : goal.invariant_of-self
-invariant_of-self g c = record {
-  sound = (decide_whole (parts_of c.self.inside) c.args.self.now.world (ap (λ s. s.world) c.self.view_is) c.self.invariant.sound c.args.session c.in_ok-place.place (log_row_of c.in_ok-place.row.now) c.in-Open.open.0 c.in-Open.open.1
-      c.in_ok-place.ensures.place (in_log c.self.inside.log c.in_ok-place.place (log_row_of c.in_ok-place.row.now) c.self.invariant.log_match.begins c.in_ok-place.ensures.row) (ap standing_of c.in-Open.is) c.verdict-verdict.result (c.verdict-verdict.ensures ∙ ap verdict c.case.ensures) c.stand.new.self.rows
-      (stood_in c.self.inside.log c.in_ok-place.place _ c.stand.new.self.rows c.self.invariant.log_match.begins (c.stand.ensures.rows (log_row_of c.in_ok-place.row.now) c.in_ok-place.ensures.row) ∙ ap (λ s. slice_set c.self.inside.log.rows (c.in_ok-place.place - c.self.inside.base.base.place) (record (log_row_of c.in_ok-place.row.now) { standing = s })) c.decided.ensures)).1;
-  tables_match = c.self.invariant.tables_match;
-  marks_match = c.self.invariant.marks_match;
-  log_match = record { begins = c.stand.ensures.first ∙ c.self.invariant.log_match.begins; knows = c.stand.ensures.sessions ∙ c.self.invariant.log_match.knows };
-  base_match = c.self.invariant.base_match;
-  placed = c.self.invariant.placed;
-}
+invariant_of-self g c =
+    let j = judged_open (standing_of c.in_ok-place.row.now.standing) c.in-Some.verdict c.in-Some.ensures in
+    record {
+      sound = (decide_whole (parts_of c.self.inside) c.args.self.now.world (ap (λ s. s.world) c.self.view_is) c.self.invariant.sound c.args.session c.in_ok-place.place (log_row_of c.in_ok-place.row.now) j.0 j.1
+          c.in_ok-place.ensures.place (in_log c.self.inside.log c.in_ok-place.place (log_row_of c.in_ok-place.row.now) c.self.invariant.log_match.begins c.in_ok-place.ensures.row) j.2 c.in-Some.verdict j.3 c.stand.new.self.rows
+          (stood_in c.self.inside.log c.in_ok-place.place _ c.stand.new.self.rows c.self.invariant.log_match.begins (c.stand.ensures.rows (log_row_of c.in_ok-place.row.now) c.in_ok-place.ensures.row) ∙ ap (λ s. slice_set c.self.inside.log.rows (c.in_ok-place.place - c.self.inside.base.base.place) (record (log_row_of c.in_ok-place.row.now) { standing = s })) c.decided.ensures)).1;
+      tables_match = c.self.invariant.tables_match;
+      marks_match = c.self.invariant.marks_match;
+      log_match = record { begins = c.stand.ensures.first ∙ c.self.invariant.log_match.begins; knows = c.stand.ensures.sessions ∙ c.self.invariant.log_match.knows };
+      base_match = c.self.invariant.base_match;
+      placed = c.self.invariant.placed;
+    }
 
 pub returns : goal.returns
 returns g c =
-    (decide_whole (parts_of c.self.inside) c.args.self.now.world (ap (λ s. s.world) c.self.view_is) c.self.invariant.sound c.args.session c.in_ok-place.place (log_row_of c.in_ok-place.row.now) c.in-Open.open.0 c.in-Open.open.1
-    c.in_ok-place.ensures.place (in_log c.self.inside.log c.in_ok-place.place (log_row_of c.in_ok-place.row.now) c.self.invariant.log_match.begins c.in_ok-place.ensures.row) (ap standing_of c.in-Open.is) c.verdict-verdict.result (c.verdict-verdict.ensures ∙ ap verdict c.case.ensures) c.stand.new.self.rows
+    let j = judged_open (standing_of c.in_ok-place.row.now.standing) c.in-Some.verdict c.in-Some.ensures in
+    (decide_whole (parts_of c.self.inside) c.args.self.now.world (ap (λ s. s.world) c.self.view_is) c.self.invariant.sound c.args.session c.in_ok-place.place (log_row_of c.in_ok-place.row.now) j.0 j.1
+    c.in_ok-place.ensures.place (in_log c.self.inside.log c.in_ok-place.place (log_row_of c.in_ok-place.row.now) c.self.invariant.log_match.begins c.in_ok-place.ensures.row) j.2 c.in-Some.verdict j.3 c.stand.new.self.rows
     (stood_in c.self.inside.log c.in_ok-place.place _ c.stand.new.self.rows c.self.invariant.log_match.begins (c.stand.ensures.rows (log_row_of c.in_ok-place.row.now) c.in_ok-place.ensures.row) ∙ ap (λ s. slice_set c.self.inside.log.rows (c.in_ok-place.place - c.self.inside.base.base.place) (record (log_row_of c.in_ok-place.row.now) { standing = s })) c.decided.ensures)).0
