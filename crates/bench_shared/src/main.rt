@@ -1,15 +1,18 @@
 //! Loads on what threads share, over four threads each, and the same loads on the libraries below.
 //!
 //! `bench_shared STRUCTURE MADE COUNT` loads one structure so many times and checks what came of it; the structure is `queue`, `cases` or
-//! `board`, and it is made by this project, `ours`, or by the library below it, `bare`. With no words it does a short load of each.
+//! `board`, and it is made by this project, `ours`, or by the library below it, `bare`. With no words it does a short load of each,
+//! and prints what the file of cases holds of a transfer.
 #![tactic(auto)]
 
 mod bare_words;
 mod board;
 mod cases;
+mod filing;
 mod queue;
 mod structures;
 
+use filing::Held;
 use std::alloc::Global;
 use std::io;
 use std::process::ExitCode;
@@ -74,7 +77,7 @@ fn usage<R: Runtime>(rt: &R) -> io::Result<bool> {
     Ok(false)
 }
 
-/// A short load of each structure, and of the library below it. Whether what came of each is right.
+/// A short load of each structure, and of the library below it, and what the file holds. Whether what came of each load is right.
 fn check_all<R: Runtime + Threads + Wait + Sync>(rt: &R, alloc: Global) -> io::Result<bool> {
     for structure in Structure::ALL {
         let ours = check(rt, alloc, structure, Made::Ours, SHORT)?;
@@ -83,7 +86,23 @@ fn check_all<R: Runtime + Threads + Wait + Sync>(rt: &R, alloc: Global) -> io::R
             return Ok(false);
         }
     }
-    Ok(true)
+    tell_held(rt, alloc)
+}
+
+/// Prints what the file of cases holds of a transfer.
+fn tell_held<R: Runtime + Wait>(rt: &R, alloc: Global) -> io::Result<bool> {
+    match filing::counted(rt, alloc) {
+        Ok(Held { alone, folded }) => {
+            println!(rt;
+                "a filed transfer holds {alone} bytes, and {folded} once its row is folded"
+            )?;
+            Ok(true)
+        }
+        Err(fault) => {
+            eprintln!(rt; "{fault}")?;
+            Ok(false)
+        }
+    }
 }
 
 /// Loads a structure and prints whether what came of it is right.
