@@ -2,6 +2,12 @@
 #![tactic(auto)]
 
 #[cfg(test)]
+mod ample_tests;
+#[cfg(test)]
 mod board_tests;
+#[cfg(test)]
+mod filed_stores;
+#[cfg(test)]
+mod filed_tests;
 #[cfg(test)]
 mod lane_tests;
