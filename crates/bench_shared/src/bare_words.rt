@@ -41,7 +41,7 @@ pub(crate) struct Loader {
 }
 
 impl Storer {
-    /// Stores a word, if there is such a word.
+    /// Stores a word, if there is such a word. A new seat swaps it in, by the same instruction.
     pub(crate) fn store(&mut self, place: usize, word: u64) {
         if place < self.words.word_count() {
             let (_before, seat) = self.words.shared.swap_new_seat::<Untold>(place, word);
