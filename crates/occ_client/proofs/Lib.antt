@@ -1,1 +1,4 @@
 pub mod Answering
+pub mod Committing
+pub mod Endings
+pub mod StepsFollow

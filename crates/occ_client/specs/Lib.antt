@@ -1,2 +1,5 @@
+pub mod Clients
+pub mod Ends
+pub mod Kept
 pub mod Replies
 pub mod Transactions

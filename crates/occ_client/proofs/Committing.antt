@@ -1,0 +1,72 @@
+-- A client's end of a transaction, by whether the one before it was in its write phase.
+use Rattle.std.proofs.Common.{◌≡◌, ℕ, Bool, true, false, cond, [], ◌∷◌, Option, None, Some, refl, sym, ap, subst, ◌∙◌, MatchOption}
+use Rattle.std.specs.Option.{is_some}
+use Rattle.occ_types.specs.declared.fault.Fault.{Fault}
+use Rattle.occ_types.specs.declared.fault.Fault.TheVariants as faults
+use Rattle.occ_types.specs.Schema.{fault_if, first_fault}
+use Rattle.occ_model.specs.World.{World}
+use Rattle.occ_model.specs.Event.{Enter, Close, Forget, Reply, Refused}
+use Rattle.occ_model.specs.Step.{Step}
+use Rattle.occ_sets.specs.Sets.{Copied}
+use Rattle.occ_client.specs.Clients.{Client, close_refusal, HasNext, Commits, CommitsNext, after_end, spent, IsLastEnd}
+use Rattle.occ_client.specs.Ends.{Ends, WritesOut, is_refusal}
+use Rattle.occ_client.specs.Transactions.{Abandons, Unless}
+
+-- the write phase goes on
+pub goes_on : (client : Client) (old : World) (stopped : Bool) (reply : Reply) (new : World) → client.writing ≡ true
+    → WritesOut client.session old reply new → stopped ≡ is_refusal reply → Commits client old stopped reply new
+goes_on client old stopped reply new on phase is = subst (λ (b : Bool). CommitsNext b client old stopped reply new) (sym on) (phase, is)
+
+-- the open transaction ends
+pub one_ends : (client : Client) (old : World) (stopped : Bool) (reply : Reply) (new : World) → client.writing ≡ false
+    → MatchOption client.current ((reply ≡ Refused faults.NoReadOpen) × (new ≡ old) × (stopped ≡ false)) (λ copy. Ends client.session copy old stopped reply new)
+    → Commits client old stopped reply new
+one_ends client old stopped reply new off ended = subst (λ (b : Bool). CommitsNext b client old stopped reply new) (sym off) ended
+
+-- ---- the client then
+
+none_writing : (next : ℕ) (writing : Bool) (current : Option Copied) → HasNext next writing current → writing ≡ true → current ≡ None
+none_writing next writing None has on = refl
+none_writing next writing (Some copy) has on = cc
+
+pub phase_done : (inside client : Client) → inside ≡ client → HasNext inside.next inside.writing inside.current → client.writing ≡ true
+    → record inside { writing = false } ≡ record client { current = None; writing = false }
+phase_done inside client is has on =
+    ap (λ (c : Option Copied). record inside { current = c; writing = false }) (none_writing inside.next inside.writing inside.current has (ap (λ (c : Client). c.writing) is ∙ on))
+    ∙ ap (λ (c : Client). record c { current = None; writing = false }) is
+
+pub after_phase : (client new : Client) → client.writing ≡ true → new ≡ record client { current = None; writing = false } → new ≡ after_end client
+after_phase client new on is = is ∙ sym (ap (λ (b : Bool). cond b (record client { current = None; writing = false }) (spent client)) on)
+
+pub after_one : (client new : Client) → client.writing ≡ false → new ≡ spent client → new ≡ after_end client
+after_one client new off is = is ∙ sym (ap (λ (b : Bool). cond b (record client { current = None; writing = false }) (spent client)) off)
+
+-- none is open after an end
+pub none_after : (client new : Client) → new ≡ after_end client → new.current ≡ None
+none_after client new is = ap (λ (c : Client). c.current) is ∙ go client.writing
+  where
+    go : (b : Bool) → (cond b (record client { current = None; writing = false }) (spent client)).current ≡ None
+    go true = refl
+    go false = refl
+
+pub last_end : (client : Client) (before : World) (stopped : Bool) (reply : Reply) (world : World) → Commits client before stopped reply world → IsLastEnd reply world
+last_end client before stopped reply world ends = record { before = before; client = client; stopped = stopped; ends = ends }
+
+-- ---- closing and abandoning
+
+-- nothing hinders the closing mark of a client
+pub unhindered : (inside client : Client) → inside ≡ client → (old : World) (reply : Reply) (new : World) → inside.closed ≡ false → is_some inside.current ≡ false
+    → Step old (Enter inside.session (Close inside.next)) reply new
+    → Unless (close_refusal client) old reply new (Step old (Enter client.session (Close client.next)) reply new)
+unhindered inside client is old reply new unclosed none step =
+    subst (λ (c : Client). Unless (close_refusal c) old reply new (Step old (Enter c.session (Close c.next)) reply new)) is
+    (subst (λ (f : Option Fault). Unless f old reply new (Step old (Enter inside.session (Close inside.next)) reply new)) (sym free) step)
+  where
+    free : close_refusal inside ≡ None
+    free = ap (λ b. first_fault (fault_if b faults.Closed ∷ fault_if (is_some inside.current) faults.ReadOpen ∷ [])) unclosed
+        ∙ ap (λ b. first_fault (fault_if b faults.ReadOpen ∷ [])) none
+
+-- the store was told to forget what the open transaction read
+pub told_to_forget : (old new : World) (session : ℕ) (current : Option Copied) (copy : Copied) (reply : Reply) → current ≡ Some copy
+    → Step old (Forget session copy.number) reply new → Abandons old session current reply new
+told_to_forget old new session current copy reply is step = subst (λ (current : Option Copied). Abandons old session current reply new) (sym is) step

@@ -1,0 +1,264 @@
+//! A client of one session, for a store that has one owner.
+ghost use Rattle.std.specs.Prelude.{◌≡◌, ◌⊎◌, ◌+◌, None, Some, true, false, is_some, option_map, IfOk, IfErr, OnOk, OnErr, MatchOption, MatchResult};
+ghost use Rattle.std.specs.Result.{result_err};
+ghost use Rattle.occ_types.specs.PlainData.{key_of, end_of};
+ghost use Rattle.occ_types.specs.Question.{Span};
+ghost use Rattle.occ_types.specs.declared.fault.Fault.TheVariants as faults;
+ghost use Rattle.occ_model.specs.Event.{Enter, Close, Refused as refused};
+ghost use Rattle.occ_model.specs.Step.{Step};
+ghost use Rattle.occ_client.specs.Clients.{begin_refusal, close_refusal, closing, ending, Commits, StaysOrStops, after_end, spent};
+ghost use Rattle.occ_client.specs.Ends.{Ends, WritesOut};
+ghost use Rattle.occ_client.specs.Replies.{reading, scanning, forgetting};
+ghost use Rattle.occ_client.specs.Transactions.{IsRefusedBy, Unless, begun, write_fault, written, WantsRoom, Gets, WantsOwn, Scans, WantsRange, Abandons, open_after, OrStarves};
+
+use crate::by_steps::write_out;
+use crate::ending::{End, Handed, close_session, end_request};
+use crate::kept_transactions::KeptTransaction;
+use occ_core::Core;
+use occ_sets::Write;
+use occ_types::{Fault, Key, Refused, Row};
+use std::alloc::Allocator;
+use std::marker::Model;
+
+/// A client of one session of a store. It gives its transactions their numbers, and keeps the one that is open. No other client may end
+/// transactions of its session.
+#[derive(Drop)]
+pub struct Client<A: Allocator> {
+    alloc: A,
+    session: usize,
+    next: u64,
+    closed: bool,
+    kept: KeptTransaction<A>,
+    // The last transaction was decided to commit, and single writes of it are left.
+    writing: bool,
+}
+
+impl<A: Allocator> Model for Client<A> {
+    ghost use Rattle.occ_client.specs.Clients.{Client as Plain, HasNext};
+
+    ghost Value = { Plain };
+
+    ghost view = { λ c. record { session = c.session; next = c.next; closed = c.closed; current = c.kept.current; returned = c.kept.returned; writing = c.writing } };
+
+    ghost invariant = { λ c. HasNext c.next c.writing c.kept.current };
+}
+
+impl<A: Allocator> Client<A> {
+    /// The client of a session that has done nothing yet; sessions are numbered from 1.
+    pub fn new(alloc: A, session: usize) -> Client<A>
+        ensures { result ≡ record { session = session; next = 1; closed = false; current = None; returned = false; writing = false } }
+    {
+        Client {
+            alloc,
+            session,
+            next: 1,
+            closed: false,
+            kept: KeptTransaction::none(),
+            writing: false,
+        }
+    }
+
+    /// The session.
+    pub fn session(&self) -> usize
+        ensures { result ≡ self.now.session }
+    {
+        self.session
+    }
+
+    /// Whether a transaction is open.
+    pub fn is_open(&self) -> bool
+        ensures { result ≡ is_some self.now.current }
+    {
+        self.kept.is_open()
+    }
+
+    /// Whether the last transaction was decided to commit, and single writes of it are left: `commit` goes on with them.
+    pub fn is_writing(&self) -> bool
+        ensures { result ≡ self.now.writing }
+    {
+        self.writing
+    }
+}
+
+impl<A: Allocator + Copy> Client<A> {
+    /// Opens the session's next transaction, which starts at the store's counter. Refused, the first of these that holds: with
+    /// `NoSession` where the store has no such session; with `Closed`; with `SessionBusy` where the transaction before is in its write
+    /// phase, as `commit` tells; with `ReadOpen` where one is open; and with `NumbersExhausted` where only the number of the closing mark
+    /// is left. It takes no memory.
+    pub fn begin(&mut self, store: &Core<A>) -> Result<(), Fault>
+        ensures ok { OnOk result (self.new ≡ record self.old { current = Some (begun self.old.next store.now.world.counter); returned = self.new.returned }) }
+        ensures err { OnErr result (self.new ≡ self.old) }
+        ensures fault { result_err result ≡ begin_refusal store.now.world self.old }
+    {
+        if self.session == 0 || self.session > store.sessions() {
+            return Err(Fault::NoSession);
+        }
+        if self.closed {
+            return Err(Fault::Closed);
+        }
+        if self.writing {
+            return Err(Fault::SessionBusy);
+        }
+        self.kept.begin(self.alloc, self.next, store.tnc())
+    }
+
+    /// Writes a row under a key of a table. Refused, the first of these that holds: with `NoReadOpen`; with `NoTable`, `WrongKind`,
+    /// `TooLong` or `WrongColumns` where the key or then the row doesn't fit; with `SetFull` where 256 other keys are written; and with
+    /// `Memory`. The write is handed back then, and nothing changes.
+    pub fn put(
+        &mut self,
+        store: &Core<A>,
+        table: usize,
+        key: Key<A>,
+        row: Row<A>,
+    ) -> Result<(), Refused<Write<A>>>
+        ensures ok { OnOk result (self.new ≡ record self.old { current = written self.old.current (table, key_of key) (Some row); returned = self.new.returned }) }
+        ensures err { OnErr result (self.new ≡ record self.old { returned = self.new.returned }) }
+        ensures handed_back { IfErr result (λ refused. refused.value ≡ (record { table = table; key = key }, Some row)) }
+        ensures fault { IfErr result (λ refused. (self.old.returned ≡ true) ⊎ IsRefusedBy (write_fault store.now.world.settings.schema (table, key_of key) (Some row) self.old.current) (WantsRoom (table, key_of key) self.old.current) refused.fault) }
+    {
+        self.kept.put(store.schema(), table, key, row)
+    }
+
+    /// Deletes the row under a key of a table, which is a write also where the table has no such row. Refused as `put`.
+    pub fn delete(
+        &mut self,
+        store: &Core<A>,
+        table: usize,
+        key: Key<A>,
+    ) -> Result<(), Refused<Write<A>>>
+        ensures ok { OnOk result (self.new ≡ record self.old { current = written self.old.current (table, key_of key) None; returned = self.new.returned }) }
+        ensures err { OnErr result (self.new ≡ record self.old { returned = self.new.returned }) }
+        ensures handed_back { IfErr result (λ refused. refused.value ≡ (record { table = table; key = key }, None)) }
+        ensures fault { IfErr result (λ refused. (self.old.returned ≡ true) ⊎ IsRefusedBy (write_fault store.now.world.settings.schema (table, key_of key) None self.old.current) (WantsRoom (table, key_of key) self.old.current) refused.fault) }
+    {
+        self.kept.delete(store.schema(), table, key)
+    }
+
+    /// The row under a key of a table: its own write of the key, and else what the store answers, which notes the question. Refused, the
+    /// first of these that holds: with `NoReadOpen`; with `NoTable`, `WrongKind` or `TooLong` where the key doesn't fit; with `Memory`
+    /// where there is none for a copy of an own row; and as the store refuses a read.
+    pub fn get(
+        &mut self,
+        store: &mut Core<A>,
+        table: usize,
+        key: Key<A>,
+    ) -> Result<Option<Row<A>>, Fault>
+        ensures kept { self.new ≡ record self.old { returned = self.new.returned } }
+        ensures read { OrStarves ((self.old.returned ≡ true) ⊎ WantsOwn store.old.world.settings.schema (table, key_of key) self.old.current) store.old.world (reading result) store.new.world
+            (Gets store.old.world self.old.session (table, key_of key) self.old.current (reading result) store.new.world) }
+    {
+        self.kept.get_in(store, self.session, table, key)
+    }
+
+    /// The rows of a table from the lower end on and below the upper one, in the order of their keys: what the store answers to the whole
+    /// range, which it notes, with the own writes over it. All memory that these need is taken before the store is asked. Refused as
+    /// `get`, and with `EmptyRange` where the lower end is not below the upper one.
+    pub fn scan(
+        &mut self,
+        store: &mut Core<A>,
+        table: usize,
+        lower: Option<Key<A>>,
+        upper: Option<Key<A>>,
+    ) -> Result<Vec<(Key<A>, Row<A>), A>, Fault>
+        ensures kept { self.new ≡ record self.old { returned = self.new.returned } }
+        ensures read { OrStarves ((self.old.returned ≡ true) ⊎ WantsRange store.old.world.settings.schema (Span table (end_of lower) (end_of upper)) self.old.current) store.old.world (scanning result) store.new.world
+            (Scans store.old.world self.old.session (Span table (end_of lower) (end_of upper)) self.old.current (scanning result) store.new.world) }
+    {
+        self.kept.scan_in(store, self.session, table, lower, upper)
+    }
+
+    /// The store forgets what the open transaction read, and none is open then. Its number is not spent: the next transaction takes it.
+    /// Refused with `NoReadOpen`, and as the store refuses it. It takes no memory.
+    pub fn abandon(&mut self, store: &mut Core<A>) -> Result<bool, Fault>
+        ensures step { Abandons store.old.world self.old.session self.old.current (forgetting result) store.new.world }
+        ensures left { self.new ≡ record self.old { current = open_after self.old.current (forgetting result); returned = self.new.returned } }
+    {
+        self.kept.abandon_in(store, self.session)
+    }
+
+    /// Ends the open transaction: it commits under a transaction number, with all its writes done, or is backed up for a cause. That is one
+    /// step where no transaction is active. Beside active ones it enters, is decided, and then does its single writes and finishes, or is
+    /// backed up. Its number is spent either way, and none is open then.
+    ///
+    /// Refused with `NoReadOpen`, and as the store refuses a serial end, or the entry. The transaction is open as it was then. In one case
+    /// alone it isn't: where it was decided to commit and there is no memory for one of its single writes. `is_writing` tells so; then
+    /// the next call of `commit` goes on with them, and nothing is begun before.
+    pub fn commit(&mut self, store: &mut Core<A>) -> Result<End, Fault>
+        ensures step { Commits self.old store.old.world self.new.writing (ending result) store.new.world }
+        ensures ok { OnOk result (self.new ≡ after_end self.old) }
+        ensures err { OnErr result (StaysOrStops self.old self.new) }
+    {
+        if self.writing {
+            self.go_on(store)
+        } else {
+            self.end_open(store)
+        }
+    }
+
+    // Goes on with the single writes of the last transaction.
+    fn go_on(&mut self, store: &mut Core<A>) -> Result<End, Fault>
+        requires on { self.old.writing ≡ true }
+        ensures step { WritesOut self.old.session store.old.world (ending result) store.new.world }
+        ensures ok { OnOk result (self.new ≡ record self.old { current = None; writing = false }) }
+        ensures err { OnErr result (self.new ≡ self.old) }
+    {
+        match write_out(store, self.session) {
+            Ok(tn) => {
+                self.writing = false;
+                Ok(End::Committed { tn })
+            }
+            Err(fault) => Err(fault),
+        }
+    }
+
+    // Ends the open transaction.
+    fn end_open(&mut self, store: &mut Core<A>) -> Result<End, Fault>
+        requires off { self.old.writing ≡ false }
+        ensures step { MatchOption self.old.current
+            ((ending result ≡ refused faults.NoReadOpen) × (store.new.world ≡ store.old.world) × (self.new.writing ≡ false))
+            (λ copy. Ends self.old.session copy store.old.world self.new.writing (ending result) store.new.world) }
+        ensures ok { OnOk result (self.new ≡ spent self.old) }
+        ensures err { OnErr result (StaysOrStops self.old self.new) }
+    {
+        let (number, start, writes) = self.kept.into_request()?;
+        let handed = match end_request(store, self.session, number, start, writes) {
+            Ok(handed) => handed,
+            Err(refused) => {
+                self.kept.reopen(number, start, refused.value);
+                return Err(refused.fault);
+            }
+        };
+        self.next = number + 1;
+        match handed {
+            Handed::Ended(end) => Ok(end),
+            Handed::Stopped(fault) => {
+                self.writing = true;
+                Err(fault)
+            }
+        }
+    }
+
+    /// Closes the session: its closing mark enters, and nothing is begun behind it. Refused with `Closed`, with `ReadOpen` where a
+    /// transaction is open, and as the store refuses the mark. It takes no memory.
+    pub fn close(&mut self, store: &mut Core<A>) -> Result<(), Fault>
+        ensures step { Unless (close_refusal self.old) store.old.world (closing result) store.new.world
+            (Step store.old.world (Enter self.old.session (Close self.old.next)) (closing result) store.new.world) }
+        ensures ok { OnOk result (self.new ≡ record self.old { closed = true }) }
+        ensures err { OnErr result (self.new ≡ self.old) }
+    {
+        if self.closed {
+            return Err(Fault::Closed);
+        }
+        if self.kept.is_open() {
+            return Err(Fault::ReadOpen);
+        }
+        match close_session(store, self.session, self.next) {
+            Ok(()) => {
+                self.closed = true;
+                Ok(())
+            }
+            Err(fault) => Err(fault),
+        }
+    }
+}
