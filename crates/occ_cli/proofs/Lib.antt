@@ -4,7 +4,6 @@ pub mod OtherFaults
 pub mod HandingIn
 pub mod Lists
 pub mod Replaying
-pub mod Scanning
 pub mod Schedules
 pub mod Settings
 pub mod Starving

@@ -1,11 +1,11 @@
 -- No refusal of the store or of a client is a want of memory: that comes after all of them.
-use Rattle.std.proofs.Common.{◌≡◌, ℕ, zero, suc, ◌+◌, List, [], ◌∷◌, length, Option, Some, None, Result, Ok, Err, refl, Bool, true, false, not, ◌==◌, is_some, slice_get, nat_le, nat_lt, nat_eq, ◌||◌, position, ok_or}
-use Rattle.occ_cli.proofs.Common.{list_any, Fault, Key, Question, One, Span, Row, Schema, Table, fault_if, first_fault, in_table, key_has_kind, key_is_too_long, cell_has_kind, cell_is_too_long, check_key, check_key_in, check_cells, check_row, check_row_in, check_end, is_empty_range, check_question, MAX_QUESTIONS, MAX_OPERATIONS, MAX_ANSWER_ROWS, MAX_LOG_ROWS, MAX_COUNTER, MAX_NUMBER, READ_AHEAD, Write, answer, answer_size, is_open, is_active, Operation, Get, Scan, Put, Delete, Add, World, ReadPhase, due, reads_under, active_count, has_session, has_mark, has_phase, is_held, Request, Alone, Close, Event, Read, Forget, Enter, Decide, WriteOne, Finish, BackUp, SerialEnd, RunAlone, Checkpoint, refusal, row_is_open, row_is_back, has_writes_left, wrong_start, check_writes, check_number, check_operation, check_operations, refusal_of_request, refusal_of_close, refusal_of_alone, Numbered, next, is_full, Copied, is_full_for, Client, and_then, unless, client_of, copy_of, table_named, object_named, span_named, next_number, submitted, mark_of, unfit, handed_in, check_written, write_named}
+use Rattle.std.proofs.Common.{◌≡◌, ℕ, zero, suc, ◌+◌, List, [], ◌∷◌, length, Option, Some, None, Result, Ok, Err, refl, Bool, true, false, not, ◌==◌, is_some, slice_get, nat_le, nat_lt, nat_eq, ◌||◌, ok_or}
+use Rattle.occ_cli.proofs.Common.{list_any, Fault, Key, Question, One, Span, Row, Schema, Table, fault_if, first_fault, in_table, key_has_kind, key_is_too_long, cell_has_kind, cell_is_too_long, check_key, check_key_in, check_cells, check_row, check_row_in, check_end, is_empty_range, check_question, MAX_QUESTIONS, MAX_OPERATIONS, MAX_ANSWER_ROWS, MAX_LOG_ROWS, MAX_COUNTER, MAX_NUMBER, READ_AHEAD, Write, answer, answer_size, is_open, is_active, Operation, Get, Scan, Put, Delete, Add, World, ReadPhase, due, reads_under, active_count, has_session, has_mark, has_phase, is_held, Request, Alone, Close, Event, Read, Forget, Enter, Decide, WriteOne, Finish, BackUp, SerialEnd, RunAlone, Checkpoint, refusal, row_is_open, row_is_back, has_writes_left, wrong_start, check_writes, check_number, check_operation, check_operations, refusal_of_request, refusal_of_close, refusal_of_alone, Numbered, next, is_full, Copied, is_full_for, Client, and_then, unless, client_of, copy_of, next_number, submitted, mark_of, unfit, handed_in, begin_fault, check_written, write_fault, written}
+use Rattle.occ_types.specs.Object.{Object}
 use Rattle.std.specs.FinMap as finite
 use Rattle.occ_types.specs.declared.fault.Fault.TheVariants as faults
 use Rattle.occ_types.specs.declared.kind.Kind.{Kind}
 use Rattle.occ_types.specs.declared.kind.Kind.TheVariants as cells
-use Rattle.occ_types.specs.Fits.{has_name}
 use Rattle.occ_model.specs.Refusal as refusals
 use Rattle.occ_queue.specs.Numbering as queues
 
@@ -48,7 +48,7 @@ by_table schema place check each = go (slice_get schema place)
 by_key_in : (table : Table) (key : Key) → is_want (check_key_in table key) ≡ false
 by_key_in table key = guard (not (key_has_kind table.key key)) faults.WrongKind _ refl (guard (key_is_too_long key) faults.TooLong [] refl refl)
 
-by_key : (schema : Schema) (place : ℕ) (key : Key) → is_want (check_key schema place key) ≡ false
+pub by_key : (schema : Schema) (place : ℕ) (key : Key) → is_want (check_key schema place key) ≡ false
 by_key schema place key = by_table schema place (λ table. check_key_in table key) (λ table. by_key_in table key)
 
 by_cells : (kinds : List Kind) (row : Row) → is_want (check_cells kinds row) ≡ false
@@ -69,7 +69,7 @@ by_end : (table : Table) (end : Option Key) → is_want (check_end table end) �
 by_end table None = refl
 by_end table (Some end) = by_key_in table end
 
-by_question : (schema : Schema) (question : Question) → is_want (check_question schema question) ≡ false
+pub by_question : (schema : Schema) (question : Question) → is_want (check_question schema question) ≡ false
 by_question schema (One place key) = by_key schema place key
 by_question schema (Span place lower upper) =
     by_table schema place (λ table. first_fault (check_end table lower ∷ check_end table upper ∷ fault_if (is_empty_range lower upper) faults.EmptyRange ∷ []))
@@ -220,21 +220,12 @@ client_other clients (suc place) = by_some (slice_get clients place) faults.NoSe
 pub copy_other : (client : Client) → wants (copy_of client) ≡ false
 copy_other client = by_some client.copy faults.NoReadOpen refl
 
-table_other : (schema : Schema) (name : List ℕ) → wants (table_named schema name) ≡ false
-table_other schema name = by_some (position (has_name name) schema) faults.NoTable refl
-
-pub object_other : (schema : Schema) (name : List ℕ) (key : Key) → wants (object_named schema name key) ≡ false
-object_other schema name key = by_both (table_named schema name) _ (table_other schema name) (λ place. by_unless (check_key schema place key) (place, key) (by_key schema place key))
-
-pub span_other : (schema : Schema) (name : List ℕ) (lower upper : Option Key) → wants (span_named schema name lower upper) ≡ false
-span_other schema name lower upper = by_both (table_named schema name) _ (table_other schema name)
-    (λ place. by_unless (check_question schema (Span place lower upper)) (Span place lower upper) (by_question schema (Span place lower upper)))
-
 pub number_other : (client : Client) → wants (next_number client) ≡ false
 number_other client = by_unless _ (next client.queue)
     (guard client.queue.closed faults.Closed _ refl
-    (guard (is_some client.copy) faults.ReadOpen _ refl
-    (guard (nat_le MAX_NUMBER (next client.queue)) faults.NumbersExhausted [] refl refl)))
+    (first (begin_fault client.copy (next client.queue)) []
+    (guard (is_some client.copy) faults.ReadOpen _ refl (guard (nat_le MAX_NUMBER (next client.queue)) faults.NumbersExhausted [] refl refl))
+    refl))
 
 -- of its queue
 by_queue : (queue : Numbered) (number : ℕ) → is_want (queues.refusal_of_request queue number) ≡ false
@@ -264,6 +255,12 @@ handed_in_other schema list client = by_both (unless (unfit schema list client) 
     (first (check_operations schema list) [] (by_operations schema list) refl))))))
     (λ c. by_unless _ (next c.queue) (by_test (is_full c.queue) faults.QueueFull refl))
 
-pub write_other : (schema : Schema) (name : List ℕ) (key : Key) (row : Option Row) (copy : Copied) → wants (write_named schema name key row copy) ≡ false
-write_other schema name key row copy = by_both (object_named schema name key) _ (object_other schema name key)
-    (λ object. by_unless _ (object, row) (first (check_written schema object.0 row) _ (by_written schema object.0 row) (guard (is_full_for copy.writes object) faults.SetFull [] refl refl)))
+by_write : (schema : Schema) (object : Object) (row : Option Row) (copy : Option Copied) → is_want (write_fault schema object row copy) ≡ false
+by_write schema object row None = refl
+by_write schema object row (Some copy) =
+    first (check_key schema object.0 object.1) _ (by_key schema object.0 object.1)
+    (first (check_written schema object.0 row) _ (by_written schema object.0 row)
+    (guard (is_full_for copy.writes object) faults.SetFull [] refl refl))
+
+pub write_other : (schema : Schema) (object : Object) (row : Option Row) (client : Client) → wants (unless (write_fault schema object row client.copy) (written client.copy object row)) ≡ false
+write_other schema object row client = by_unless _ (written client.copy object row) (by_write schema object row client.copy)

@@ -1,7 +1,7 @@
 -- Exits and calls of a replay, over plain data.
 use Rattle.std.proofs.Common.{IsErrAnd, ◌≡◌, ℕ, zero, suc, ◌-◌, ◌<◌, ◌⊎◌, List, length, get_or, Option, Some, Result, Ok, Err, refl, sym, ap, subst, ◌∙◌, inl, inr, arith, ◌≢◌, slice_get, slice_set, MatchOption, MatchResult, IsOkAnd, IfOk, OnErr, ok_or}
 use Rattle.std.proofs.lemmas.Option.{slice_get_past, slice_get_read}
-use Rattle.occ_cli.proofs.Common.{err_from_is_err_and, set-get_or, Key, Fault, World, Event, Item, Reply, Step, item_of, Question, Copied, Played, PlayedIn, PutOff, Starved, CopyWantsScan, Plays, Abandons, next_item, still_waiting, kept_after, open_after, Client, Replayed, Given, client_of, span_named, Tells, ScansIn, ByStore, ByClient, ByBoth, ByAsking, Enters, overlaid, replied, played}
+use Rattle.occ_cli.proofs.Common.{err_from_is_err_and, set-get_or, Fault, World, Event, Item, Reply, Step, item_of, Played, PlayedIn, PutOff, Starved, Plays, next_item, still_waiting, kept_after, Client, Replayed, Given, client_of, ByStore, ByClient, ByBoth, ByAsking, Enters, played}
 use Rattle.occ_types.specs.declared.fault.Refused as code_refused
 use Rattle.occ_types.specs.declared.fault.Fault.TheVariants as faults
 use Rattle.occ_model.specs.Event as events
@@ -13,51 +13,12 @@ use Rattle.occ_core.specs.Core.{Seen}
 use Rattle.occ_core.specs.Runs.{Answers, IsPutOff, event_of, reply_of, handed_back, owed}
 use Rattle.occ_queue.specs.declared.items.Item as code_item
 use Rattle.occ_text.specs.Steps as steps
-use Rattle.occ_sets.specs.declared.reads.Answer as code_seen
 use Rattle.occ_cli.specs.declared.answers.Answer as code_answer
 use Rattle.occ_cli.specs.declared.answers.Answer.TheVariants as answers
 use Rattle.occ_cli.specs.Answers.{Answer, answer_of}
 use Rattle.occ_cli.specs.Answers as says
 use Rattle.occ_cli.proofs.Starving.{plays_starved}
 use Rattle.occ_cli.proofs.StoreSteps.{refused_stays}
-
--- the store answered what was asked
-pub ask_answered : (old : World) (session n m number start : ℕ) (asked question : Question) (reply : Reply) (new : World)
-    → n ≡ number → m ≡ start → question ≡ asked → Step old (events.Read session n m asked) reply new → Step old (events.Read session number start question) reply new
-ask_answered old session n m number start asked question reply new is_number is_start is_question step =
-    let event : events.Read session n m asked ≡ events.Read session number start question = cc in
-    subst (λ (x : Event). Step old x reply new) event step
-
-module _ {Z : Type 0} where
-  -- the store refused a question
-  pub ask_refused : (old : World) (session n m number start : ℕ) (asked question : Question) (new : World) (r : Result (code_seen.Answer Z) Fault) (e f : Fault)
-      → n ≡ number → m ≡ start → question ≡ asked → r ≡ Err e → e ≡ f → Step old (events.Read session n m asked) (events.Refused f) new → Step old (events.Read session number start question) (replied r) new
-  ask_refused old session n m number start asked question new r e f is_number is_start is_question is same step =
-      let event : events.Read session n m asked ≡ events.Read session number start question = cc in
-      subst (λ (x : Result (code_seen.Answer Z) Fault). Step old (events.Read session number start question) (replied x) new) (sym (is ∙ ap Err same))
-      (subst (λ (x : Event). Step old x (events.Refused f) new) event step)
-
-  -- the store refused an event
-  pub tells_refused : (old : World) (event : Event) (new : World) (r : Result (code_answer.Answer Z) Fault) (e f : Fault) → r ≡ Err e → e ≡ f → Step old event (events.Refused f) new → Tells old event (played r) new
-  tells_refused old event new r e f is same step =
-      subst (λ (x : Result (code_answer.Answer Z) Fault). Tells old event (played x) new) (sym (is ∙ ap Err same)) (events.Refused f, step, refl)
-
-  -- the store refused a key
-  pub read_refused : (old : World) (session n m number start : ℕ) (question : Question) (new : World) (r : Result (code_answer.Answer Z) Fault) (e f : Fault)
-      → n ≡ number → m ≡ start → r ≡ Err e → e ≡ f → Step old (events.Read session n m question) (events.Refused f) new → Tells old (events.Read session number start question) (played r) new
-  read_refused old session n m number start question new r e f is_number is_start is same step =
-      let event : events.Read session n m question ≡ events.Read session number start question = cc in
-      tells_refused old (events.Read session number start question) new r e f is same (subst (λ (x : Event). Step old x (events.Refused f) new) event step)
-
-  -- the store refused a range
-  pub scan_refused : (old : World) (session : ℕ) (name : List ℕ) (lower upper : Option Key) (copy : Copied) (question : Question) (new : World) (r : Result (code_answer.Answer Z) Fault) (e f : Fault)
-      → Ok question ≡ span_named old.settings.schema name lower upper → r ≡ Err e → e ≡ f → Step old (events.Read session copy.number copy.start question) (events.Refused f) new
-      → PlayedIn old new r (CopyWantsScan old name lower upper) (λ answer. ScansIn old session name lower upper copy answer new)
-  scan_refused old session name lower upper copy question new r e f asked is same step =
-      subst (λ (x : Result (code_answer.Answer Z) Fault). PlayedIn old new x (CopyWantsScan old name lower upper) (λ answer. ScansIn old session name lower upper copy answer new)) (sym (is ∙ ap Err same))
-      (inr (subst
-      (λ (g : Result Question Fault). Given g old (says.refused f) new (λ q. (reply : Reply) × Step old (events.Read session copy.number copy.start q) reply new × (says.refused f ≡ says.Replied (overlaid q copy.writes reply))))
-      asked (events.Refused f, step, refl)))
 
 module _ {Z : Type 0} where
   -- a step was refused for want of memory
@@ -134,15 +95,6 @@ module _ {Z : Type 0} where
 pub never_off : {M P : Type 0} → (M × ⊥) ⊎ P → P
 never_off (inl off) = absurd off.1
 never_off (inr so) = so
-
--- the store refused to forget what a transaction read, which stays open
-pub abandon_refused : (old : World) (session : ℕ) (client : Client) (copy : Copied) (fault : Fault) (new : World) → client.copy ≡ Some copy → Step old (events.Forget session copy.number) (events.Refused fault) new
-    → Abandons old session client (says.refused fault) client new
-abandon_refused old session client copy fault new is step =
-    subst
-    (λ (o : Option Copied). MatchOption o ((says.refused fault ≡ says.refused faults.NoReadOpen) × (client ≡ client) × (new ≡ old))
-    (λ c. (reply : Reply) × Step old (events.Forget session c.number) reply new × (says.refused fault ≡ says.Replied reply) × (client ≡ record client { copy = open_after c reply })))
-    (sym is) (events.Refused fault, step, refl, ap (λ (o : Option Copied). record client { copy = o }) is)
 
 -- a session that doesn't exist has no client
 pub no_client : (clients : List Client) (session : ℕ) → (session ≡ 0) ⊎ ((session ≡ 0 → ⊥) × (length clients < session)) → client_of clients session ≡ Err faults.NoSession

@@ -1,6 +1,6 @@
 -- No step of a store changes how it was opened.
 use Rattle.std.proofs.Common.{◌≡◌, ℕ, ◌+◌, List, [], ◌∷◌, Option, Some, None, refl, ap, ◌∙◌, inl, inr, MatchOption, slice_get}
-use Rattle.occ_cli.proofs.Common.{Write, put, Writing, World, turn, Request, Event, Enter, Decide, WriteOne, Finish, BackUp, SerialEnd, Reply, Wrote, NoMore, Step, Taken, EndsSerially, starved, taken, validity_of, Replayed, AtMostOneStep, Plays, Turn, PlaysAll}
+use Rattle.occ_cli.proofs.Common.{Write, put, Writing, World, turn, Request, Event, Enter, Decide, WriteOne, Finish, SerialEnd, Reply, Wrote, NoMore, Step, Taken, EndsSerially, starved, taken, validity_of, Replayed, AtMostOneStep, Plays, Turn, PlaysAll}
 use Rattle.occ_model.specs.Step.{refused}
 use Rattle.occ_model.specs.declared.verdict.Verdict.{Verdict}
 use Rattle.occ_model.specs.declared.verdict.Verdict.TheVariants as verdicts

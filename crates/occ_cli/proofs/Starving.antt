@@ -1,6 +1,9 @@
 -- A step that is played as a want of memory is one that may want it.
-use Rattle.std.proofs.Common.{◌≡◌, ℕ, List, Option, Some, None, Result, Ok, Err, refl, sym, ap, subst, ◌∙◌, arith, Bool, true, false, is_some, IsSomeAnd, IsOk, IsOkAnd, nat_lt, length, slice_set, ◌-◌, MatchOption, [], ◌∷◌}
-use Rattle.occ_cli.proofs.Common.{lt-ltb, Key, One, Row, Schema, Fault, LogRow, rest, own, Write, World, latest, Event, Item, Reply, Operation, takes_memory, puts_next, has_writes_left, Step, starved, taken, Copied, Replayed, Client, Given, Wants, WantsGet, CopyWantsGet, WantsScan, Starved, Plays, ByBoth, Enters, StarvesItem, HandsIn, handed_in, operations_named, Begins, Submits, Closes, Writes, Gets, Scans, Tells, next_item, still_waiting, kept_after, client_of, copy_of, open_after, object_named, place_named, span_named, next_number, submitted, mark_of, write_named}
+use Rattle.std.proofs.Common.{◌≡◌, ℕ, List, Option, Some, None, Result, Ok, Err, refl, sym, ap, subst, ◌∙◌, arith, Bool, true, false, is_some, IsSomeAnd, IsOkAnd, nat_lt, length, slice_set, ◌-◌, MatchOption, [], ◌∷◌}
+use Rattle.occ_cli.proofs.Common.{lt-ltb, Question, One, Row, Schema, Fault, LogRow, rest, own, Write, World, latest, Event, Item, Reply, Operation, takes_memory, puts_next, has_writes_left, Step, starved, taken, Copied, Replayed, Client, Given, Wants, WantsGet, CopyWantsGet, WantsScan, Starved, Plays, ByBoth, Enters, StarvesItem, HandsIn, handed_in, operations_named, Abandons, Begins, Submits, Closes, Writes, Gets, Scans, Tells, next_item, still_waiting, kept_after, client_of, object_named, place_named, span_named, next_number, submitted, mark_of, check_key, check_question, unless, write_fault, written}
+use Rattle.occ_types.specs.Object.{Object}
+use Rattle.occ_client.specs.Transactions.{Unless}
+use Rattle.occ_client.specs.Transactions as transactions
 use Rattle.occ_types.specs.declared.fault.Fault.TheVariants as faults
 use Rattle.occ_model.specs.State as states
 use Rattle.occ_model.specs.Event as events
@@ -10,7 +13,7 @@ use Rattle.occ_text.specs.Steps as steps
 use Rattle.occ_text.specs.declared.steps.Act.TheVariants as acts
 use Rattle.occ_cli.specs.Answers.{Answer}
 use Rattle.occ_cli.specs.Answers as says
-use Rattle.occ_cli.proofs.OtherFaults.{is_want, wants, refusal_other, client_other, copy_other, object_other, span_other, number_other, submitted_other, mark_other, write_other, handed_in_other}
+use Rattle.occ_cli.proofs.OtherFaults.{is_want, wants, by_key, by_question, refusal_other, client_other, number_other, submitted_other, mark_other, write_other, handed_in_other}
 
 -- the answer that tells of it
 abbrev hungry : Answer
@@ -49,10 +52,6 @@ module _ {X : Type 0} where
   out_of (Ok x) P so is = so x is
   out_of (Err fault) P so is = absurd is
 
-  is_there : (r : Result X Fault) (P : X → Type 0) → IsOkAnd r P → IsOk r
-  is_there (Ok x) P is = refl
-  is_there (Err fault) P is = absurd is
-
 -- nothing changed where neither the store nor the clients did
 unchanged : (old new : Replayed) → new.world ≡ old.world → new.clients ≡ old.clients → new ≡ old
 unchanged old new world clients = λ i. record { world = world i; clients = clients i }
@@ -71,11 +70,10 @@ no_close old new closes = out_of (mark_of old) _ (λ number said. let is = said.
 no_list : (schema : Schema) (list : List Operation) (old new : Client) → HandsIn schema list old hungry new → ⊥
 no_list schema list old new hands = out_of (handed_in schema list old) _ (λ number said. let is = said.0 in cc is) (met (handed_in schema list old) old new _ (handed_in_other schema list old) hands)
 
-no_write : (schema : Schema) (name : List ℕ) (key : Key) (row : Option Row) (old new : Client) → Writes schema name key row old hungry new → ⊥
-no_write schema name key row old new writes = out_of (copy_of old) _
-    (λ copy m. out_of (write_named schema name key row copy) _ (λ write said. let is = said.0 in cc is)
-    (met (write_named schema name key row copy) copy m.0 _ (write_other schema name key row copy) m.1))
-    (met (copy_of old) old new _ (copy_other old) writes)
+no_write : (schema : Schema) (object : Object) (row : Option Row) (old new : Client) → Writes schema object row old hungry new → ⊥
+no_write schema object row old new writes =
+    let write : Result (Option Copied) Fault = unless (write_fault schema object row old.copy) (written old.copy object row) in
+    out_of write _ (λ next said. let is = said.0 in cc is) (met write old new _ (write_other schema object row old) writes)
 
 -- of the store
 
@@ -97,22 +95,44 @@ starves_both asks old session new same h = and_so (client_of old.clients session
     (λ client m. (m.0, (starves_item asks old.world new.world client m.0 (next_item client) m.1).0, λ i. record { world = same i; clients = m.2 i }))
     (met (client_of old.clients session) old new _ (client_other old.clients session) h)
 
-wants_get : (old new : World) (session : ℕ) (name : List ℕ) (key : Key) (client : Client) → Gets old session name key client hungry new → WantsGet old session name key client
-wants_get old new session name key client gets = and_so (copy_of client) _ (CopyWantsGet old session name key)
-    (λ copy g. and_so (object_named old.settings.schema name key) _ _ (λ object m. own_row copy (events.Read session copy.number copy.start (One object.0 object.1)) (own copy.writes object) m)
-    (met (object_named old.settings.schema name key) old new _ (object_other old.settings.schema name key) g))
-    (met (copy_of client) old new _ (copy_other client) gets)
-  where
-    own_row : (copy : Copied) (event : Event) (row : Option (Option Row))
-        → MatchOption row (Tells old event hungry new) (λ r. (hungry ≡ says.Replied (events.Answered (states.Found r))) × (new ≡ old))
-        → MatchOption row (Wants old event) (λ r. is_some r ≡ true)
-    own_row copy event None m = (starved_told old new event m).0
-    own_row copy event (Some r) m = let is = m.0 in cc is
+-- a reply that tells of it
+reply_of_want : (reply : Reply) → hungry ≡ says.Replied reply → reply ≡ events.Refused faults.Memory
+reply_of_want reply told = cc
 
-wants_scan : (old new : World) (session : ℕ) (name : List ℕ) (lower upper : Option Key) (client : Client) → Scans old session name lower upper client hungry new → WantsScan old name lower upper client
-wants_scan old new session name lower upper client scans = and_so (copy_of client) _ _
-    (λ copy g. is_there (span_named old.settings.schema name lower upper) _ (met (span_named old.settings.schema name lower upper) old new _ (span_other old.settings.schema name lower upper) g))
-    (met (copy_of client) old new _ (copy_other client) scans)
+-- what isn't refused for it goes on
+fed : (fault : Option Fault) (old new : World) (reply : Reply) (Goes : Type 0) → is_want fault ≡ false → reply ≡ events.Refused faults.Memory → Unless fault old reply new Goes → (fault ≡ None) × Goes
+fed None old new reply Goes other is goes = (refl, goes)
+fed (Some fault) old new reply Goes other is goes =
+    let said = goes.0 in
+    let fault_is : fault ≡ faults.Memory = cc in
+    let want : is_want (Some fault) ≡ true = ap (λ f. is_want (Some f)) fault_is in
+    cc
+
+wants_get : (old new : World) (session : ℕ) (object : Object) (client : Client) → Gets old session object client hungry new → WantsGet old session object client
+wants_get old new session object client gets = go client.copy gets.1
+  where
+    starving : gets.0 ≡ events.Refused faults.Memory
+    starving = reply_of_want gets.0 gets.2
+
+    own_row : (event : Event) (row : Option (Option Row)) → MatchOption row (Step old event gets.0 new) (λ r. (gets.0 ≡ events.Answered (states.Found r)) × (new ≡ old)) → MatchOption row (Wants old event) (λ r. is_some r ≡ true)
+    own_row event None m = (starved_store old new event gets.0 m starving).0
+    own_row event (Some r) m = let is = m.0 in let want = starving in cc
+
+    go : (copy : Option Copied) → transactions.Gets old session object copy gets.0 new → IsSomeAnd copy (CopyWantsGet old session object)
+    go None g = let is = g.0 in let want = starving in cc
+    go (Some copy) g =
+        let f = fed (check_key old.settings.schema object.0 object.1) old new gets.0 _ (by_key old.settings.schema object.0 object.1) starving g in
+        (f.0, own_row (events.Read session copy.number copy.start (One object.0 object.1)) (own copy.writes object) f.1)
+
+wants_scan : (old new : World) (session : ℕ) (question : Question) (client : Client) → Scans old session question client hungry new → WantsScan old question client
+wants_scan old new session question client scans = go client.copy scans.1
+  where
+    starving : scans.0 ≡ events.Refused faults.Memory
+    starving = reply_of_want scans.0 scans.2
+
+    go : (copy : Option Copied) → transactions.Scans old session question copy scans.0 new → IsSomeAnd copy (λ c. check_question old.settings.schema question ≡ None)
+    go None g = let is = g.0 in let want = starving in cc
+    go (Some copy) g = (fed (check_question old.settings.schema question) old new scans.0 _ (by_question old.settings.schema question) starving g).0
 
 -- a write that would put a row is left
 put_left : (world : World) (session : ℕ) → puts_next world session ≡ true → has_writes_left world session ≡ true
@@ -131,17 +151,17 @@ put_left world session puts = go (latest session world.log) puts
 never : (old new : World) (event : Event) → takes_memory old event ≡ false → Tells old event hungry new → ⊥
 never old new event takes tells = let wants_it = (starved_told old new event tells).0.1 in cc
 
-no_abandon : (old new : World) (session : ℕ) (client next : Client) (copy : Option Copied)
-    → MatchOption copy ((hungry ≡ says.refused faults.NoReadOpen) × (next ≡ client) × (new ≡ old))
-    (λ c. (reply : Reply) × Step old (events.Forget session c.number) reply new × (hungry ≡ says.Replied reply) × (next ≡ record client { copy = open_after c reply }))
-    → ⊥
-no_abandon old new session client next None h = let is = h.0 in cc is
-no_abandon old new session client next (Some c) h = never old new (events.Forget session c.number) refl (h.0, h.1, h.2)
+no_abandon : (old new : World) (session : ℕ) (client next : Client) → Abandons old session client hungry next new → ⊥
+no_abandon old new session client next h = go client.copy h.1.0
+  where
+    go : (copy : Option Copied) → transactions.Abandons old session copy h.0 new → ⊥
+    go None g = let is = g.0 in let want = reply_of_want h.0 h.2 in cc
+    go (Some c) g = never old new (events.Forget session c.number) refl (h.0, g, h.2)
 
 -- whatever is played so is a step that may want memory
 pub plays_starved : (old : Replayed) (step : steps.Step) (new : Replayed) → new.world ≡ old.world → Plays old step (says.refused faults.Memory) new → Starved old step new
 plays_starved old (steps.Does acts.Begin session) new same h = out_of (client_of old.clients session) _ (λ client m. no_begin old.world.counter client m.0 m.1) (met (client_of old.clients session) old new _ (client_other old.clients session) h)
-plays_starved old (steps.Does acts.Abandon session) new same h = out_of (client_of old.clients session) _ (λ client m. no_abandon old.world new.world session client m.0 client.copy m.1) (met (client_of old.clients session) old new _ (client_other old.clients session) h)
+plays_starved old (steps.Does acts.Abandon session) new same h = out_of (client_of old.clients session) _ (λ client m. no_abandon old.world new.world session client m.0 m.1) (met (client_of old.clients session) old new _ (client_other old.clients session) h)
 plays_starved old (steps.Does acts.Submit session) new same h = out_of (client_of old.clients session) _ (λ client m. no_submit client m.0 m.1) (met (client_of old.clients session) old new _ (client_other old.clients session) h)
 plays_starved old (steps.Does acts.Close session) new same h = out_of (client_of old.clients session) _ (λ client m. no_close client m.0 m.1) (met (client_of old.clients session) old new _ (client_other old.clients session) h)
 plays_starved old (steps.Does acts.Enter session) new same h = starves_both (events.Enter session) old session new same h
@@ -154,12 +174,12 @@ plays_starved old (steps.Does acts.Finish session) new same h = never old.world 
 plays_starved old (steps.Does acts.BackUp session) new same h = never old.world new.world (events.BackUp session) refl h.0
 plays_starved old (steps.Get session name key) new same h =
     let asks = met (client_of old.clients session) old new _ (client_other old.clients session) h in
-    (and_so (client_of old.clients session) _ _ (λ client m. wants_get old.world new.world session name key client m.0) asks, unchanged old new same (out_of (client_of old.clients session) _ (λ client m. m.1) asks))
+    (and_so (client_of old.clients session) _ _ (λ client m. wants_get old.world new.world session (object_named old.world.settings.schema name key) client m.0) asks, unchanged old new same (out_of (client_of old.clients session) _ (λ client m. m.1) asks))
 plays_starved old (steps.Scan session name lower upper) new same h =
     let asks = met (client_of old.clients session) old new _ (client_other old.clients session) h in
-    (and_so (client_of old.clients session) _ _ (λ client m. wants_scan old.world new.world session name lower upper client m.0) asks, unchanged old new same (out_of (client_of old.clients session) _ (λ client m. m.1) asks))
-plays_starved old (steps.Put session name key row) new same h = absurd (out_of (client_of old.clients session) _ (λ client m. no_write old.world.settings.schema name key (Some row) client m.0 m.1) (met (client_of old.clients session) old new _ (client_other old.clients session) h))
-plays_starved old (steps.Delete session name key) new same h = absurd (out_of (client_of old.clients session) _ (λ client m. no_write old.world.settings.schema name key None client m.0 m.1) (met (client_of old.clients session) old new _ (client_other old.clients session) h))
+    (and_so (client_of old.clients session) _ _ (λ client m. wants_scan old.world new.world session (span_named old.world.settings.schema name lower upper) client m.0) asks, unchanged old new same (out_of (client_of old.clients session) _ (λ client m. m.1) asks))
+plays_starved old (steps.Put session name key row) new same h = absurd (out_of (client_of old.clients session) _ (λ client m. no_write old.world.settings.schema (object_named old.world.settings.schema name key) (Some row) client m.0 m.1) (met (client_of old.clients session) old new _ (client_other old.clients session) h))
+plays_starved old (steps.Delete session name key) new same h = absurd (out_of (client_of old.clients session) _ (λ client m. no_write old.world.settings.schema (object_named old.world.settings.schema name key) None client m.0 m.1) (met (client_of old.clients session) old new _ (client_other old.clients session) h))
 plays_starved old (steps.Forge session number start) new same h =
     ((starved_told old.world new.world (events.Enter session (events.Request number start [])) h.0).0, unchanged old new same h.1)
 plays_starved old (steps.RawRead session number start name key) new same h =

@@ -1,13 +1,14 @@
 -- What a step of a replay does to the store: nothing, or one step of it.
-use Rattle.std.proofs.Common.{◌≡◌, ℕ, ◌-◌, List, [], Option, Some, None, Result, Ok, Err, refl, ap, subst, inl, inr, slice_set, MatchOption}
-use Rattle.occ_cli.proofs.Common.{Key, Fault, Write, Event, Item, Reply, Step, Question, One, Row, own, Copied, AtMostOneStep, Plays, Begins, Abandons, Submits, Closes, HandsIn, operations_named, Writes, Gets, GetsIn, Scans, next_item, still_waiting, kept_after, copy_of, open_after, object_named, place_named, Client, Replayed, Given, client_of, span_named, Tells, ScansIn, ByClient, ByBoth, ByAsking, Enters, overlaid}
-use Rattle.occ_types.specs.declared.fault.Fault.TheVariants as faults
+use Rattle.std.proofs.Common.{◌≡◌, ℕ, ◌-◌, List, [], Option, Some, None, Result, Ok, Err, refl, sym, ◌∙◌, ap, subst, inl, inr, slice_set, MatchOption}
+use Rattle.occ_cli.proofs.Common.{Fault, Write, Event, Item, Reply, Step, Question, One, Row, own, Copied, AtMostOneStep, Plays, Begins, Abandons, Submits, Closes, HandsIn, operations_named, Writes, Gets, Scans, next_item, still_waiting, kept_after, object_named, place_named, Client, Replayed, Given, client_of, span_named, Tells, ByClient, ByBoth, ByAsking, Enters, check_key, check_question, overlaid}
+use Rattle.occ_types.specs.Object.{Object}
+use Rattle.occ_client.specs.Transactions.{Unless}
+use Rattle.occ_client.specs.Transactions as transactions
 use Rattle.occ_model.specs.State as states
 use Rattle.occ_model.specs.Event as events
 use Rattle.occ_model.proofs.Headlines.{refusals_leave}
 use Rattle.occ_text.specs.Steps as steps
 use Rattle.occ_text.specs.declared.steps.Act.TheVariants as acts
-use Rattle.occ_cli.specs.declared.answers.Answer.TheVariants as answers
 use Rattle.occ_cli.specs.Answers.{Answer}
 use Rattle.occ_cli.specs.Answers as says
 
@@ -32,26 +33,29 @@ module _ {C : Type 0} (old new : Replayed) (answer : Answer) (stays : new.world 
   tells_by : (event : Event) → Tells old.world event answer new.world → C
   tells_by event h = does event h.0 h.1 (told_said h.0 answer h.2)
 
-  own_by : (event : Event) (row : Option (Option Row)) → MatchOption row (Tells old.world event answer new.world) (λ r. (answer ≡ says.Replied (events.Answered (states.Found r))) × (new.world ≡ old.world)) → C
-  own_by event None h = tells_by event h
-  own_by event (Some row) h = stays h.1
+  -- the same of what the open transaction is replied
+  module _ (reply : Reply) (told : answer ≡ says.Replied reply) where
+    unless_by : (fault : Option Fault) (Goes : Type 0) → (Goes → C) → Unless fault old.world reply new.world Goes → C
+    unless_by None Goes by h = by h
+    unless_by (Some fault) Goes by h = stays h.1
 
-  gets_by : (session : ℕ) (name : List ℕ) (key : Key) (client : Client) → Gets old.world session name key client answer new.world → C
-  gets_by session name key client h =
-      given_by (copy_of client) old.world new.world (λ copy. GetsIn old.world session name key copy answer new.world) (λ same. same)
-      (λ copy g. given_by (object_named old.world.settings.schema name key) old.world new.world
-      (λ object. MatchOption (own copy.writes object) (Tells old.world (events.Read session copy.number copy.start (One object.0 object.1)) answer new.world) (λ row. (answer ≡ says.Replied (events.Answered (states.Found row))) × (new.world ≡ old.world))) (λ same. same)
-      (λ object m. own_by (events.Read session copy.number copy.start (One object.0 object.1)) (own copy.writes object) m) g)
-      h
+    own_by : (event : Event) (row : Option (Option Row)) → MatchOption row (Step old.world event reply new.world) (λ r. (reply ≡ events.Answered (states.Found r)) × (new.world ≡ old.world)) → C
+    own_by event None h = does event reply h (told_said reply answer told)
+    own_by event (Some row) h = stays h.1
 
-  scans_by : (session : ℕ) (name : List ℕ) (lower upper : Option Key) (client : Client) → Scans old.world session name lower upper client answer new.world → C
-  scans_by session name lower upper client h =
-      given_by (copy_of client) old.world new.world (λ copy. ScansIn old.world session name lower upper copy answer new.world) (λ same. same)
-      (λ copy g. given_by (span_named old.world.settings.schema name lower upper) old.world new.world
-      (λ question. (reply : Reply) × Step old.world (events.Read session copy.number copy.start question) reply new.world × (answer ≡ says.Replied (overlaid question copy.writes reply))) (λ same. same)
-      (λ question m. does (events.Read session copy.number copy.start question) m.0 m.1
-      (λ fault is. overlaid_refused question copy.writes m.0 fault (told_said (overlaid question copy.writes m.0) answer m.2 fault is))) g)
-      h
+    got_by : (session : ℕ) (object : Object) (copy : Option Copied) → transactions.Gets old.world session object copy reply new.world → C
+    got_by session object None h = stays h.1
+    got_by session object (Some copy) h =
+        unless_by (check_key old.world.settings.schema object.0 object.1) _ (own_by (events.Read session copy.number copy.start (One object.0 object.1)) (own copy.writes object)) h
+
+    scanned_by : (session : ℕ) (question : Question) (copy : Option Copied) → transactions.Scans old.world session question copy reply new.world → C
+    scanned_by session question None h = stays h.1
+    scanned_by session question (Some copy) h = unless_by (check_question old.world.settings.schema question) _
+        (λ m. does (events.Read session copy.number copy.start question) m.0 m.1 (λ fault is. overlaid_refused question copy.writes m.0 fault (sym m.2 ∙ told_said reply answer told fault is))) h
+
+    abandoned_by : (session : ℕ) (copy : Option Copied) → transactions.Abandons old.world session copy reply new.world → C
+    abandoned_by session None h = stays h.1
+    abandoned_by session (Some copy) h = does (events.Forget session copy.number) reply h (told_said reply answer told)
 
   item_by : (asks : Item → Event) (client next : Client) (item : Option Item)
       → MatchOption item ((answer ≡ says.Empty) × (next ≡ client) × (new.world ≡ old.world))
@@ -59,13 +63,6 @@ module _ {C : Type 0} (old new : Replayed) (answer : Answer) (stays : new.world 
       → C
   item_by asks client next None h = stays h.2
   item_by asks client next (Some i) h = does (asks i) h.0 h.1 (told_said h.0 answer h.2)
-
-  opened_by : (session : ℕ) (client next : Client) (copy : Option Copied)
-      → MatchOption copy ((answer ≡ says.refused faults.NoReadOpen) × (next ≡ client) × (new.world ≡ old.world))
-      (λ c. (reply : Reply) × Step old.world (events.Forget session c.number) reply new.world × (answer ≡ says.Replied reply) × (next ≡ record client { copy = open_after c reply }))
-      → C
-  opened_by session client next None h = stays h.2
-  opened_by session client next (Some c) h = does (events.Forget session c.number) h.0 h.1 (told_said h.0 answer h.2)
 
   both_by : (session : ℕ) (Moves : Client → Client → Type 0) → ((client next : Client) → Moves client next → C) → ByBoth old session answer new Moves → C
   both_by session Moves by h =
@@ -84,7 +81,7 @@ module _ {C : Type 0} (old new : Replayed) (answer : Answer) (stays : new.world 
   pub plays_by : (step : steps.Step) → Plays old step answer new → C
   plays_by (steps.Does acts.Begin session) h = client_by session (λ client next. Begins old.world.counter client answer next) h
   plays_by (steps.Does acts.Abandon session) h =
-      both_by session (λ client next. Abandons old.world session client answer next new.world) (λ client next m. opened_by session client next client.copy m) h
+      both_by session (λ client next. Abandons old.world session client answer next new.world) (λ client next m. abandoned_by m.0 m.2 session client.copy m.1.0) h
   plays_by (steps.Does acts.Submit session) h = client_by session (λ client next. Submits client answer next) h
   plays_by (steps.Does acts.Close session) h = client_by session (λ client next. Closes client answer next) h
   plays_by (steps.Does acts.Enter session) h =
@@ -96,11 +93,11 @@ module _ {C : Type 0} (old new : Replayed) (answer : Answer) (stays : new.world 
   plays_by (steps.Does acts.Finish session) h = tells_by (events.Finish session) h.0
   plays_by (steps.Does acts.BackUp session) h = tells_by (events.BackUp session) h.0
   plays_by (steps.Get session name key) h =
-      asking_by session (λ client. Gets old.world session name key client answer new.world) (λ client g. gets_by session name key client g) h
+      asking_by session (λ client. Gets old.world session (object_named old.world.settings.schema name key) client answer new.world) (λ client g. got_by g.0 g.2 session (object_named old.world.settings.schema name key) client.copy g.1) h
   plays_by (steps.Scan session name lower upper) h =
-      asking_by session (λ client. Scans old.world session name lower upper client answer new.world) (λ client g. scans_by session name lower upper client g) h
-  plays_by (steps.Put session name key row) h = client_by session (λ client next. Writes old.world.settings.schema name key (Some row) client answer next) h
-  plays_by (steps.Delete session name key) h = client_by session (λ client next. Writes old.world.settings.schema name key None client answer next) h
+      asking_by session (λ client. Scans old.world session (span_named old.world.settings.schema name lower upper) client answer new.world) (λ client g. scanned_by g.0 g.2 session (span_named old.world.settings.schema name lower upper) client.copy g.1) h
+  plays_by (steps.Put session name key row) h = client_by session (λ client next. Writes old.world.settings.schema (object_named old.world.settings.schema name key) (Some row) client answer next) h
+  plays_by (steps.Delete session name key) h = client_by session (λ client next. Writes old.world.settings.schema (object_named old.world.settings.schema name key) None client answer next) h
   plays_by (steps.Forge session number start) h = tells_by (events.Enter session (events.Request number start [])) h.0
   plays_by (steps.RawRead session number start name key) h = tells_by (events.Read session number start (One (place_named old.world.settings.schema name) key)) h.0
   plays_by (steps.Alone session list) h =

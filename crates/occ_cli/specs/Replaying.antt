@@ -1,5 +1,5 @@
 -- What a replay does with one step of a schedule (our own choice).
-use Rattle.std.specs.Prelude.{◌≡◌, ℕ, true, false, zero, suc, ◌-◌, ◌^◌, ◌≤◌, ◌⊎◌, nat_lt, min, List, [], ◌∷◌, length, map, replicate, drop, Option, None, Some, is_some, IsSomeAnd, Result, Ok, Err, IsOk, IsOkAnd, MatchOption, slice_get, slice_set}
+use Rattle.std.specs.Prelude.{◌≡◌, ℕ, true, zero, suc, ◌-◌, ◌^◌, ◌⊎◌, nat_lt, min, List, [], ◌∷◌, length, map, replicate, drop, Option, None, Some, is_some, IsSomeAnd, Result, Ok, Err, IsOkAnd, MatchOption, slice_get, slice_set}
 use Rattle.std.specs.List.{position}
 use Rattle.std.specs.Option.{ok_or}
 use Rattle.std.specs.FinMap as finite
@@ -7,14 +7,12 @@ use Rattle.occ_types.specs.Key.{Key}
 use Rattle.occ_types.specs.Object.{Object}
 use Rattle.occ_types.specs.Question.{Question, One, Span}
 use Rattle.occ_types.specs.Row.{Row}
-use Rattle.occ_types.specs.Schema.{Schema, fault_if, first_fault, check_key, check_row, check_question}
+use Rattle.occ_types.specs.Schema.{Schema, fault_if, first_fault, check_key}
 use Rattle.occ_types.specs.Fits.{has_name}
 use Rattle.occ_types.specs.declared.fault.Fault.{Fault}
-use Rattle.occ_types.specs.declared.limits.TheConstants.{MAX_ANSWER_ROWS, MAX_OPERATIONS}
+use Rattle.occ_types.specs.declared.limits.TheConstants.{MAX_OPERATIONS}
 use Rattle.occ_types.specs.declared.fault.Fault.TheVariants as faults
-use Rattle.occ_model.specs.State.{Write}
-use Rattle.occ_model.specs.State as states
-use Rattle.occ_model.specs.Overlay.{set, own, overlay}
+use Rattle.occ_model.specs.Overlay.{own}
 use Rattle.occ_model.specs.World.{World, Settings, opened, low, active_count}
 use Rattle.occ_model.specs.Refusal.{numbers_exhausted, refusal, takes_memory, has_writes_left, check_operations}
 use Rattle.occ_model.specs.Operations.{Operation}
@@ -23,9 +21,9 @@ use Rattle.occ_model.specs.Event.{Event, Item, Reply}
 use Rattle.occ_model.specs.Event as events
 use Rattle.occ_model.specs.Step as model
 use Rattle.occ_queue.specs.Numbering.{Numbered, unused, next, with_item, is_full, refusal_of_request}
-use Rattle.occ_sets.specs.Sets.{Copied, is_full_for}
-use Rattle.occ_sets.specs.PlainSets as sets
-use Rattle.occ_sets.specs.declared.reads.Answer as code_seen
+use Rattle.occ_sets.specs.Sets.{Copied}
+use Rattle.occ_client.specs.Transactions.{begin_fault, begun, write_fault, written, WantsRoom, WantsRange, open_after}
+use Rattle.occ_client.specs.Transactions as transactions
 use Rattle.occ_text.specs.declared.steps.Act.TheVariants as acts
 use Rattle.occ_core.specs.declared.steps.Step as code_step
 use Rattle.occ_core.specs.declared.steps.Step.TheVariants as calls
@@ -79,69 +77,43 @@ client_of clients (suc place) = ok_or (slice_get clients place) faults.NoSession
 abbrev pub copy_of : Client → Result Copied Fault
 copy_of client = ok_or client.copy faults.NoReadOpen
 
--- the place of the table with a name
-abbrev pub table_named : Schema → List ℕ → Result ℕ Fault
-table_named schema name = ok_or (position (has_name name) schema) faults.NoTable
-
--- the same, or the place behind the last table where none has the name
+-- the place of the table with a name, or the one behind the last table where none has it
 abbrev pub place_named : Schema → List ℕ → ℕ
 place_named schema name = elim (position (has_name name) schema) [ None ↦ length schema | Some place ↦ place ]
 
 -- a key of the table with a name
-abbrev pub object_named : Schema → List ℕ → Key → Result Object Fault
-object_named schema name key = and_then (table_named schema name) (λ place. unless (check_key schema place key) (place, key))
+abbrev pub object_named : Schema → List ℕ → Key → Object
+object_named schema name key = (place_named schema name, key)
 
 -- a range of the table with a name
-abbrev pub span_named : Schema → List ℕ → Option Key → Option Key → Result Question Fault
-span_named schema name lower upper = and_then (table_named schema name) (λ place.
-    let question = Span place lower upper in
-    unless (check_question schema question) question)
+abbrev pub span_named : Schema → List ℕ → Option Key → Option Key → Question
+span_named schema name lower upper = Span (place_named schema name) lower upper
 
 -- `begin`: the number of the next transaction
 abbrev pub next_number : Client → Result ℕ Fault
 next_number client = unless (first_fault (
     fault_if client.queue.closed faults.Closed
-    ∷ fault_if (is_some client.copy) faults.ReadOpen
-    ∷ numbers_exhausted (next client.queue)
+    ∷ begin_fault client.copy (next client.queue)
     ∷ [])) (next client.queue)
 
 abbrev pub Begins : ℕ → Client → Answer → Client → Type 0
 Begins counter old answer new = Given (next_number old) old answer new (λ number.
     (answer ≡ says.Begun number counter)
-    × (new ≡ record old { copy = Some (record { number = number; start = counter; writes = [] }) }))
+    × (new ≡ record old { copy = Some (begun number counter) }))
 
--- whether the row of a write fits, where it has one
-abbrev pub check_written : Schema → ℕ → Option Row → Option Fault
-check_written schema place None = None
-check_written schema place (Some row) = check_row schema place row
+-- `put`, and `delete` where the row is none
+abbrev pub Writes : Schema → Object → Option Row → Client → Answer → Client → Type 0
+Writes schema object row old answer new = Given (unless (write_fault schema object row old.copy) (written old.copy object row)) old answer new (λ next.
+    (answer ≡ says.Done) × (new ≡ record old { copy = next }))
 
--- `put` and `delete`: the write
-abbrev pub write_named : Schema → List ℕ → Key → Option Row → Copied → Result Write Fault
-write_named schema name key row copy = and_then (object_named schema name key) (λ object. unless (first_fault (
-    check_written schema object.0 row
-    ∷ fault_if (is_full_for copy.writes object) faults.SetFull
-    ∷ [])) (object, row))
+-- the answer is what the open transaction is replied
+abbrev pub Told : Answer → (Reply → Type 0) → Type 0
+Told answer Replies = (reply : Reply) × Replies reply × (answer ≡ says.Replied reply)
 
-abbrev pub WritesCopy : Schema → List ℕ → Key → Option Row → Copied → Answer → Copied → Type 0
-WritesCopy schema name key row old answer new = Given (write_named schema name key row old) old answer new (λ write.
-    (answer ≡ says.Done) × (new ≡ record old { writes = set old.writes write.0 write.1 }))
-
-abbrev pub Writes : Schema → List ℕ → Key → Option Row → Client → Answer → Client → Type 0
-Writes schema name key row old answer new = Given (copy_of old) old answer new (λ copy.
-    (next : Copied) × WritesCopy schema name key row copy answer next × (new ≡ record old { copy = Some next }))
-
--- the open transaction, by what the store replied when it was told to forget its reads
-abbrev pub open_after : Copied → Reply → Option Copied
-open_after copy (events.Refused fault) = Some copy
-open_after copy reply = None
-
--- `abandon`: the store forgets what the open transaction read; its number is that of the next one too
+-- `abandon`
 abbrev pub Abandons : World → ℕ → Client → Answer → Client → World → Type 0
-Abandons old session client answer next new = MatchOption client.copy
-    ((answer ≡ says.refused faults.NoReadOpen) × (next ≡ client) × (new ≡ old))
-    (λ copy. (reply : Reply) × model.Step old (events.Forget session copy.number) reply new
-    × (answer ≡ says.Replied reply)
-    × (next ≡ record client { copy = open_after copy reply }))
+Abandons old session client answer next new = Told answer (λ reply.
+    transactions.Abandons old session client.copy reply new × (next ≡ record client { copy = open_after client.copy reply }))
 
 -- what a transaction is handed in as
 abbrev pub request : Copied → Item
@@ -210,41 +182,13 @@ HandsIn schema list old answer new = Given (handed_in schema list old) old answe
 abbrev pub Tells : World → Event → Answer → World → Type 0
 Tells old event answer new = (reply : Reply) × model.Step old event reply new × (answer ≡ says.Replied reply)
 
--- `get` in an open transaction: the own write, or else what the store answers
-abbrev pub GetsIn : World → ℕ → List ℕ → Key → Copied → Answer → World → Type 0
-GetsIn old session name key copy answer new = Given (object_named old.settings.schema name key) old answer new (λ object.
-    MatchOption (own copy.writes object)
-    (Tells old (events.Read session copy.number copy.start (One object.0 object.1)) answer new)
-    (λ row. (answer ≡ says.Replied (events.Answered (states.Found row))) × (new ≡ old)))
+-- `get`
+abbrev pub Gets : World → ℕ → Object → Client → Answer → World → Type 0
+Gets old session object client answer new = Told answer (λ reply. transactions.Gets old session object client.copy reply new)
 
-abbrev pub Gets : World → ℕ → List ℕ → Key → Client → Answer → World → Type 0
-Gets old session name key client answer new =
-    Given (copy_of client) old answer new (λ copy. GetsIn old session name key copy answer new)
-
--- what the store replies to a question, with the own writes over it
-abbrev pub overlaid : Question → List Write → Reply → Reply
-overlaid question writes (events.Answered given) = events.Answered (overlay question writes given)
-overlaid question writes reply = reply
-
--- what a table may answer to a range: of no more rows than an answer may have
-pub record MayAnswer (question : Question) (given : states.Answer) : Type 0 where
-  pub table : ℕ
-  pub lower : Option Key
-  pub upper : Option Key
-  pub is_range : question ≡ Span table lower upper
-  pub state : states.State
-  pub answers : states.answer question state ≡ given
-  pub few : states.answer_size given ≤ MAX_ANSWER_ROWS
-
--- `scan` in an open transaction: what the store answers, with the own writes over it
-abbrev pub ScansIn : World → ℕ → List ℕ → Option Key → Option Key → Copied → Answer → World → Type 0
-ScansIn old session name lower upper copy answer new = Given (span_named old.settings.schema name lower upper) old answer new (λ question.
-    (reply : Reply) × model.Step old (events.Read session copy.number copy.start question) reply new
-    × (answer ≡ says.Replied (overlaid question copy.writes reply)))
-
-abbrev pub Scans : World → ℕ → List ℕ → Option Key → Option Key → Client → Answer → World → Type 0
-Scans old session name lower upper client answer new =
-    Given (copy_of client) old answer new (λ copy. ScansIn old session name lower upper copy answer new)
+-- `scan`
+abbrev pub Scans : World → ℕ → Question → Client → Answer → World → Type 0
+Scans old session question client answer new = Told answer (λ reply. transactions.Scans old session question client.copy reply new)
 
 -- the item to be entered next: the one that was refused, or else the first one that waits
 abbrev pub next_item : Client → Option Item
@@ -313,13 +257,13 @@ Plays old (Does acts.Write session) answer new = ByStore old (events.WriteOne se
 Plays old (Does acts.Finish session) answer new = ByStore old (events.Finish session) answer new
 Plays old (Does acts.BackUp session) answer new = ByStore old (events.BackUp session) answer new
 Plays old (Get session name key) answer new =
-    ByAsking old session answer new (λ client. Gets old.world session name key client answer new.world)
+    ByAsking old session answer new (λ client. Gets old.world session (object_named old.world.settings.schema name key) client answer new.world)
 Plays old (Scan session name lower upper) answer new =
-    ByAsking old session answer new (λ client. Scans old.world session name lower upper client answer new.world)
+    ByAsking old session answer new (λ client. Scans old.world session (span_named old.world.settings.schema name lower upper) client answer new.world)
 Plays old (Put session name key row) answer new =
-    ByClient old session answer new (λ client next. Writes old.world.settings.schema name key (Some row) client answer next)
+    ByClient old session answer new (λ client next. Writes old.world.settings.schema (object_named old.world.settings.schema name key) (Some row) client answer next)
 Plays old (Delete session name key) answer new =
-    ByClient old session answer new (λ client next. Writes old.world.settings.schema name key None client answer next)
+    ByClient old session answer new (λ client next. Writes old.world.settings.schema (object_named old.world.settings.schema name key) None client answer next)
 Plays old (Forge session number start) answer new = ByStore old (events.Enter session (events.Request number start [])) answer new
 Plays old (RawRead session number start name key) answer new = ByStore old (events.Read session number start (One (place_named old.world.settings.schema name) key)) answer new
 Plays old (Alone session list) answer new =
@@ -332,32 +276,21 @@ abbrev pub Wants : World → Event → Type 0
 Wants world event = (refusal world event ≡ None) × (takes_memory world event ≡ true)
 
 -- The open transaction wants memory for `get`: for a copy of its own row, or the store does for what it answers.
-abbrev pub CopyWantsGet : World → ℕ → List ℕ → Key → Copied → Type 0
-CopyWantsGet world session name key copy = IsOkAnd (object_named world.settings.schema name key) (λ object.
-    MatchOption (own copy.writes object)
+abbrev pub CopyWantsGet : World → ℕ → Object → Copied → Type 0
+CopyWantsGet world session object copy = (check_key world.settings.schema object.0 object.1 ≡ None) × MatchOption (own copy.writes object)
     (Wants world (events.Read session copy.number copy.start (One object.0 object.1)))
-    (λ row. is_some row ≡ true))
+    (λ row. is_some row ≡ true)
 
-abbrev pub WantsGet : World → ℕ → List ℕ → Key → Client → Type 0
-WantsGet world session name key client = IsOkAnd (copy_of client) (CopyWantsGet world session name key)
+abbrev pub WantsGet : World → ℕ → Object → Client → Type 0
+WantsGet world session object client = IsSomeAnd client.copy (CopyWantsGet world session object)
 
 -- For `scan` it wants room for the whole answer, which is taken before the store is asked.
-abbrev pub CopyWantsScan : World → List ℕ → Option Key → Option Key → Type 0
-CopyWantsScan world name lower upper = IsOk (span_named world.settings.schema name lower upper)
+abbrev pub WantsScan : World → Question → Client → Type 0
+WantsScan world question client = WantsRange world.settings.schema question client.copy
 
-abbrev pub WantsScan : World → List ℕ → Option Key → Option Key → Client → Type 0
-WantsScan world name lower upper client = IsOkAnd (copy_of client) (λ copy. CopyWantsScan world name lower upper)
-
--- Writes want room for an object that is new, and not one too many; one that is written already takes its new row without.
-abbrev pub WantsRoom : List Write → Object → Type 0
-WantsRoom writes object = (is_full_for writes object ≡ false) × (own writes object ≡ None)
-
--- For `put` and `delete` it wants room for the object.
-abbrev pub CopyWantsWrite : Schema → List ℕ → Key → Option Row → Copied → Type 0
-CopyWantsWrite schema name key row copy = IsOkAnd (write_named schema name key row copy) (λ write. WantsRoom copy.writes write.0)
-
-abbrev pub WantsWrite : Schema → List ℕ → Key → Option Row → Client → Type 0
-WantsWrite schema name key row client = IsOkAnd (copy_of client) (CopyWantsWrite schema name key row)
+-- For `put` and `delete` it wants room for an object that is not written yet, where there may be one more.
+abbrev pub WantsWrite : Schema → Object → Option Row → Client → Type 0
+WantsWrite schema object row client = (write_fault schema object row client.copy ≡ None) × WantsRoom object client.copy
 
 -- The item to be entered next wants memory. It is kept.
 abbrev pub StarvesItem : (Item → Event) → World → Client → Client → Type 0
@@ -380,12 +313,12 @@ Starved old (Does acts.Enter session) new = IsOkAnd (client_of old.clients sessi
 Starved old (Does acts.Serial session) new = IsOkAnd (client_of old.clients session) (λ client.
     (next : Client) × StarvesItem (events.SerialEnd session) old.world client next × (new ≡ record old { clients = slice_set old.clients (session - 1) next }))
 Starved old (Does acts.Write session) new = WantsSingle old.world session × (new ≡ old)
-Starved old (Get session name key) new = IsOkAnd (client_of old.clients session) (WantsGet old.world session name key) × (new ≡ old)
-Starved old (Scan session name lower upper) new = IsOkAnd (client_of old.clients session) (WantsScan old.world name lower upper) × (new ≡ old)
+Starved old (Get session name key) new = IsOkAnd (client_of old.clients session) (WantsGet old.world session (object_named old.world.settings.schema name key)) × (new ≡ old)
+Starved old (Scan session name lower upper) new = IsOkAnd (client_of old.clients session) (WantsScan old.world (span_named old.world.settings.schema name lower upper)) × (new ≡ old)
 Starved old (Put session name key row) new =
-    IsOkAnd (client_of old.clients session) (WantsWrite old.world.settings.schema name key (Some row)) × (new ≡ old)
+    IsOkAnd (client_of old.clients session) (WantsWrite old.world.settings.schema (object_named old.world.settings.schema name key) (Some row)) × (new ≡ old)
 Starved old (Delete session name key) new =
-    IsOkAnd (client_of old.clients session) (WantsWrite old.world.settings.schema name key None) × (new ≡ old)
+    IsOkAnd (client_of old.clients session) (WantsWrite old.world.settings.schema (object_named old.world.settings.schema name key) None) × (new ≡ old)
 Starved old (Forge session number start) new = Wants old.world (events.Enter session (events.Request number start [])) × (new ≡ old)
 Starved old (RawRead session number start name key) new =
     Wants old.world (events.Read session number start (One (place_named old.world.settings.schema name) key)) × (new ≡ old)
@@ -399,11 +332,6 @@ module _ {Z : Type 0} where
   abbrev pub played : Result (code_answer.Answer Z) Fault → Answer
   played (Ok answer) = answer_of answer
   played (Err fault) = says.refused fault
-
-  -- what the store replied to a question
-  abbrev pub replied : Result (code_seen.Answer Z) Fault → Reply
-  replied (Ok seen) = events.Answered (sets.answer_of seen)
-  replied (Err fault) = events.Refused fault
 
   -- a call is played so, or it wanted memory, which leaves that
   abbrev pub Played : Result (code_answer.Answer Z) Fault → Type 0 → (Answer → Type 0) → Type 0

@@ -2,6 +2,7 @@
 ghost use Rattle.std.specs.Prelude.{◌≡◌, ◌<◌, suc, None, Some, Err, length, map, replicate, IfOk, IsOkUnless, MatchResult};
 ghost use Rattle.std.specs.Option.{option_map};
 ghost use Rattle.occ_types.specs.PlainData.{key_of, end_of};
+ghost use Rattle.occ_types.specs.Question.{Span};
 ghost use Rattle.occ_types.specs.declared.fault.Fault.TheVariants as faults;
 ghost use Rattle.occ_model.specs.Event as events;
 ghost use Rattle.occ_queue.specs.Items.{item_of};
@@ -12,12 +13,11 @@ ghost use Rattle.occ_cli.specs.Answers.{Queued};
 ghost use Rattle.occ_cli.specs.Replaying.{client_of, fresh, Begins, Abandons, Writes, Submits, Closes, HandsIn, operations_named, Gets, Scans, Enters, next_item, still_waiting, Given, unless, WantsGet, WantsScan, WantsWrite, WantsList, played, PlayedIn};
 
 use crate::answers::Answer;
-use crate::asking;
 use crate::operations::operations_named;
-use crate::writing::write_copy;
+use occ_client::OpenTransaction;
 use occ_core::{Core, Reply, Step};
 use occ_queue::{Item, SessionQueue};
-use occ_sets::{Op, PrivateCopy};
+use occ_sets::Op;
 use occ_text::operations::Operation;
 use occ_types::limits::{MAX_NUMBER, MAX_OPERATIONS};
 use occ_types::{Fault, Key, Refused, Row, Schema};
@@ -27,7 +27,7 @@ use std::marker::Model;
 /// The client of one session: its open transaction, the queue of its session, and an item that was taken from it to be entered and refused.
 #[derive(Drop)]
 pub(crate) struct Client<A: Allocator> {
-    copy: Option<PrivateCopy<A>>,
+    transaction: OpenTransaction<A>,
     queue: SessionQueue<A>,
     kept: Option<Item<A>>,
 }
@@ -39,7 +39,7 @@ impl<A: Allocator> Model for Client<A> {
 
     ghost Value = { Plain };
 
-    ghost view = { λ c. record { copy = c.copy; queue = c.queue; kept = option_map item_of c.kept } };
+    ghost view = { λ c. record { copy = c.transaction; queue = c.queue; kept = option_map item_of c.kept } };
 }
 
 impl<A: Allocator> Client<A> {
@@ -50,7 +50,7 @@ impl<A: Allocator> Client<A> {
     {
         let queue = SessionQueue::new(alloc, limit)?;
         Ok(Client {
-            copy: None,
+            transaction: OpenTransaction::none(),
             queue,
             kept: None,
         })
@@ -63,14 +63,11 @@ impl<A: Allocator> Client<A> {
         if self.queue.is_closed() {
             return Err(Fault::Closed);
         }
-        let Some(copy) = self.copy.take() else {
+        let Some(number) = self.transaction.number() else {
             return Err(Fault::NoReadOpen);
         };
-        if let Err(fault) = self.queue.check_request(copy.number()) {
-            self.copy = Some(copy);
-            return Err(fault);
-        }
-        let (number, start, writes) = copy.into_request();
+        self.queue.check_request(number)?;
+        let (number, start, writes) = self.transaction.into_request()?;
         self.queue.submit(Item::Request {
             number,
             start,
@@ -86,7 +83,7 @@ impl<A: Allocator> Client<A> {
         if self.queue.is_closed() {
             return Err(Fault::Closed);
         }
-        if self.copy.is_some() {
+        if self.transaction.is_open() {
             return Err(Fault::ReadOpen);
         }
         let number = self.queue.close()?;
@@ -130,15 +127,19 @@ impl<A: Allocator + Copy> Client<A> {
     pub(crate) fn write(
         &mut self,
         schema: &Schema<A>,
-        table: &str,
+        table: usize,
         key: Key<A>,
         row: Option<Row<A>>,
     ) -> Result<Answer<A>, Fault>
-        ensures { PlayedIn self.old self.new result (WantsWrite schema.now table.now (key_of key) row self.old) (λ answer. Writes schema.now table.now (key_of key) row self.old answer self.new) }
+        ensures { PlayedIn self.old self.new result (WantsWrite schema.now (table, key_of key) row self.old) (λ answer. Writes schema.now (table, key_of key) row self.old answer self.new) }
     {
-        match &mut self.copy {
-            None => Err(Fault::NoReadOpen),
-            Some(copy) => write_copy(copy, schema, table, key, row),
+        let done = match row {
+            Some(row) => self.transaction.put(schema, table, key, row),
+            None => self.transaction.delete(schema, table, key),
+        };
+        match done {
+            Ok(()) => Ok(Answer::Done),
+            Err(refused) => Err(refused.fault),
         }
     }
 
@@ -149,14 +150,8 @@ impl<A: Allocator + Copy> Client<A> {
         if self.queue.is_closed() {
             return Err(Fault::Closed);
         }
-        if self.copy.is_some() {
-            return Err(Fault::ReadOpen);
-        }
         let number = self.queue.next();
-        if number >= MAX_NUMBER {
-            return Err(Fault::NumbersExhausted);
-        }
-        self.copy = Some(PrivateCopy::new(alloc, number, counter));
+        self.transaction.begin(alloc, number, counter)?;
         Ok(Answer::Begun {
             number,
             start: counter,
@@ -168,14 +163,14 @@ impl<A: Allocator + Copy> Client<A> {
         &self,
         core: &mut Core<A>,
         session: usize,
-        table: &str,
+        table: usize,
         key: Key<A>,
     ) -> Result<Answer<A>, Fault>
-        ensures { PlayedIn core.old.world core.new.world result (WantsGet core.old.world session table.now (key_of key) self.now) (λ answer. Gets core.old.world session table.now (key_of key) self.now answer core.new.world) }
+        ensures { PlayedIn core.old.world core.new.world result (WantsGet core.old.world session (table, key_of key) self.now) (λ answer. Gets core.old.world session (table, key_of key) self.now answer core.new.world) }
     {
-        match &self.copy {
-            None => Err(Fault::NoReadOpen),
-            Some(copy) => asking::get(copy, core, session, table, key),
+        match self.transaction.get_in(core, session, table, key) {
+            Ok(row) => Ok(Answer::Replied(Reply::Found(row))),
+            Err(fault) => Err(fault),
         }
     }
 
@@ -184,15 +179,15 @@ impl<A: Allocator + Copy> Client<A> {
         &self,
         core: &mut Core<A>,
         session: usize,
-        table: &str,
+        table: usize,
         lower: Option<Key<A>>,
         upper: Option<Key<A>>,
     ) -> Result<Answer<A>, Fault>
-        ensures { PlayedIn core.old.world core.new.world result (WantsScan core.old.world table.now (end_of lower) (end_of upper) self.now) (λ answer. Scans core.old.world session table.now (end_of lower) (end_of upper) self.now answer core.new.world) }
+        ensures { PlayedIn core.old.world core.new.world result (WantsScan core.old.world (Span table (end_of lower) (end_of upper)) self.now) (λ answer. Scans core.old.world session (Span table (end_of lower) (end_of upper)) self.now answer core.new.world) }
     {
-        match &self.copy {
-            None => Err(Fault::NoReadOpen),
-            Some(copy) => asking::scan(copy, core, session, table, lower, upper),
+        match self.transaction.scan_in(core, session, table, lower, upper) {
+            Ok(rows) => Ok(Answer::Replied(Reply::Rows(rows))),
+            Err(fault) => Err(fault),
         }
     }
 
@@ -200,15 +195,9 @@ impl<A: Allocator + Copy> Client<A> {
     pub(crate) fn abandon(&mut self, core: &mut Core<A>, session: usize) -> Result<Answer<A>, Fault>
         ensures { Abandons core.old.world session self.old (played result) self.new core.new.world }
     {
-        let Some(copy) = &self.copy else {
-            return Err(Fault::NoReadOpen);
-        };
-        match core.forget(session, copy.number()) {
+        match self.transaction.abandon_in(core, session) {
+            Ok(known) => Ok(Answer::Replied(Reply::Forgotten(known))),
             Err(fault) => Err(fault),
-            Ok(known) => {
-                self.copy = None;
-                Ok(Answer::Replied(Reply::Forgotten(known)))
-            }
         }
     }
 
@@ -227,7 +216,7 @@ impl<A: Allocator + Copy> Client<A> {
         if self.queue.is_closed() {
             return Err(Fault::Closed);
         }
-        if self.copy.is_some() {
+        if self.transaction.is_open() {
             return Err(Fault::ReadOpen);
         }
         if self.queue.next() >= MAX_NUMBER {

@@ -2,17 +2,15 @@
 #![tactic(auto)]
 
 mod answers;
-mod asking;
 mod clients;
 pub mod laws;
 mod operations;
 mod pairs;
 mod refusals;
 mod replay_steps;
-mod step_objects;
+mod table_names;
 mod text_replay;
 mod tokens;
-mod writing;
 
 pub use occ_audit::audit_rows;
 pub use occ_reading::audit_text;

@@ -6,7 +6,7 @@ ghost use Rattle.occ_sets.specs.Operations.{op_of, ops_of};
 ghost use Rattle.occ_text.specs.Operations.{operation_of};
 ghost use Rattle.occ_cli.specs.Replaying as plain;
 
-use crate::step_objects::place_named;
+use crate::table_names::place_named;
 use occ_sets::{Op, check_operations};
 use occ_text::operations::Operation;
 use occ_types::{Fault, Schema};

@@ -9,11 +9,11 @@ ghost use Rattle.occ_cli.specs.Answers.{answer_of};
 ghost use Rattle.occ_cli.specs.Answers as says;
 ghost use Rattle.occ_text.specs.Steps.{step_of, Does, Get, Scan, Forge, RawRead, Alone, Show, Checkpoint};
 ghost use Rattle.occ_text.specs.Operations.{operation_of};
-ghost use Rattle.occ_cli.specs.Replaying.{started, client_of, counts_of, ByClient, ByStore, Writes, Plays, Played, PlayedIn, PutOff, Starved, WantsWrite, played};
+ghost use Rattle.occ_cli.specs.Replaying.{started, client_of, counts_of, ByClient, ByStore, Writes, Plays, Played, PlayedIn, PutOff, Starved, WantsWrite, object_named, played};
 
 use crate::answers::{Answer, Counts, answered, refused};
 use crate::clients::{Client, fresh_clients, place_of};
-use crate::step_objects::place_named;
+use crate::table_names::place_named;
 use occ_core::{Core, Reply, Step as Call};
 use occ_queue::Item;
 use occ_sets::WriteSet;
@@ -203,6 +203,7 @@ impl<A: Allocator + Copy> Replay<A> {
         ensures { Played result (Starved self.old (Get session table.now (key_of key)) self.new) (λ answer. Plays self.old (Get session table.now (key_of key)) answer self.new) }
     {
         let place = place_of(self.clients.as_slice(), session)?;
+        let table = place_named(self.core.schema(), table);
         let client = &self.clients[place];
         client.get(&mut self.core, session, table, key)
     }
@@ -217,6 +218,7 @@ impl<A: Allocator + Copy> Replay<A> {
         ensures { Played result (Starved self.old (Scan session table.now (end_of lower) (end_of upper)) self.new) (λ answer. Plays self.old (Scan session table.now (end_of lower) (end_of upper)) answer self.new) }
     {
         let place = place_of(self.clients.as_slice(), session)?;
+        let table = place_named(self.core.schema(), table);
         let client = &self.clients[place];
         client.scan(&mut self.core, session, table, lower, upper)
     }
@@ -229,11 +231,13 @@ impl<A: Allocator + Copy> Replay<A> {
         key: Key<A>,
         row: Option<Row<A>>,
     ) -> Result<Answer<A>, Fault>
-        ensures { PlayedIn self.old self.new result (IsOkAnd (client_of self.old.clients session) (WantsWrite self.old.world.settings.schema table.now (key_of key) row)) (λ answer. ByClient self.old session answer self.new (λ client next. Writes self.old.world.settings.schema table.now (key_of key) row client answer next)) }
+        ensures { PlayedIn self.old self.new result (IsOkAnd (client_of self.old.clients session) (WantsWrite self.old.world.settings.schema (object_named self.old.world.settings.schema table.now (key_of key)) row)) (λ answer. ByClient self.old session answer self.new (λ client next. Writes self.old.world.settings.schema (object_named self.old.world.settings.schema table.now (key_of key)) row client answer next)) }
     {
         let place = place_of(self.clients.as_slice(), session)?;
+        let schema = self.core.schema();
+        let table = place_named(schema, table);
         let client = &mut self.clients[place];
-        client.write(self.core.schema(), table, key, row)
+        client.write(schema, table, key, row)
     }
 
     fn alone(

@@ -13,7 +13,7 @@ returns g c =
     let fits = c.in_ok-operations.ensures in
     inr (listed schema list client
     (sym (ap (λ (x : Client). x.queue.closed) c.self.view_is) ∙ (sym c.is_closed.ensures ∙ c.if-is_closed.false))
-    (sym (ap (λ (x : Client). is_some x.copy) c.self.view_is) ∙ (sym c.is_some.ensures ∙ c.if-is_some.false))
+    (sym (ap (λ (x : Client). is_some x.copy) c.self.view_is) ∙ (sym c.is_open.ensures ∙ c.if-is_open.false))
     (sym (ap (λ (x : Client). nat_le MAX_NUMBER (next x.queue)) c.self.view_is) ∙ (sym (ap (nat_le MAX_NUMBER) c.next.ensures.number) ∙ lt-leb MAX_NUMBER c.next.result c.if-next-ge-MAX_NUMBER.false))
     (ap (nat_lt MAX_OPERATIONS) (length-map (map operation_of c.args.operations.items) (operation_named schema) ∙ (length-map c.args.operations.items operation_of ∙ (sym c.args.operations.ok.0 ∙ sym c.len.ensures))) ∙ le-ltb MAX_OPERATIONS c.len.result c.if-len-gt-MAX_OPERATIONS.false)
     (played c.hand_in.result) c.hand_in.new.self
@@ -28,7 +28,7 @@ returns-then-len-gt-MAX_OPERATIONS g c =
     let schema = c.args.schema.now in
     too_many schema (operations_named schema (map operation_of c.args.operations.items)) c.args.self.now
     (sym (ap (λ (x : Client). x.queue.closed) c.self.view_is) ∙ (sym c.is_closed.ensures ∙ c.if-is_closed.false))
-    (sym (ap (λ (x : Client). is_some x.copy) c.self.view_is) ∙ (sym c.is_some.ensures ∙ c.if-is_some.false))
+    (sym (ap (λ (x : Client). is_some x.copy) c.self.view_is) ∙ (sym c.is_open.ensures ∙ c.if-is_open.false))
     (sym (ap (λ (x : Client). nat_le MAX_NUMBER (next x.queue)) c.self.view_is) ∙ (sym (ap (nat_le MAX_NUMBER) c.next.ensures.number) ∙ lt-leb MAX_NUMBER c.next.result c.if-next-ge-MAX_NUMBER.false))
     (ap (nat_lt MAX_OPERATIONS) (length-map (map operation_of c.args.operations.items) (operation_named schema) ∙ (length-map c.args.operations.items operation_of ∙ (sym c.args.operations.ok.0 ∙ sym c.len.ensures))) ∙ lt-ltb MAX_OPERATIONS c.len.result c.if-len-gt-MAX_OPERATIONS.true) g.row.A.Denot
 
@@ -38,7 +38,7 @@ returns-in_err-operations g c =
     let p = err_from_is_err_and c.from_residual.result c.from_residual.ensures.1 in
     unlisted schema (operations_named schema (map operation_of c.args.operations.items)) c.args.self.now
     (sym (ap (λ (x : Client). x.queue.closed) c.self.view_is) ∙ (sym c.is_closed.ensures ∙ c.if-is_closed.false))
-    (sym (ap (λ (x : Client). is_some x.copy) c.self.view_is) ∙ (sym c.is_some.ensures ∙ c.if-is_some.false))
+    (sym (ap (λ (x : Client). is_some x.copy) c.self.view_is) ∙ (sym c.is_open.ensures ∙ c.if-is_open.false))
     (sym (ap (λ (x : Client). nat_le MAX_NUMBER (next x.queue)) c.self.view_is) ∙ (sym (ap (nat_le MAX_NUMBER) c.next.ensures.number) ∙ lt-leb MAX_NUMBER c.next.result c.if-next-ge-MAX_NUMBER.false))
     (ap (nat_lt MAX_OPERATIONS) (length-map (map operation_of c.args.operations.items) (operation_named schema) ∙ (length-map c.args.operations.items operation_of ∙ (sym c.args.operations.ok.0 ∙ sym c.len.ensures))) ∙ le-ltb MAX_OPERATIONS c.len.result c.if-len-gt-MAX_OPERATIONS.false)
     c.from_residual.result p.0 c.in_err-operations.field-0.0 p.1 p.2 c.in_err-operations.ensures
