@@ -1,11 +1,12 @@
 //! What a transaction costs: loads of like transactions on a store, ended in each of three ways, and the same on a bare map.
 //!
-//! `bench_costs LOAD WAY ROUNDS` does so many rounds and prints how many transactions committed; the way is `steps`, `serial`, `alone`,
+//! `bench_costs LOAD WAY ROUNDS` does so many rounds and prints how many transactions committed; the way is `steps`, `serial`, `client`, `alone`,
 //! `folded` (as `serial`, with a log that is folded every 10,000 rounds) or `bare`. With no words it prints, for each load and each way,
 //! how many requests for memory a transaction makes, and how many bytes of it stay.
 #![tactic(auto)]
 
 mod bare;
+mod by_clients;
 mod dice;
 mod loads;
 mod store;
@@ -58,6 +59,7 @@ fn play(rt: &HostRuntime, load: Load, way: &str, rounds: u64) -> io::Result<bool
     let done = match way {
         "steps" => committed(rt.alloc(), shape, Way::Steps, rounds, false),
         "serial" => committed(rt.alloc(), shape, Way::Serial, rounds, false),
+        "client" => committed(rt.alloc(), shape, Way::Client, rounds, false),
         "folded" => committed(rt.alloc(), shape, Way::Serial, rounds, true),
         "alone" => committed(rt.alloc(), shape, Way::Alone, rounds, false),
         "bare" => read_bare(rt.alloc(), shape, rounds),

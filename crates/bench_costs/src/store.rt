@@ -1,7 +1,9 @@
 //! The loads on a store.
+use crate::by_clients::{commit_all, number_in, read_and_write};
 use crate::dice::Dice;
 use crate::loads::{Shape, amount};
 use occ_case::Verdict;
+use occ_client::Client;
 use occ_core::{Core, Outcome, SingleWrite};
 use occ_queue::Item;
 use occ_sets::{Op, PrivateCopy};
@@ -10,7 +12,7 @@ use std::alloc::Allocator;
 use std::collections::VecDeque;
 
 /// The place of the one table.
-const TABLE: usize = 0;
+pub(crate) const TABLE: usize = 0;
 /// How many rows are put by one transaction at first.
 const PUTS: u64 = 256;
 /// After how many rounds of transactions the log is folded.
@@ -23,18 +25,21 @@ pub(crate) enum Way {
     Steps,
     /// It reads, and all the rest is one step.
     Serial,
+    /// It reads and ends as by one step, and a client does all of it.
+    Client,
     /// It is a list of operations, and one step.
     Alone,
 }
 
 impl Way {
-    pub(crate) const ALL: [Way; 3] = [Way::Steps, Way::Serial, Way::Alone];
+    pub(crate) const ALL: [Way; 4] = [Way::Steps, Way::Serial, Way::Client, Way::Alone];
 
     /// The word that names it.
     pub(crate) fn name(self) -> &'static str {
         match self {
             Way::Steps => "steps",
             Way::Serial => "serial",
+            Way::Client => "client",
             Way::Alone => "alone",
         }
     }
@@ -49,6 +54,7 @@ pub(crate) struct Store<A: Allocator> {
     dice: Dice,
     // The private copies of a round. Their room is kept from round to round, since it is no cost of the store.
     copies: VecDeque<PrivateCopy<A>, A>,
+    clients: Vec<Client<A>, A>,
 }
 
 impl<A: Allocator + Copy> Store<A> {
@@ -57,12 +63,17 @@ impl<A: Allocator + Copy> Store<A> {
         let schema = schema(alloc)?;
         let filling = shape.together.saturating_add(1);
         let core = Core::open(alloc, schema, filling, 8)?;
+        let mut clients = Vec::new(alloc);
+        for session in 1..=shape.together {
+            clients.push(Client::new(alloc, session))?;
+        }
         let mut store = Store {
             alloc,
             core: Box::new(alloc, core)?,
             shape,
             dice: Dice::new(),
             copies: VecDeque::new(alloc),
+            clients,
         };
         fill(alloc, &mut store.core, filling, shape.rows)?;
         let _folded = store.core.checkpoint()?;
@@ -77,6 +88,7 @@ impl<A: Allocator + Copy> Store<A> {
             let done = match way {
                 Way::Alone => self.round_alone(number)?,
                 Way::Serial | Way::Steps => self.round_by_copies(way, number)?,
+                Way::Client => self.round_by_clients()?,
             };
             committed = committed.saturating_add(done);
             if folds && number % FOLDED_AFTER == 0 {
@@ -129,11 +141,25 @@ impl<A: Allocator + Copy> Store<A> {
             };
             let done = match way {
                 Way::Steps => end_by_steps(&mut self.core, session, copy)?,
-                Way::Serial | Way::Alone => end_serially(&mut self.core, session, copy)?,
+                Way::Serial | Way::Client | Way::Alone => end_serially(
+                    &mut self.core,
+                    session,
+                    copy,
+                )?,
             };
             committed = committed.saturating_add(u64::from(done));
         }
         Ok(committed)
+    }
+
+    // The same by clients.
+    fn round_by_clients(&mut self) -> Result<u64, Fault> {
+        for client in self.clients.iter_mut() {
+            let first = self.shape.first(&mut self.dice);
+            client.begin(&self.core)?;
+            read_and_write(client, &mut self.core, self.shape, first)?;
+        }
+        commit_all(self.clients.as_mut_slice(), &mut self.core)
     }
 
     // Reads what the next transaction reads, and writes into its private copy.
@@ -164,16 +190,10 @@ impl<A: Allocator + Copy> Store<A> {
 
     // The number in a row, 0 where there is none.
     fn read(&mut self, session: usize, number: u64, start: u64, key: u64) -> Result<i64, Fault> {
-        match self
+        let row = self
             .core
-            .read(session, number, start, TABLE, &Key::Num(key))?
-        {
-            Some(row) => match row.cell(0) {
-                Some(Cell::Int(number)) => Ok(*number),
-                _ => Ok(0),
-            },
-            None => Ok(0),
-        }
+            .read(session, number, start, TABLE, &Key::Num(key))?;
+        Ok(number_in(row))
     }
 }
 

@@ -1,146 +1,117 @@
-//! The store in a program of one's own: two sessions pay into one account at the same time, and one of them has to try again. Then the log is shortened.
+//! The store in a program of one's own: a conflict, a retry, a range, a counter under load, a log that is kept short, and refusals.
 #![tactic(auto)]
 
-use occ_core::{Core, Outcome};
-use occ_queue::Item;
-use occ_sets::{Op, PrivateCopy};
-use occ_types::{Cell, Fault, Key, KeyKind, Kind, Row, Schema, TableDef, Text};
+use occ_client::{Cell, Client, Core, Fault, Key, KeyKind, Kind, Schema, Text};
 use std::alloc::Global;
 use std::process::ExitCode;
 
 /// The place of the one table in the schema.
 const ACCOUNTS: usize = 0;
-/// The account that is paid into.
-const ACCOUNT: Key<Global> = Key::Num(7);
 
 fn main(rt: HostRuntime) -> ExitCode {
-    let told = match pay(rt.alloc()) {
+    let told = match show(rt.alloc()) {
         Ok(lines) => print!(rt; "{lines}"),
-        Err(fault) => eprintln!(rt; "{fault:?}"),
+        Err(fault) => eprintln!(rt; "{fault}"),
     };
-    match told {
-        Ok(()) => ExitCode::SUCCESS,
-        Err(_) => ExitCode::FAILURE,
-    }
+    told.map_or(ExitCode::FAILURE, |()| ExitCode::SUCCESS)
 }
 
-/// A store, and what is done in it, told line by line.
-fn pay(alloc: Global) -> Result<String, Fault> {
+type One = Client<Global>;
+
+type Store = Core<Global>;
+
+fn show(alloc: Global) -> Result<String, Fault> {
     let mut lines = String::new(alloc);
     let mut store = open(alloc)?;
-    pay_into(alloc, &mut store, &mut lines)?;
+    tell(alloc, &mut store, &mut lines)?;
     Ok(lines)
 }
 
-/// Two payments that overlap, the second one tried again, then one in a single step, a checkpoint, and the balance.
-fn pay_into(alloc: Global, store: &mut Core<Global>, lines: &mut String) -> Result<(), Fault> {
-    pay_both(alloc, store, lines)?;
-    let again = begin(alloc, store, 2, 2, 12)?;
-    tell(lines, 2, commit(store, 2, again)?)?;
-    tell(lines, 1, Some(pay_alone(alloc, store, 1, 2, 8)?))?;
-    shorten(store, lines)?;
-    let balance = balance(store, 1, 3)?;
-    writeln!(lines, "the account has {balance}").or(Err(Fault::Memory))
+/// A store of two sessions that keeps the last 8 write sets for testing.
+fn open(alloc: Global) -> Result<Box<Store>, Fault> {
+    let schema = Schema::of(alloc, &[("accounts", KeyKind::Num, &[Kind::Int])])?;
+    let store = Core::open(alloc, schema, 2, 8)?;
+    Ok(Box::new(alloc, store)?)
 }
 
-/// Two payments of two sessions, of which both begin before either ends.
-fn pay_both(alloc: Global, store: &mut Core<Global>, lines: &mut String) -> Result<(), Fault> {
-    let first = begin(alloc, store, 1, 1, 30)?;
-    let second = begin(alloc, store, 2, 1, 12)?;
-    tell(lines, 1, commit(store, 1, first)?)?;
-    tell(lines, 2, commit(store, 2, second)?)
+/// What two clients do with a store, told line by line.
+fn tell(alloc: Global, store: &mut Store, lines: &mut String) -> Result<(), Fault> {
+    let (mut alice, mut bob) = (Client::new(alloc, 1), Client::new(alloc, 2));
+    pay(&mut alice, &mut bob, store, lines)?;
+    count(&mut alice, &mut bob, store, lines)?;
+    range(&mut alice, store, lines)?;
+    refusals(alloc, &mut alice, store, lines)
 }
 
-/// A store of two sessions that keeps the last 2 write sets for testing. Its one table has balances under the numbers of accounts.
-fn open(alloc: Global) -> Result<Core<Global>, Fault> {
-    let accounts = TableDef {
-        name: Text::new(alloc, "accounts")?,
-        key: KeyKind::Num,
-        columns: vec![in alloc; Kind::Int]?,
+/// Both read the balance, and the second one to end is backed up: it tries again, three times at most.
+fn pay(a: &mut One, b: &mut One, store: &mut Store, lines: &mut String) -> Result<(), Fault> {
+    a.begin(store)?;
+    b.begin(store)?;
+    add(a, store, 7, 30)?;
+    add(b, store, 7, 12)?;
+    let (first, second) = (a.commit(store)?, b.commit(store)?);
+    let again = b.transact(store, 3, |b, store| add(b, store, 7, 12))?;
+    Ok(writeln!(lines, "{first:?}, {second:?}, again {again:?}")?)
+}
+
+/// Adds to the balance of an account, which is 0 where there is none.
+fn add(client: &mut One, store: &mut Store, account: u64, amount: i64) -> Result<(), Fault> {
+    let row = client.get(store, ACCOUNTS, account.into())?;
+    let balance = match row.as_ref().and_then(|row| row.cell(0)) {
+        Some(Cell::Int(balance)) => *balance,
+        _ => 0,
     };
-    let schema = Schema::new(vec![in alloc; accounts]?)?;
-    let store = Core::open(alloc, schema, 2, 2)?;
-    Ok(store)
+    let sum = balance.saturating_add(amount);
+    Ok(client.put(store, ACCOUNTS, account.into(), sum.into())?)
 }
 
-/// The balance of the account, read by a transaction of a session that begins now.
-fn balance(store: &mut Core<Global>, session: usize, number: u64) -> Result<i64, Fault> {
-    let start = store.tnc();
-    match store.read(session, number, start, ACCOUNTS, &ACCOUNT)? {
-        Some(row) => match row.cell(0) {
-            Some(Cell::Int(balance)) => Ok(*balance),
-            _ => Ok(0),
-        },
-        None => Ok(0),
+/// Two sessions count on one account in turn, and the log is folded after every thousand commits.
+fn count(a: &mut One, b: &mut One, store: &mut Store, lines: &mut String) -> Result<(), Fault> {
+    for turn in 1..=1_250u64 {
+        let _end = a.transact(store, 3, |a, store| add(a, store, 1, 1))?;
+        let _end = b.transact(store, 3, |b, store| add(b, store, 1, 1))?;
+        if turn % 500 == 0 {
+            let (folded, left) = (store.checkpoint()?, store.log().len());
+            writeln!(lines, "{folded} rows are folded, {left} are left")?;
+        }
     }
+    Ok(())
 }
 
-/// The read phase of a payment: the store notes what is read, and what is written stays in the private copy.
-fn begin(
-    alloc: Global,
-    store: &mut Core<Global>,
-    session: usize,
-    number: u64,
-    amount: i64,
-) -> Result<PrivateCopy<Global>, Fault> {
-    let mut copy = PrivateCopy::new(alloc, number, store.tnc());
-    let paid = balance(store, session, number)?.saturating_add(amount);
-    copy.put(ACCOUNTS, ACCOUNT, Row::from_cell(Cell::Int(paid)))?;
-    Ok(copy)
-}
-
-/// Validation and write phase, in one step. The answer is the number of the commit, or none where it has to be tried again.
-fn commit(
-    store: &mut Core<Global>,
-    session: usize,
-    copy: PrivateCopy<Global>,
-) -> Result<Option<u64>, Fault> {
-    let (number, start, writes) = copy.into_request();
-    let request = Item::Request {
-        number,
-        start,
-        writes,
-    };
-    match store.serial_end(session, request)? {
-        Outcome::Committed { tn } => Ok(Some(tn)),
-        _ => Ok(None),
+/// A range, with an own write over it, which is given up then.
+fn range(client: &mut One, store: &mut Store, lines: &mut String) -> Result<(), Fault> {
+    client.begin(store)?;
+    add(client, store, 3, 5)?;
+    let rows = client.scan(store, ACCOUNTS, Some(Key::Num(1)), Some(Key::Num(7)))?;
+    for (key, row) in rows.iter() {
+        writeln!(lines, "{key:?}: {row:?}")?;
     }
+    let _known = client.abandon(store)?;
+    Ok(())
 }
 
-/// A whole payment in one step, which is never backed up. The answer is the number of its commit.
-fn pay_alone(
+/// What is refused says why, and leaves the transaction as it was.
+fn refusals(
     alloc: Global,
-    store: &mut Core<Global>,
-    session: usize,
-    number: u64,
-    amount: i64,
-) -> Result<u64, Fault> {
-    let payment = vec![in alloc;
-        Op::Add {
-            table: ACCOUNTS,
-            key: ACCOUNT,
-            amount,
-        },
-    ]?;
-    let (tn, _answers) = store.run_alone(session, number, payment)?;
-    Ok(tn)
-}
-
-/// Folds the settled beginning of the log, as a service does every so often. What was paid stays.
-fn shorten(store: &mut Core<Global>, lines: &mut String) -> Result<(), Fault> {
-    let folded = store.checkpoint()?;
-    let standing = store.log().len();
-    writeln!(
-        lines,
-        "{folded} rows are folded, {standing} stand in the log"
-    )
-    .or(Err(Fault::Memory))
-}
-
-fn tell(lines: &mut String, session: usize, committed: Option<u64>) -> Result<(), Fault> {
-    let told = match committed {
-        Some(number) => writeln!(lines, "session {session} commits as {number}"),
-        None => writeln!(lines, "session {session} is backed up"),
-    };
-    told.or(Err(Fault::Memory))
+    client: &mut One,
+    store: &mut Store,
+    lines: &mut String,
+) -> Result<(), Fault> {
+    let none = client.commit(store).err();
+    client.begin(store)?;
+    let twice = client.begin(store).err();
+    let name = Key::Text(Text::new(alloc, "seven")?);
+    let kind = client.get(store, ACCOUNTS, name).err();
+    let (lower, upper) = (Some(Key::Num(7)), Some(Key::Num(1)));
+    let empty = client.scan(store, ACCOUNTS, lower, upper).err();
+    let table = client.get(store, 1, Key::Num(7)).err();
+    let _known = client.abandon(store)?;
+    client.close(store)?;
+    let closed = client.begin(store).err();
+    let missing = Client::new(alloc, 3).begin(store).err();
+    let all = [none, twice, kind, empty, table, closed, missing];
+    for fault in all.into_iter().flatten() {
+        writeln!(lines, "{fault}")?;
+    }
+    Ok(())
 }
