@@ -1,0 +1,121 @@
+-- Each event keeps what stands behind the lock, with what it stores and counts.
+use Rattle.std.proofs.Common.{◌≡◌, ℕ, ◌+◌, Bool, true, false, ◌&&◌, map, Option, None, Some, Result, Err, refl, sym, ap, subst, ◌∙◌, arith}
+use Rattle.occ_types.specs.declared.fault.Fault.{Fault}
+use Rattle.occ_types.specs.declared.fault.Fault.TheVariants.{WrongCase}
+use Rattle.occ_model.specs.Event.{Event, Decide, Finish, BackUp, Reply, Entered, Closed, Decided, Finished, BackedUp, RanAlone}
+use Rattle.occ_model.specs.World.{World, next_place}
+use Rattle.occ_model.specs.Refusal.{refusal}
+use Rattle.occ_model.specs.Step.{Step}
+use Rattle.occ_model.specs.Poll.{row_numbered}
+use Rattle.occ_model.specs.Invariant.{Invariant}
+use Rattle.occ_model.specs.EndLaws.{session_of}
+use Rattle.occ_model.specs.declared.verdict.Verdict.{Verdict}
+use Rattle.occ_model.specs.declared.verdict.Cause.{Cause}
+use Rattle.occ_model.proofs.InSchema.{same_settings}
+use Rattle.occ_board.specs.declared.words.Words.{Words}
+use Rattle.occ_board.specs.Rule.{Posted}
+use Rattle.occ_sets.specs.PlainSets.{answer_of}
+use Rattle.occ_core.specs.Replies.{replied, outcome_of}
+use Rattle.occ_core.specs.declared.outcomes.Outcome as code_outcome
+use Rattle.occ_core.specs.declared.outcomes.Outcome.TheVariants as outcomes
+use Rattle.occ_filed.specs.Filed.{Filed, Moves, DecidesBy, token_of, has_index}
+use Rattle.occ_published.specs.Published.{Published, NumbersFit, may_end, ends, CommitMayBeStored, BackUpMayBeStored}
+use Rattle.occ_published.proofs.Stored.{stays_published, commits_are_stored, back_ups_are_stored, serial_back_ups_are_stored}
+use Rattle.occ_store.specs.Names.{Named}
+use Rattle.occ_store.specs.Locked.{IsLocked, next_over, stored, told, cause_told, MayCommit, MayStore}
+use Rattle.occ_store.proofs.RowsCome.{rows_by, rows_come}
+use Rattle.occ_store.proofs.CausesTold.{may_tell}
+
+and_false : (b : Bool) → (b && false) ≡ false
+and_false true = refl
+and_false false = refl
+
+module _ (named : Named) where
+  -- over a step, with what is shown of it and counted
+  pub over_step : (old new : Filed) (before after : Posted) (rows count : ℕ) (event : Event) (reply : Reply) → Step old.world event reply new.world → new.file ≡ old.file
+      → after.board ≡ before.board → Published new.world after.words → count ≡ rows + rows_by event reply → IsLocked named old before rows → IsLocked named new after count
+  over_step old new before after rows count event reply step file board shown counts was =
+      let come = rows_come old.world new.world event reply step in
+      let counted = was.counted in
+      record {
+        published = shown;
+        settings = same_settings old.world new.world event reply step ∙ was.settings;
+        file = file ∙ was.file;
+        board = board ∙ was.board;
+        counted = omega arith;
+      }
+
+  -- over an event that ends nothing and brings no row
+  pub between : (old new : Filed) (posted : Posted) (rows : ℕ) (event : Event) (reply : Reply) → Invariant old.world → ends event reply ≡ false → rows_by event reply ≡ 0
+      → Step old.world event reply new.world → new.file ≡ old.file → IsLocked named old posted rows → IsLocked named new posted rows
+  between old new posted rows event reply inv none few step file was =
+      over_step old new posted posted rows rows event reply step file refl (stays_published old.world new.world posted.words event reply inv step none was.published) (omega arith) was
+
+  -- over an event that ends a transaction and brings no row
+  pub over_end : (old new : Filed) (before after : Posted) (rows : ℕ) (event : Event) (reply : Reply) → rows_by event reply ≡ 0 → Step old.world event reply new.world → new.file ≡ old.file
+      → after.board ≡ before.board → Published new.world after.words → IsLocked named old before rows → IsLocked named new after rows
+  over_end old new before after rows event reply few step file board shown was = over_step old new before after rows rows event reply step file board shown (omega arith) was
+
+  -- over a decision by a verdict on a judged case
+  pub over_judged : (old new : Filed) (posted : Posted) (rows session index : ℕ) (result : Result Verdict Fault) → Invariant old.world → DecidesBy old session index result new
+      → IsLocked named old posted rows → IsLocked named new posted rows
+  over_judged old new posted rows session index result inv decides was = go (refusal old.world (Decide session)) decides
+    where
+      still : new ≡ old → IsLocked named new posted rows
+      still same = subst (λ f. IsLocked named f posted rows) (sym same) was
+
+      by : (own : Bool) → (elim own as (λ _. Type 0) [ true ↦ Moves old (Decide session) (replied Decided result) new | false ↦ (result ≡ Err WrongCase) × (new ≡ old) ]) → IsLocked named new posted rows
+      by true moves = between old new posted rows (Decide session) (replied Decided result) inv refl refl moves.0 (ap (λ f. f.file) moves.1) was
+      by false wrong = still wrong.1
+
+      go : (r : Option Fault)
+          → (elim r as (λ _. Type 0) [
+            | Some fault ↦ (result ≡ Err fault) × (new ≡ old)
+            | None ↦ elim (has_index (token_of old.tokens session) index) as (λ _. Type 0) [ true ↦ Moves old (Decide session) (replied Decided result) new | false ↦ (result ≡ Err WrongCase) × (new ≡ old) ]
+          ]) → IsLocked named new posted rows
+      go (Some fault) d = still d.1
+      go None d = by (has_index (token_of old.tokens session) index) d
+
+-- what a publisher shows that stored this
+pub shown_after : (world : World) (before after : Posted) (words : Words) → after ≡ record before { words = words } → Published world words → Published world after.words
+shown_after world before after words is shown = subst (Published world) (sym (ap (λ (p : Posted). p.words) is)) shown
+
+-- a commit is stored
+pub may_commit : (words : Words) (session tn : ℕ) (new : World) → CommitMayBeStored words session (next_over words session) tn new → MayCommit words session tn
+may_commit words session tn new may = record { next = record { has = may.has; fits = may.number_fits }; rises = may.counter_rises; fits = may.counter_fits }
+
+-- the ledger's total with the rows that came
+pub entered_counts : (old new : World) (rows : ℕ) (event : Event) (reply : Reply) → rows ≡ next_place old → Step old event reply new → rows + rows_by event reply ≡ next_place new
+entered_counts old new rows event reply counted step = let come = rows_come old new event reply step in omega arith
+
+-- what came of an entry or of a serial end is stored
+module _ {Z : Type 0} where
+  pub outcome_stored : (old new : World) (words : Words) (event : Event) (session : ℕ) (outcome : code_outcome.Outcome Z) → Invariant old → Step old event (outcome_of outcome) new
+      → session_of event ≡ Some session → NumbersFit new → Published old words → MayStore words session (outcome_of outcome) × Published new (stored words session (outcome_of outcome))
+  outcome_stored old new words event session (outcomes.Entered place) inv step of room was =
+      (tt, stays_published old new words event (Entered place place) inv step (and_false (may_end event)) was)
+  outcome_stored old new words event session (outcomes.Committed tn) inv step of room was =
+      let may = commits_are_stored old new words event (Finished tn) session tn inv step of refl room was (next_over words session) refl in
+      (may_commit words session tn new may, may.published)
+  outcome_stored old new words event session (outcomes.BackedUp cause) inv step of room was =
+      let may = serial_back_ups_are_stored old new words event session cause inv step of room was (next_over words session) refl in
+      (record { has = may.0.has; fits = may.0.number_fits }, may.0.published cause may.1)
+  outcome_stored old new words event session (outcomes.RanAlone tn answers) inv step of room was =
+      let may = commits_are_stored old new words event (RanAlone tn (map answer_of answers.items)) session tn inv step of refl room was (next_over words session) refl in
+      (may_commit words session tn new may, may.published)
+  outcome_stored old new words event session outcomes.MarkedClosed inv step of room was =
+      (tt, stays_published old new words event Closed inv step (and_false (may_end event)) was)
+
+-- a finish is stored
+pub finish_stored : (old new : World) (words : Words) (session tn : ℕ) → Invariant old → Step old (Finish session) (Finished tn) new → NumbersFit new → Published old words
+    → MayCommit words session tn × Published new (stored words session (Finished tn))
+finish_stored old new words session tn inv step room was =
+    let may = commits_are_stored old new words (Finish session) (Finished tn) session tn inv step refl refl room was (next_over words session) refl in
+    (may_commit words session tn new may, may.published)
+
+-- a back-up may be stored, and is, with the cause that it tells
+pub back_up_stored : (old new : World) (words : Words) (session number : ℕ) (kept : Cause) → Invariant old → Step old (BackUp session) (BackedUp number) new → NumbersFit new → Published old words
+    → BackUpMayBeStored words session number new × Published new (told words session kept new (BackedUp number))
+back_up_stored old new words session number kept inv step room was =
+    let may = back_ups_are_stored old new words (BackUp session) session number inv step refl room was in
+    (may, may.published (cause_told kept (row_numbered session number new.log)) (may_tell old new session number kept inv step))

@@ -1,0 +1,11 @@
+pub mod RowsCome
+pub mod CausesTold
+pub mod Keeping
+pub mod LaneSteps
+pub mod Happening
+pub mod PartsMade
+pub mod BooksAudited
+pub mod Points
+pub mod Rounds
+pub mod Submittable
+pub mod Working

@@ -1,0 +1,11 @@
+use Rattle.std.proofs.Common.{◌≡◌, Some}
+use Rattle.occ_store.specs.Lanes.{number_left}
+use Rattle.occ_store.specs.Serving.{IsSame}
+use Rattle.occ_store.proofs.lanes.Lane.carry_on.Given as goal
+
+-- the same lane, which has taken nothing, and still has to do what it began with
+abbrev pub invariant-loop : goal.invariant-loop
+invariant-loop g l = record {
+  same : IsSame l.fn.self l.self;
+  left : number_left l.self.left ≡ Some l.number;
+}

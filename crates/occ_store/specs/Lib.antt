@@ -1,0 +1,10 @@
+pub mod Ended
+pub mod Frames
+pub mod Lanes
+pub mod Laws
+pub mod Locked
+pub mod Names
+pub mod Serving
+pub mod Sessions
+pub mod Transactions
+pub mod Workers

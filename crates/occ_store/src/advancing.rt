@@ -1,0 +1,272 @@
+//! One event of a lane, on the locked state.
+ghost use Rattle.std.specs.Prelude.{◌≡◌, ◌+◌, ◌^◌, ◌<◌, ◌≤◌, ℕ, None, IfSome, IfErr, OnOk, is_some};
+ghost use Rattle.boxcar.specs.Table.{Shows};
+ghost use Rattle.occ_model.specs.Event.{Item as PlainItem, WriteOne, Finish};
+ghost use Rattle.occ_model.specs.declared.verdict.Verdict.TheVariants.{Commit, BackUp};
+ghost use Rattle.occ_core.specs.Replies.{replied_back, outcome_of, next_object};
+ghost use Rattle.occ_queue.specs.Items.{item_of, number_of};
+ghost use Rattle.occ_store.specs.Locked.{world_of, rows_entered};
+ghost use Rattle.occ_store.specs.Lanes.{Nothing, Kept, Open, Decided, left_of, token_left, open_rows, ends_serially, point_of, left_entering, Ends, TakesIn, DecidesAs, GoesOn, Advances};
+
+use crate::lanes::Lane;
+use crate::names::Name;
+use crate::publishing::rows_in;
+use crate::serving::Point;
+use crate::shared::Shared;
+use crate::unfinished::Left;
+use occ_case::{CaseToken, Cause, Judged, Verdict};
+use occ_core::Outcome;
+use occ_queue::Item;
+use occ_types::{Fault, Refused};
+use std::alloc::Allocator;
+use std::sync::Wait;
+use std::sync::ledger::Share;
+
+impl<N: Name, A: Allocator + Copy> Lane<N, A> {
+    /// One event for what it has left, on the locked state, with its publishing: a kept item enters; else a row that is not decided is
+    /// decided, by the verdict that is handed in or now; else a row that is decided to commit does its next single write, or finishes;
+    /// else one that is to be backed up is. It answers the point that this reached. Refused with `NothingEntered` where nothing is left,
+    /// with `WrongCase` where the verdict that is handed in is on another case, and as the core refuses the event; what is left stays
+    /// then. A verdict that is handed in is of no use to another event than a decision.
+    pub fn advance<R: Wait>(
+        &mut self,
+        rt: &R,
+        shared: &mut Shared<N, A>,
+        judged: Option<Judged<A>>,
+    ) -> Result<Point, Fault>
+        requires own_file { IfSome judged (Shows N.named.file) }
+        ensures { Advances self.old judged shared.old result self.new shared.new }
+    {
+        match std::mem::replace(&mut self.left, Left::Nothing) {
+            Left::Nothing => Err(Fault::NothingEntered),
+            Left::Kept(item) => self.enter(rt, shared, item),
+            Left::Open { number, token } => self.decide(shared, number, token, judged),
+            Left::Decided { number, verdict } => match verdict {
+                Verdict::Commit => self.write_or_finish(shared, number),
+                Verdict::BackUp(cause) => self.back_up(shared, number, cause),
+            },
+        }
+    }
+
+    // A kept item enters, or ends serially.
+    fn enter<R: Wait>(
+        &mut self,
+        rt: &R,
+        shared: &mut Shared<N, A>,
+        item: Item<A>,
+    ) -> Result<Point, Fault>
+        requires taken { self.old.left ≡ Nothing }
+        ensures { GoesOn (Kept (item_of item)) self.old None shared.old result self.new shared.new }
+    {
+        let number = item.number();
+        let session = self.session;
+        let policy = (self.files, self.serial);
+        match take_in(rt, shared, session, item, &mut self.share, policy) {
+            Ok(outcome) => {
+                self.entered += rows_in(&outcome);
+                let token = shared.token(session);
+                self.keep(left_by(&outcome, number, token));
+                Ok(point_by(outcome))
+            }
+            Err(refused) => {
+                self.keep(Left::Kept(refused.value));
+                Err(refused.fault)
+            }
+        }
+    }
+
+    // A row is decided.
+    fn decide(
+        &mut self,
+        shared: &mut Shared<N, A>,
+        number: u64,
+        token: Option<CaseToken<A>>,
+        judged: Option<Judged<A>>,
+    ) -> Result<Point, Fault>
+        requires taken { self.old.left ≡ Nothing }
+        requires own_token { IfSome token (Shows N.named.file) }
+        requires own_file { IfSome judged (Shows N.named.file) }
+        requires one_more { self.old.judged < self.old.entered }
+        ensures { GoesOn (Open number token) self.old judged shared.old result self.new shared.new }
+    {
+        let more = match judged {
+            None => 0,
+            Some(_) => 1,
+        };
+        match decide_as(shared, self.session, judged) {
+            Ok(verdict) => {
+                self.judged += more;
+                self.left = Left::Decided { number, verdict };
+                Ok(Point::Decided)
+            }
+            Err(fault) => {
+                self.left = Left::Open { number, token };
+                Err(fault)
+            }
+        }
+    }
+
+    // A row that is decided to commit does its next single write, or finishes.
+    fn write_or_finish(&mut self, shared: &mut Shared<N, A>, number: u64) -> Result<Point, Fault>
+        requires taken { self.old.left ≡ Nothing }
+        ensures { GoesOn (Decided number Commit) self.old None shared.old result self.new shared.new }
+    {
+        if writes_left(shared, self.session) {
+            self.write(shared, number)
+        } else {
+            self.finish(shared, number)
+        }
+    }
+
+    // It does its next single write.
+    fn write(&mut self, shared: &mut Shared<N, A>, number: u64) -> Result<Point, Fault>
+        requires taken { self.old.left ≡ Nothing }
+        ensures { Ends (WriteOne self.old.session) number self.old shared.old result self.new shared.new }
+    {
+        let wrote = shared.write_one(self.session);
+        self.keep(committing(number));
+        match wrote {
+            Ok(_write) => Ok(Point::Wrote),
+            Err(fault) => Err(fault),
+        }
+    }
+
+    // It finishes.
+    fn finish(&mut self, shared: &mut Shared<N, A>, number: u64) -> Result<Point, Fault>
+        requires taken { self.old.left ≡ Nothing }
+        ensures { Ends (Finish self.old.session) number self.old shared.old result self.new shared.new }
+    {
+        match shared.finish(self.session) {
+            Ok(_tn) => Ok(Point::Settled),
+            Err(fault) => {
+                self.keep(committing(number));
+                Err(fault)
+            }
+        }
+    }
+
+    // A row that was decided to be backed up is, for the cause that was kept.
+    fn back_up(
+        &mut self,
+        shared: &mut Shared<N, A>,
+        number: u64,
+        cause: Cause,
+    ) -> Result<Point, Fault>
+        requires taken { self.old.left ≡ Nothing }
+        ensures { GoesOn (Decided number (BackUp cause)) self.old None shared.old result self.new shared.new }
+    {
+        match shared.back_up(self.session, cause) {
+            Ok(_number) => Ok(Point::Settled),
+            Err(fault) => {
+                let verdict = Verdict::BackUp(cause);
+                self.keep(Left::Decided { number, verdict });
+                Err(fault)
+            }
+        }
+    }
+
+    // This is left of it from now on.
+    fn keep(&mut self, left: Left<A>)
+        requires own { IfSome (token_left (left_of left)) (Shows N.named.file) }
+        requires room { self.old.judged + open_rows (left_of left) ≤ self.old.entered }
+        ensures { self.new ≡ record self.old { left = left_of left } }
+    {
+        self.left = left;
+    }
+}
+
+// An item enters under the policy of its lane: whether its case is filed, and whether a request ends serially where no row is active.
+fn take_in<N: Name, A: Allocator + Copy, R: Wait>(
+    rt: &R,
+    shared: &mut Shared<N, A>,
+    session: usize,
+    item: Item<A>,
+    share: &mut Share<N>,
+    policy: (bool, bool),
+) -> Result<Outcome<A>, Refused<Item<A>>>
+    requires part { 0 < share.old.parts }
+    ensures step { TakesIn session policy.0 policy.1 (item_of item) shared.old (replied_back outcome_of result) shared.new }
+    ensures handed_back { IfErr result (λ refused. item_of refused.value ≡ item_of item) }
+    ensures counted { share.new.amount ≡ share.old.amount + rows_entered (replied_back outcome_of result) }
+    ensures bound { OnOk result (share.new.amount < 2 ^ 64) }
+    ensures parts { share.new.parts ≡ share.old.parts }
+{
+    let (files, serial) = policy;
+    if ends_serially(shared, serial, &item) {
+        return shared.serial_end(session, item, share);
+    }
+    if files {
+        return shared.enter(rt, session, item, share);
+    }
+    shared.enter_unfiled(session, item, share)
+}
+
+// Whether an item ends serially.
+fn ends_serially<N: Name, A: Allocator>(shared: &Shared<N, A>, serial: bool, item: &Item<A>) -> bool
+    ensures { result ≡ ends_serially (world_of shared.now) serial (item_of item.now) }
+{
+    if !serial {
+        return false;
+    }
+    match item {
+        Item::Request { .. } => shared.core().active() == 0,
+        Item::Alone { .. } | Item::Close { .. } => false,
+    }
+}
+
+// A decision, by the verdict of a judged case where there is one.
+fn decide_as<N: Name, A: Allocator>(
+    shared: &mut Shared<N, A>,
+    session: usize,
+    judged: Option<Judged<A>>,
+) -> Result<Verdict, Fault>
+    requires own_file { IfSome judged (Shows N.named.file) }
+    ensures { DecidesAs session judged shared.old result shared.new }
+{
+    match judged {
+        None => shared.decide(session),
+        Some(judged) => shared.decide_by(session, judged),
+    }
+}
+
+// Whether a row of the session that is decided to commit has writes to do.
+fn writes_left<N: Name, A: Allocator + Copy>(shared: &Shared<N, A>, session: usize) -> bool
+    ensures { result ≡ is_some (next_object (world_of shared.now) session) }
+{
+    shared.core().next_write(session).is_some()
+}
+
+// A row that is decided to commit.
+fn committing<A: Allocator>(number: u64) -> Left<A>
+    ensures { left_of result ≡ Decided number Commit }
+{
+    Left::Decided {
+        number,
+        verdict: Verdict::Commit,
+    }
+}
+
+// What is left of an item with this number by what came of it; the row of a request has this token.
+fn left_by<A: Allocator>(outcome: &Outcome<A>, number: u64, token: Option<CaseToken<A>>) -> Left<A>
+    ensures { (item : PlainItem) → number ≡ number_of item → left_of result ≡ left_entering item token (outcome_of outcome.now) }
+{
+    match outcome {
+        Outcome::Entered { .. } => Left::Open { number, token },
+        Outcome::Committed { .. }
+        | Outcome::BackedUp(_)
+        | Outcome::RanAlone { .. }
+        | Outcome::MarkedClosed => Left::Nothing,
+    }
+}
+
+// The point that what was handed in reached by what came of it.
+fn point_by<A: Allocator>(outcome: Outcome<A>) -> Point
+    ensures { result ≡ point_of (outcome_of outcome) }
+{
+    match outcome {
+        Outcome::Entered { .. } | Outcome::MarkedClosed => Point::Entered,
+        Outcome::Committed { .. } | Outcome::BackedUp(_) | Outcome::RanAlone { .. } => {
+            Point::Settled
+        }
+    }
+}

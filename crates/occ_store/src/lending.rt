@@ -1,0 +1,43 @@
+//! The locked state is a store that an open transaction asks.
+ghost use Rattle.std.specs.Prelude.{◌≡◌};
+
+use crate::names::Name;
+use crate::shared::Shared;
+use occ_client::Readable;
+use occ_types::{Fault, Key, Row, Schema};
+use std::alloc::Allocator;
+
+impl<N: Name, A: Allocator + Copy> Readable<A> for Shared<N, A> {
+    ghost world = { λ shared. shared.filed.world };
+
+    fn schema(&self) -> &Schema<A> {
+        self.core().schema()
+    }
+
+    fn read(
+        &mut self,
+        session: usize,
+        number: u64,
+        start: u64,
+        table: usize,
+        key: &Key<A>,
+    ) -> Result<Option<Row<A>>, Fault> {
+        self.read(session, number, start, table, key)
+    }
+
+    fn scan(
+        &mut self,
+        session: usize,
+        number: u64,
+        start: u64,
+        table: usize,
+        lower: &Option<Key<A>>,
+        upper: &Option<Key<A>>,
+    ) -> Result<Vec<(Key<A>, Row<A>), A>, Fault> {
+        self.scan(session, number, start, table, lower, upper)
+    }
+
+    fn forget(&mut self, session: usize, number: u64) -> Result<bool, Fault> {
+        self.forget(session, number)
+    }
+}

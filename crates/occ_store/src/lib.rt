@@ -1,0 +1,43 @@
+//! The store: sessions, lanes and validators in threads, round one locked core.
+//!
+//! A program makes a `Frame`, names it and opens it: it gets the `Store`, which threads share, a `Session` for each client and a `Lane`
+//! for what each session hands in. Each holding of the store's lock is one event, and between any two of them the log is in order,
+//! serial replay explains it, and the board shows each session's last transaction that is over.
+#![tactic(auto)]
+
+mod advancing;
+mod ended;
+mod events;
+mod frames;
+mod lanes;
+pub mod laws;
+mod leases;
+mod lending;
+mod names;
+mod operations;
+mod parts;
+mod publishing;
+mod schemas;
+mod serving;
+mod session_reads;
+mod session_turns;
+mod sessions;
+mod shared;
+mod stores;
+mod transactions;
+mod unfinished;
+mod validators;
+mod workers;
+
+pub use ended::Ended;
+pub use frames::Frame;
+pub use lanes::Lane;
+pub use leases::Lease;
+pub use names::Name;
+pub use serving::{AlwaysGo, Gate, Pace, Point, Served};
+pub use sessions::Session;
+pub use shared::Shared;
+pub use stores::Store;
+pub use transactions::{Body, Transaction};
+pub use validators::{Group, run_validators};
+pub use workers::Worker;

@@ -1,0 +1,176 @@
+//! A list of operations as the body of a transaction.
+ghost use Rattle.std.specs.Prelude.{◌≡◌, IfOk, IsOkUnless};
+ghost use Rattle.std.specs.Option.{option_copied};
+ghost use Rattle.occ_types.specs.declared.fault.Fault.TheVariants.{Memory};
+ghost use Rattle.occ_types.specs.PlainData.{end_of};
+ghost use Rattle.occ_model.specs.Operations.{number_in};
+ghost use Rattle.occ_model.specs.State.{Found};
+ghost use Rattle.occ_sets.specs.Operations.{op_of, ops_of};
+
+use crate::names::Name;
+use crate::stores::Store;
+use crate::transactions::{Body, Transaction};
+use occ_sets::Op;
+use occ_types::{Cell, Fault, Key, Row};
+use std::alloc::{AllocError, Allocator};
+use std::sync::Wait;
+
+/// The body that performs a list of operations, one after another, and drops what they read.
+#[derive(Drop)]
+pub(crate) struct Operations<'o, A: Allocator> {
+    pub(crate) list: &'o [Op<A>],
+}
+
+impl<N: Name, A: Allocator + Copy, R: Wait> Body<N, A, R> for Operations<'_, A> {
+    fn run(
+        &mut self,
+        rt: &R,
+        store: &Store<N, A>,
+        transaction: &mut Transaction<N, A>,
+    ) -> Result<(), Fault> {
+        for operation in self.list {
+            perform(rt, store, transaction, operation)?;
+        }
+        Ok(())
+    }
+}
+
+// Performs one operation.
+fn perform<N: Name, A: Allocator + Copy, R: Wait>(
+    rt: &R,
+    store: &Store<N, A>,
+    transaction: &mut Transaction<N, A>,
+    operation: &Op<A>,
+) -> Result<(), Fault> {
+    match operation {
+        Op::Get { table, key } => {
+            let _row = transaction.get(rt, store, *table, key.clone()?)?;
+            Ok(())
+        }
+        Op::Scan {
+            table,
+            lower,
+            upper,
+        } => {
+            let _rows = transaction.scan(
+                rt,
+                store,
+                *table,
+                copied_end(lower)?,
+                copied_end(upper)?,
+            )?;
+            Ok(())
+        }
+        Op::Put { table, key, row } => put(transaction, *table, key, row.clone()?),
+        Op::Delete { table, key } => delete(transaction, *table, key),
+        Op::Add { table, key, amount } => add(rt, store, transaction, *table, key, *amount),
+    }
+}
+
+// Writes a row under a copy of a key.
+fn put<N: Name, A: Allocator + Copy>(
+    transaction: &mut Transaction<N, A>,
+    table: usize,
+    key: &Key<A>,
+    row: Row<A>,
+) -> Result<(), Fault> {
+    transaction.put(table, key.clone()?, row)?;
+    Ok(())
+}
+
+// Deletes the row under a copy of a key.
+fn delete<N: Name, A: Allocator + Copy>(
+    transaction: &mut Transaction<N, A>,
+    table: usize,
+    key: &Key<A>,
+) -> Result<(), Fault> {
+    transaction.delete(table, key.clone()?)?;
+    Ok(())
+}
+
+// Adds to the number in the row under a key. A sum beyond the ends of 64 bits is held at the end.
+fn add<N: Name, A: Allocator + Copy, R: Wait>(
+    rt: &R,
+    store: &Store<N, A>,
+    transaction: &mut Transaction<N, A>,
+    table: usize,
+    key: &Key<A>,
+    amount: i64,
+) -> Result<(), Fault> {
+    let row = transaction.get(rt, store, table, key.clone()?)?;
+    let sum = number_in(&row).saturating_add(amount);
+    put(transaction, table, key, Row::from(sum))
+}
+
+// The whole number in a row of one cell, and 0 where there is no row.
+fn number_in<A: Allocator>(row: &Option<Row<A>>) -> i64
+    ensures { result ≡ number_in (Found row.now) }
+{
+    let Some(row) = row else {
+        return 0;
+    };
+    match (row.cell(0), row.len()) {
+        (Some(Cell::Int(number)), 1) => *number,
+        _ => 0,
+    }
+}
+
+/// Copies of some operations. Refused with `Memory` where there is none for them.
+pub(crate) fn copied<A: Allocator + Copy>(
+    alloc: A,
+    operations: &[Op<A>],
+) -> Result<Vec<Op<A>, A>, Fault>
+    ensures same { IfOk result (λ copies. ops_of copies.items ≡ ops_of operations.now) }
+    ensures memory { IsOkUnless result Memory }
+{
+    let mut copies = Vec::with_capacity(alloc, operations.len())?;
+    for operation in operations {
+        copies.push(copied_operation(operation)?)?;
+    }
+    Ok(copies)
+}
+
+// A copy of an operation.
+fn copied_operation<A: Allocator>(operation: &Op<A>) -> Result<Op<A>, AllocError>
+    ensures { IfOk result (λ copy. op_of copy ≡ op_of operation.now) }
+{
+    match operation {
+        Op::Get { table, key } => Ok(Op::Get {
+            table: *table,
+            key: key.clone()?,
+        }),
+        Op::Scan {
+            table,
+            lower,
+            upper,
+        } => Ok(Op::Scan {
+            table: *table,
+            lower: copied_end(lower)?,
+            upper: copied_end(upper)?,
+        }),
+        Op::Put { table, key, row } => Ok(Op::Put {
+            table: *table,
+            key: key.clone()?,
+            row: row.clone()?,
+        }),
+        Op::Delete { table, key } => Ok(Op::Delete {
+            table: *table,
+            key: key.clone()?,
+        }),
+        Op::Add { table, key, amount } => Ok(Op::Add {
+            table: *table,
+            key: key.clone()?,
+            amount: *amount,
+        }),
+    }
+}
+
+// A copy of an end of a range.
+fn copied_end<A: Allocator>(end: &Option<Key<A>>) -> Result<Option<Key<A>>, AllocError>
+    ensures { IfOk result (λ copy. end_of copy ≡ end_of end.now) }
+{
+    match end {
+        None => Ok(None),
+        Some(key) => Ok(Some(key.clone()?)),
+    }
+}

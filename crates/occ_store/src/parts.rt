@@ -1,0 +1,25 @@
+//! What a store has for each session, before it has a name.
+use occ_board::Seat;
+use occ_queue::{Receiver, Sender};
+use occ_types::Schema;
+use std::alloc::Allocator;
+use std::marker::Model;
+use std::sync::Arc;
+
+/// What becomes of one session and its lane: the seat at the board, the two ends of the queue, and a handle of the tables.
+#[derive(Drop)]
+pub(crate) struct Part<A: Allocator> {
+    pub(crate) seat: Seat<A>,
+    pub(crate) sender: Sender<A>,
+    pub(crate) receiver: Receiver<A>,
+    pub(crate) schema: Arc<Schema<A>, A>,
+}
+
+impl<A: Allocator> Model for Part<A> {
+    ghost use Rattle.std.specs.Arc.{arc_value};
+    ghost use Rattle.occ_store.specs.Frames.{PartView};
+
+    ghost Value = { PartView };
+
+    ghost view = { λ p. record { seat = p.seat; sender = p.sender; receiver = p.receiver; schema = arc_value p.schema } };
+}

@@ -1,0 +1,133 @@
+//! What a session writes and reads in its open transaction.
+ghost use Rattle.std.specs.Prelude.{◌≡◌, None, Some, IfErr, OnOk, OnErr, MatchResult};
+ghost use Rattle.occ_types.specs.PlainData.{key_of, end_of};
+ghost use Rattle.occ_types.specs.Question.{Span};
+ghost use Rattle.occ_client.specs.Replies.{reading, scanning, forgetting};
+ghost use Rattle.occ_client.specs.Transactions.{IsRefusedBy, write_fault, written, WantsRoom, WantsOwn, Gets, WantsRange, Scans, Abandons, open_after, OrStarves};
+ghost use Rattle.occ_store.specs.Locked.{world_of};
+ghost use Rattle.occ_store.specs.Sessions.{InOneHolding};
+
+use crate::names::Name;
+use crate::sessions::Session;
+use crate::shared::Shared;
+use crate::stores::Store;
+use occ_sets::Write;
+use occ_types::{Fault, Key, Refused, Row};
+use std::alloc::Allocator;
+use std::sync::Wait;
+
+impl<N: Name, A: Allocator + Copy> Session<N, A> {
+    /// Writes a row under a key of a table, in the open transaction alone. Refused, the first of these that holds: with `NoReadOpen`;
+    /// with `NoTable`, `WrongKind`, `TooLong` or `WrongColumns` where the key or then the row doesn't fit; with `SetFull` where 256
+    /// other keys are written; and with `Memory` where there is none for a key that is new. The write is handed back then, and nothing
+    /// changes.
+    pub fn put(&mut self, table: usize, key: Key<A>, row: Row<A>) -> Result<(), Refused<Write<A>>>
+        ensures ok { OnOk result (self.new ≡ record self.old { draft = written self.old.draft (table, key_of key) (Some row) }) }
+        ensures err { OnErr result (self.new ≡ self.old) }
+        ensures handed_back { IfErr result (λ refused. refused.value ≡ (record { table = table; key = key }, Some row)) }
+        ensures fault { MatchResult result
+            (λ _. write_fault self.old.schema (table, key_of key) (Some row) self.old.draft ≡ None)
+            (λ refused. IsRefusedBy (write_fault self.old.schema (table, key_of key) (Some row) self.old.draft) (WantsRoom (table, key_of key) self.old.draft) refused.fault) }
+    {
+        self.open.put(&self.schema, table, key, row)
+    }
+
+    /// Deletes the row under a key of a table, which is a write also where the table has no such row. Refused as `put`.
+    pub fn delete(&mut self, table: usize, key: Key<A>) -> Result<(), Refused<Write<A>>>
+        ensures ok { OnOk result (self.new ≡ record self.old { draft = written self.old.draft (table, key_of key) None }) }
+        ensures err { OnErr result (self.new ≡ self.old) }
+        ensures handed_back { IfErr result (λ refused. refused.value ≡ (record { table = table; key = key }, None)) }
+        ensures fault { MatchResult result
+            (λ _. write_fault self.old.schema (table, key_of key) None self.old.draft ≡ None)
+            (λ refused. IsRefusedBy (write_fault self.old.schema (table, key_of key) None self.old.draft) (WantsRoom (table, key_of key) self.old.draft) refused.fault) }
+    {
+        self.open.delete(&self.schema, table, key)
+    }
+
+    /// The row under a key of a table, in the open transaction: its own write of the key, and else what the state answers, which notes
+    /// the question in the transaction's read phase. Refused, the first of these that holds: with `NoReadOpen`; with `NoTable`,
+    /// `WrongKind` or `TooLong` where the key doesn't fit; with `Memory` where there is none for a copy of an own row; and as the core
+    /// refuses a read.
+    pub fn get_in(
+        &self,
+        shared: &mut Shared<N, A>,
+        table: usize,
+        key: Key<A>,
+    ) -> Result<Option<Row<A>>, Fault>
+        ensures { OrStarves (WantsOwn (world_of shared.old).settings.schema (table, key_of key) self.now.draft) (world_of shared.old) (reading result) (world_of shared.new)
+            (Gets (world_of shared.old) self.now.session (table, key_of key) self.now.draft (reading result) (world_of shared.new)) }
+    {
+        self.open.get_in(shared, self.session, table, key)
+    }
+
+    /// The rows of a table from the lower end on and below the upper one, in the order of their keys, in the open transaction: what the
+    /// state answers to the whole range, which it notes in the transaction's read phase, with the own writes over it. Refused, the first
+    /// of these that holds: with `NoReadOpen`; with `NoTable`, `WrongKind`, `TooLong` or `EmptyRange` where the range doesn't fit; with
+    /// `Memory`; and as the core refuses a read.
+    pub fn scan_in(
+        &self,
+        shared: &mut Shared<N, A>,
+        table: usize,
+        lower: Option<Key<A>>,
+        upper: Option<Key<A>>,
+    ) -> Result<Vec<(Key<A>, Row<A>), A>, Fault>
+        ensures { OrStarves (WantsRange (world_of shared.old).settings.schema (Span table (end_of lower) (end_of upper)) self.now.draft) (world_of shared.old) (scanning result) (world_of shared.new)
+            (Scans (world_of shared.old) self.now.session (Span table (end_of lower) (end_of upper)) self.now.draft (scanning result) (world_of shared.new)) }
+    {
+        self.open.scan_in(shared, self.session, table, lower, upper)
+    }
+
+    /// The state forgets what the open transaction read, and none is open then. Its number is not spent. It answers whether anything was
+    /// read. Refused with `NoReadOpen`, and as the core refuses it; the transaction stays open then. It takes no memory.
+    pub fn abandon_in(&mut self, shared: &mut Shared<N, A>) -> Result<bool, Fault>
+        ensures step { Abandons (world_of shared.old) self.old.session self.old.draft (forgetting result) (world_of shared.new) }
+        ensures left { self.new ≡ record self.old { draft = open_after self.old.draft (forgetting result) } }
+    {
+        self.open.abandon_in(shared, self.session)
+    }
+
+    /// As `get_in`, in a holding of the lock of its own.
+    pub fn get<R: Wait>(
+        &self,
+        rt: &R,
+        store: &Store<N, A>,
+        table: usize,
+        key: Key<A>,
+    ) -> Result<Option<Row<A>>, Fault>
+        ensures { InOneHolding N.named.settings (λ old new.
+            OrStarves (WantsOwn old.settings.schema (table, key_of key) self.now.draft) old (reading result) new
+            (Gets old self.now.session (table, key_of key) self.now.draft (reading result) new)) }
+    {
+        let mut shared = store.lock(rt);
+        shared.law();
+        self.get_in(&mut shared, table, key)
+    }
+
+    /// As `scan_in`, in a holding of the lock of its own.
+    pub fn scan<R: Wait>(
+        &self,
+        rt: &R,
+        store: &Store<N, A>,
+        table: usize,
+        lower: Option<Key<A>>,
+        upper: Option<Key<A>>,
+    ) -> Result<Vec<(Key<A>, Row<A>), A>, Fault>
+        ensures { InOneHolding N.named.settings (λ old new.
+            OrStarves (WantsRange old.settings.schema (Span table (end_of lower) (end_of upper)) self.now.draft) old (scanning result) new
+            (Scans old self.now.session (Span table (end_of lower) (end_of upper)) self.now.draft (scanning result) new)) }
+    {
+        let mut shared = store.lock(rt);
+        shared.law();
+        self.scan_in(&mut shared, table, lower, upper)
+    }
+
+    /// As `abandon_in`, in a holding of the lock of its own.
+    pub fn abandon<R: Wait>(&mut self, rt: &R, store: &Store<N, A>) -> Result<bool, Fault>
+        ensures step { InOneHolding N.named.settings (λ old new. Abandons old self.old.session self.old.draft (forgetting result) new) }
+        ensures left { self.new ≡ record self.old { draft = open_after self.old.draft (forgetting result) } }
+    {
+        let mut shared = store.lock(rt);
+        shared.law();
+        self.abandon_in(&mut shared)
+    }
+}

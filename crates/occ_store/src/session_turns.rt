@@ -1,0 +1,123 @@
+//! What a worker does with its session.
+ghost use Rattle.std.specs.Prelude.{◌≡◌, None, Some, IfOk, OnErr, IsOkUnless};
+ghost use Rattle.occ_types.specs.declared.fault.Fault.TheVariants.{Memory};
+ghost use Rattle.occ_sets.specs.Operations.{ops_of};
+ghost use Rattle.occ_sets.specs.Sets.{Copied};
+ghost use Rattle.occ_client.specs.Transactions.{begun as no_writes};
+ghost use Rattle.occ_store.specs.Ended.{ended_by, IsTold};
+ghost use Rattle.occ_store.specs.Sessions.{Submits, IsNext, MayBeSubmitted};
+ghost use Rattle.occ_store.specs.declared.ended.Ended.TheVariants.{Committed};
+
+use crate::ended::Ended;
+use crate::names::Name;
+use crate::operations::copied;
+use crate::sessions::Session;
+use crate::transactions::Transaction;
+use occ_client::OpenTransaction;
+use occ_model::Verdict;
+use occ_sets::Op;
+use occ_types::Fault;
+use std::alloc::{AllocError, Allocator};
+use std::mem;
+use std::sync::{Arc, Wait};
+
+impl<N: Name, A: Allocator> Session<N, A> {
+    /// A transaction of the session, with none open. An error where the schema has too many owners to be counted.
+    pub(crate) fn transaction(&self) -> Result<Transaction<N, A>, AllocError> {
+        let schema = Arc::try_clone(&self.schema)?;
+        Ok(Transaction::new(self.session, schema))
+    }
+}
+
+impl<N: Name, A: Allocator + Copy> Session<N, A> {
+    /// Takes the open transaction out, for a body to run in it.
+    pub(crate) fn lend(&mut self) -> OpenTransaction<A>
+        ensures lent { result ≡ self.old.draft }
+        ensures left { self.new ≡ record self.old { draft = None } }
+        ensures next { MayBeSubmitted self.old.sender self.old.draft }
+    {
+        mem::replace(&mut self.open, OpenTransaction::none())
+    }
+
+    /// Takes back the transaction of a number that was lent. Where another one comes, or none, one without a write is open in its place,
+    /// and the answer is `OutOfTurn`.
+    pub(crate) fn take_back(
+        &mut self,
+        open: OpenTransaction<A>,
+        number: u64,
+        start: u64,
+    ) -> Result<(), Fault>
+        requires none { self.old.draft ≡ None }
+        requires next { IsNext self.old.sender (no_writes number start) }
+        ensures { (copy : Copied) × (copy.number ≡ number) × (self.new ≡ record self.old { draft = Some copy }) }
+    {
+        if open.number() == Some(number) {
+            self.open = open;
+            return Ok(());
+        }
+        self.open.begin(self.alloc, number, start)?;
+        Err(Fault::OutOfTurn)
+    }
+
+    /// Submits the open transaction, unless its body met a fault or another one came back.
+    pub(crate) fn submit_after<R: Wait>(
+        &mut self,
+        rt: &R,
+        ran: Result<(), Fault>,
+        came_back: Result<(), Fault>,
+    ) -> Result<u64, Fault>
+        ensures ok { IfOk result (λ number. Submits self.old number self.new) }
+        ensures err { OnErr result (self.new ≡ self.old) }
+    {
+        ran?;
+        came_back?;
+        self.submit(rt)
+    }
+
+    /// Polls until the board tells that the transaction with a number committed, and answers its transaction number.
+    pub(crate) fn committed<R: Wait>(&mut self, rt: &R, number: u64) -> u64
+        ensures told { IsTold self.new.seat.last number (Committed result) }
+        ensures same { self.new ≡ record self.old { seat = self.new.seat } }
+    {
+        for _ in rt.forever() {
+            if let Ended::Committed(tn) = self.settled(rt, number) {
+                return tn;
+            }
+        }
+        unreachable!()
+    }
+
+    /// Copies of operations, to be handed in. Refused with `Memory` where there is none for them.
+    pub(crate) fn copied(&self, operations: &[Op<A>]) -> Result<Vec<Op<A>, A>, Fault>
+        ensures same { IfOk result (λ copies. ops_of copies.items ≡ ops_of operations.now) }
+        ensures memory { IsOkUnless result Memory }
+    {
+        copied(self.alloc, operations)
+    }
+
+    /// Polls until the board tells how the transaction with a number ended. Where that is over, the first poll tells it.
+    pub(crate) fn settled<R: Wait>(&mut self, rt: &R, number: u64) -> Ended
+        ensures told { IsTold self.new.seat.last number result }
+        ensures same { self.new ≡ record self.old { seat = self.new.seat } }
+    {
+        for _ in rt.forever() {
+            let last = self.poll();
+            if last.number == number
+                && let Some(status) = last.status
+            {
+                return ended(last.tn, status);
+            }
+        }
+        unreachable!()
+    }
+}
+
+// How a transaction ended, by its verdict.
+fn ended(tn: u64, verdict: Verdict) -> Ended
+    ensures { result ≡ ended_by tn verdict }
+{
+    match verdict {
+        Verdict::Commit => Ended::Committed(tn),
+        Verdict::BackUp(cause) => Ended::BackedUp(cause),
+    }
+}

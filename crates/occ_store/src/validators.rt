@@ -1,0 +1,224 @@
+//! Threads that serve lanes, each a group of them.
+ghost use Rattle.std.specs.Prelude.{◌≡◌, ◌<◌, None, Some, Ok, length, IfOk, ℕ, map, false, get_or};
+ghost use Rattle.occ_types.specs.Schema.{first_fault};
+ghost use Rattle.occ_store.specs.Serving.{IsServed, IsOver, AreServed, AreOver, AllAreOver};
+ghost use Rattle.occ_store.specs.declared.validators.Turn.TheVariants.{Over};
+
+use crate::lanes::Lane;
+use crate::names::Name;
+use crate::serving::{Gate, Served};
+use crate::stores::Store;
+use occ_types::Fault;
+use std::alloc::{AllocError, Allocator};
+use std::sync::Wait;
+use std::thread;
+use std::thread::Threads;
+use std::time::{Clock, Duration};
+
+/// After so many rounds without work a group sleeps between two rounds.
+const PATIENCE: u64 = 1_000;
+
+/// The longest sleep between two rounds, in microseconds.
+const LONGEST_SLEEP: u64 = 1_000;
+
+/// Lanes that one thread serves in turn, and the first fault that one of them met. All of them are of one store.
+#[derive(Drop)]
+pub struct Group<N: Name, A: Allocator> {
+    /// The lanes.
+    pub lanes: Vec<Lane<N, A>, A>,
+    /// The first fault that one of them met.
+    pub fault: Option<Fault>,
+}
+
+// What came of a lane's turn.
+#[derive(Clone, Copy)]
+enum Turn {
+    // Something of it is over.
+    Moved,
+    // There is nothing to do, or it waits for others.
+    Waits,
+    // It is closed, was stopped or met a fault.
+    Over,
+}
+
+impl<N: Name, A: Allocator + Copy> Group<N, A> {
+    /// A group of these lanes, with no fault.
+    pub fn new(lanes: Vec<Lane<N, A>, A>) -> Group<N, A>
+        ensures lanes { result.lanes ≡ lanes }
+        ensures fault { result.fault ≡ None }
+    {
+        Group { lanes, fault: None }
+    }
+
+    /// Serves the lanes in turn, in this thread, until each is closed, was stopped by the gate or met a fault; the others go on
+    /// meanwhile. The fault is the first that was met, and `Memory` where there is none for a mark at each lane: no lane is served then.
+    /// Where a thousand rounds found nothing to do it sleeps between rounds, for up to a millisecond.
+    pub fn serve<R: Wait + Clock, G: Gate>(&mut self, rt: &R, store: &Store<N, A>, gate: &G)
+        ensures served { AreServed self.old.lanes.items self.new.lanes.items }
+        ensures over { self.new.fault ≡ None → AllAreOver (G.may_stop gate.now) self.new.lanes.items }
+    {
+        self.fault = None;
+        match unmarked(*self.lanes.allocator(), self.lanes.len()) {
+            Ok(mut over) => self.serve_rounds(rt, store, gate, &mut over),
+            Err(AllocError) => self.fault = Some(Fault::Memory),
+        }
+    }
+
+    // Rounds over the lanes that are not marked as over, until all are.
+    fn serve_rounds<R: Wait + Clock, G: Gate>(
+        &mut self,
+        rt: &R,
+        store: &Store<N, A>,
+        gate: &G,
+        over: &mut Vec<bool, A>,
+    )
+        requires marks { length over.old.items ≡ length self.old.lanes.items }
+        requires over { self.old.fault ≡ None → AreOver (G.may_stop gate.now) over.old.items self.old.lanes.items }
+        ensures served { AreServed self.old.lanes.items self.new.lanes.items }
+        ensures over { self.new.fault ≡ None → AllAreOver (G.may_stop gate.now) self.new.lanes.items }
+    {
+        let mut idle = 0u64;
+        for _ in rt.forever() {
+            if over.iter().all(|mark| *mark) {
+                return;
+            }
+            let moved = self.serve_round(rt, store, gate, over);
+            idle = if moved { 0 } else { idle.saturating_add(1) };
+            rest(rt, idle);
+        }
+        unreachable!()
+    }
+
+    // One turn for each lane that is not marked. Whether some lane moved.
+    fn serve_round<R: Wait, G: Gate>(
+        &mut self,
+        rt: &R,
+        store: &Store<N, A>,
+        gate: &G,
+        over: &mut Vec<bool, A>,
+    ) -> bool
+        requires marks { length over.old.items ≡ length self.old.lanes.items }
+        requires over { self.old.fault ≡ None → AreOver (G.may_stop gate.now) over.old.items self.old.lanes.items }
+        ensures marks { length over.new.items ≡ length self.new.lanes.items }
+        ensures served { AreServed self.old.lanes.items self.new.lanes.items }
+        ensures over { self.new.fault ≡ None → AreOver (G.may_stop gate.now) over.new.items self.new.lanes.items }
+    {
+        let mut moved = false;
+        for place in 0..self.lanes.len() {
+            if self.serve_place(rt, store, gate, over, place) {
+                moved = true;
+            }
+        }
+        moved
+    }
+
+    // The turn of the lane at a place, where it is not marked. Whether it moved.
+    fn serve_place<R: Wait, G: Gate>(
+        &mut self,
+        rt: &R,
+        store: &Store<N, A>,
+        gate: &G,
+        over: &mut Vec<bool, A>,
+        place: usize,
+    ) -> bool
+        requires there { place < length self.old.lanes.items }
+        requires marks { length over.old.items ≡ length self.old.lanes.items }
+        requires over { self.old.fault ≡ None → AreOver (G.may_stop gate.now) over.old.items self.old.lanes.items }
+        ensures marks { length over.new.items ≡ length self.new.lanes.items }
+        ensures served { AreServed self.old.lanes.items self.new.lanes.items }
+        ensures over { self.new.fault ≡ None → AreOver (G.may_stop gate.now) over.new.items self.new.lanes.items }
+    {
+        if over[place] {
+            return false;
+        }
+        match serve_lane(&mut self.lanes[place], &mut self.fault, rt, store, gate) {
+            Turn::Moved => true,
+            Turn::Waits => false,
+            Turn::Over => {
+                over[place] = true;
+                false
+            }
+        }
+    }
+}
+
+// A lane's turn. The first fault is kept.
+#[tactic(auto, using(crate::proofs::Rounds::served_once))]
+fn serve_lane<N: Name, A: Allocator + Copy, R: Wait, G: Gate>(
+    lane: &mut Lane<N, A>,
+    fault: &mut Option<Fault>,
+    rt: &R,
+    store: &Store<N, A>,
+    gate: &G,
+) -> Turn
+    ensures served { IsServed lane.old lane.new }
+    ensures over { result ≡ Over → fault.new ≡ None → IsOver (G.may_stop gate.now) lane.new }
+    ensures first { fault.new ≡ None → fault.old ≡ None }
+{
+    match lane.serve_one(rt, store, gate) {
+        Ok(Served::Settled(_)) => Turn::Moved,
+        Ok(Served::Idle) | Ok(Served::Busy) => Turn::Waits,
+        Ok(Served::Stopped(_)) | Ok(Served::LaneClosed) => Turn::Over,
+        Err(met) => {
+            *fault = fault.or(Some(met));
+            Turn::Over
+        }
+    }
+}
+
+// A mark for each lane, none of which is set.
+fn unmarked<A: Allocator>(alloc: A, lanes: usize) -> Result<Vec<bool, A>, AllocError>
+    ensures count { IfOk result (λ marks. length marks.items ≡ lanes) }
+    ensures none { IfOk result (λ marks. (place : ℕ) → get_or marks.items place false ≡ false) }
+{
+    let mut marks = Vec::with_capacity(alloc, lanes)?;
+    for _ in 0..lanes {
+        marks.push(false)?;
+    }
+    Ok(marks)
+}
+
+// Lets others run, after so many rounds in a row in which nothing was to be done.
+fn rest<R: Clock>(rt: &R, idle: u64) {
+    if idle >= PATIENCE {
+        thread::sleep(
+            rt,
+            Duration::from_micros((idle - PATIENCE).min(LONGEST_SLEEP)),
+        );
+    } else if idle > 0 {
+        thread::yield_now();
+    }
+}
+
+/// Serves each group in a thread of its own, as `Group::serve` does, until all lanes are closed, were stopped or met a fault. The lanes
+/// stay where they are. A thread that can't be started counts as a want of memory of its group, whose lanes are not served. The answer
+/// is the fault of the first group, in order, that met one; each group tells its own.
+pub fn run_validators<
+    N: Name + Send + Sync,
+    A: Allocator + Copy + Send + Sync,
+    G: Gate + Sync,
+    R: Threads + Wait + Clock + Sync,
+>(rt: &R, store: &Store<N, A>, groups: &mut [Group<N, A>], gate: &G) -> Option<Fault>
+    ensures { result ≡ first_fault (map (λ group. group.fault) groups.new) }
+{
+    thread::scope(thread::scope_env(), rt, |scope| {
+        for group in groups.iter_mut() {
+            // What the thread finds is written over this.
+            group.fault = Some(Fault::Memory);
+            let _ = scope.spawn(move || group.serve(rt, store, gate));
+        }
+    });
+    first_met(groups)
+}
+
+// The fault of the first group that met one.
+fn first_met<N: Name, A: Allocator>(groups: &[Group<N, A>]) -> Option<Fault>
+    ensures { result ≡ first_fault (map (λ group. group.fault) groups.now) }
+{
+    for group in groups {
+        if group.fault.is_some() {
+            return group.fault;
+        }
+    }
+    None
+}
