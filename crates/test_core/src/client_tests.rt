@@ -27,31 +27,54 @@ fn all(
     Ok(told)
 }
 
-// A transaction of a client that reads its own writes, and what is told of it.
-fn own_writes(alloc: Global, core: &mut Core<Global>) -> Result<String, Fault> {
-    let mut client = Client::new(alloc, 1);
+// Opens a transaction that writes two keys, one of them twice.
+fn write(client: &mut Client<Global>, core: &mut Core<Global>) -> Result<(), Fault> {
     client.begin(core)?;
     client.put(core, 0, 7.into(), 5.into())?;
     client.put(core, 0, 8.into(), 6.into())?;
     client.delete(core, 0, 7.into())?;
-    let (gone, own) = (
-        client.get(core, 0, 7.into())?,
-        client.get(core, 0, 8.into())?,
-    );
-    let told = all(alloc, &mut client, core)?;
-    let known = client.abandon(core)?;
+    Ok(())
+}
+
+// What it reads of these keys and of the whole table.
+fn read(
+    alloc: Global,
+    client: &mut Client<Global>,
+    core: &mut Core<Global>,
+) -> Result<String, Fault> {
+    let gone = number(client.get(core, 0, 7.into())?);
+    let own = number(client.get(core, 0, 8.into())?);
+    let told = all(alloc, client, core)?;
+    Ok(format!(in alloc; "{gone:?} {own:?} {told}")?)
+}
+
+// A transaction that writes one key and commits, and the end of the session.
+fn commit_and_close(client: &mut Client<Global>, core: &mut Core<Global>) -> Result<End, Fault> {
     client.begin(core)?;
     client.put(core, 0, 9.into(), 1.into())?;
     let end = client.commit(core)?;
     client.close(core)?;
-    let (gone, own) = (number(gone), number(own));
-    Ok(format!(in alloc; "{gone:?} {own:?} {told}{known} {end:?}")?)
+    Ok(end)
+}
+
+// A transaction that reads its own writes and is abandoned, and one that commits. What is told of both.
+fn own_writes(
+    alloc: Global,
+    client: &mut Client<Global>,
+    core: &mut Core<Global>,
+) -> Result<String, Fault> {
+    write(client, core)?;
+    let told = read(alloc, client, core)?;
+    let known = client.abandon(core)?;
+    let end = commit_and_close(client, core)?;
+    Ok(format!(in alloc; "{told}{known} {end:?}")?)
 }
 
 #[test]
 fn a_client_reads_its_own_writes(rt: HostRuntime) -> Result<(), Fail> {
     let mut core = store(rt.alloc())?;
-    let told = own_writes(rt.alloc(), &mut core)?;
+    let mut client = Client::new(rt.alloc(), 1);
+    let told = own_writes(rt.alloc(), &mut client, &mut core)?;
     assert_eq!(rt;
         told.as_str(),
         "None Some(6) Num(8) Row { cells: One(Int(6)) } true Committed { tn: 1 }"
