@@ -9,7 +9,7 @@ pub use Rattle.std.specs.Result.{result_err}
 pub use Rattle.occ_types.specs.Key.{Key}
 pub use Rattle.occ_types.specs.Question.{One, Question, Span}
 pub use Rattle.occ_types.specs.Row.{Row}
-pub use Rattle.occ_types.specs.Schema.{Schema, Table, cell_has_kind, cell_is_too_long, check_cells, check_end, check_key, check_key_in, check_question, check_row, check_row_in, fault_if, first_fault, in_table, is_empty_range, key_has_kind, key_is_too_long}
+pub use Rattle.occ_types.specs.Schema.{Schema, Table, cell_has_kind, cell_is_too_long, check_cell, check_cells, check_end, check_key, check_key_in, check_question, check_row, check_row_in, fault_if, first_fault, in_table, is_empty_range, key_has_kind, key_is_too_long}
 pub use Rattle.occ_types.specs.PlainData.{end_of, key_of, question_of}
 pub use Rattle.occ_types.specs.declared.fault.Fault.{Fault}
 pub use Rattle.occ_types.specs.declared.limits.TheConstants.{MAX_ANSWER_ROWS, MAX_COUNTER, MAX_LOG_ROWS, MAX_NUMBER, MAX_OPERATIONS, MAX_QUESTIONS, READ_AHEAD}

@@ -1,7 +1,8 @@
 -- No refusal of the store or of a client is a want of memory: that comes after all of them.
 use Rattle.std.proofs.Common.{◌≡◌, ℕ, zero, suc, ◌+◌, List, [], ◌∷◌, length, Option, Some, None, Result, Ok, Err, refl, Bool, true, false, not, ◌==◌, is_some, slice_get, nat_le, nat_lt, nat_eq, ◌||◌, ok_or}
-use Rattle.occ_cli.proofs.Common.{list_any, Fault, Key, Question, One, Span, Row, Schema, Table, fault_if, first_fault, in_table, key_has_kind, key_is_too_long, cell_has_kind, cell_is_too_long, check_key, check_key_in, check_cells, check_row, check_row_in, check_end, is_empty_range, check_question, MAX_QUESTIONS, MAX_OPERATIONS, MAX_ANSWER_ROWS, MAX_LOG_ROWS, MAX_COUNTER, MAX_NUMBER, READ_AHEAD, Write, answer, answer_size, is_open, is_active, Operation, Get, Scan, Put, Delete, Add, World, ReadPhase, due, reads_under, active_count, has_session, has_mark, has_phase, is_held, Request, Alone, Close, Event, Read, Forget, Enter, Decide, WriteOne, Finish, BackUp, SerialEnd, RunAlone, Checkpoint, refusal, row_is_open, row_is_back, has_writes_left, wrong_start, check_writes, check_number, check_operation, check_operations, refusal_of_request, refusal_of_close, refusal_of_alone, Numbered, next, is_full, Copied, is_full_for, Client, and_then, unless, client_of, copy_of, next_number, submitted, mark_of, unfit, handed_in, begin_fault, check_written, write_fault, written}
+use Rattle.occ_cli.proofs.Common.{list_any, Fault, Key, Question, One, Span, Row, Schema, Table, fault_if, first_fault, in_table, key_has_kind, key_is_too_long, cell_has_kind, cell_is_too_long, check_key, check_key_in, check_cell, check_cells, check_row, check_row_in, check_end, is_empty_range, check_question, MAX_QUESTIONS, MAX_OPERATIONS, MAX_ANSWER_ROWS, MAX_LOG_ROWS, MAX_COUNTER, MAX_NUMBER, READ_AHEAD, Write, answer, answer_size, is_open, is_active, Operation, Get, Scan, Put, Delete, Add, World, ReadPhase, due, reads_under, active_count, has_session, has_mark, has_phase, is_held, Request, Alone, Close, Event, Read, Forget, Enter, Decide, WriteOne, Finish, BackUp, SerialEnd, RunAlone, Checkpoint, refusal, row_is_open, row_is_back, has_writes_left, wrong_start, check_writes, check_number, check_operation, check_operations, refusal_of_request, refusal_of_close, refusal_of_alone, Numbered, next, is_full, Copied, is_full_for, Client, and_then, unless, client_of, copy_of, next_number, submitted, mark_of, unfit, handed_in, begin_fault, check_written, write_fault, written}
 use Rattle.occ_types.specs.Object.{Object}
+use Rattle.occ_types.specs.Row.{Cell}
 use Rattle.std.specs.FinMap as finite
 use Rattle.occ_types.specs.declared.fault.Fault.TheVariants as faults
 use Rattle.occ_types.specs.declared.kind.Kind.{Kind}
@@ -51,13 +52,13 @@ by_key_in table key = guard (not (key_has_kind table.key key)) faults.WrongKind 
 pub by_key : (schema : Schema) (place : ℕ) (key : Key) → is_want (check_key schema place key) ≡ false
 by_key schema place key = by_table schema place (λ table. check_key_in table key) (λ table. by_key_in table key)
 
+by_cell : (kind : Kind) (cell : Cell) → is_want (check_cell kind cell) ≡ false
+by_cell kind cell = guard (not (cell_has_kind kind cell)) faults.WrongKind _ refl (guard (cell_is_too_long cell) faults.TooLong [] refl refl)
+
 by_cells : (kinds : List Kind) (row : Row) → is_want (check_cells kinds row) ≡ false
 by_cells [] row = refl
 by_cells (kind ∷ kinds) [] = refl
-by_cells (kind ∷ kinds) (cell ∷ row) =
-    guard (not (cell_has_kind kind cell)) faults.WrongKind _ refl
-    (guard (cell_is_too_long cell) faults.TooLong _ refl
-    (first (check_cells kinds row) [] (by_cells kinds row) refl))
+by_cells (kind ∷ kinds) (cell ∷ row) = first (check_cell kind cell) _ (by_cell kind cell) (first (check_cells kinds row) [] (by_cells kinds row) refl)
 
 by_row_in : (table : Table) (row : Row) → is_want (check_row_in table row) ≡ false
 by_row_in table row = guard (not (nat_eq (length row) (length table.columns))) faults.WrongColumns _ refl (first (check_cells table.columns row) [] (by_cells table.columns row) refl)

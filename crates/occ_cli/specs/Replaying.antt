@@ -7,8 +7,7 @@ use Rattle.occ_types.specs.Key.{Key}
 use Rattle.occ_types.specs.Object.{Object}
 use Rattle.occ_types.specs.Question.{Question, One, Span}
 use Rattle.occ_types.specs.Row.{Row}
-use Rattle.occ_types.specs.Schema.{Schema, fault_if, first_fault, check_key}
-use Rattle.occ_types.specs.Fits.{has_name}
+use Rattle.occ_types.specs.Schema.{Schema, fault_if, first_fault, check_key, has_name}
 use Rattle.occ_types.specs.declared.fault.Fault.{Fault}
 use Rattle.occ_types.specs.declared.limits.TheConstants.{MAX_OPERATIONS}
 use Rattle.occ_types.specs.declared.fault.Fault.TheVariants as faults

@@ -25,7 +25,7 @@ pub use Rattle.occ_types.specs.Object.{Object, object_cmp, object_cmp-IsAntisymm
 pub use Rattle.occ_types.specs.PlainData.{key_of, object_of, question_of, table_asked, table_of, tables_of}
 pub use Rattle.occ_types.specs.Question.{One, Question, Span}
 pub use Rattle.occ_types.specs.Row.{Cell, Row}
-pub use Rattle.occ_types.specs.Schema.{Schema, Table, are_tables, cell_is_too_long, check_cells, check_end, check_key, check_key_in, check_question, check_row, check_row_in, check_tables, fault_if, first_fault, in_table, is_name, part_is_too_long}
+pub use Rattle.occ_types.specs.Schema.{Schema, Table, are_tables, cell_is_too_long, check_cell, check_cells, check_end, check_key, check_key_in, check_question, check_row, check_row_in, check_tables, fault_if, first_fault, in_table, is_name, part_is_too_long}
 pub use Rattle.occ_types.specs.declared.fault.Fault.{Fault}
 pub use Rattle.occ_types.specs.declared.fault.Fault.TheVariants.{NoTable, TooLong, WrongColumns, WrongKind}
 pub use Rattle.occ_types.specs.declared.kind.Kind.{Kind}

@@ -1,6 +1,6 @@
 -- How long keys and rows are that fit a schema.
 use Rattle.std.proofs.Common.{◌≡◌, ℕ, suc, pos, negsuc, ◌*◌, ◌≤◌, Bool, true, false, List, ◌∷◌, map, length, ◌||◌, not, Option, Some, None, refl, sym, subst, arith, length-append, []}
-use Rattle.occ_reading.proofs.Common.{All, All-head, All-tail, AllByRecursion, Cell, CellFits, EndFits, Fault, IsSchema-from_check, Key, KeyFits, Kind, ObjectFits, PartFits, Row, RowFits, RowFitsIn, Schema, Span, SpanFits, Table, TableFits, TooLong, Version, WrongColumns, WrongKind, cell_is_too_long, cell_text, check_cells, check_end, check_key_in, check_row_in, check_tables, decimal_width, each_fits, end_text, eqb-true, escape_spelling, escaped, escaped_byte, fault_if, first_fault, is_plain, joined_width, key_text, ltb-false, nat_eq, nat_lt, negsuc_small, part_is_too_long, part_text, plain_spelling, pos_small, row_text, width}
+use Rattle.occ_reading.proofs.Common.{All, All-head, All-tail, AllByRecursion, Cell, CellFits, EndFits, Fault, IsSchema-from_check, Key, KeyFits, Kind, ObjectFits, PartFits, Row, RowFits, RowFitsIn, Schema, Span, SpanFits, Table, TableFits, TooLong, Version, WrongColumns, WrongKind, cell_is_too_long, cell_text, check_cell, check_cells, check_end, check_key_in, check_row_in, check_tables, decimal_width, each_fits, end_text, eqb-true, escape_spelling, escaped, escaped_byte, fault_if, first_fault, is_plain, joined_width, key_text, ltb-false, nat_eq, nat_lt, negsuc_small, part_is_too_long, part_text, plain_spelling, pos_small, row_text, width}
 use Rattle.occ_types.specs.KeyPart.{KeyPart}
 use Rattle.occ_types.specs.Key as keys
 use Rattle.occ_types.specs.KeyPart as parts
@@ -59,9 +59,10 @@ cells_width : (kinds : List Kind) (row : Row) → length row ≡ length kinds �
 cells_width kinds [] same each good = omega arith
 cells_width [] (cell ∷ row) same each good = absurd (omega arith)
 cells_width (kind ∷ kinds) (cell ∷ row) same each good =
-    let p = no_faults (fault_if _ WrongKind ∷ fault_if (cell_is_too_long cell) TooLong ∷ check_cells kinds row ∷ []) good in
-    let first = cell_width cell (All-head CellFits cell row each) (is_off _ TooLong p.1.0) in
-    let rest = cells_width kinds row (omega arith) (All-tail CellFits cell row each) p.1.1.0 in
+    let p = no_faults (check_cell kind cell ∷ check_cells kinds row ∷ []) good in
+    let fits = no_faults (fault_if _ WrongKind ∷ fault_if (cell_is_too_long cell) TooLong ∷ []) p.0 in
+    let first = cell_width cell (All-head CellFits cell row each) (is_off _ TooLong fits.1.0) in
+    let rest = cells_width kinds row (omega arith) (All-tail CellFits cell row each) p.1.0 in
     omega arith
 
 row_passes : (b : Bool) (o : Option Fault) → first_fault (fault_if (not b) WrongColumns ∷ o ∷ []) ≡ None → (b ≡ true) × (o ≡ None)

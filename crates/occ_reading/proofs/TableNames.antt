@@ -3,7 +3,7 @@ use Rattle.std.proofs.Common.{◌≡◌, ℕ, zero, suc, ◌+◌, ◌<◌, Bool,
 use Rattle.occ_reading.proofs.Common.{All, All-head, All-tail, Fault, IsName, IsSchema-from_check, NoTable, Reads, Schema, Table, TableFits, are_tables, bind_value, bytes_eq-Decides, check_tables, each_fits, in_table, is_name, list_any, lt-ltb, name_again, name_of, name_reads, nat_eq, nat_le, nat_lt, option_and_then, place_of, pointwise, position, position_or_len, slice_get, some_is, some_or_none, table_name, takes}
 use Rattle.std.proofs.lemmas.Option.{slice_get_within, slice_get-get_or}
 use Rattle.std.proofs.lemmas.List.Quantifiers.{position-Some}
-use Rattle.occ_types.specs.Fits.{has_name}
+use Rattle.occ_types.specs.Schema.{has_name}
 use Rattle.occ_text.proofs.Words.{both}
 
 is_not : (b : Bool) → not b ≡ true → b ≡ false

@@ -5,8 +5,7 @@ use Rattle.occ_types.specs.declared.fault.Fault.{Fault}
 use Rattle.occ_types.specs.Key.{Key}
 use Rattle.occ_types.specs.Object.{Object}
 use Rattle.occ_types.specs.Row.{Row}
-use Rattle.occ_types.specs.Schema.{Schema, check_key, check_row}
-use Rattle.occ_types.specs.Fits.{has_name}
+use Rattle.occ_types.specs.Schema.{Schema, check_key, check_row, has_name}
 use Rattle.occ_text.specs.declared.versions.Version.{Version}
 use Rattle.occ_text.specs.Reading.{name_of}
 use Rattle.occ_text.specs.Escapes.{read_key, read_row}

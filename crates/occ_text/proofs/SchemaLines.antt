@@ -10,8 +10,7 @@ use Rattle.std.proofs.lemmas.List.Elements.{All-nil, All-cons, All-head, All-tai
 use Rattle.std.proofs.lemmas.List.Sums.{AllPass-from_list_all, list_all-from_AllPass}
 use Rattle.occ_types.specs.declared.fault.Fault.{Fault}
 use Rattle.occ_types.specs.declared.fault.Fault.TheVariants.{BadSchema}
-use Rattle.occ_types.specs.Schema.{Table, fault_if, is_name, are_tables, check_tables}
-use Rattle.occ_types.specs.Fits.{has_name}
+use Rattle.occ_types.specs.Schema.{Table, fault_if, is_name, are_tables, check_tables, has_name}
 use Rattle.occ_text.specs.declared.versions.Version.{Version}
 use Rattle.occ_text.specs.Spelling.{IsName}
 use Rattle.occ_text.specs.Reading.{is_token}

@@ -12,9 +12,8 @@ use Rattle.std.proofs.lemmas.List.Sums.{AllPass-from_list_all}
 use Rattle.std.proofs.lemmas.Bool.Decides.{nat_tests}
 use Rattle.std.proofs.lemmas.Grind.{flat_map-append}
 use Rattle.occ_types.proofs.Walks.{list_any-map}
-use Rattle.occ_types.specs.Fits.{has_name}
 use Rattle.occ_types.specs.declared.fault.Fault.{Fault}
-use Rattle.occ_types.specs.Schema.{Table, Schema, check_tables}
+use Rattle.occ_types.specs.Schema.{Table, Schema, check_tables, has_name}
 use Rattle.occ_text.specs.declared.tokens.Unread.{Unread}
 use Rattle.occ_text.specs.declared.tokens.Unread.TheVariants as unread
 use Rattle.occ_text.specs.declared.faults.LineFault.{LineFault}

@@ -4,7 +4,7 @@ ghost use Rattle.std.specs.Prelude.{◌≡◌, ◌↔◌, Some, IfOk, IfErr, IsT
 ghost use Rattle.std.specs.List.{list_any};
 ghost use Rattle.std.specs.Io.KnownBytes.{prepend_known};
 ghost use Rattle.occ_types.specs.Schema as plain;
-ghost use Rattle.occ_types.specs.Fits.{has_name};
+ghost use Rattle.occ_types.specs.Schema.{has_name};
 ghost use Rattle.occ_types.specs.PlainData.{table_of, tables_of};
 ghost use Rattle.occ_text.specs.Escapes.{Gives};
 ghost use Rattle.occ_text.specs.Faults.{widened};

@@ -1,14 +1,13 @@
 -- The steps of the loops that check cells and tables.
-use Rattle.std.proofs.Common.{◌≡◌, ℕ, zero, suc, arith, ◌+◌, ◌<◌, ◌≤◌, Bool, true, ◌||◌, cond, List, [], ◌∷◌, ◌++◌, Option, None, Some, length, get_or, drop, refl, sym, ap, ◌∙◌, add-one, drop-cons}
+use Rattle.std.proofs.Common.{◌≡◌, ℕ, zero, suc, arith, ◌+◌, ◌<◌, ◌≤◌, Bool, true, ◌||◌, cond, List, [], ◌∷◌, Option, None, Some, length, get_or, drop, refl, sym, ap, ◌∙◌, add-one, drop-cons}
 use Rattle.std.proofs.lemmas.Iterator.Adapters.{position_from-zero}
-use Rattle.std.proofs.lemmas.List.{append_assoc, drop_all, map-append}
+use Rattle.std.proofs.lemmas.List.{drop_all}
 use Rattle.std.proofs.lemmas.Option.{slice_get_within, get_or_from_slice_get}
 use Rattle.std.specs.Prelude.{map, slice_get}
 use Rattle.std.specs.List.{list_any, position, position_from}
 use Rattle.occ_types.specs.declared.fault.Fault.{Fault}
 use Rattle.occ_types.specs.declared.kind.Kind.{Kind}
-use Rattle.occ_types.specs.Schema.{first_fault, check_cells}
-use Rattle.occ_types.specs.Fits.{check_cell}
+use Rattle.occ_types.specs.Schema.{first_fault, check_cell, check_cells}
 use Rattle.occ_types.specs.Row.{Cell, Row}
 
 -- what is left from a place on begins with the element there
@@ -21,18 +20,16 @@ is_there [] i e h = absurd (omega arith)
 is_there (x ∷ xs) zero e h = cc
 is_there (x ∷ xs) (suc i) e h = is_there xs i e (omega arith)
 
--- a fault of the first two tests is the answer
-pub first_fault-early : (a b rest : Option Fault) (fault : Fault) → first_fault (a ∷ b ∷ []) ≡ Some fault → first_fault (a ∷ b ∷ rest ∷ []) ≡ Some fault
-first_fault-early None None rest fault e = cc
-first_fault-early None (Some f) rest fault e = e
-first_fault-early (Some f) b rest fault e = e
+-- a fault of the first test is the answer
+pub first_fault-early : (a rest : Option Fault) (fault : Fault) → a ≡ Some fault → first_fault (a ∷ rest ∷ []) ≡ Some fault
+first_fault-early None rest fault e = cc
+first_fault-early (Some f) rest fault e = e
 
 -- without one it is that of the rest
-pub first_fault-late : (a b rest : Option Fault) → first_fault (a ∷ b ∷ []) ≡ None → first_fault (a ∷ b ∷ rest ∷ []) ≡ rest
-first_fault-late None None None e = refl
-first_fault-late None None (Some f) e = refl
-first_fault-late None (Some f) rest e = cc
-first_fault-late (Some f) b rest e = cc
+pub first_fault-late : (a rest : Option Fault) → a ≡ None → first_fault (a ∷ rest ∷ []) ≡ rest
+first_fault-late None None e = refl
+first_fault-late None (Some f) e = refl
+first_fault-late (Some f) rest e = cc
 
 -- a test through a function
 pub list_any-map : {X Y : Type 0} (p : Y → Bool) (f : X → Y) (xs : List X) → list_any p (map f xs) ≡ list_any (λ x. p (f x)) xs
@@ -48,11 +45,11 @@ cells_at kinds row i d c g e =
 
 -- a cell that fits leaves the check of the rest
 pub check_cells-fit : (kinds : List Kind) (row : Row) (i : ℕ) (d : Kind) (c : Cell) → i < length kinds → Some c ≡ slice_get row i → None ≡ check_cell (get_or kinds i d) c → check_cells (drop (i + 1) kinds) (drop (i + 1) row) ≡ check_cells (drop i kinds) (drop i row)
-check_cells-fit kinds row i d c g e fits = sym (cells_at kinds row i d c g e ∙ first_fault-late _ _ (check_cells (drop (i + 1) kinds) (drop (i + 1) row)) (sym fits))
+check_cells-fit kinds row i d c g e fits = sym (cells_at kinds row i d c g e ∙ first_fault-late _ (check_cells (drop (i + 1) kinds) (drop (i + 1) row)) (sym fits))
 
 -- a cell that does not fit is the answer
 pub check_cells-fault : (kinds : List Kind) (row : Row) (i : ℕ) (d : Kind) (c : Cell) (fault : Fault) → i < length kinds → Some c ≡ slice_get row i → Some fault ≡ check_cell (get_or kinds i d) c → check_cells (drop i kinds) (drop i row) ≡ Some fault
-check_cells-fault kinds row i d c fault g e fits = cells_at kinds row i d c g e ∙ first_fault-early _ _ (check_cells (drop (i + 1) kinds) (drop (i + 1) row)) fault (sym fits)
+check_cells-fault kinds row i d c fault g e fits = cells_at kinds row i d c g e ∙ first_fault-early _ (check_cells (drop (i + 1) kinds) (drop (i + 1) row)) fault (sym fits)
 
 -- the search of the place ends where the test passes
 position_from-hit : {X Y : Type 0} (p : Y → Bool) (f : X → Y) (xs : List X) (i : ℕ) (x : X) → i < length xs → x ≡ get_or xs i x → p (f x) ≡ true → position_from p i (map f (drop i xs)) ≡ Some i
@@ -69,17 +66,6 @@ position-hit p f xs ys i x seen walked h e hit =
 pub position-none : {X Y : Type 0} (p : Y → Bool) (f : X → Y) (xs : List X) (ys : List Y) (i : ℕ) → map f xs ≡ ys → position_from p i (map f (drop i xs)) ≡ position_from p 0 (map f xs) → length xs ≤ i → None ≡ position p ys
 position-none p f xs ys i seen walked h =
     sym (ap (λ zs. position_from p i (map f zs)) (drop_all i xs h)) ∙ walked ∙ sym (position_from-zero p (map f xs)) ∙ ap (position p) seen
-
--- what is taken moves from the rest to what was taken before
-pub taken_next : {X Y : Type 0} (f : X → Y) (done after : List X) (all : List Y) (i : ℕ) (x : X) (y : Y) → after ≡ done ++ x ∷ [] → f x ≡ y → slice_get all i ≡ Some y → map f done ++ drop i all ≡ all → map f after ++ drop (i + 1) all ≡ all
-taken_next f done after all i x y more is here so_far =
-    let rest = drop_at all i y y (slice_get_within all i y here) (sym (get_or_from_slice_get all i y y here)) in
-    ap (λ xs. map f xs ++ drop (i + 1) all) more
-    ∙ ap (λ ys. ys ++ drop (i + 1) all) (map-append f done (x ∷ []))
-    ∙ append_assoc (map f done) (f x ∷ []) (drop (i + 1) all)
-    ∙ ap (λ z. map f done ++ z ∷ drop (i + 1) all) is
-    ∙ ap (λ ys. map f done ++ ys) (sym rest)
-    ∙ so_far
 
 -- the lemma on a test through a function
 pub ruleset through = (list_any-map)

@@ -1,4 +1,3 @@
-pub mod Fits
 pub mod Key
 pub mod KeyPart
 pub mod Object

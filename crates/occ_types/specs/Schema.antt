@@ -75,15 +75,18 @@ check_key_in table key = first_fault (
     ∷ fault_if (key_is_too_long key) TooLong
     ∷ [])
 
+-- whether a cell fits its column
+abbrev pub check_cell : Kind → Cell → Option Fault
+check_cell kind cell = first_fault (
+    fault_if (not (cell_has_kind kind cell)) WrongKind
+    ∷ fault_if (cell_is_too_long cell) TooLong
+    ∷ [])
+
 -- whether each cell fits its column
 abbrev pub check_cells : List Kind → Row → Option Fault
 check_cells [] row = None
 check_cells (kind ∷ kinds) [] = None
-check_cells (kind ∷ kinds) (cell ∷ row) = first_fault (
-    fault_if (not (cell_has_kind kind cell)) WrongKind
-    ∷ fault_if (cell_is_too_long cell) TooLong
-    ∷ check_cells kinds row
-    ∷ [])
+check_cells (kind ∷ kinds) (cell ∷ row) = first_fault (check_cell kind cell ∷ check_cells kinds row ∷ [])
 
 -- whether a row fits a table
 abbrev pub check_row_in : Table → Row → Option Fault
@@ -113,13 +116,17 @@ is_empty_range None upper = false
 is_empty_range (Some lower) None = false
 is_empty_range (Some lower) (Some upper) = not (is_lt (key_cmp lower upper))
 
-abbrev pub check_question : Schema → Question → Option Fault
-check_question schema (One place key) = check_key schema place key
-check_question schema (Span place lower upper) = in_table schema place (λ table. first_fault (
+-- whether a range fits its table
+abbrev pub check_range : Table → Option Key → Option Key → Option Fault
+check_range table lower upper = first_fault (
     check_end table lower
     ∷ check_end table upper
     ∷ fault_if (is_empty_range lower upper) EmptyRange
-    ∷ []))
+    ∷ [])
+
+abbrev pub check_question : Schema → Question → Option Fault
+check_question schema (One place key) = check_key schema place key
+check_question schema (Span place lower upper) = in_table schema place (λ table. check_range table lower upper)
 
 -- a letter a to z
 abbrev pub is_letter : ℕ → Bool
@@ -129,14 +136,21 @@ is_letter byte = nat_le 97 byte && nat_le byte 122
 abbrev pub is_name : List ℕ → Bool
 is_name name = nat_le 1 (length name) && (nat_le (length name) MAX_NAME_LETTERS && list_all is_letter name)
 
+-- whether a table may stand before others in a schema: it has a name of its own, and 1 to 8 columns
+abbrev pub fits_before : Table → Schema → Bool
+fits_before table tables =
+    (is_name table.name && not (list_any (λ other. pointwise nat_eq table.name other.name) tables))
+    && (nat_le 1 (length table.columns) && nat_le (length table.columns) MAX_COLUMNS)
+
 -- whether each table has a name of its own, and 1 to 8 columns
 abbrev pub are_tables : Schema → Bool
 are_tables [] = true
-are_tables (table ∷ tables) =
-    (is_name table.name && not (list_any (λ other. pointwise nat_eq table.name other.name) tables))
-    && (nat_le 1 (length table.columns) && nat_le (length table.columns) MAX_COLUMNS)
-    && are_tables tables
+are_tables (table ∷ tables) = fits_before table tables && are_tables tables
 
 -- whether 1 to 32 tables make a schema
 abbrev pub check_tables : Schema → Option Fault
 check_tables schema = fault_if (not (nat_le 1 (length schema) && nat_le (length schema) MAX_TABLES && are_tables schema)) BadSchema
+
+-- whether a table has a name
+abbrev pub has_name : List ℕ → Table → Bool
+has_name name table = pointwise nat_eq table.name name

@@ -1,6 +1,7 @@
 //! What a transaction asks of the table.
 ghost use Rattle.std.specs.Prelude.{◌≡◌, ◌&&◌};
 ghost use Rattle.std.specs.Ordering.{on};
+ghost use Rattle.std.specs.Option.{option_copied};
 ghost use Rattle.std.specs.Cmp.{on_per, on_equiv, partial_equiv_from_equiv};
 ghost use Rattle.occ_types.specs.Question.{asks, is_from, is_below};
 ghost use Rattle.occ_types.specs.Same.{question_same, question_same_equiv};
@@ -49,21 +50,21 @@ impl<A: Allocator> Question<A> {
                 table: asked,
                 lower,
                 upper,
-            } => table == *asked && lies_between(lower, upper, key),
+            } => table == *asked && lies_between(lower.as_ref(), upper.as_ref(), key),
         }
     }
 }
 
 // Whether a key lies at or above the lower end and below the upper one, where they are there.
-fn lies_between<A: Allocator>(lower: &Option<Key<A>>, upper: &Option<Key<A>>, key: &Key<A>) -> bool
-    ensures { result ≡ (is_from (end_of lower.now) (key_of key.now) && is_below (end_of upper.now) (key_of key.now)) }
+fn lies_between<A: Allocator>(lower: Option<&Key<A>>, upper: Option<&Key<A>>, key: &Key<A>) -> bool
+    ensures { result ≡ (is_from (end_of (option_copied lower.entry)) (key_of key.now) && is_below (end_of (option_copied upper.entry)) (key_of key.now)) }
 {
     is_reached(lower, key) && is_under(upper, key)
 }
 
 // Whether a key lies at or above the lower end, where there is one.
-fn is_reached<A: Allocator>(lower: &Option<Key<A>>, key: &Key<A>) -> bool
-    ensures { result ≡ is_from (end_of lower.now) (key_of key.now) }
+fn is_reached<A: Allocator>(lower: Option<&Key<A>>, key: &Key<A>) -> bool
+    ensures { result ≡ is_from (end_of (option_copied lower.entry)) (key_of key.now) }
 {
     match lower {
         None => true,
@@ -72,8 +73,8 @@ fn is_reached<A: Allocator>(lower: &Option<Key<A>>, key: &Key<A>) -> bool
 }
 
 // Whether a key lies below the upper end, where there is one.
-fn is_under<A: Allocator>(upper: &Option<Key<A>>, key: &Key<A>) -> bool
-    ensures { result ≡ is_below (end_of upper.now) (key_of key.now) }
+fn is_under<A: Allocator>(upper: Option<&Key<A>>, key: &Key<A>) -> bool
+    ensures { result ≡ is_below (end_of (option_copied upper.entry)) (key_of key.now) }
 {
     match upper {
         None => true,

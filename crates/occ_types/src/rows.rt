@@ -1,5 +1,5 @@
 //! Rows of a table, which are seen as their cells.
-ghost use Rattle.std.specs.Prelude.{◌≡◌, ◌==◌, List, [], ◌∷◌, length, slice_get, IfOk, IsOk, MatchResult};
+ghost use Rattle.std.specs.Prelude.{◌≡◌, ◌==◌, List, [], ◌∷◌, length, slice_get, IsOk, MatchResult};
 ghost use Rattle.std.specs.Cmp.{partial_equiv_from_equiv};
 ghost use Rattle.std.specs.Option.{option_map};
 ghost use Rattle.occ_types.specs.Row.{Int, int_at, text_at};
@@ -9,6 +9,7 @@ ghost use Rattle.occ_types.specs.PlainData.{cell_of, row_of};
 use crate::cells::Cell;
 use std::alloc::{AllocError, AllocFailed, Allocator};
 use std::marker::Model;
+use std::slice;
 use std::sync::Arc;
 
 /// A row of a table, which clauses see as its cells in the order of the columns. A row of one number has no memory of its own, and the
@@ -78,18 +79,14 @@ impl<A: Allocator> Row<A> {
         }
     }
 
-    /// Copies of the cells, in the order of the columns; an error where there is no memory for the list.
-    pub fn to_cells(&self, alloc: A) -> Result<Vec<Cell<A>, A>, AllocError>
-        ensures { IfOk result (λ cells. row_of cells.items ≡ self.now) }
+    /// The cells, in the order of the columns: `cells().iter()` goes over them, and `cells().to_vec(alloc)` copies them.
+    pub fn cells(&self) -> &[Cell<A>]
+        ensures { row_of result.now ≡ self.now }
     {
-        let mut cells = Vec::new(alloc);
-        for place in 0..self.len() {
-            match self.cell(place) {
-                Some(cell) => cells.push(cell.clone()?)?,
-                None => return Ok(cells),
-            }
+        match &self.cells {
+            Cells::One(cell) => slice::from_ref(cell),
+            Cells::List(cells) => cells.as_slice(),
         }
-        Ok(cells)
     }
 
     /// How many cells the row has.

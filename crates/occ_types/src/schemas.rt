@@ -1,9 +1,9 @@
 //! The tables of a store, and the checks of keys, rows and questions against them.
 ghost use Rattle.std.specs.Prelude.{◌≡◌, ◌⊎◌, ℕ, length, map, Option, None, Some, IfOk, IfSome, IfErr, MatchResult, slice_get};
 ghost use Rattle.std.specs.List.{position};
+ghost use Rattle.std.specs.Option.{option_copied};
 ghost use Rattle.std.specs.Result.{result_err};
-ghost use Rattle.occ_types.specs.Schema.{check_tables, are_tables, check_key, check_row, check_question, is_empty_range};
-ghost use Rattle.occ_types.specs.Fits.{check_range, has_name};
+ghost use Rattle.occ_types.specs.Schema.{check_tables, are_tables, check_key, check_row, check_question, check_range, is_empty_range, has_name};
 ghost use Rattle.occ_types.specs.Question.{Span};
 ghost use Rattle.occ_types.specs.declared.fault.Fault.TheVariants.{NoTable, Memory};
 ghost use Rattle.occ_types.specs.PlainData.{named_table, key_of, end_of, question_of, table_of, tables_of};
@@ -109,7 +109,7 @@ impl<A: Allocator> Schema<A> {
                 table,
                 lower,
                 upper,
-            } => self.check_range(*table, lower, upper),
+            } => self.check_range(*table, lower.as_ref(), upper.as_ref()),
         }
     }
 
@@ -117,10 +117,10 @@ impl<A: Allocator> Schema<A> {
     pub fn check_range(
         &self,
         table: usize,
-        lower: &Option<Key<A>>,
-        upper: &Option<Key<A>>,
+        lower: Option<&Key<A>>,
+        upper: Option<&Key<A>>,
     ) -> Result<(), Fault>
-        ensures { result_err result ≡ check_question self.now (Span table (end_of lower.now) (end_of upper.now)) }
+        ensures { result_err result ≡ check_question self.now (Span table (end_of (option_copied lower.entry)) (end_of (option_copied upper.entry))) }
     {
         check_range(self.table_at(table)?, lower, upper)
     }
@@ -163,10 +163,10 @@ fn table_of<A: Allocator + Clone>(
 // Whether a range fits its table.
 fn check_range<A: Allocator>(
     table: &TableDef<A>,
-    lower: &Option<Key<A>>,
-    upper: &Option<Key<A>>,
+    lower: Option<&Key<A>>,
+    upper: Option<&Key<A>>,
 ) -> Result<(), Fault>
-    ensures { result_err result ≡ check_range (table_of table.now) (end_of lower.now) (end_of upper.now) }
+    ensures { result_err result ≡ check_range (table_of table.now) (end_of (option_copied lower.entry)) (end_of (option_copied upper.entry)) }
 {
     table.check_end(lower)?;
     table.check_end(upper)?;
@@ -177,8 +177,8 @@ fn check_range<A: Allocator>(
 }
 
 // Whether both ends are there, and the lower one is not below the upper one.
-fn is_empty_range<A: Allocator>(lower: &Option<Key<A>>, upper: &Option<Key<A>>) -> bool
-    ensures { result ≡ is_empty_range (end_of lower.now) (end_of upper.now) }
+fn is_empty_range<A: Allocator>(lower: Option<&Key<A>>, upper: Option<&Key<A>>) -> bool
+    ensures { result ≡ is_empty_range (end_of (option_copied lower.entry)) (end_of (option_copied upper.entry)) }
 {
     match (lower, upper) {
         (Some(lower), Some(upper)) => !(lower < upper),

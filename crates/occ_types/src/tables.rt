@@ -1,10 +1,10 @@
 //! The definition of a table, and what fits it.
 ghost use Rattle.std.specs.Prelude.{◌≡◌, nat_eq, length};
 ghost use Rattle.std.specs.List.{list_any, list_all};
+ghost use Rattle.std.specs.Option.{option_copied};
 ghost use Rattle.std.specs.Result.{result_err};
 ghost use Rattle.std.specs.Cmp.Lexicographic.{pointwise};
-ghost use Rattle.occ_types.specs.Schema.{check_key_in, check_row_in, check_cells, check_end, part_has_kind, part_is_too_long, key_has_kind, key_is_too_long, is_name, is_letter};
-ghost use Rattle.occ_types.specs.Fits.{check_cell, fits_before};
+ghost use Rattle.occ_types.specs.Schema.{check_key_in, check_row_in, check_cell, check_cells, fits_before, check_end, part_has_kind, part_is_too_long, key_has_kind, key_is_too_long, is_name, is_letter};
 ghost use Rattle.occ_types.specs.PlainData.{cell_of, part_of, key_of, end_of, table_of, tables_of};
 
 use crate::cells::Cell;
@@ -44,8 +44,8 @@ impl<A: Allocator> TableDef<A> {
     }
 
     /// Whether an end of a range fits the table, where there is one.
-    pub fn check_end(&self, end: &Option<Key<A>>) -> Result<(), Fault>
-        ensures { result_err result ≡ check_end (table_of self.now) (end_of end.now) }
+    pub fn check_end(&self, end: Option<&Key<A>>) -> Result<(), Fault>
+        ensures { result_err result ≡ check_end (table_of self.now) (end_of (option_copied end.entry)) }
     {
         match end {
             None => Ok(()),

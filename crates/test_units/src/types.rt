@@ -297,7 +297,7 @@ fn cells_of_rows(rt: HostRuntime) -> Result<(), Fail> {
     let row = Row::from_cells(vec![in alloc; number, Cell::text(alloc, "pears")?]?)?;
     assert_eq!(rt; (row.int(0), row.int(1), row.int(2)), (Some(3), None, None));
     assert_eq!(rt; (row.text(0), row.text(1)), (None, Some("pears")));
-    assert!(rt; Row::from_cells(row.to_cells(alloc)?)? == row);
+    assert!(rt; Row::from_cells(row.cells().to_vec(alloc)?)? == row);
     let single: Row<Global> = Row::from(4i64);
     assert!(rt; single == Row::from_cell(Cell::Int(4)));
     Ok(())

@@ -1,6 +1,6 @@
 use Rattle.std.proofs.Common.{◌≡◌, true, nat_eq, ap, sym, ◌∙◌}
 use Rattle.std.specs.Cmp.Lexicographic.{pointwise}
-use Rattle.occ_types.specs.Fits.{has_name}
+use Rattle.occ_types.specs.Schema.{has_name}
 use Rattle.occ_types.specs.PlainData.{table_of, tables_of}
 use Rattle.occ_types.proofs.Walks.{position-hit, position-none}
 use Rattle.occ_types.proofs.schemas.Schema.place.Goals as goal

@@ -1,6 +1,6 @@
 use Rattle.std.proofs.Common.{◌≡◌, drop}
 use Rattle.std.specs.List.{position_from}
-use Rattle.occ_types.specs.Fits.{has_name}
+use Rattle.occ_types.specs.Schema.{has_name}
 use Rattle.occ_types.specs.PlainData.{tables_of}
 use Rattle.occ_types.proofs.schemas.Schema.place.Given as goal
 
