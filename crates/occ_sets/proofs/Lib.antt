@@ -5,5 +5,6 @@ pub mod Leading
 pub mod Meetings
 pub mod Merging
 pub mod Observations
+pub mod OneByOne
 pub mod Placed
 pub mod Refusals

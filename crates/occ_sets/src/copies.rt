@@ -1,5 +1,5 @@
 //! Private copies.
-ghost use Rattle.std.specs.Prelude.{◌≡◌, ◌==◌, ◌<◌, [], false, cond, length, nat_lt, slice_get, None, Some, IfOk, IfErr, IfSome, OnOk, OnErr, MatchResult, IsOkUnless};
+ghost use Rattle.std.specs.Prelude.{◌≡◌, ◌==◌, ◌<◌, [], false, cond, length, slice_get, None, Some, IfOk, IfErr, IfSome, OnOk, OnErr, MatchResult, IsOkUnless};
 ghost use Rattle.std.specs.Option.{option_copied, option_map};
 ghost use Rattle.occ_types.specs.declared.fault.Fault.TheVariants.{SetFull, Memory};
 ghost use Rattle.occ_types.specs.declared.limits.TheConstants as limit;
@@ -11,8 +11,7 @@ ghost use Rattle.occ_sets.specs.Sets.{IsWriteSet, is_full_for};
 use crate::overlays::{over_range, over_row};
 use crate::own_writes::{OwnWrites, Write};
 use crate::reads::Answer;
-use crate::writes::WriteSet;
-use occ_types::limits::MAX_WRITES;
+use crate::request_writes::RequestWrites;
 use occ_types::{Fault, Key, Object, Question, Refused, Row};
 use std::alloc::Allocator;
 use std::marker::Model;
@@ -51,25 +50,16 @@ impl<A: Allocator + Copy> PrivateCopy<A> {
     }
 
     /// The copy that a request was made of, as it was. It takes no memory for writes that nobody else shares, as those that
-    /// `into_request` gave; others are copied first. Refused with `SetFull` where there are more than 256 writes, which no copy has,
-    /// and with `Memory` where there is none for that copy. The writes are handed back then.
+    /// `into_request` gave; others are copied first. Refused with `Memory`, and the writes handed back, where there is none for that copy.
     pub fn from_request(
         number: u64,
         start: u64,
-        writes: WriteSet<A>,
-    ) -> Result<PrivateCopy<A>, Refused<WriteSet<A>>>
+        writes: RequestWrites<A>,
+    ) -> Result<PrivateCopy<A>, Refused<RequestWrites<A>>>
         ensures same { IfOk result (λ copy. copy ≡ record { number = number; start = start; writes = writes }) }
         ensures handed_back { IfErr result (λ refused. refused.value ≡ writes) }
-        ensures fault { MatchResult result
-            (λ _. nat_lt limit.MAX_WRITES (length writes) ≡ false)
-            (λ refused. refused.fault ≡ cond (nat_lt limit.MAX_WRITES (length writes)) SetFull Memory) }
+        ensures memory { IfErr result (λ refused. refused.fault ≡ Memory) }
     {
-        if writes.len() > MAX_WRITES {
-            return Err(Refused {
-                value: writes,
-                fault: Fault::SetFull,
-            });
-        }
         match writes.into_own() {
             Ok(writes) => Ok(PrivateCopy {
                 number,
@@ -156,7 +146,7 @@ impl<A: Allocator> PrivateCopy<A> {
     }
 
     /// The number, the start and the writes, for the request to enter. It takes no memory.
-    pub fn into_request(self) -> (u64, u64, WriteSet<A>)
+    pub fn into_request(self) -> (u64, u64, RequestWrites<A>)
         ensures value { result ≡ (self.number, self.start, self.writes) }
         ensures fits { IsWriteSet self.writes }
     {
@@ -167,7 +157,7 @@ impl<A: Allocator> PrivateCopy<A> {
             start,
             writes,
         } = self;
-        (number, start, WriteSet::from_own(writes))
+        (number, start, RequestWrites::from_own(writes))
     }
 }
 

@@ -11,7 +11,9 @@ mod overlays;
 mod own_writes;
 mod prepared;
 mod reads;
+mod request_writes;
 mod shareable;
+mod write_set_iter;
 mod writes;
 
 pub use copies::PrivateCopy;
@@ -20,4 +22,6 @@ pub use operations::{Op, check_operations};
 pub use own_writes::Write;
 pub use prepared::Prepared;
 pub use reads::{Answer, Observation, ReadSet};
+pub use request_writes::RequestWrites;
+pub use write_set_iter::WriteSetIter;
 pub use writes::WriteSet;

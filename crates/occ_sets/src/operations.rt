@@ -75,7 +75,7 @@ impl<A: Allocator> Op<A> {
                 table,
                 lower,
                 upper,
-            } => schema.check_range(*table, lower, upper),
+            } => schema.check_range(*table, lower.as_ref(), upper.as_ref()),
             Op::Put { table, key, row } => check_put(schema, *table, key, row),
             Op::Delete { table, key } => schema.check_key(*table, key),
             Op::Add { table, key, .. } => check_add(schema, *table, key),
