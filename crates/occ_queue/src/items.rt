@@ -2,7 +2,7 @@
 ghost use Rattle.std.specs.Prelude.{◌≡◌};
 ghost use Rattle.occ_queue.specs.Items.{item_of, is_mark, number_of};
 
-use occ_sets::{Op, WriteSet};
+use occ_sets::{Op, RequestWrites};
 use std::alloc::Allocator;
 
 /// What a session hands in.
@@ -15,8 +15,8 @@ pub enum Item<A: Allocator> {
         number: u64,
         /// The transaction counter as it began.
         start: u64,
-        /// What it writes.
-        writes: WriteSet<A>,
+        /// What it writes, which is at most 256 objects.
+        writes: RequestWrites<A>,
     },
     /// Operations that run alone, as a whole transaction in one step.
     Alone {
