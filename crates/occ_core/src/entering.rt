@@ -1,6 +1,7 @@
 //! The entry of what a session hands in: a transaction, a list of operations, or a closing mark.
-ghost use Rattle.std.specs.Prelude.{◌≡◌, IfOk, IfErr};
+ghost use Rattle.std.specs.Prelude.{◌≡◌, ◌≤◌, length, IfOk, IfErr};
 ghost use Rattle.std.specs.Result.{result_err};
+ghost use Rattle.occ_types.specs.declared.limits.TheConstants as limit;
 ghost use Rattle.occ_model.specs.Log.{Case as PlainCase, Open};
 ghost use Rattle.occ_model.specs.World.{next_place, reads_under};
 ghost use Rattle.occ_model.specs.Event.{Enter, Request, Entered, Close, Closed};
@@ -21,7 +22,7 @@ use occ_book::{LogRow, Marks, Standing};
 use occ_case::{Case, OpenCase};
 use occ_log::{Held, Sessions, Transaction};
 use occ_queue::Item;
-use occ_sets::{ReadSet, WriteSet};
+use occ_sets::{ReadSet, RequestWrites, WriteSet};
 use occ_types::{Fault, Refused};
 use std::alloc::{AllocError, Allocator};
 
@@ -46,8 +47,9 @@ impl<A: Allocator + Copy> Core<A> {
             Item::Request {
                 number,
                 start,
-                mut writes,
+                writes,
             } => {
+                let mut writes = writes.into_set();
                 let transaction = Transaction {
                     session,
                     number,
@@ -56,11 +58,7 @@ impl<A: Allocator + Copy> Core<A> {
                 match self.enter_request(transaction, &mut writes) {
                     Ok(place) => Ok(Outcome::Entered { place }),
                     Err(fault) => Err(Refused {
-                        value: Item::Request {
-                            number,
-                            start,
-                            writes,
-                        },
+                        value: request(number, start, writes),
                         fault,
                     }),
                 }
@@ -180,6 +178,21 @@ impl<A: Allocator> Core<A> {
         ensures { result_err result ≡ refusal self.now.world (Enter session (Close number)) }
     {
         check_turn_to_close(&self.sessions, &self.marks, session, number)
+    }
+}
+
+// The request of a transaction, with the writes that came in by it.
+pub(crate) fn request<A: Allocator>(number: u64, start: u64, writes: WriteSet<A>) -> Item<A>
+    requires { length writes ≤ limit.MAX_WRITES }
+    ensures { item_of result ≡ Request number start writes }
+{
+    match RequestWrites::from_set(writes) {
+        Ok(writes) => Item::Request {
+            number,
+            start,
+            writes,
+        },
+        Err(_too_many) => unreachable!(),
     }
 }
 

@@ -4,6 +4,7 @@ ghost use Rattle.std.specs.FinMap as finite;
 ghost use Rattle.std.specs.Result.{result_err};
 ghost use Rattle.occ_types.specs.Question.{One, Span};
 ghost use Rattle.occ_types.specs.PlainData.{key_of, end_of};
+ghost use Rattle.occ_types.specs.Schema.{check_question};
 ghost use Rattle.occ_model.specs.Event.{Read, Forget, Answered, Forgotten};
 ghost use Rattle.occ_model.specs.Refusal.{refusal};
 ghost use Rattle.occ_model.specs.State.{answer, Found, Rows};
@@ -19,7 +20,7 @@ use crate::read_checks::{check_room_to_read, check_session, check_size, check_tu
 use occ_book::Tables;
 use occ_log::{ReadPhases, Transaction};
 use occ_sets::{Answer, Observation};
-use occ_types::{Fault, Key, Object, Question, Row};
+use occ_types::{Fault, Key, Object, Question, Row, Schema};
 use std::alloc::{AllocError, Allocator};
 
 impl<A: Allocator> Core<A> {
@@ -125,10 +126,22 @@ impl<A: Allocator + Clone> Core<A> {
             self.counter,
             transaction,
         )?;
-        self.schema.check_range(table, lower, upper)?;
+        check_range(&self.schema, table, lower, upper)?;
         check_size(&self.tables, table, lower, upper)?;
         check_room_to_read(begun)
     }
+}
+
+// Whether a range fits the schema.
+fn check_range<A: Allocator>(
+    schema: &Schema<A>,
+    table: usize,
+    lower: &Option<Key<A>>,
+    upper: &Option<Key<A>>,
+) -> Result<(), Fault>
+    ensures { result_err result ≡ check_question schema.now (Span table (end_of lower.now) (end_of upper.now)) }
+{
+    schema.check_range(table, lower.as_ref(), upper.as_ref())
 }
 
 // Notes an observation in the read phase of a transaction, which has room for it.

@@ -16,7 +16,7 @@ ghost use Rattle.occ_queue.specs.Items.{item_of};
 
 use crate::actives::count_active;
 use crate::core_state::Core;
-use crate::entering::check_turn_to_close;
+use crate::entering::{check_turn_to_close, request};
 use crate::entry_checks::{check_room_to_enter, check_spare};
 use crate::outcomes::Outcome;
 use crate::read_checks::check_start;
@@ -51,8 +51,9 @@ impl<A: Allocator + Copy> Core<A> {
             Item::Request {
                 number,
                 start,
-                mut writes,
+                writes,
             } => {
+                let mut writes = writes.into_set();
                 let transaction = Transaction {
                     session,
                     number,
@@ -61,11 +62,7 @@ impl<A: Allocator + Copy> Core<A> {
                 match self.end_request(transaction, &mut writes) {
                     Ok(outcome) => Ok(outcome),
                     Err(fault) => Err(Refused {
-                        value: Item::Request {
-                            number,
-                            start,
-                            writes,
-                        },
+                        value: request(number, start, writes),
                         fault,
                     }),
                 }
