@@ -1,6 +1,5 @@
 -- A transaction that comes back when what it was handed in as is refused (our own choice).
-use Rattle.std.specs.Prelude.{⊤, ◌≡◌, ◌≤◌, Bool, true, false, Option, Some, length}
-use Rattle.occ_types.specs.declared.limits.TheConstants.{MAX_WRITES}
+use Rattle.std.specs.Prelude.{◌≡◌, Bool, true, false, Option, Some}
 use Rattle.occ_sets.specs.Sets.{Copied}
 use Rattle.occ_client.specs.declared.kept_transactions.Content as code
 use Rattle.occ_client.specs.declared.kept_transactions.Content.TheVariants.{Open, Returned}
@@ -19,8 +18,3 @@ module _ {Z : Type 0} where
   abbrev pub kept_of : code.Content Z → Kept
   kept_of (Open transaction) = record { current = transaction; returned = false }
   kept_of (Returned number start writes) = record { current = Some (record { number = number; start = start; writes = writes }); returned = true }
-
-  -- a request that came back has no more writes than a transaction may have
-  abbrev pub IsFew : code.Content Z → Type 0
-  IsFew (Open transaction) = ⊤
-  IsFew (Returned number start writes) = length writes ≤ MAX_WRITES

@@ -13,7 +13,7 @@ use crate::ending::{End, Handed, handed_back};
 use occ_case::Verdict;
 use occ_core::{Core, Outcome, SingleWrite};
 use occ_queue::Item;
-use occ_sets::WriteSet;
+use occ_sets::RequestWrites;
 use occ_types::{Fault, Refused};
 use std::alloc::Allocator;
 
@@ -24,8 +24,8 @@ pub(crate) fn end_by_steps<A: Allocator + Copy>(
     session: usize,
     number: u64,
     start: u64,
-    writes: WriteSet<A>,
-) -> Result<Handed, Refused<WriteSet<A>>>
+    writes: RequestWrites<A>,
+) -> Result<Handed, Refused<RequestWrites<A>>>
     ensures step { EndsBySteps session (record { number = number; start = start; writes = writes }) store.old.world (stopped_in result) (replied_back handed_reply result) store.new.world }
     ensures handed_back { IfErr result (λ refused. refused.value ≡ writes) }
 {
@@ -42,8 +42,8 @@ fn enter<A: Allocator + Copy>(
     session: usize,
     number: u64,
     start: u64,
-    writes: WriteSet<A>,
-) -> Result<usize, Refused<WriteSet<A>>>
+    writes: RequestWrites<A>,
+) -> Result<usize, Refused<RequestWrites<A>>>
     ensures step { Step store.old.world (Enter session (Request number start writes)) (replied_back (λ place. Entered place place) result) store.new.world }
     ensures handed_back { IfErr result (λ refused. refused.value ≡ writes) }
 {

@@ -11,7 +11,7 @@ use crate::by_steps::end_by_steps;
 use occ_case::Cause;
 use occ_core::{Core, Outcome};
 use occ_queue::Item;
-use occ_sets::WriteSet;
+use occ_sets::RequestWrites;
 use occ_types::{Fault, Refused};
 use std::alloc::Allocator;
 
@@ -43,8 +43,8 @@ pub(crate) fn end_request<A: Allocator + Copy>(
     session: usize,
     number: u64,
     start: u64,
-    writes: WriteSet<A>,
-) -> Result<Handed, Refused<WriteSet<A>>>
+    writes: RequestWrites<A>,
+) -> Result<Handed, Refused<RequestWrites<A>>>
     ensures step { Ends session (record { number = number; start = start; writes = writes }) store.old.world (stopped_in result) (replied_back handed_reply result) store.new.world }
     ensures handed_back { IfErr result (λ refused. refused.value ≡ writes) }
 {
@@ -63,8 +63,8 @@ fn end_serially<A: Allocator + Copy>(
     session: usize,
     number: u64,
     start: u64,
-    writes: WriteSet<A>,
-) -> Result<End, Refused<WriteSet<A>>>
+    writes: RequestWrites<A>,
+) -> Result<End, Refused<RequestWrites<A>>>
     ensures step { Step store.old.world (SerialEnd session (Request number start writes)) (ending_back result) store.new.world }
     ensures handed_back { IfErr result (λ refused. refused.value ≡ writes) }
 {
@@ -93,7 +93,7 @@ fn ended<A: Allocator>(outcome: Outcome<A>) -> End
 }
 
 /// The writes of a request that was refused.
-pub(crate) fn handed_back<A: Allocator>(refused: Refused<Item<A>>) -> Refused<WriteSet<A>>
+pub(crate) fn handed_back<A: Allocator>(refused: Refused<Item<A>>) -> Refused<RequestWrites<A>>
     requires request { IsRequest (item_of refused.value) }
     ensures fault { result.fault ≡ refused.fault }
     ensures writes { result.value ≡ writes_in (item_of refused.value) }

@@ -4,14 +4,13 @@ ghost use Rattle.std.specs.Result.{result_err};
 ghost use Rattle.occ_types.specs.PlainData.{key_of, end_of};
 ghost use Rattle.occ_types.specs.Question.{Span};
 ghost use Rattle.occ_types.specs.declared.limits.TheConstants.{MAX_WRITES};
-ghost use Rattle.occ_sets.specs.Sets.{IsWriteSet};
-ghost use Rattle.occ_client.specs.Kept.{IsFew, IsShared, kept_of};
+ghost use Rattle.occ_client.specs.Kept.{IsShared, kept_of};
 ghost use Rattle.occ_client.specs.Replies.{reading, scanning, forgetting};
 ghost use Rattle.occ_client.specs.Transactions.{IsRefusedBy, begin_fault, begun, none_open, write_fault, written, WantsRoom, Gets, WantsOwn, Scans, WantsRange, Abandons, open_after, OrStarves};
 
 use crate::open_transactions::OpenTransaction;
 use crate::readable::Readable;
-use occ_sets::{Write, WriteSet};
+use occ_sets::{RequestWrites, Write};
 use occ_types::{Fault, Key, Object, Refused, Row, Schema};
 use std::alloc::Allocator;
 use std::marker::Model;
@@ -37,18 +36,16 @@ pub(crate) enum Content<A: Allocator> {
         /// The counter as it began.
         start: u64,
         /// Its writes.
-        writes: WriteSet<A>,
+        writes: RequestWrites<A>,
     },
 }
 
 impl<A: Allocator> Model for KeptTransaction<A> {
-    ghost use Rattle.occ_client.specs.Kept.{Kept, IsFew, kept_of};
+    ghost use Rattle.occ_client.specs.Kept.{Kept, kept_of};
 
     ghost Value = { Kept };
 
     ghost view = { λ k. kept_of k.content };
-
-    ghost invariant = { λ k. IsFew k.content };
 }
 
 impl<A: Allocator> KeptTransaction<A> {
@@ -73,7 +70,7 @@ impl<A: Allocator> KeptTransaction<A> {
 
     /// The request that the transaction becomes: its number, its start and its writes. None is open then. Refused with `NoReadOpen`. It
     /// takes no memory.
-    pub fn into_request(&mut self) -> Result<(u64, u64, WriteSet<A>), Fault>
+    pub fn into_request(&mut self) -> Result<(u64, u64, RequestWrites<A>), Fault>
         ensures ok { IfOk result (λ request. self.old.current ≡ Some (record { number = request.0; start = request.1; writes = request.2 })) }
         ensures few { IfOk result (λ request. length request.2 ≤ MAX_WRITES) }
         ensures none { self.new ≡ record { current = None; returned = false } }
@@ -88,7 +85,11 @@ impl<A: Allocator> KeptTransaction<A> {
                 number,
                 start,
                 writes,
-            } => Ok((number, start, writes)),
+            } => {
+                // Its clause says that they are few.
+                let _set = writes.as_set();
+                Ok((number, start, writes))
+            }
         }
     }
 }
@@ -96,9 +97,8 @@ impl<A: Allocator> KeptTransaction<A> {
 impl<A: Allocator + Copy> KeptTransaction<A> {
     /// The transaction that a request was made of is open again, as it was. It never fails: where others share the writes and there is
     /// no memory to copy them, they are kept, and copied later.
-    pub fn reopen(&mut self, number: u64, start: u64, writes: WriteSet<A>)
+    pub fn reopen(&mut self, number: u64, start: u64, writes: RequestWrites<A>)
         requires none { self.old.current ≡ None }
-        requires few { length writes ≤ MAX_WRITES }
         ensures { self.new.current ≡ Some (record { number = number; start = start; writes = writes }) }
     {
         self.content = restored(Content::Returned {
@@ -245,10 +245,8 @@ impl<A: Allocator + Copy> KeptTransaction<A> {
 
 // A request that came back is open again, unless its writes are to be copied and there is no memory for that.
 fn restored<A: Allocator + Copy>(content: Content<A>) -> Content<A>
-    requires few { IsFew content }
     ensures current { (kept_of result).current ≡ (kept_of content).current }
     ensures returned { IsShared (kept_of result) → IsShared (kept_of content) }
-    ensures few { IsFew result }
 {
     match content {
         Content::Open(transaction) => Content::Open(transaction),

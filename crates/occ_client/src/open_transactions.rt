@@ -1,12 +1,11 @@
 //! The transaction that a session has open.
-ghost use Rattle.std.specs.Prelude.{◌≡◌, cond, length, nat_lt, ◌⊎◌, ℕ, None, Some, true, false, is_some, option_map, [], ◌∷◌, IfOk, IfErr, IfSome, OnOk, OnErr, MatchResult};
+ghost use Rattle.std.specs.Prelude.{◌≡◌, ◌⊎◌, ℕ, None, Some, true, false, is_some, option_map, [], ◌∷◌, IfOk, IfErr, IfSome, OnOk, OnErr, MatchResult};
 ghost use Rattle.std.specs.Result.{result_err};
 ghost use Rattle.std.specs.Option.{option_copied};
 ghost use Rattle.occ_types.specs.PlainData.{key_of, end_of, object_of};
 ghost use Rattle.occ_types.specs.Question.{One, Span};
 ghost use Rattle.occ_types.specs.Schema.{first_fault, check_key};
 ghost use Rattle.occ_types.specs.declared.fault.Fault.TheVariants as faults;
-ghost use Rattle.occ_types.specs.declared.limits.TheConstants.{MAX_WRITES};
 ghost use Rattle.occ_sets.specs.Sets.{IsWriteSet};
 ghost use Rattle.occ_model.specs.State.{Found};
 ghost use Rattle.occ_model.specs.Event.{Read, Answered};
@@ -17,7 +16,7 @@ ghost use Rattle.occ_client.specs.Transactions.{IsRefusedBy, begin_fault, begun,
 use crate::asking::{get, scan};
 use crate::readable::Readable;
 use crate::writing::write_copy;
-use occ_sets::{PrivateCopy, Write, WriteSet};
+use occ_sets::{PrivateCopy, RequestWrites, Write};
 use occ_types::limits::MAX_NUMBER;
 use occ_types::{Fault, Key, Object, Question, Refused, Row, Schema};
 use std::alloc::Allocator;
@@ -66,7 +65,7 @@ impl<A: Allocator> OpenTransaction<A> {
 
     /// The request that the transaction becomes: its number, its start and its writes. None is open then. Refused with `NoReadOpen`. It
     /// takes no memory.
-    pub fn into_request(&mut self) -> Result<(u64, u64, WriteSet<A>), Fault>
+    pub fn into_request(&mut self) -> Result<(u64, u64, RequestWrites<A>), Fault>
         ensures ok { IfOk result (λ request. self.old ≡ Some (record { number = request.0; start = request.1; writes = request.2 })) }
         ensures fits { IfOk result (λ request. IsWriteSet request.2) }
         ensures none { self.new ≡ None }
@@ -81,18 +80,15 @@ impl<A: Allocator> OpenTransaction<A> {
 
 impl<A: Allocator + Copy> OpenTransaction<A> {
     /// The transaction that a request was made of, open as it was. It takes no memory for writes that nobody else shares, as those that
-    /// `into_request` gave; others are copied first. Refused with `SetFull` where there are more than 256 writes, which no transaction
-    /// has, and with `Memory` where there is none for that copy. The writes are handed back then.
+    /// `into_request` gave; others are copied first. Refused with `Memory`, and the writes handed back, where there is none for that copy.
     pub fn from_request(
         number: u64,
         start: u64,
-        writes: WriteSet<A>,
-    ) -> Result<OpenTransaction<A>, Refused<WriteSet<A>>>
+        writes: RequestWrites<A>,
+    ) -> Result<OpenTransaction<A>, Refused<RequestWrites<A>>>
         ensures same { IfOk result (λ transaction. transaction ≡ Some (record { number = number; start = start; writes = writes })) }
         ensures handed_back { IfErr result (λ refused. refused.value ≡ writes) }
-        ensures fault { MatchResult result
-            (λ _. nat_lt MAX_WRITES (length writes) ≡ false)
-            (λ refused. refused.fault ≡ cond (nat_lt MAX_WRITES (length writes)) faults.SetFull faults.Memory) }
+        ensures memory { IfErr result (λ refused. refused.fault ≡ faults.Memory) }
     {
         let copy = PrivateCopy::from_request(number, start, writes)?;
         Ok(OpenTransaction { copy: Some(copy) })
