@@ -1,7 +1,7 @@
 //! What it costs in memory that cases stand in a file: transfers that file their cases, beside the same that don't.
 use occ_filed::FiledCore;
 use occ_queue::Item;
-use occ_sets::WriteSet;
+use occ_sets::{RequestWrites, WriteSet};
 use occ_types::{Cell, Fault, Key, KeyKind, Kind, Row, Schema, TableDef, Text};
 use std::alloc::{Allocator, Global};
 use std::sync::Wait;
@@ -70,7 +70,7 @@ fn transfer<A: Allocator + Copy, R: Wait>(
     let request = Item::Request {
         number,
         start,
-        writes,
+        writes: RequestWrites::from_set(writes)?,
     };
     enter(rt, filed, request, files)?;
     commit(filed)

@@ -1,7 +1,7 @@
 //! Lanes under load: two of them, each with one thread that pushes and one that takes; and the library's own queue in their place.
 use crossbeam_queue::ArrayQueue;
 use occ_queue::{Item, Receiver, Sender, lane};
-use occ_sets::WriteSet;
+use occ_sets::RequestWrites;
 use occ_types::{Fault, Refused};
 use std::alloc::Global;
 use std::sync::{Arc, Wait};
@@ -121,7 +121,7 @@ fn item(alloc: Global, number: u64) -> Item<Global> {
     Item::Request {
         number,
         start: number / 3,
-        writes: WriteSet::new(alloc),
+        writes: RequestWrites::new(alloc),
     }
 }
 
@@ -132,7 +132,7 @@ fn is_item(item: &Item<Global>, asked: u64) -> bool {
             number,
             start,
             writes,
-        } => *number == asked && *start == asked / 3 && writes.is_empty(),
+        } => *number == asked && *start == asked / 3 && writes.as_set().is_empty(),
         Item::Alone { .. } | Item::Close { .. } => false,
     }
 }

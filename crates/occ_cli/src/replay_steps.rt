@@ -16,7 +16,7 @@ use crate::clients::{Client, fresh_clients, place_of};
 use crate::table_names::place_named;
 use occ_core::{Core, Reply, Step as Call};
 use occ_queue::Item;
-use occ_sets::WriteSet;
+use occ_sets::RequestWrites;
 use occ_text::headers::Limits;
 use occ_text::operations::Operation;
 use occ_text::steps::{Act, Step};
@@ -255,7 +255,7 @@ impl<A: Allocator + Copy> Replay<A> {
     fn forge(&mut self, session: usize, number: u64, start: u64) -> Result<Answer<A>, Fault>
         ensures { Plays self.old (Forge session number start) (played result) self.new }
     {
-        let writes = WriteSet::new(self.alloc);
+        let writes = RequestWrites::new(self.alloc);
         let item = Item::Request {
             number,
             start,

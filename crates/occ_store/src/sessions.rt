@@ -16,7 +16,7 @@ use crate::names::Name;
 use occ_board::{Last, Seat};
 use occ_client::OpenTransaction;
 use occ_queue::{Item, Sender};
-use occ_sets::{Op, WriteSet, check_operations};
+use occ_sets::{Op, RequestWrites, check_operations};
 use occ_types::limits::{MAX_NUMBER, MAX_OPERATIONS};
 use occ_types::{Fault, Refused, Schema};
 use std::alloc::Allocator;
@@ -257,7 +257,7 @@ fn reopened_as<A: Allocator + Copy, R: Wait>(
     rt: &R,
     number: u64,
     start: u64,
-    writes: WriteSet<A>,
+    writes: RequestWrites<A>,
 ) -> OpenTransaction<A>
     ensures { result ≡ Some (record { number = number; start = start; writes = writes }) }
 {

@@ -1,7 +1,7 @@
 //! A small store, and the steps that are handed to it.
 use occ_core::{Core, Step};
 use occ_queue::Item;
-use occ_sets::WriteSet;
+use occ_sets::{RequestWrites, WriteSet};
 use occ_types::{Cell, Fault, Key, KeyKind, Kind, Row, Schema, TableDef, Text};
 use std::alloc::Global;
 
@@ -42,7 +42,7 @@ pub(crate) fn enter(alloc: Global, session: usize, key: u64) -> Result<Step<Glob
     let item = Item::Request {
         number: 1,
         start: 0,
-        writes,
+        writes: RequestWrites::from_set(writes)?,
     };
     Ok(Step::Enter { session, item })
 }
@@ -60,7 +60,7 @@ pub(crate) fn end(alloc: Global, session: usize, number: u64) -> Step<Global> {
     let item = Item::Request {
         number,
         start: 0,
-        writes: WriteSet::new(alloc),
+        writes: RequestWrites::new(alloc),
     };
     Step::SerialEnd { session, item }
 }

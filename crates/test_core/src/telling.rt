@@ -73,7 +73,7 @@ fn tell_refusal(
     let fault = refused.fault;
     match &refused.value {
         Item::Request { writes, .. } => {
-            let count = writes.len();
+            let count = writes.as_set().len();
             write!(words, "turned away {fault:?} with {count}; ")
         }
         Item::Alone { number, operations } => {

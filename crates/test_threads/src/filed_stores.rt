@@ -1,7 +1,7 @@
 //! A small store with the file of its cases, and what is entered in it.
 use occ_filed::FiledCore;
 use occ_queue::Item;
-use occ_sets::WriteSet;
+use occ_sets::{RequestWrites, WriteSet};
 use occ_types::{Cell, Fault, Key, KeyKind, Kind, Row, Schema, TableDef, Text};
 use std::alloc::Global;
 
@@ -29,6 +29,6 @@ pub(crate) fn put(
     Ok(Item::Request {
         number,
         start,
-        writes,
+        writes: RequestWrites::from_set(writes)?,
     })
 }

@@ -7,7 +7,7 @@ use occ_case::{Cause, Judged, Verdict, judge};
 use occ_core::Outcome;
 use occ_filed::FiledCore;
 use occ_queue::Item;
-use occ_sets::WriteSet;
+use occ_sets::RequestWrites;
 use occ_types::Fault;
 use std::alloc::Global;
 use std::sync::Wait;
@@ -74,7 +74,7 @@ fn an_unfiled_row_is_decided_by_the_core(rt: HostRuntime) -> Result<(), Fail> {
     let request = Item::Request {
         number: 1,
         start: 0,
-        writes: WriteSet::new(alloc),
+        writes: RequestWrites::new(alloc),
     };
     let _entered = filed.enter_unfiled(1, request)?;
     assert!(rt; filed.token(1).is_none());

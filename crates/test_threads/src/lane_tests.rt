@@ -1,6 +1,6 @@
 //! A lane between two threads.
 use occ_queue::{Item, Receiver, Sender, lane};
-use occ_sets::WriteSet;
+use occ_sets::{RequestWrites, WriteSet};
 use occ_types::{Cell, Fault, Key, Object, Row};
 use std::alloc::Global;
 use std::sync::Wait;
@@ -22,7 +22,7 @@ fn request(alloc: Global, number: u64) -> Result<Item<Global>, Fault> {
     Ok(Item::Request {
         number,
         start: number.saturating_mul(3),
-        writes,
+        writes: RequestWrites::from_set(writes)?,
     })
 }
 
@@ -51,7 +51,9 @@ fn is_request(item: &Item<Global>, asked: u64) -> bool {
             start,
             writes,
         } => {
-            *number == asked && *start == asked.saturating_mul(3) && are_writes_of(writes, asked)
+            *number == asked
+                && *start == asked.saturating_mul(3)
+                && are_writes_of(writes.as_set(), asked)
         }
         Item::Alone { .. } | Item::Close { .. } => false,
     }

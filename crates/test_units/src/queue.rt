@@ -1,6 +1,6 @@
 //! That a queue can be made, filled and emptied, which no clause says.
 use occ_queue::{Item, Queue, SessionQueue};
-use occ_sets::WriteSet;
+use occ_sets::RequestWrites;
 use occ_types::Fault;
 use std::alloc::Global;
 use std::test::Fail;
@@ -10,7 +10,7 @@ fn request(alloc: Global, number: u64) -> Item<Global> {
     Item::Request {
         number,
         start: 0,
-        writes: WriteSet::new(alloc),
+        writes: RequestWrites::new(alloc),
     }
 }
 

@@ -7,7 +7,9 @@ ghost use Rattle.occ_types.specs.PlainData.{question_of};
 ghost use Rattle.occ_model.specs.State.{State, Rows, answer};
 ghost use Rattle.occ_sets.specs.PlainSets.{rows_of};
 
-use occ_sets::{Answer, Observation, PrivateCopy, ReadSet, WriteSet, meets_reads, meets_writes};
+use occ_sets::{
+    Answer, Observation, PrivateCopy, ReadSet, RequestWrites, WriteSet, meets_reads, meets_writes,
+};
 use occ_types::limits::{MAX_ANSWER_ROWS, MAX_QUESTIONS, MAX_WRITES};
 use occ_types::{Cell, Fault, Key, Object, Question, Row};
 use std::alloc::Global;
@@ -69,13 +71,39 @@ fn deletions_of_one_key_collide(rt: HostRuntime) -> Result<(), Fail> {
     Ok(())
 }
 
+// The keys of a set's writes, in the order in which its iterator gives them.
+fn keys_written(alloc: Global, set: &WriteSet<Global>) -> Option<Vec<Key<Global>>> {
+    let mut keys = Vec::new(alloc);
+    for (object, row) in set.iter() {
+        if row.is_none() {
+            keys.push(object.key.clone().ok()?).ok()?;
+        }
+    }
+    Some(keys)
+}
+
+// Whether the deletions of two keys come in their order.
+fn come_in_order(alloc: Global) -> Option<bool> {
+    let mut set = deletes(alloc, 7)?;
+    set.set(0, Key::Num(2), None).ok()?;
+    let keys = keys_written(alloc, &set)?;
+    Some(matches!(keys.as_slice(), [Key::Num(7), Key::Num(2)]))
+}
+
+#[test]
+fn writes_come_in_their_order(rt: HostRuntime) -> Result<(), Fail> {
+    let alloc = rt.alloc();
+    assert!(rt; come_in_order(alloc) == Some(true));
+    Ok(())
+}
+
 // How many writes a copy has after two deletions, and the number that it hands in.
 fn copied(alloc: Global, key: u64, other: u64) -> Option<(u64, usize)> {
     let mut copy = PrivateCopy::new(alloc, 3, 17);
     copy.delete(0, Key::Num(key)).ok()?;
     copy.delete(0, Key::Num(other)).ok()?;
     let (number, _start, writes) = copy.into_request();
-    Some((number, writes.len()))
+    Some((number, writes.as_set().len()))
 }
 
 #[test]
@@ -314,6 +342,19 @@ fn too_many_reads(alloc: Global) -> Option<ReadSet<Global>> {
         reads.push(question, Answer::Found(None)).ok()?;
     }
     Some(reads)
+}
+
+// Why one write too many is no request, and how many writes come back then.
+fn refused_request(alloc: Global) -> Option<(Fault, usize)> {
+    let refused = RequestWrites::from_set(too_many_writes(alloc)?).err()?;
+    Some((refused.fault, refused.value.len()))
+}
+
+#[test]
+fn a_request_has_at_most_256_writes(rt: HostRuntime) -> Result<(), Fail> {
+    let alloc = rt.alloc();
+    assert!(rt; refused_request(alloc) == Some((Fault::SetFull, 257)));
+    Ok(())
 }
 
 #[test]
