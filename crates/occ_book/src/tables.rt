@@ -106,11 +106,11 @@ impl<A: Allocator + Clone> Tables<A> {
     pub fn rows(
         &self,
         table: usize,
-        lower: &Option<Key<A>>,
-        upper: &Option<Key<A>>,
+        lower: Option<&Key<A>>,
+        upper: Option<&Key<A>>,
     ) -> Result<Vec<(Key<A>, Row<A>), A>, Fault>
         ensures memory { IsOkUnless result Memory }
-        ensures answered { IfOk result (λ rows. Rows (map seen rows.items) ≡ answer (Span table (end_of lower.now) (end_of upper.now)) self.now.state) }
+        ensures answered { IfOk result (λ rows. Rows (map seen rows.items) ≡ answer (Span table (end_of (option_copied lower.entry)) (end_of (option_copied upper.entry))) self.now.state) }
     {
         let alloc = self.maps.allocator().clone()?;
         match self.maps.get(table) {
@@ -120,8 +120,8 @@ impl<A: Allocator + Clone> Tables<A> {
     }
 
     /// How many rows `rows` copies, counted over these rows alone and without memory.
-    pub fn count_rows(&self, table: usize, lower: &Option<Key<A>>, upper: &Option<Key<A>>) -> usize
-        ensures { result ≡ answer_size (answer (Span table (end_of lower.now) (end_of upper.now)) self.now.state) }
+    pub fn count_rows(&self, table: usize, lower: Option<&Key<A>>, upper: Option<&Key<A>>) -> usize
+        ensures { result ≡ answer_size (answer (Span table (end_of (option_copied lower.entry)) (end_of (option_copied upper.entry))) self.now.state) }
     {
         match self.maps.get(table) {
             Some(map) => count_between(map, lower, upper),
@@ -196,11 +196,11 @@ impl<A: Allocator> Tables<A> {
 fn copy_between<A: Allocator + Clone>(
     alloc: A,
     map: &BTreeMap<Key<A>, Row<A>, A>,
-    lower: &Option<Key<A>>,
-    upper: &Option<Key<A>>,
+    lower: Option<&Key<A>>,
+    upper: Option<&Key<A>>,
 ) -> Result<Vec<(Key<A>, Row<A>), A>, Fault>
     ensures memory { IsOkUnless result Memory }
-    ensures rows { IfOk result (λ rows. rows.items ≡ entries_within (end_of lower.now) (end_of upper.now) map.now.entries) }
+    ensures rows { IfOk result (λ rows. rows.items ≡ entries_within (end_of (option_copied lower.entry)) (end_of (option_copied upper.entry)) map.now.entries) }
     ensures ordered { IsOrdered (on key_of key_cmp) map.now }
 {
     let mut rows = Vec::new(alloc);
@@ -216,10 +216,10 @@ fn copy_between<A: Allocator + Clone>(
 // How many entries lie between two ends.
 fn count_between<A: Allocator>(
     map: &BTreeMap<Key<A>, Row<A>, A>,
-    lower: &Option<Key<A>>,
-    upper: &Option<Key<A>>,
+    lower: Option<&Key<A>>,
+    upper: Option<&Key<A>>,
 ) -> usize
-    ensures count { result ≡ length (entries_within (end_of lower.now) (end_of upper.now) map.now.entries) }
+    ensures count { result ≡ length (entries_within (end_of (option_copied lower.entry)) (end_of (option_copied upper.entry)) map.now.entries) }
     ensures ordered { IsOrdered (on key_of key_cmp) map.now }
 {
     if has_none_between(map, lower, upper) {
@@ -231,11 +231,11 @@ fn count_between<A: Allocator>(
 // Whether no entry lies between two ends since the map is empty or the range runs backwards. A map may not be asked for a range that does. `len`, unlike `is_empty`, tells that the keys are in order.
 fn has_none_between<A: Allocator>(
     map: &BTreeMap<Key<A>, Row<A>, A>,
-    lower: &Option<Key<A>>,
-    upper: &Option<Key<A>>,
+    lower: Option<&Key<A>>,
+    upper: Option<&Key<A>>,
 ) -> bool
-    ensures none { result ≡ true → entries_within (end_of lower.now) (end_of upper.now) map.now.entries ≡ [] }
-    ensures forward { result ≡ false → is_backward (end_of lower.now) (end_of upper.now) ≡ false }
+    ensures none { result ≡ true → entries_within (end_of (option_copied lower.entry)) (end_of (option_copied upper.entry)) map.now.entries ≡ [] }
+    ensures forward { result ≡ false → is_backward (end_of (option_copied lower.entry)) (end_of (option_copied upper.entry)) ≡ false }
     ensures ordered { IsOrdered (on key_of key_cmp) map.now }
 {
     if map.len() == 0 {
@@ -245,8 +245,8 @@ fn has_none_between<A: Allocator>(
 }
 
 // Whether both ends are there, and the lower one is above the upper one.
-fn is_backward<A: Allocator>(lower: &Option<Key<A>>, upper: &Option<Key<A>>) -> bool
-    ensures { result ≡ is_backward (end_of lower.now) (end_of upper.now) }
+fn is_backward<A: Allocator>(lower: Option<&Key<A>>, upper: Option<&Key<A>>) -> bool
+    ensures { result ≡ is_backward (end_of (option_copied lower.entry)) (end_of (option_copied upper.entry)) }
 {
     match (lower, upper) {
         (Some(lower), Some(upper)) => lower > upper,
@@ -255,8 +255,8 @@ fn is_backward<A: Allocator>(lower: &Option<Key<A>>, upper: &Option<Key<A>>) -> 
 }
 
 // A lower end, which lies within the range.
-fn lower_bound<A: Allocator>(lower: &Option<Key<A>>) -> Bound<&Key<A>>
-    ensures { bound_map (λ end. end.now) result ≡ lower_bound lower.now }
+fn lower_bound<A: Allocator>(lower: Option<&Key<A>>) -> Bound<&Key<A>>
+    ensures { bound_map (λ end. end.now) result ≡ lower_bound (option_copied lower.entry) }
 {
     match lower {
         Some(end) => Bound::Included(end),
@@ -265,8 +265,8 @@ fn lower_bound<A: Allocator>(lower: &Option<Key<A>>) -> Bound<&Key<A>>
 }
 
 // An upper end, which lies outside of the range.
-fn upper_bound<A: Allocator>(upper: &Option<Key<A>>) -> Bound<&Key<A>>
-    ensures { bound_map (λ end. end.now) result ≡ upper_bound upper.now }
+fn upper_bound<A: Allocator>(upper: Option<&Key<A>>) -> Bound<&Key<A>>
+    ensures { bound_map (λ end. end.now) result ≡ upper_bound (option_copied upper.entry) }
 {
     match upper {
         Some(end) => Bound::Excluded(end),

@@ -36,9 +36,9 @@ fn tables(rt: HostRuntime) -> Result<(), Fail> {
     assert!(rt; copy.row(0, &Key::Num(7)).is_some());
     assert!(rt; copy.row(1, &Key::Num(7)).is_none());
     let upper = Some(Key::Num(9));
-    assert_eq!(rt; copy.count_rows(0, &None, &upper), 1);
+    assert_eq!(rt; copy.count_rows(0, None, upper.as_ref()), 1);
     assert!(rt;
-        copy.rows(0, &None, &upper)
+        copy.rows(0, None, upper.as_ref())
             .is_ok_and(|rows| rows.len() == 1)
     );
     assert!(rt; copy.table(0).is_some_and(|rows| rows.len() == 2));
