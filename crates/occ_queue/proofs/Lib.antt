@@ -1,4 +1,5 @@
 pub mod Beginnings
 pub mod Ends
 pub mod Passing
+pub mod TakenOut
 pub mod Turns

@@ -237,3 +237,73 @@ module _ {Z : Type 0} where
   left port v may items views kept at =
       let mine = kept.fits port v at in
       subst (λ l. IsPrefix v.pushed (l ++ items)) (sym (mine.takes may).1) (subst (IsPrefix v.pushed) kept.whole mine.begins)
+
+  -- the pass of the sender takes in that of the receiver
+  pub joins : (port : ℕ) (v : Knowledge Z) (other : ℕ) (u : Knowledge Z) → v.sends ≡ true → u.takes ≡ true
+      → Merges Kept port v other u (knowledge v.sends u.takes v.pushed u.taken) (knowledge false false [] [])
+  joins port v other u may takes items views kept at apart at' =
+      let mine = kept.fits port v at in
+      let both : Knowledge Z = knowledge v.sends u.takes v.pushed u.taken in
+      let vs : List (Knowledge Z) = set views port both in
+      let F : ℕ → Knowledge Z → Type 0 = Fits kept.sender port kept.pushed kept.taken in
+      let G : ℕ → Knowledge Z → Type 0 = λ j y. j ≢ other → F j y in
+      let was : get_elem? views other ≡ some u = ⊎_elim (λ x. absurd (apart x.0)) (λ x. x.1) (at_set views port other both u at') in
+      let theirs = kept.fits other u was in
+      let now : All G vs = all_set G views port both
+      (λ _. record { begins = mine.begins; began = theirs.began; sends = mine.sends; takes = λ p. (refl, (theirs.takes p).1) })
+      (λ j y _ e far. let fits = kept.fits j y e in record {
+        begins = fits.begins;
+        began = fits.began;
+        sends = fits.sends;
+        takes = λ p. absurd (far ((fits.takes p).0 ∙ sym (theirs.takes takes).0));
+      }) in
+      record {
+        sender = kept.sender;
+        receiver = port;
+        pushed = kept.pushed;
+        taken = kept.taken;
+        whole = kept.whole;
+        in_turn = kept.in_turn;
+        fits = all_set F vs other (knowledge false false [] []) (record {
+          begins = prefix_nil kept.pushed;
+          began = prefix_nil kept.taken;
+          sends = λ (p : false ≡ true). absurd (true≢false (sym p));
+          takes = λ (p : false ≡ true). absurd (true≢false (sym p));
+        }) (λ j y far e. now j y e far);
+      }
+
+  -- what a pass knows that sends and takes: all that was pushed is what was taken, followed by what is held
+  pub whole : (port : ℕ) (v : Knowledge Z) → v.sends ≡ true → v.takes ≡ true → Learns Kept port v (λ items. v.pushed ≡ v.taken ++ items)
+  whole port v sends may items views kept at =
+      let mine = kept.fits port v at in
+      (mine.sends sends).1 ∙ kept.whole ∙ ap (λ l. l ++ items) (sym (mine.takes may).1)
+
+  -- and what it takes is among what was pushed
+  pub rests : (port : ℕ) (v : Knowledge Z) → v.sends ≡ true → v.takes ≡ true
+      → Pops Kept port v (λ x w. (w ≡ knowledge v.sends v.takes v.pushed (v.taken ++ x ∷ [])) × IsPrefix (v.taken ++ x ∷ []) v.pushed)
+  rests port v sends may x items views kept at =
+      let mine = kept.fits port v at in
+      let here = mine.takes may in
+      let taken = kept.taken ++ x ∷ [] in
+      let w : Knowledge Z = knowledge v.sends v.takes v.pushed (v.taken ++ x ∷ []) in
+      let same : v.taken ++ x ∷ [] ≡ taken = ap (λ l. l ++ x ∷ []) here.1 in
+      let before = whole port v sends may (x ∷ items) views kept at in (
+        w,
+        record {
+          sender = kept.sender;
+          receiver = kept.receiver;
+          pushed = kept.pushed;
+          taken = taken;
+          whole = kept.whole ∙ sym (append_assoc kept.taken (x ∷ []) items);
+          in_turn = kept.in_turn;
+          fits = all_set (Fits kept.sender kept.receiver kept.pushed taken) views port w
+              (record {
+                begins = mine.begins;
+                began = subst (IsPrefix (v.taken ++ x ∷ [])) same (prefix_refl (v.taken ++ x ∷ []));
+                sends = mine.sends;
+                takes = λ _. (here.0, same);
+              })
+              (λ j u other e. taken_on kept.sender kept.receiver kept.pushed kept.taken x j u (λ is. other (is ∙ sym here.0)) (kept.fits j u e));
+        },
+        (refl, (items, append_assoc v.taken (x ∷ []) items ∙ sym before)),
+      )

@@ -1,6 +1,7 @@
 //! What a session hands in, and the queue in which it waits: a queue of one owner, or a lane of two ends that threads share.
 #![tactic(auto)]
 
+mod draining;
 mod items;
 mod lanes;
 mod news;
@@ -10,6 +11,7 @@ mod rules;
 mod senders;
 mod session_queues;
 
+pub use draining::drain;
 pub use items::Item;
 pub use lanes::lane;
 pub use news::News;

@@ -19,8 +19,8 @@ use std::sync::{Arc, Wait};
 /// pushed as much as it heard.
 #[derive(Drop)]
 pub struct Receiver<A: Allocator> {
-    line: Arc<Line<A>, A>,
-    pass: Pass<A>,
+    pub(crate) line: Arc<Line<A>, A>,
+    pub(crate) pass: Pass<A>,
     taken: u64,
     closed: bool,
 }

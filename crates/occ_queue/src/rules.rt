@@ -102,6 +102,35 @@ impl<A: Allocator> Lesson<Item<A>, Knowledge<A>> for Takes {
     ghost fact = { λ v items. IsPrefix v.pushed (v.taken ++ items) };
 }
 
+/// The sender's pass takes in the receiver's, so that it knows all that was pushed and all that was taken.
+pub(crate) struct Together;
+
+impl<A: Allocator> Join<Knowledge<A>> for Together {
+    ghost use Rattle.std.specs.Prelude.{false, []};
+    ghost use Rattle.occ_queue.specs.Rule.{knowledge};
+
+    ghost both = { λ v u. knowledge v.sends u.takes v.pushed u.taken };
+
+    ghost spent = { knowledge false false [] [] };
+}
+
+/// A pop by such a pass, which takes no more than was pushed; and of an empty queue, that all was taken.
+pub(crate) struct Rest;
+
+impl<A: Allocator> Outcome<Item<A>, Knowledge<A>> for Rest {
+    ghost use Rattle.std.specs.Prelude.{◌≡◌, [], ◌∷◌, ◌++◌};
+    ghost use mathlib.Core.List.{IsPrefix};
+    ghost use Rattle.occ_queue.specs.Rule.{knowledge};
+
+    ghost then = { λ v x w. (w ≡ knowledge v.sends v.takes v.pushed (v.taken ++ x ∷ [])) × IsPrefix (v.taken ++ x ∷ []) v.pushed };
+}
+
+impl<A: Allocator> Lesson<Item<A>, Knowledge<A>> for Rest {
+    ghost use Rattle.std.specs.Prelude.{◌≡◌, ◌++◌};
+
+    ghost fact = { λ v items. v.pushed ≡ v.taken ++ items };
+}
+
 /// What the rule tells of what a pass knows.
 pub(crate) struct Law;
 

@@ -26,8 +26,8 @@ use std::sync::{Arc, Wait};
 /// knows all that was pushed, and of what was taken as much as it heard.
 #[derive(Drop)]
 pub struct Sender<A: Allocator> {
-    line: Arc<Line<A>, A>,
-    pass: Pass<A>,
+    pub(crate) line: Arc<Line<A>, A>,
+    pub(crate) pass: Pass<A>,
     pushed: u64,
     closed: bool,
 }
