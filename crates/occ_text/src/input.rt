@@ -6,7 +6,7 @@ ghost use Rattle.occ_text.specs.Line.{LineGives, LineTaken, GatherGives, PieceGi
 ghost use Rattle.occ_text.specs.declared.faults.LineFault.TheVariants as line_faults;
 
 use crate::faults::{LineFault, ReadFailed};
-use memchr::memchr;
+use crate::separated_parts::find;
 use std::alloc::{AllocError, Allocator};
 use std::io::{ErrorKind, Read};
 use std::marker::Model;
@@ -217,7 +217,7 @@ impl<A: Allocator> Input<A> {
         ensures unfailed { self.new.failed ≡ self.old.failed }
     {
         let unread = &self.block[self.from..self.to];
-        let len = before_feed(unread);
+        let len = find(unread, FEED);
         if self.line.len() + len > MAX_LINE {
             return Piece::Long;
         }
@@ -229,18 +229,6 @@ impl<A: Allocator> Input<A> {
             self.from = self.to;
             Piece::Part
         }
-    }
-}
-
-/// How many bytes stand before the first line feed, or all of them where there is none.
-fn before_feed(bytes: &[u8]) -> usize
-    ensures within { result ≤ length bytes.now }
-    ensures before { All (λ byte. byte ≢ 10) (take result bytes.now) }
-    ensures found { result < length bytes.now → slice_index bytes.now result ≡ 10 }
-{
-    match memchr(FEED, bytes) {
-        Some(place) => place,
-        None => bytes.len(),
     }
 }
 

@@ -3,6 +3,7 @@
 ghost use Rattle.std.specs.Prelude.{◌≡◌, ◌<◌, ◌≤◌, ◌≢◌, [], ◌∷◌, All, take, length, slice_index, option_map, MatchOption};
 ghost use Rattle.occ_text.specs.SeparatedParts.{parts_left};
 
+use memchr::memchr;
 use std::marker::Model;
 
 /// The parts of some bytes, cut at each separator. What clauses see is the list of those to come.
@@ -61,10 +62,8 @@ pub fn find(bytes: &[u8], wanted: u8) -> usize
     ensures before { All (λ byte. byte ≢ wanted) (take result bytes.now) }
     ensures found { result < length bytes.now → slice_index bytes.now result ≡ wanted }
 {
-    for (at, byte) in bytes.iter().enumerate() {
-        if *byte == wanted {
-            return at;
-        }
+    match memchr(wanted, bytes) {
+        Some(place) => place,
+        None => bytes.len(),
     }
-    bytes.len()
 }
