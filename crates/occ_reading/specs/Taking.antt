@@ -1,5 +1,5 @@
 -- Taking the lines of a book from an input.
-use Rattle.std.specs.Prelude.{◌≡◌, ◌≤◌, ◌^◌, ◌-◌, ℕ, Bool, true, List, [], ◌∷◌, ◌++◌, length, Option, Some, None, codes}
+use Rattle.std.specs.Prelude.{◌≡◌, ◌≤◌, ◌^◌, ◌-◌, ℕ, Bool, true, false, List, [], ◌∷◌, ◌++◌, length, Option, Some, None, codes}
 use Rattle.std.specs.List.{AllByRecursion}
 use Rattle.std.specs.FinMap.{len}
 use Rattle.occ_types.specs.Key.{Key, key_cmp}
@@ -89,6 +89,11 @@ module _ {Z : Type 0} where
   abbrev pub further_of : code_behind.Behind Z → Further
   further_of (behind.Table table) = OneTable (table_of table)
   further_of (behind.Began began) = Begins began
+
+  -- it tells one table more
+  abbrev pub tells_table : code_behind.Behind Z → Bool
+  tells_table (behind.Table table) = true
+  tells_table (behind.Began began) = false
 
 -- ---- rows of the log
 

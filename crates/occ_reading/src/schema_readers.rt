@@ -1,9 +1,9 @@
 //! Readers of what a line names under a schema: tables, and keys and rows that fit them.
 
-ghost use Rattle.std.specs.Prelude.{◌≡◌};
+ghost use Rattle.std.specs.Prelude.{◌≡◌, true, IfErr};
 ghost use Rattle.std.specs.Result.{result_err};
 ghost use Rattle.occ_types.specs.PlainData.{key_of, object_of};
-ghost use Rattle.occ_text.specs.Escapes.{Gives};
+ghost use Rattle.occ_text.specs.Escapes.{Gives, key_takes};
 ghost use Rattle.occ_text.specs.Fields.{GivesNext, before};
 ghost use Rattle.occ_reading.specs.SchemaReaders.{unless_fault, place_of, key_in, row_in, next_table, next_key, next_row, next_object};
 
@@ -40,7 +40,8 @@ fn key_in<A: Allocator + Copy>(
     table: usize,
     token: &[u8],
 ) -> Result<Key<A>, Unread>
-    ensures { Gives key_of result (key_in version schema.now table token.now) }
+    ensures exact { Gives key_of result (key_in version schema.now table token.now) }
+    ensures memory { IfErr result (λ unread. unread ≡ Unread.Memory → key_takes version token.now ≡ true) }
 {
     let key = texts::key(alloc, version, token)?;
     unless_fault(schema.check_key(table, &key)).ok_or(Unread::Malformed)?;

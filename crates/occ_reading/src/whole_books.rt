@@ -1,6 +1,6 @@
 //! Taking a whole book from an input.
 
-ghost use Rattle.std.specs.Prelude.{ℕ, List, ◌≡◌, ◌≤◌, ◌^◌, ◌-◌, ◌++◌, ◌∷◌, [], ◌||◌, IfOk, IfErr, IsOkUnless, Ok, None, map, length, codes};
+ghost use Rattle.std.specs.Prelude.{ℕ, List, true, ◌≡◌, ◌≤◌, ◌^◌, ◌-◌, ◌++◌, ◌∷◌, [], ◌||◌, IfOk, IfErr, IsOkUnless, Ok, None, map, length, codes};
 ghost use Rattle.std.specs.FinMap as finite;
 ghost use Rattle.std.specs.List.{AllByRecursion};
 ghost use Rattle.std.specs.Str.{bytes_eq};
@@ -13,13 +13,14 @@ ghost use Rattle.occ_text.specs.Faults.{widened};
 ghost use Rattle.occ_text.specs.declared.versions.Version as versions;
 ghost use Rattle.occ_text.specs.declared.faults.LineFault.TheVariants as line_faults;
 ghost use Rattle.occ_text.specs.declared.faults.ReadFault.TheVariants as read_faults;
+ghost use Rattle.occ_text.specs.HeaderReading.{TakesTable, line_heads_table};
 ghost use Rattle.occ_text.specs.HeaderTaking.{TablesSoFar};
 ghost use Rattle.occ_text.specs.Line.{HasFailed, Taken};
 ghost use Rattle.occ_print.specs.Books.{number_line, entry_line, mark_lines, state_lines};
 ghost use Rattle.occ_print.specs.declared.sections.Section.TheVariants as sections;
 ghost use Rattle.occ_reading.specs.NumberLines.{BaseHeadFits, BeganFits, began_text};
 ghost use Rattle.occ_reading.specs.RowLines.{AtFits};
-ghost use Rattle.occ_reading.specs.Taking.{AllFit, IsBaseOf, front_lines, but_first, FurtherFits, further_of, further_text};
+ghost use Rattle.occ_reading.specs.Taking.{AllFit, IsBaseOf, front_lines, but_first, FurtherFits, further_of, further_text, tells_table};
 ghost use Rattle.occ_reading.specs.Places.{Version as VersionAt, Tables as TablesAt, Log, Marks as MarksAt, State, Counter, Audit, frame_of, rows_to_come, behind_began, numbers_to_come, behind_numbers, entries_to_come, behind_entries, position_of, TakesFrom, EndsFrom};
 ghost use Rattle.occ_reading.specs.WholeBooks.{EntryFits, BaseFits, IsBookText, printed_book};
 
@@ -79,6 +80,7 @@ fn take_behind<R: Read, A: Allocator + Copy>(
 ) -> Result<Behind<A>, ReadFault>
     requires { TablesSoFar version (tables_of tables.now) }
     ensures taken { Taken further_of further_text (FurtherFits version (tables_of tables.now)) result (prepend_known input.old.unread (R.remaining reader.old)) (prepend_known input.new.unread (R.remaining reader.new)) input.old.number input.new.number }
+    ensures heads { TakesTable tells_table (line_heads_table version input.new.line) result }
     ensures cause { IfErr result (λ fault. fault ≡ read_faults.Read → HasFailed input.new) }
 {
     input.take_line(reader)?;
@@ -100,6 +102,7 @@ fn take_opening<R: Read, A: Allocator + Copy>(
     version: Version,
 ) -> Result<Opening<A>, ReadFault>
     ensures taken { (sessions : ℕ) → TakesFrom result (TablesAt version sessions []) (λ opening. behind_began (frame_of version opening.schema sessions) opening.began) (λ opening. map table_text opening.schema ++ began_text opening.began ∷ []) (λ opening. (check_tables opening.schema ≡ None) × KindsFit version opening.schema × BeganFits opening.began) (position_of input.old (R.remaining reader.old)) (position_of input.new (R.remaining reader.new)) }
+    ensures memory { IfErr result (λ fault. fault ≡ read_faults.Memory → line_heads_table version input.new.line ≡ true) }
     ensures cause { IfErr result (λ fault. fault ≡ read_faults.Read → HasFailed input.new) }
 {
     let mut tables = Vec::new(alloc);

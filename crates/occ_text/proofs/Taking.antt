@@ -1,6 +1,6 @@
 -- Taking the lines of a header.
 use Rattle.std.proofs.Common.{◌≡◌, ◌≢◌, ◌==◌, not, ℕ, ◌+◌, ◌<◌, Bool, true, false, List, [], ◌∷◌, ◌++◌, length, map, Option, Some, None, Result, Ok, Err, refl, sym, ap, subst, ◌∙◌, arith, length-append}
-use Rattle.std.specs.Prelude.{codes, IsTrue, ◌↔◌, ok_or, option_and_then}
+use Rattle.std.specs.Prelude.{IfErr, codes, IsTrue, ◌↔◌, ok_or, option_and_then}
 use Rattle.std.specs.List.{All, list_any, list_all}
 use Rattle.std.specs.Result.{IsErrAnd}
 use Rattle.std.specs.Io.KnownBytes.{Consumes}
@@ -24,8 +24,8 @@ use Rattle.occ_text.specs.declared.versions.Version.{Version}
 use Rattle.occ_text.specs.Reading.{Reads}
 use Rattle.occ_text.specs.Escapes.{Gives}
 use Rattle.occ_text.specs.Headers.{table_text, KindsFit}
-use Rattle.occ_text.specs.HeaderReading.{table_of_line}
-use Rattle.occ_text.specs.Faults.{told, widened}
+use Rattle.occ_text.specs.HeaderReading.{table_of_line, line_heads_table, UnlessMalformed, TakesTable}
+use Rattle.occ_text.specs.Faults.{read_fault, told, widened}
 use Rattle.occ_text.specs.Line.{IsLine, CannotStand, AtEnd, NoLine, OtherLine, NoneTaken, Taken, lines_text}
 use Rattle.occ_text.specs.HeaderTaking.{TablesSoFar, if_free, table_behind, GoesOn, NextTaken, TablesTaken}
 use Rattle.occ_text.proofs.SchemaLines.{line_refused, steps_refused, table_next}
@@ -102,6 +102,35 @@ behind_taken version view tables line name table taken read few called is clash 
     list_any-map (has_name table.name) view tables ∙ ap (λ (n : List ℕ). list_any (λ t. has_name n (view t)) tables) (sym called) ∙ sym is ∙ clash in
     let n = length-map tables view in
     ap (option_and_then (if_free (map view tables))) read ∙ rw (some, lt-ltb (length (map view tables)) 32 (omega arith)) refl
+
+-- ---- what takes memory
+
+-- a line that wasn't taken takes none
+pub none_takes : {X : Type 0} (is_table : X → Bool) (test : Bool) (fault : LineFault) (result : Result X ReadFault) → IsErrAnd result (λ e. e ≡ read_fault fault) → TakesTable is_table test result
+none_takes is_table test fault (Ok x) is = elim is [ ]
+none_takes is_table test line_faults.Read (Err e) is = subst (λ (f : ReadFault). TakesTable is_table test (Err f)) (sym is) tt
+none_takes is_table test line_faults.TooManyLines (Err e) is = subst (λ (f : ReadFault). TakesTable is_table test (Err f)) (sym is) tt
+none_takes is_table test (line_faults.Malformed n) (Err e) is = subst (λ (f : ReadFault). TakesTable is_table test (Err f)) (sym is) tt
+
+abbrev fault_in : {Y : Type 0} → Result Y ReadFault → ReadFault
+fault_in (Ok y) = faults.Memory
+fault_in (Err fault) = fault
+
+-- memory is refused for a line that isn't malformed
+pub unread_takes : {X Y : Type 0} (is_table : X → Bool) (test : Bool) (read : Result Y Unread) (n : ℕ) (fault : ReadFault) (result : Result X ReadFault) → Err fault ≡ told read n → IsErrAnd result (λ e. e ≡ fault) → UnlessMalformed test read → TakesTable is_table test result
+unread_takes is_table test (Ok y) n fault result told_so is heads = absurd cc
+unread_takes is_table test (Err why) n fault (Ok x) told_so is heads = elim is [ ]
+unread_takes is_table test (Err unread.Malformed) n fault (Err e) told_so is heads = subst (λ (f : ReadFault). TakesTable is_table test (Err f)) (sym (is ∙ ap fault_in told_so)) tt
+unread_takes is_table test (Err unread.Memory) n fault (Err e) told_so is heads = subst (λ (f : ReadFault). TakesTable is_table test (Err f)) (sym (is ∙ ap fault_in told_so)) heads
+
+-- a line is as the one that is shown
+pub heads_here : {Y : Type 0} (version : Version) (shown line : List ℕ) (read : Result Y Unread) → shown ≡ line → UnlessMalformed (line_heads_table version shown) read → UnlessMalformed (line_heads_table version line) read
+heads_here version shown line read same heads = subst (λ (l : List ℕ). UnlessMalformed (line_heads_table version l) read) same heads
+
+-- a fault that is handed on is one of memory where it was
+pub memory_takes : {X Y : Type 0} (is_table : X → Bool) (test : Bool) (fault : ReadFault) (result : Result Y ReadFault) → IsErrAnd result (λ e. e ≡ fault) → TakesTable is_table test (Err fault) → IfErr result (λ e. e ≡ faults.Memory → test ≡ true)
+memory_takes is_table test fault (Ok y) is heads = tt
+memory_takes {X} is_table test fault (Err e) is heads = λ memory. subst (λ (f : ReadFault). TakesTable {X = X} is_table test (Err f)) (sym is ∙ memory) heads
 
 -- ---- all tables
 

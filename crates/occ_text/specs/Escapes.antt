@@ -1,5 +1,5 @@
 -- Reading texts with escapes, keys, cells and rows.
-use Rattle.std.specs.Prelude.{◌≡◌, ◌+◌, ◌-◌, ◌*◌, ◌^◌, ◌==◌, ◌&&◌, ℕ, Bool, false, List, [], ◌∷◌, Option, Some, None, Result, Ok, Err, nat_le, if◌then◌else◌, option_map, option_and_then, drop, codes}
+use Rattle.std.specs.Prelude.{◌≡◌, ◌+◌, ◌-◌, ◌*◌, ◌^◌, ◌==◌, ◌&&◌, ℕ, Bool, true, false, List, [], ◌∷◌, Option, Some, None, Result, Ok, Err, nat_le, if◌then◌else◌, option_map, option_and_then, drop, codes}
 use Rattle.std.specs.List.{slice_split}
 use Rattle.std.specs.Str.{is_utf8, bytes_eq}
 use Rattle.occ_types.specs.Key.{Key}
@@ -91,6 +91,22 @@ key_of_parts (first ∷ second ∷ other ∷ more) = None
 unfoldable pub read_key : Version → List ℕ → Option Key
 read_key One token = simple_key token
 read_key Two token = key_of_parts (slice_split (λ byte. byte == 43) token)
+
+-- what is read of one part takes memory: a text does, a number doesn't (our own choice)
+abbrev pub part_takes : List ℕ → Bool
+part_takes token = begins_with token 39
+
+-- what is read of so many parts takes memory: two parts do, and more are no key
+abbrev pub parts_take : List (List ℕ) → Bool
+parts_take [] = false
+parts_take (first ∷ []) = part_takes first
+parts_take (first ∷ second ∷ []) = true
+parts_take (first ∷ second ∷ other ∷ more) = false
+
+-- what is read of a key takes memory
+unfoldable pub key_takes : Version → List ℕ → Bool
+key_takes One token = part_takes token
+key_takes Two token = parts_take (slice_split (λ byte. byte == 43) token)
 
 -- an end that a range lacks, which version 1 can't say
 abbrev pub is_missing : Version → List ℕ → Bool

@@ -1,5 +1,6 @@
 -- Reading the lines of a header.
-use Rattle.std.specs.Prelude.{ℕ, ◌&&◌, List, [], ◌∷◌, Option, Some, None, if◌then◌else◌, option_map, option_and_then, nat_le, nat_lt, length, codes}
+use Rattle.std.specs.Prelude.{◌≡◌, ℕ, ◌&&◌, Bool, true, false, List, [], ◌∷◌, Option, Some, None, Result, Ok, Err, is_some, if◌then◌else◌, option_map, option_and_then, nat_le, nat_lt, length, codes}
+use Rattle.std.specs.Option.{option_map_or}
 use Rattle.std.specs.Str.{bytes_eq}
 use Rattle.occ_types.specs.declared.kind.Kind.{Kind}
 use Rattle.occ_types.specs.declared.kind.Kind.TheVariants as cells
@@ -7,6 +8,10 @@ use Rattle.occ_types.specs.declared.kind.KeyKind.{KeyKind}
 use Rattle.occ_types.specs.declared.kind.KeyKind.TheVariants as keys
 use Rattle.occ_types.specs.declared.kind.PartKind.TheVariants as parts
 use Rattle.occ_types.specs.Schema.{Table}
+use Rattle.occ_text.specs.declared.tokens.Unread.{Unread}
+use Rattle.occ_text.specs.declared.tokens.Unread.TheVariants as unread
+use Rattle.occ_text.specs.declared.faults.ReadFault.{ReadFault}
+use Rattle.occ_text.specs.declared.faults.ReadFault.TheVariants as faults
 use Rattle.occ_text.specs.declared.versions.Version.{Version}
 use Rattle.occ_text.specs.declared.versions.Version.TheVariants.{One, Two}
 use Rattle.occ_text.specs.Reading.{◌>>=◌, tokens_of, name_of}
@@ -72,3 +77,31 @@ table_of_tokens version (word ∷ called ∷ keyed ∷ words) = table_of_parts v
 -- the table of a line
 unfoldable pub table_of_line : Version → List ℕ → Option Table
 table_of_line version line = option_and_then (table_of_tokens version) (tokens_of line)
+
+-- a table's line is malformed, or begins as one does, so that it takes memory (our own choice)
+abbrev pub heads_table : Version → List ℕ → List ℕ → List ℕ → Bool
+heads_table version word called keyed = bytes_eq word (codes "table") && is_some (name_of called) && is_some (key_kind_of version keyed)
+
+abbrev pub tokens_head_table : Version → List (List ℕ) → Bool
+tokens_head_table version [] = false
+tokens_head_table version (word ∷ []) = false
+tokens_head_table version (word ∷ called ∷ []) = false
+tokens_head_table version (word ∷ called ∷ keyed ∷ words) = heads_table version word called keyed
+
+-- the word `table`, a name and a kind of keys stand first
+unfoldable pub line_heads_table : Version → List ℕ → Bool
+line_heads_table version line = option_map_or (tokens_head_table version) (tokens_of line) false
+
+-- what isn't malformed passes a test
+abbrev pub UnlessMalformed : {X : Type 0} → Bool → Result X Unread → Type 0
+UnlessMalformed test (Ok x) = test ≡ true
+UnlessMalformed test (Err unread.Malformed) = Unit {0}
+UnlessMalformed test (Err unread.Memory) = test ≡ true
+
+-- a line passes a test where a table was taken from it, or memory was refused for it
+abbrev pub TakesTable : {X : Type 0} → (X → Bool) → Bool → Result X ReadFault → Type 0
+TakesTable is_table test (Ok x) = is_table x ≡ true → test ≡ true
+TakesTable is_table test (Err faults.Memory) = test ≡ true
+TakesTable is_table test (Err faults.Read) = Unit {0}
+TakesTable is_table test (Err faults.TooManyLines) = Unit {0}
+TakesTable is_table test (Err (faults.Malformed n)) = Unit {0}

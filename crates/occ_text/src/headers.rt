@@ -1,6 +1,6 @@
 //! The header of a schedule: the readers of its lines, and of the whole. A book begins with the same lines up to its tables.
 
-ghost use Rattle.std.specs.Prelude.{◌≡◌, ◌↔◌, Some, IfOk, IfErr, IsTrue, codes};
+ghost use Rattle.std.specs.Prelude.{◌≡◌, ◌↔◌, true, is_some, Some, IfOk, IfErr, IsTrue, codes};
 ghost use Rattle.std.specs.List.{list_any};
 ghost use Rattle.std.specs.Io.KnownBytes.{prepend_known};
 ghost use Rattle.occ_types.specs.Schema as plain;
@@ -10,7 +10,7 @@ ghost use Rattle.occ_text.specs.Escapes.{Gives};
 ghost use Rattle.occ_text.specs.Faults.{widened};
 ghost use Rattle.occ_text.specs.declared.faults.LineFault.TheVariants as line_faults;
 ghost use Rattle.occ_text.specs.declared.faults.ReadFault.TheVariants as read_faults;
-ghost use Rattle.occ_text.specs.HeaderReading.{version_of, count_of_line, table_of_parts, table_of_tokens, table_of_line};
+ghost use Rattle.occ_text.specs.HeaderReading.{version_of, count_of_line, table_of_parts, table_of_tokens, table_of_line, heads_table, tokens_head_table, line_heads_table, UnlessMalformed, TakesTable};
 ghost use Rattle.occ_text.specs.HeaderTaking.{TablesSoFar, table_behind, NextTaken, TablesTaken, LimitsTaken, HeaderTaken, header_of};
 ghost use Rattle.occ_text.specs.Headers.{version_text, count_text, table_text, Within, TableHasLine};
 ghost use Rattle.occ_text.specs.Line.{Taken, HasFailed};
@@ -111,7 +111,8 @@ fn table_of_parts<A: Allocator + Copy>(
     keyed: &[u8],
     words: Parts<'_>,
 ) -> Result<TableDef<A>, Unread>
-    ensures { Gives table_of result (table_of_parts version word.now called.now keyed.now words.entry) }
+    ensures exact { Gives table_of result (table_of_parts version word.now called.now keyed.now words.entry) }
+    ensures heads { UnlessMalformed (heads_table version word.now called.now keyed.now) result }
 {
     if !is_word(word, "table") {
         return Err(Unread::Malformed);
@@ -128,7 +129,8 @@ fn table_of_tokens<A: Allocator + Copy>(
     version: Version,
     mut parts: Parts<'_>,
 ) -> Result<TableDef<A>, Unread>
-    ensures { Gives table_of result (table_of_tokens version parts.entry) }
+    ensures exact { Gives table_of result (table_of_tokens version parts.entry) }
+    ensures heads { UnlessMalformed (tokens_head_table version parts.entry) result }
 {
     let Some(word) = parts.take_part() else {
         return Err(Unread::Malformed);
@@ -142,13 +144,14 @@ fn table_of_tokens<A: Allocator + Copy>(
     table_of_parts(alloc, version, word, called, keyed, parts)
 }
 
-#[tactic(auto, unfolding(crate::specs::HeaderReading::table_of_line))]
+#[tactic(auto, unfolding(crate::specs::HeaderReading::table_of_line, crate::specs::HeaderReading::line_heads_table))]
 fn table_value<A: Allocator + Copy>(
     alloc: A,
     version: Version,
     line: &[u8],
 ) -> Result<TableDef<A>, Unread>
-    ensures { Gives table_of result (table_of_line version line.now) }
+    ensures exact { Gives table_of result (table_of_line version line.now) }
+    ensures heads { UnlessMalformed (line_heads_table version line.now) result }
 {
     let parts = tokens(line).ok_or(Unread::Malformed)?;
     table_of_tokens(alloc, version, parts)
@@ -162,6 +165,7 @@ pub fn table<A: Allocator + Copy>(
     line: &[u8],
 ) -> Result<TableDef<A>, Unread>
     ensures exact { Gives table_of result (table_of_line version line.now) }
+    ensures heads { UnlessMalformed (line_heads_table version line.now) result }
     ensures found { IfOk result (λ table. (line.now ≡ table_text (table_of table)) × TableHasLine version (table_of table)) }
     ensures again { (table : plain.Table) → TableHasLine version table → line.now ≡ table_text table → Gives table_of result (Some table) }
 {
@@ -241,7 +245,8 @@ pub fn table_behind<A: Allocator + Copy>(
     tables: &[TableDef<A>],
     line: &[u8],
 ) -> Result<TableDef<A>, Unread>
-    ensures { Gives table_of result (table_behind version (tables_of tables.now) line.now) }
+    ensures exact { Gives table_of result (table_behind version (tables_of tables.now) line.now) }
+    ensures heads { UnlessMalformed (line_heads_table version line.now) result }
 {
     let table = table(alloc, version, line)?;
     if tables.len() >= MAX_TABLES {
@@ -265,6 +270,7 @@ fn take_next<R: Read, A: Allocator + Copy>(
     ensures gives { NextTaken version table_of result (tables_of tables.now)
         (prepend_known input.old.unread (R.remaining reader.old))
         (prepend_known input.new.unread (R.remaining reader.new)) input.old.number input.new.number }
+    ensures heads { TakesTable is_some (line_heads_table version input.new.line) result }
     ensures cause { IfErr result (λ fault. fault ≡ read_faults.Read → HasFailed input.new) }
 {
     input.take_line(reader)?;
@@ -287,6 +293,7 @@ fn take_tables<R: Read, A: Allocator + Copy>(
 ) -> Result<Schema<A>, ReadFault>
     ensures gives { TablesTaken version result (prepend_known input.old.unread (R.remaining reader.old))
         (prepend_known input.new.unread (R.remaining reader.new)) input.old.number input.new.number }
+    ensures memory { IfErr result (λ fault. fault ≡ read_faults.Memory → line_heads_table version input.new.line ≡ true) }
     ensures cause { IfErr result (λ fault. fault ≡ read_faults.Read → HasFailed input.new) }
 {
     let mut tables = Vec::new(alloc);

@@ -1,11 +1,11 @@
 //! Readers of texts, keys, cells and rows. What they read has one spelling.
 
-ghost use Rattle.std.specs.Prelude.{◌≡◌, Some, ℕ, List, Option, option_map, IfOk};
+ghost use Rattle.std.specs.Prelude.{◌≡◌, true, Some, ℕ, List, Option, option_map, IfOk, IfErr};
 ghost use Rattle.occ_types.specs.Key as keys;
 ghost use Rattle.occ_types.specs.Row as rows;
 ghost use Rattle.occ_types.specs.PlainData.{part_of, key_of, end_of, cell_of};
 ghost use Rattle.occ_text.specs.Spelling.{is_plain, text_text, key_text, end_text, row_text, IsText, KeyFits, EndFits, RowFits};
-ghost use Rattle.occ_text.specs.Escapes.{Gives, hex_value, escape_of, front_of, unescaped, text_of, read_part, simple_key, pair_key, key_of_parts, read_key, is_missing, read_end, read_cell, read_row};
+ghost use Rattle.occ_text.specs.Escapes.{Gives, hex_value, escape_of, front_of, unescaped, text_of, read_part, simple_key, pair_key, key_of_parts, read_key, is_missing, read_end, read_cell, read_row, part_takes, parts_take, key_takes};
 
 use crate::separated_parts::Parts;
 use crate::tokens::{Unread, begins_with, int, is_word, number, without_first};
@@ -72,7 +72,8 @@ fn unescape<A: Allocator>(alloc: A, bytes: &[u8]) -> Result<Vec<u8, A>, Unread>
 
 #[tactic(auto, unfolding(crate::specs::Escapes::text_of))]
 fn text_value<A: Allocator + Clone>(alloc: A, token: &[u8]) -> Result<Text<A>, Unread>
-    ensures { Gives (λ text. text) result (text_of token.now) }
+    ensures exact { Gives (λ text. text) result (text_of token.now) }
+    ensures memory { IfErr result (λ unread. unread ≡ Unread.Memory → part_takes token.now ≡ true) }
 {
     if !begins_with(token, b'\'') {
         return Err(Unread::Malformed);
@@ -87,7 +88,8 @@ fn text_value<A: Allocator + Clone>(alloc: A, token: &[u8]) -> Result<Text<A>, U
 /// A number or a text.
 #[tactic(auto, unfolding(crate::specs::Escapes::read_part))]
 fn part_value<A: Allocator + Clone>(alloc: A, token: &[u8]) -> Result<KeyPart<A>, Unread>
-    ensures { Gives part_of result (read_part token.now) }
+    ensures exact { Gives part_of result (read_part token.now) }
+    ensures memory { IfErr result (λ unread. unread ≡ Unread.Memory → part_takes token.now ≡ true) }
 {
     if begins_with(token, b'\'') {
         return Ok(KeyPart::Text(text_value(alloc, token)?));
@@ -98,7 +100,8 @@ fn part_value<A: Allocator + Clone>(alloc: A, token: &[u8]) -> Result<KeyPart<A>
 /// A key that is no pair.
 #[tactic(auto, unfolding(crate::specs::Escapes::simple_key))]
 fn simple_key<A: Allocator + Clone>(alloc: A, token: &[u8]) -> Result<Key<A>, Unread>
-    ensures { Gives key_of result (simple_key token.now) }
+    ensures exact { Gives key_of result (simple_key token.now) }
+    ensures memory { IfErr result (λ unread. unread ≡ Unread.Memory → part_takes token.now ≡ true) }
 {
     match part_value(alloc, token)? {
         KeyPart::Num(number) => Ok(Key::Num(number)),
@@ -121,7 +124,8 @@ fn pair_key<A: Allocator + Copy>(alloc: A, first: &[u8], second: &[u8]) -> Resul
 
 /// The key of what stands between the signs, by the number of its parts.
 fn key_of_parts<A: Allocator + Copy>(alloc: A, mut parts: Parts<'_>) -> Result<Key<A>, Unread>
-    ensures { Gives key_of result (key_of_parts parts.entry) }
+    ensures exact { Gives key_of result (key_of_parts parts.entry) }
+    ensures memory { IfErr result (λ unread. unread ≡ Unread.Memory → parts_take parts.entry ≡ true) }
 {
     let Some(first) = parts.take_part() else {
         return Err(Unread::Malformed);
@@ -135,13 +139,14 @@ fn key_of_parts<A: Allocator + Copy>(alloc: A, mut parts: Parts<'_>) -> Result<K
     }
 }
 
-#[tactic(auto, unfolding(crate::specs::Escapes::read_key))]
+#[tactic(auto, unfolding(crate::specs::Escapes::read_key, crate::specs::Escapes::key_takes))]
 fn key_value<A: Allocator + Copy>(
     alloc: A,
     version: Version,
     token: &[u8],
 ) -> Result<Key<A>, Unread>
-    ensures { Gives key_of result (read_key version token.now) }
+    ensures exact { Gives key_of result (read_key version token.now) }
+    ensures memory { IfErr result (λ unread. unread ≡ Unread.Memory → key_takes version token.now ≡ true) }
 {
     match version {
         Version::One => simple_key(alloc, token),
@@ -165,7 +170,8 @@ fn end_value<A: Allocator + Copy>(
     version: Version,
     token: &[u8],
 ) -> Result<Option<Key<A>>, Unread>
-    ensures { Gives end_of result (read_end version token.now) }
+    ensures exact { Gives end_of result (read_end version token.now) }
+    ensures memory { IfErr result (λ unread. unread ≡ Unread.Memory → key_takes version token.now ≡ true) }
 {
     if is_missing(version, token) {
         return Ok(None);
@@ -175,7 +181,8 @@ fn end_value<A: Allocator + Copy>(
 
 #[tactic(auto, unfolding(crate::specs::Escapes::read_cell))]
 fn cell_value<A: Allocator + Clone>(alloc: A, token: &[u8]) -> Result<Cell<A>, Unread>
-    ensures { Gives cell_of result (read_cell token.now) }
+    ensures exact { Gives cell_of result (read_cell token.now) }
+    ensures memory { IfErr result (λ unread. unread ≡ Unread.Memory → part_takes token.now ≡ true) }
 {
     if begins_with(token, b'\'') {
         return Ok(Cell::Text(text_value(alloc, token)?));
@@ -199,6 +206,7 @@ fn row_value<A: Allocator + Clone>(alloc: A, token: &[u8]) -> Result<Row<A>, Unr
 /// `Malformed` where the token is none.
 pub fn text<A: Allocator + Clone>(alloc: A, token: &[u8]) -> Result<Text<A>, Unread>
     ensures exact { Gives (λ text. text) result (text_of token.now) }
+    ensures memory { IfErr result (λ unread. unread ≡ Unread.Memory → part_takes token.now ≡ true) }
     ensures found { IfOk result (λ text. (token.now ≡ text_text text) × IsText text) }
     ensures again { (text : List ℕ) → IsText text → token.now ≡ text_text text → Gives (λ text. text) result (Some text) }
 {
@@ -209,6 +217,7 @@ pub fn text<A: Allocator + Clone>(alloc: A, token: &[u8]) -> Result<Text<A>, Unr
 /// `Malformed` where the token is none.
 pub fn key<A: Allocator + Copy>(alloc: A, version: Version, token: &[u8]) -> Result<Key<A>, Unread>
     ensures exact { Gives key_of result (read_key version token.now) }
+    ensures memory { IfErr result (λ unread. unread ≡ Unread.Memory → key_takes version token.now ≡ true) }
     ensures found { IfOk result (λ key. (token.now ≡ key_text (key_of key)) × KeyFits version (key_of key)) }
     ensures again { (key : keys.Key) → KeyFits version key → token.now ≡ key_text key → Gives key_of result (Some key) }
 {
@@ -223,6 +232,7 @@ pub fn end<A: Allocator + Copy>(
     token: &[u8],
 ) -> Result<Option<Key<A>>, Unread>
     ensures exact { Gives end_of result (read_end version token.now) }
+    ensures memory { IfErr result (λ unread. unread ≡ Unread.Memory → key_takes version token.now ≡ true) }
     ensures found { IfOk result (λ end. (token.now ≡ end_text (end_of end)) × EndFits version (end_of end)) }
     ensures again { (end : Option keys.Key) → EndFits version end → token.now ≡ end_text end → Gives end_of result (Some end) }
 {

@@ -1,5 +1,8 @@
-use Rattle.std.proofs.Common.{◌≡◌, ◌∷◌, ◌++◌, ap, subst, sym, ◌∙◌, []}
-use Rattle.occ_reading.proofs.Common.{TablesSoFar, failed, table_of, tables_of, viewed_more}
+use Rattle.std.proofs.Common.{◌≡◌, ◌∷◌, ◌++◌, refl, ap, subst, sym, ◌∙◌, []}
+use Rattle.occ_reading.proofs.Common.{Memory, TablesSoFar, failed, table_of, tables_of, viewed_more}
+use Rattle.occ_text.proofs.Causes.{may_take}
+use Rattle.occ_text.proofs.Taking.{memory_takes}
+use Rattle.occ_reading.specs.Taking.{tells_table}
 use Rattle.occ_reading.proofs.PartPlaces.{no_tables, no_tables_yet, table_more, opening_taken, opening_barred, opening_fails}
 use Rattle.occ_reading.proofs.whole_books.take_opening.Goals as goal
 
@@ -31,3 +34,12 @@ pub returns-in-Err-clause-taken : goal.returns-in-Err-clause-taken
 returns-in-Err-clause-taken g c = λ sessions.
     let n = rw c.in-Began.is at c.in_ok-table.ensures.taken in
     opening_barred c.args.version (tables_of c.loop-tables.tables.items) c.in-Err.field-0.fault c.in-Began.began sessions c.number.result _ _ (c.loop-tables.invariant.taken sessions) n c.in-Err.ensures.0 c.number.ensures
+
+pub returns-in_err-table-clause-memory : goal.returns-in_err-table-clause-memory
+returns-in_err-table-clause-memory g c =
+    memory_takes (tells_table {Z = g.row.A.Denot}) _ c.in_err-table.field-0.0 c.from_residual.result c.from_residual.ensures.1 c.in_err-table.ensures.heads
+
+pub returns-in_err-push-in-Table-clause-memory : goal.returns-in_err-push-in-Table-clause-memory
+returns-in_err-push-in-Table-clause-memory g c =
+    let heads = rw c.in-Table.is at c.in_ok-table.ensures.heads in
+    may_take Memory c.from_residual-in_err-push-in-Table.result (heads refl)

@@ -7,8 +7,8 @@ use Rattle.occ_text.proofs.headers.table.Goals as goal
 
 pub returns-clause-found : goal.returns-clause-found
 returns-clause-found g c =
-    found_by table_of c.table_value.result (table_of_line c.args.version c.args.line.now) table_text (TableHasLine c.args.version) c.args.line.now c.table_value.ensures (table_reads c.args.version c.args.line.now)
+    found_by table_of c.table_value.result (table_of_line c.args.version c.args.line.now) table_text (TableHasLine c.args.version) c.args.line.now c.table_value.ensures.exact (table_reads c.args.version c.args.line.now)
 
 pub returns-clause-again : goal.returns-clause-again
 returns-clause-again g c =
-    again_by table_of c.table_value.result (table_of_line c.args.version c.args.line.now) table_text (TableHasLine c.args.version) c.args.line.now c.table_value.ensures (table_reads c.args.version c.args.line.now)
+    again_by table_of c.table_value.result (table_of_line c.args.version c.args.line.now) table_text (TableHasLine c.args.version) c.args.line.now c.table_value.ensures.exact (table_reads c.args.version c.args.line.now)

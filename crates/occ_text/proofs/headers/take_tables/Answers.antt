@@ -1,7 +1,11 @@
-use Rattle.std.proofs.Common.{◌∙◌, ◌+◌, sym, ap}
+use Rattle.std.proofs.Common.{Option, ◌∙◌, ◌+◌, refl, sym, ap}
+use Rattle.std.specs.Prelude.{is_some}
 use Rattle.std.proofs.lemmas.List.{length-map}
 use Rattle.occ_types.specs.PlainData.{table_of, tables_of}
-use Rattle.occ_text.proofs.Taking.{table_pushed_by, tables_end, tables_none, tables_stop, tables_refused}
+use Rattle.occ_types.specs.declared.tables.TableDef.{TableDef}
+use Rattle.occ_text.specs.declared.faults.ReadFault.TheVariants.{Memory}
+use Rattle.occ_text.proofs.Causes.{may_take}
+use Rattle.occ_text.proofs.Taking.{memory_takes, table_pushed_by, tables_end, tables_none, tables_stop, tables_refused}
 use Rattle.occ_text.proofs.headers.take_tables.Goals as goal
 
 pub loop-tables-preserved : goal.loop-tables-preserved
@@ -35,3 +39,12 @@ pub returns-in_err-push-in-Some-clause-gives : goal.returns-in_err-push-in-Some-
 returns-in_err-push-in-Some-clause-gives g c =
     let i = c.loop-tables.invariant in
     tables_refused c.args.version c.from_residual-in_err-push-in-Some.result (tables_of c.loop-tables.tables.items) _ _ _ c.args.input.now.number _ c.from_residual-in_err-push-in-Some.ensures.1 i.taken i.so_far
+
+pub returns-in_err-table-clause-memory : goal.returns-in_err-table-clause-memory
+returns-in_err-table-clause-memory g c =
+    memory_takes {X = Option (TableDef g.row.A.Denot)} is_some _ c.in_err-table.field-0.0 c.from_residual.result c.from_residual.ensures.1 c.in_err-table.ensures.heads
+
+pub returns-in_err-push-in-Some-clause-memory : goal.returns-in_err-push-in-Some-clause-memory
+returns-in_err-push-in-Some-clause-memory g c =
+    let heads = rw c.in-Some.is at c.in_ok-table.ensures.heads in
+    may_take Memory c.from_residual-in_err-push-in-Some.result (heads refl)

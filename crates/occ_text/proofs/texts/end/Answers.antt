@@ -6,8 +6,8 @@ use Rattle.occ_text.proofs.texts.end.Goals as goal
 
 pub returns-clause-found : goal.returns-clause-found
 returns-clause-found g c =
-    found_by end_of c.end_value.result (read_end c.args.version c.args.token.now) end_text (EndFits c.args.version) c.args.token.now c.end_value.ensures (end_reads c.args.version c.args.token.now)
+    found_by end_of c.end_value.result (read_end c.args.version c.args.token.now) end_text (EndFits c.args.version) c.args.token.now c.end_value.ensures.exact (end_reads c.args.version c.args.token.now)
 
 pub returns-clause-again : goal.returns-clause-again
 returns-clause-again g c =
-    again_by end_of c.end_value.result (read_end c.args.version c.args.token.now) end_text (EndFits c.args.version) c.args.token.now c.end_value.ensures (end_reads c.args.version c.args.token.now)
+    again_by end_of c.end_value.result (read_end c.args.version c.args.token.now) end_text (EndFits c.args.version) c.args.token.now c.end_value.ensures.exact (end_reads c.args.version c.args.token.now)
