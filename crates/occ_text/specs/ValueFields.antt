@@ -1,6 +1,7 @@
 -- Names, keys, rows and numbers with a sign are fields of one token.
-use Rattle.std.specs.Prelude.{ℤ, ℕ, List, [], ◌∷◌, Option, FitsSigned, option_and_then}
+use Rattle.std.specs.Prelude.{ℤ, ℕ, Bool, false, List, [], ◌∷◌, Option, FitsSigned, option_and_then}
 use Rattle.std.specs.Int.{w64}
+use Rattle.std.specs.Option.{option_map_or}
 use Rattle.std.specs.Fmt.{signed_decimal}
 use Rattle.occ_types.specs.Key.{Key}
 use Rattle.occ_types.specs.Row.{Row}
@@ -39,3 +40,7 @@ next_int tokens = option_and_then (λ t. before t.1 (int_of t.0)) (next_token to
 
 abbrev pub int : Field ℤ
 int = record { read = next_int; spell = λ n. signed_decimal n ∷ []; fits = FitsSigned w64 }
+
+-- what is read of the next token takes memory
+unfoldable pub next_takes : (List ℕ → Bool) → Tokens → Bool
+next_takes takes tokens = option_map_or (λ t. takes t.0) (next_token tokens) false

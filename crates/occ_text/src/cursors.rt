@@ -1,8 +1,9 @@
 //! Readers of the tokens of a line, one after another. What they answer is none where the token isn't there, or another one.
 
-ghost use Rattle.std.specs.Prelude.{◌≡◌, option_map};
+ghost use Rattle.std.specs.Prelude.{◌≡◌, true, option_map, IfErr};
+ghost use Rattle.occ_text.specs.Escapes.{key_takes};
 ghost use Rattle.occ_text.specs.Fields.{GivesNext, before, next_token, next_word, next_number, at_end};
-ghost use Rattle.occ_text.specs.ValueFields.{next_name, next_key, next_end, next_row, next_int};
+ghost use Rattle.occ_text.specs.ValueFields.{next_name, next_key, next_end, next_row, next_int, next_takes};
 ghost use Rattle.occ_types.specs.PlainData.{key_of, end_of};
 
 use crate::separated_parts::Parts;
@@ -59,13 +60,14 @@ pub(crate) fn next_name<'a>(parts: &mut Parts<'a>) -> Option<&'a str>
 }
 
 /// A key in a text of a version.
-#[tactic(auto, unfolding(crate::specs::ValueFields::next_key))]
+#[tactic(auto, unfolding(crate::specs::ValueFields::next_key, crate::specs::ValueFields::next_takes))]
 pub(crate) fn next_key<A: Allocator + Copy>(
     alloc: A,
     version: Version,
     parts: &mut Parts<'_>,
 ) -> Result<Key<A>, Unread>
-    ensures { GivesNext key_of result (next_key version parts.old) parts.new }
+    ensures exact { GivesNext key_of result (next_key version parts.old) parts.new }
+    ensures memory { IfErr result (λ unread. unread ≡ Unread.Memory → next_takes (key_takes version) parts.old ≡ true) }
 {
     let token = next_token(parts).ok_or(Unread::Malformed)?;
     let key = texts::key(alloc, version, token)?;
@@ -73,13 +75,14 @@ pub(crate) fn next_key<A: Allocator + Copy>(
 }
 
 /// An end of a range, of which version 2 has a word for a missing one.
-#[tactic(auto, unfolding(crate::specs::ValueFields::next_end))]
+#[tactic(auto, unfolding(crate::specs::ValueFields::next_end, crate::specs::ValueFields::next_takes))]
 pub fn next_end<A: Allocator + Copy>(
     alloc: A,
     version: Version,
     parts: &mut Parts<'_>,
 ) -> Result<Option<Key<A>>, Unread>
-    ensures { GivesNext end_of result (next_end version parts.old) parts.new }
+    ensures exact { GivesNext end_of result (next_end version parts.old) parts.new }
+    ensures memory { IfErr result (λ unread. unread ≡ Unread.Memory → next_takes (key_takes version) parts.old ≡ true) }
 {
     let token = next_token(parts).ok_or(Unread::Malformed)?;
     let end = texts::end(alloc, version, token)?;
