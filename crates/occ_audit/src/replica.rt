@@ -192,7 +192,7 @@ impl<'a, A: Allocator + Copy> Replica<'a, A> {
                     upper,
                 },
                 Answer::Rows(rows),
-            ) => self.answers_range(*table, lower, upper, rows.as_slice()),
+            ) => self.answers_range(*table, lower.as_ref(), upper.as_ref(), rows.as_slice()),
             (Question::One(_), Answer::Rows(_)) => false,
             (Question::Span { .. }, Answer::Found(_)) => false,
         }
@@ -202,19 +202,17 @@ impl<'a, A: Allocator + Copy> Replica<'a, A> {
     fn answers_range(
         &self,
         table: usize,
-        lower: &'a Option<Key<A>>,
-        upper: &'a Option<Key<A>>,
+        lower: Option<&'a Key<A>>,
+        upper: Option<&'a Key<A>>,
         given: &'a [(Key<A>, Row<A>)],
     ) -> bool
-        ensures { Decides result (Rows (rows_of given.now) ≡ answer (Span table (end_of lower.now) (end_of upper.now)) self.now) }
+        ensures { Decides result (Rows (rows_of given.now) ≡ answer (Span table (end_of (option_copied lower.entry)) (end_of (option_copied upper.entry))) self.now) }
     {
-        let lower = lower.as_ref();
-        let upper = upper.as_ref();
         match self.rows(table) {
             // a map may not be asked for a range that runs backwards
-            Some(rows) if !is_backward(&lower, &upper) => {
+            Some(rows) if !is_backward(lower, upper) => {
                 are_given(
-                    rows.range((lower_bound(&lower), upper_bound(&upper))),
+                    rows.range((lower_bound(lower.as_ref()), upper_bound(upper.as_ref()))),
                     given,
                 )
             }
@@ -300,8 +298,8 @@ fn are_kept<'a, A: Allocator>(rows: &LentRows<'a, A>, kept: &'a BTreeMap<Key<A>,
 }
 
 // Whether both ends of a range are there, and the lower one is above the upper one.
-fn is_backward<A: Allocator>(lower: &Option<&Key<A>>, upper: &Option<&Key<A>>) -> bool
-    ensures { result ≡ is_backward (end_of (option_copied lower.now)) (end_of (option_copied upper.now)) }
+fn is_backward<A: Allocator>(lower: Option<&Key<A>>, upper: Option<&Key<A>>) -> bool
+    ensures { result ≡ is_backward (end_of (option_copied lower.entry)) (end_of (option_copied upper.entry)) }
 {
     match (lower, upper) {
         (Some(lower), Some(upper)) => lower > upper,
@@ -310,8 +308,8 @@ fn is_backward<A: Allocator>(lower: &Option<&Key<A>>, upper: &Option<&Key<A>>) -
 }
 
 // A lower end as a bound, which lies within the range.
-fn lower_bound<K>(lower: &Option<K>) -> Bound<&K>
-    ensures { bound_map (λ end. end.now) result ≡ lower_bound lower.now }
+fn lower_bound<K>(lower: Option<&K>) -> Bound<&K>
+    ensures { bound_map (λ end. end.now) result ≡ lower_bound (option_copied lower.entry) }
 {
     match lower {
         Some(end) => Bound::Included(end),
@@ -320,8 +318,8 @@ fn lower_bound<K>(lower: &Option<K>) -> Bound<&K>
 }
 
 // An upper end as a bound, which lies outside of the range.
-fn upper_bound<K>(upper: &Option<K>) -> Bound<&K>
-    ensures { bound_map (λ end. end.now) result ≡ upper_bound upper.now }
+fn upper_bound<K>(upper: Option<&K>) -> Bound<&K>
+    ensures { bound_map (λ end. end.now) result ≡ upper_bound (option_copied upper.entry) }
 {
     match upper {
         Some(end) => Bound::Excluded(end),

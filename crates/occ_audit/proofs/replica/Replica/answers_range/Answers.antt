@@ -1,22 +1,26 @@
-use Rattle.std.proofs.Common.{◌≡◌, [], refl, sym, ap, ◌∙◌}
-use Rattle.occ_audit.proofs.Common.{end_of, rows_of, Rows, is_backward, entries_within, lent, answer-backward, answer-nowhere}
+use Rattle.std.proofs.Common.{◌≡◌, [], refl, sym, ap, ◌∙◌, option_copied}
+use Rattle.occ_audit.proofs.Common.{end_of, rows_of, Rows, lower_bound, upper_bound, entries_within, lent, answer-backward, answer-nowhere}
 use Rattle.occ_audit.proofs.Ranges.{answer-between, lent-between, forward, none-decides, rows-decide}
 use Rattle.occ_audit.proofs.replica.Replica.answers_range.Goals as goal
 use Rattle.occ_audit.proofs.replica.Replica.answers_range.Goals.{in_default-via-in-Some+else-not-is_backward, in_default-via-in_default}
 
 pub range-requires : goal.range-requires
 range-requires g c =
-    forward c.as_ref-lower.result c.as_ref-upper.result _ _ c.lower_bound.ensures c.upper_bound.ensures (sym c.is_backward.ensures ∙ c.if-not-is_backward.true)
+    forward c.args.lower c.args.upper _ _
+    (c.lower_bound.ensures ∙ ap lower_bound c.as_ref.ensures.value)
+    (c.upper_bound.ensures ∙ ap upper_bound c.as_ref-in-Some.ensures.value)
+    (sym c.is_backward.ensures ∙ c.if-not-is_backward.true)
 
 pub returns-in-Some : goal.returns-in-Some
 returns-in-Some g c =
     let rows = c.in-Some.rows.now in
-    let a = end_of c.args.lower.now in
-    let b = end_of c.args.upper.now in
+    let a = end_of (option_copied c.args.lower) in
+    let b = end_of (option_copied c.args.upper) in
     let within : lent c.range.result ≡ entries_within a b (lent rows.entries) =
     ap lent (c.range.ensures.between tt)
-    ∙ lent-between c.as_ref-lower.result c.as_ref-upper.result _ _ rows.entries c.lower_bound.ensures c.upper_bound.ensures
-    ∙ (λ i. entries_within (end_of (c.as_ref-lower.ensures.value i)) (end_of (c.as_ref-upper.ensures.value i)) (lent rows.entries)) in
+    ∙ lent-between c.args.lower c.args.upper _ _ rows.entries
+    (c.lower_bound.ensures ∙ ap lower_bound c.as_ref.ensures.value)
+    (c.upper_bound.ensures ∙ ap upper_bound c.as_ref-in-Some.ensures.value) in
     rows-decide _ _ (rows_of c.args.given.now) (rows_of (lent c.range.result)) c.are_given.result refl
     (answer-between c.args.self.now c.args.table a b rows.entries c.range.ensures.ordered c.in-Some.ensures
     ∙ ap (λ es. Rows (rows_of es)) (sym within))
@@ -24,13 +28,12 @@ returns-in-Some g c =
 
 pub returns-in_default : goal.returns-in_default
 returns-in_default g c =
-    let a = end_of c.args.lower.now in
-    let b = end_of c.args.upper.now in
+    let a = end_of (option_copied c.args.lower) in
+    let b = end_of (option_copied c.args.upper) in
     rows-decide _ _ (rows_of c.args.given.now) [] c.is_empty.result refl
     (elim c.in_default.branch [
       | in_default-via-in-Some+else-not-is_backward w ↦
-          answer-backward c.args.self.now c.args.table a b
-          ((λ i. is_backward (end_of (sym c.as_ref-lower.ensures.value i)) (end_of (sym c.as_ref-upper.ensures.value i))) ∙ sym w.is_backward.ensures ∙ w.if-not-is_backward.false)
+          answer-backward c.args.self.now c.args.table a b (sym w.is_backward.ensures ∙ w.if-not-is_backward.false)
       | in_default-via-in_default w ↦
           answer-nowhere c.args.self.now c.args.table a b w.in_default.ensures
     ])
