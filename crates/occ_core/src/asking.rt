@@ -53,11 +53,11 @@ pub(crate) fn ask_range<A: Allocator + Copy>(
     writes: &WriteSet<A>,
     tables: &Tables<A>,
     table: usize,
-    lower: &Option<Key<A>>,
-    upper: &Option<Key<A>>,
+    lower: Option<&Key<A>>,
+    upper: Option<&Key<A>>,
 ) -> Result<Vec<(Key<A>, Row<A>), A>, Fault>
-    ensures registered { OnOk result (reads.new ≡ asked tables.now.state (Span table (end_of lower.now) (end_of upper.now)) (so_far reads.old writes.now)) }
-    ensures seen { IfOk result (λ rows. Rows (rows_of rows.items) ≡ seen tables.now.state (Span table (end_of lower.now) (end_of upper.now)) (so_far reads.old writes.now)) }
+    ensures registered { OnOk result (reads.new ≡ asked tables.now.state (Span table (end_of (option_copied lower.entry)) (end_of (option_copied upper.entry))) (so_far reads.old writes.now)) }
+    ensures seen { IfOk result (λ rows. Rows (rows_of rows.items) ≡ seen tables.now.state (Span table (end_of (option_copied lower.entry)) (end_of (option_copied upper.entry))) (so_far reads.old writes.now)) }
     ensures memory { IsOkUnless result Memory }
 {
     let question = span(table, lower, upper)?;
@@ -70,16 +70,16 @@ pub(crate) fn ask_range<A: Allocator + Copy>(
 // The question for a range.
 pub(crate) fn span<A: Allocator + Clone>(
     table: usize,
-    lower: &Option<Key<A>>,
-    upper: &Option<Key<A>>,
+    lower: Option<&Key<A>>,
+    upper: Option<&Key<A>>,
 ) -> Result<Question<A>, Fault>
-    ensures value { IfOk result (λ question. question_of question ≡ Span table (end_of lower.now) (end_of upper.now)) }
+    ensures value { IfOk result (λ question. question_of question ≡ Span table (end_of (option_copied lower.entry)) (end_of (option_copied upper.entry))) }
     ensures memory { IsOkUnless result Memory }
 {
     Ok(Question::Span {
         table,
-        lower: lower.clone()?,
-        upper: upper.clone()?,
+        lower: lower.cloned()?,
+        upper: upper.cloned()?,
     })
 }
 

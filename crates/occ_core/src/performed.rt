@@ -1,5 +1,6 @@
 //! What a list of operations did.
 ghost use Rattle.std.specs.Prelude.{◌≡◌, IfOk, OnOk, IsOkUnless, Some, None};
+ghost use Rattle.std.specs.Option.{option_copied};
 ghost use Rattle.occ_types.specs.declared.fault.Fault.TheVariants.{Memory};
 ghost use Rattle.occ_types.specs.PlainData.{key_of, end_of};
 ghost use Rattle.occ_model.specs.Operations.{Get, Scan, Add, nothing_yet, perform, perform_all};
@@ -67,7 +68,7 @@ impl<A: Allocator + Copy> Performed<A> {
                 table,
                 lower,
                 upper,
-            } => self.scan(tables, *table, lower, upper),
+            } => self.scan(tables, *table, lower.as_ref(), upper.as_ref()),
             Op::Put { table, key, row } => self.put(*table, key, row),
             Op::Delete { table, key } => self.delete(*table, key),
             Op::Add { table, key, amount } => self.add(tables, *table, key, *amount),
@@ -93,10 +94,10 @@ impl<A: Allocator + Copy> Performed<A> {
         &mut self,
         tables: &Tables<A>,
         table: usize,
-        lower: &Option<Key<A>>,
-        upper: &Option<Key<A>>,
+        lower: Option<&Key<A>>,
+        upper: Option<&Key<A>>,
     ) -> Result<(), Fault>
-        ensures performed { OnOk result (progress_of self.new ≡ perform tables.now.state (Scan table (end_of lower.now) (end_of upper.now)) (progress_of self.old)) }
+        ensures performed { OnOk result (progress_of self.new ≡ perform tables.now.state (Scan table (end_of (option_copied lower.entry)) (end_of (option_copied upper.entry))) (progress_of self.old)) }
         ensures memory { IsOkUnless result Memory }
     {
         let rows = ask_range(&mut self.reads, &self.writes, tables, table, lower, upper)?;

@@ -1,6 +1,6 @@
 //! Whether a session may read: the turn of the session, the size of an answer, and the room for one more question.
 ghost use Rattle.std.specs.Prelude.{◌≡◌};
-ghost use Rattle.std.specs.Option.{option_map};
+ghost use Rattle.std.specs.Option.{option_copied, option_map};
 ghost use Rattle.std.specs.Result.{result_err};
 ghost use Rattle.occ_types.specs.Question.{Span};
 ghost use Rattle.occ_types.specs.PlainData.{end_of};
@@ -82,10 +82,10 @@ pub(crate) fn check_turn_to_read<A: Allocator>(
 pub(crate) fn check_size<A: Allocator + Clone>(
     tables: &Tables<A>,
     table: usize,
-    lower: &Option<Key<A>>,
-    upper: &Option<Key<A>>,
+    lower: Option<&Key<A>>,
+    upper: Option<&Key<A>>,
 ) -> Result<(), Fault>
-    ensures { result_err result ≡ size_fault tables.now.state (Span table (end_of lower.now) (end_of upper.now)) }
+    ensures { result_err result ≡ size_fault tables.now.state (Span table (end_of (option_copied lower.entry)) (end_of (option_copied upper.entry))) }
 {
     if tables.count_rows(table, lower, upper) > MAX_ANSWER_ROWS {
         return Err(Fault::RangeTooLarge);

@@ -1,10 +1,10 @@
 //! What a transaction reads of the tables in its read phase.
 ghost use Rattle.std.specs.Prelude.{◌≡◌, IfOk, OnOk, OnErr, IsOkUnless, None};
 ghost use Rattle.std.specs.FinMap as finite;
+ghost use Rattle.std.specs.Option.{option_copied};
 ghost use Rattle.std.specs.Result.{result_err};
 ghost use Rattle.occ_types.specs.Question.{One, Span};
 ghost use Rattle.occ_types.specs.PlainData.{key_of, end_of};
-ghost use Rattle.occ_types.specs.Schema.{check_question};
 ghost use Rattle.occ_model.specs.Event.{Read, Forget, Answered, Forgotten};
 ghost use Rattle.occ_model.specs.Refusal.{refusal};
 ghost use Rattle.occ_model.specs.State.{answer, Found, Rows};
@@ -20,7 +20,7 @@ use crate::read_checks::{check_room_to_read, check_session, check_size, check_tu
 use occ_book::Tables;
 use occ_log::{ReadPhases, Transaction};
 use occ_sets::{Answer, Observation};
-use occ_types::{Fault, Key, Object, Question, Row, Schema};
+use occ_types::{Fault, Key, Object, Question, Row};
 use std::alloc::{AllocError, Allocator};
 
 impl<A: Allocator> Core<A> {
@@ -74,10 +74,10 @@ impl<A: Allocator + Copy> Core<A> {
         number: u64,
         start: u64,
         table: usize,
-        lower: &Option<Key<A>>,
-        upper: &Option<Key<A>>,
+        lower: Option<&Key<A>>,
+        upper: Option<&Key<A>>,
     ) -> Result<Vec<(Key<A>, Row<A>), A>, Fault>
-        ensures { Transition self.old (Read session number start (Span table (end_of lower.now) (end_of upper.now))) (replied (λ rows. Answered (Rows (rows_of rows.items))) result) self.new }
+        ensures { Transition self.old (Read session number start (Span table (end_of (option_copied lower.entry)) (end_of (option_copied upper.entry)))) (replied (λ rows. Answered (Rows (rows_of rows.items))) result) self.new }
     {
         let transaction = Transaction {
             session,
@@ -113,10 +113,10 @@ impl<A: Allocator + Clone> Core<A> {
         &self,
         transaction: Transaction,
         table: usize,
-        lower: &Option<Key<A>>,
-        upper: &Option<Key<A>>,
+        lower: Option<&Key<A>>,
+        upper: Option<&Key<A>>,
     ) -> Result<(), Fault>
-        ensures { result_err result ≡ refusal self.now.world (Read transaction.session transaction.number transaction.start (Span table (end_of lower.now) (end_of upper.now))) }
+        ensures { result_err result ≡ refusal self.now.world (Read transaction.session transaction.number transaction.start (Span table (end_of (option_copied lower.entry)) (end_of (option_copied upper.entry)))) }
     {
         let begun = self.phases.get(transaction.session, transaction.number);
         check_turn_to_read(
@@ -126,22 +126,10 @@ impl<A: Allocator + Clone> Core<A> {
             self.counter,
             transaction,
         )?;
-        check_range(&self.schema, table, lower, upper)?;
+        self.schema.check_range(table, lower, upper)?;
         check_size(&self.tables, table, lower, upper)?;
         check_room_to_read(begun)
     }
-}
-
-// Whether a range fits the schema.
-fn check_range<A: Allocator>(
-    schema: &Schema<A>,
-    table: usize,
-    lower: &Option<Key<A>>,
-    upper: &Option<Key<A>>,
-) -> Result<(), Fault>
-    ensures { result_err result ≡ check_question schema.now (Span table (end_of lower.now) (end_of upper.now)) }
-{
-    schema.check_range(table, lower.as_ref(), upper.as_ref())
 }
 
 // Notes an observation in the read phase of a transaction, which has room for it.
@@ -183,11 +171,11 @@ fn observe_row<A: Allocator + Clone>(
 fn observe_rows<A: Allocator + Clone>(
     tables: &Tables<A>,
     table: usize,
-    lower: &Option<Key<A>>,
-    upper: &Option<Key<A>>,
+    lower: Option<&Key<A>>,
+    upper: Option<&Key<A>>,
 ) -> Result<(Observation<A>, Vec<(Key<A>, Row<A>), A>), Fault>
     ensures memory { IsOkUnless result Memory }
-    ensures answered { IfOk result (λ copies. (observation_of copies.0 ≡ (Span table (end_of lower.now) (end_of upper.now), answer (Span table (end_of lower.now) (end_of upper.now)) tables.now.state)) × (Rows (rows_of copies.1.items) ≡ answer (Span table (end_of lower.now) (end_of upper.now)) tables.now.state)) }
+    ensures answered { IfOk result (λ copies. (observation_of copies.0 ≡ (Span table (end_of (option_copied lower.entry)) (end_of (option_copied upper.entry)), answer (Span table (end_of (option_copied lower.entry)) (end_of (option_copied upper.entry))) tables.now.state)) × (Rows (rows_of copies.1.items) ≡ answer (Span table (end_of (option_copied lower.entry)) (end_of (option_copied upper.entry))) tables.now.state)) }
 {
     let question = span(table, lower, upper)?;
     let rows = tables.rows(table, lower, upper)?;

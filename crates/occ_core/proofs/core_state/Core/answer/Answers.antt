@@ -1,4 +1,4 @@
-use Rattle.std.proofs.Common.{MatchResult, refl, sym, subst}
+use Rattle.std.proofs.Common.{MatchResult, refl, sym, subst, ◌∙◌, option_copied}
 use Rattle.std.proofs.lemmas.Result.{err_from_is_err_and}
 use Rattle.occ_sets.specs.Operations.{ops_of}
 use Rattle.occ_queue.specs.Items.{item_of}
@@ -16,7 +16,9 @@ returns-in_err-read-in-Read g c =
 pub returns-in_err-scan-in-Scan : goal.returns-in_err-scan-in-Scan
 returns-in_err-scan-in-Scan g c =
     let p = err_from_is_err_and c.from_residual-in_err-scan-in-Scan.result c.from_residual-in_err-scan-in-Scan.ensures.1 in
-    refused_as c.args.self.now c.args.step (steps.Scan c.in-Scan.session c.in-Scan.number c.in-Scan.start c.in-Scan.table c.in-Scan.lower c.in-Scan.upper) _ _ c.from_residual-in_err-scan-in-Scan.result p.0 c.in-Scan.is p.1 p.2 c.in_err-scan-in-Scan.ensures refl
+    refused_as c.args.self.now c.args.step (steps.Scan c.in-Scan.session c.in-Scan.number c.in-Scan.start c.in-Scan.table (option_copied c.as_ref.result) (option_copied c.as_ref-in-Scan.result)) _ _ c.from_residual-in_err-scan-in-Scan.result p.0
+    (c.in-Scan.is ∙ (λ i. steps.Scan c.in-Scan.session c.in-Scan.number c.in-Scan.start c.in-Scan.table (sym c.as_ref.ensures.value i) (sym c.as_ref-in-Scan.ensures.value i)))
+    p.1 p.2 c.in_err-scan-in-Scan.ensures refl
 
 pub returns-in_err-forget-in-Forget : goal.returns-in_err-forget-in-Forget
 returns-in_err-forget-in-Forget g c =
