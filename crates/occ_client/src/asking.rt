@@ -96,6 +96,13 @@ fn ask<A: Allocator + Copy, S: Readable<A>>(
             table,
             lower,
             upper,
-        } => store.scan(session, copy.number(), copy.start(), *table, lower, upper),
+        } => store.scan(
+            session,
+            copy.number(),
+            copy.start(),
+            *table,
+            lower.as_ref(),
+            upper.as_ref(),
+        ),
     }
 }

@@ -30,8 +30,8 @@ impl<A: Allocator + Copy> Readable<A> for Core<A> {
         number: u64,
         start: u64,
         table: usize,
-        lower: &Option<Key<A>>,
-        upper: &Option<Key<A>>,
+        lower: Option<&Key<A>>,
+        upper: Option<&Key<A>>,
     ) -> Result<Vec<(Key<A>, Row<A>), A>, Fault> {
         self.scan(session, number, start, table, lower, upper)
     }

@@ -1,5 +1,6 @@
 //! What a transaction asks of a store in its read phase.
 ghost use Rattle.std.specs.Prelude.{◌≡◌};
+ghost use Rattle.std.specs.Option.{option_copied};
 ghost use Rattle.occ_types.specs.PlainData.{key_of, end_of};
 ghost use Rattle.occ_types.specs.Question.{One, Span};
 ghost use Rattle.occ_model.specs.World.{World};
@@ -38,10 +39,10 @@ pub trait Readable<A: Allocator> {
         number: u64,
         start: u64,
         table: usize,
-        lower: &Option<Key<A>>,
-        upper: &Option<Key<A>>,
+        lower: Option<&Key<A>>,
+        upper: Option<&Key<A>>,
     ) -> Result<Vec<(Key<A>, Row<A>), A>, Fault>
-        ensures { Step (world self.old) (Read session number start (Span table (end_of lower.now) (end_of upper.now))) (scanning result) (world self.new) };
+        ensures { Step (world self.old) (Read session number start (Span table (end_of (option_copied lower.entry)) (end_of (option_copied upper.entry)))) (scanning result) (world self.new) };
 
     /// Forgets what a session has read under a number, and answers whether it has read anything. It takes no memory.
     fn forget(&mut self, session: usize, number: u64) -> Result<bool, Fault>

@@ -1,5 +1,6 @@
 //! Writes of an open transaction.
 ghost use Rattle.std.specs.Prelude.{◌≡◌, None, cond, false, IfErr, OnOk, OnErr, MatchResult};
+ghost use Rattle.std.specs.Option.{option_copied};
 ghost use Rattle.std.specs.Result.{result_err};
 ghost use Rattle.occ_types.specs.PlainData.{object_of};
 ghost use Rattle.occ_types.specs.declared.fault.Fault.TheVariants.{SetFull, Memory};
@@ -26,7 +27,7 @@ pub(crate) fn write_copy<A: Allocator + Copy>(
         (λ _. copy_fault schema.now (object_of object) row copy.old ≡ None)
         (λ refused. IsRefusedBy (copy_fault schema.now (object_of object) row copy.old) (own copy.old.writes (object_of object) ≡ None) refused.fault) }
 {
-    match check_write(copy, schema, &object, &row) {
+    match check_write(copy, schema, &object, row.as_ref()) {
         Err(fault) => Err(Refused {
             value: (object, row),
             fault,
@@ -40,9 +41,9 @@ fn check_write<A: Allocator>(
     copy: &PrivateCopy<A>,
     schema: &Schema<A>,
     object: &Object<A>,
-    row: &Option<Row<A>>,
+    row: Option<&Row<A>>,
 ) -> Result<(), Fault>
-    ensures { result_err result ≡ copy_fault schema.now (object_of object.now) row.now copy.now }
+    ensures { result_err result ≡ copy_fault schema.now (object_of object.now) (option_copied row.entry) copy.now }
 {
     schema.check_key(object.table, &object.key)?;
     check_row(schema, object.table, row)?;
@@ -56,9 +57,9 @@ fn check_write<A: Allocator>(
 fn check_row<A: Allocator>(
     schema: &Schema<A>,
     table: usize,
-    row: &Option<Row<A>>,
+    row: Option<&Row<A>>,
 ) -> Result<(), Fault>
-    ensures { result_err result ≡ check_written schema.now table row.now }
+    ensures { result_err result ≡ check_written schema.now table (option_copied row.entry) }
 {
     match row {
         None => Ok(()),
