@@ -1,5 +1,6 @@
 //! The calls that the core makes alone.
 ghost use Rattle.std.specs.Prelude.{◌≡◌, ℕ, IfOk, IfErr, Ok, is_some, true};
+ghost use Rattle.std.specs.Option.{option_copied};
 ghost use Rattle.occ_types.specs.Question.{One, Span};
 ghost use Rattle.occ_types.specs.PlainData.{key_of, end_of};
 ghost use Rattle.occ_model.specs.Event.{Read, Answered, Forget, Forgotten, WriteOne, Finish, Finished, BackUp, BackedUp, SerialEnd, RunAlone, Checkpoint, Folded};
@@ -63,10 +64,10 @@ impl<A: Allocator + Copy> FiledCore<A> {
         number: u64,
         start: u64,
         table: usize,
-        lower: &Option<Key<A>>,
-        upper: &Option<Key<A>>,
+        lower: Option<&Key<A>>,
+        upper: Option<&Key<A>>,
     ) -> Result<Vec<(Key<A>, Row<A>), A>, Fault>
-        ensures { Moves self.old (Read session number start (Span table (end_of lower.now) (end_of upper.now))) (replied (λ rows. Answered (Rows (rows_of rows.items))) result) self.new }
+        ensures { Moves self.old (Read session number start (Span table (end_of (option_copied lower.entry)) (end_of (option_copied upper.entry)))) (replied (λ rows. Answered (Rows (rows_of rows.items))) result) self.new }
     {
         self.core.scan(session, number, start, table, lower, upper)
     }

@@ -37,7 +37,7 @@ fn runs_alone(alloc: Global, filed: &mut FiledCore<Global>) -> Result<bool, Faul
 // Session 1 reads the row, and the whole table.
 fn reads(filed: &mut FiledCore<Global>) -> Result<bool, Fault> {
     let row = filed.read(1, 2, 2, 0, &Key::Num(1))?;
-    let rows = filed.scan(1, 2, 2, 0, &None, &None)?;
+    let rows = filed.scan(1, 2, 2, 0, None, None)?;
     Ok(is_seven(&row) && rows.len() == 1)
 }
 
