@@ -170,9 +170,14 @@ impl<A: Allocator + Copy> Store<A> {
         if shape.span > 0 {
             let (lower, upper) = (first, first.saturating_add(shape.span));
             let (lower, upper) = (Some(Key::Num(lower)), Some(Key::Num(upper)));
-            let _rows = self
-                .core
-                .scan(session, number, start, TABLE, &lower, &upper)?;
+            let _rows = self.core.scan(
+                session,
+                number,
+                start,
+                TABLE,
+                lower.as_ref(),
+                upper.as_ref(),
+            )?;
         }
         for place in 0..shape.reads.max(shape.writes) {
             let key = shape.key(first, place);

@@ -3,6 +3,7 @@
 ghost use Rattle.std.specs.Fmt.{decimal};
 ghost use Rattle.std.specs.Prelude.{◌≡◌, ◌≢◌, ◌++◌, OnOk, MatchResult, codes, string_bytes};
 ghost use Rattle.std.specs.List.{flat_map};
+ghost use Rattle.std.specs.Option.{option_copied};
 ghost use Rattle.occ_sets.specs.PlainSets.{rows_of};
 ghost use Rattle.occ_types.specs.PlainData.{key_of, object_of};
 ghost use Rattle.occ_types.specs.declared.fault.Fault.TheVariants as faults;
@@ -140,7 +141,7 @@ fn write_reply<A: Allocator>(
     ensures { OnOk result (string_bytes line.new ≡ string_bytes line.old ++ reply_text schema.now (reply_of reply.now)) }
 {
     match reply {
-        Reply::Found(row) => write_found(line, row),
+        Reply::Found(row) => write_found(line, row.as_ref()),
         Reply::Rows(rows) => write_rows(line, rows.as_slice()),
         Reply::Forgotten(_known) => line.push_str("ok"),
         Reply::Outcome(outcome) => write_outcome(line, outcome),
@@ -169,8 +170,8 @@ fn write_outcome<A: Allocator>(line: &mut String<A>, outcome: &Outcome<A>) -> Re
 }
 
 /// Appends the row of a key.
-fn write_found<A: Allocator>(line: &mut String<A>, row: &Option<Row<A>>) -> Result<(), AllocError>
-    ensures { OnOk result (string_bytes line.new ≡ string_bytes line.old ++ found_text row.now) }
+fn write_found<A: Allocator>(line: &mut String<A>, row: Option<&Row<A>>) -> Result<(), AllocError>
+    ensures { OnOk result (string_bytes line.new ≡ string_bytes line.old ++ found_text (option_copied row.entry)) }
 {
     match row {
         None => line.push_str("none"),

@@ -2,6 +2,7 @@
 
 ghost use Rattle.std.specs.Prelude.{◌≡◌, ◌<◌, ◌↔◌, true, IfOk, IfErr, IsTrue, option_map};
 ghost use Rattle.std.specs.Io.KnownBytes.{prepend_known};
+ghost use Rattle.std.specs.Option.{option_copied};
 ghost use Rattle.occ_types.specs.PlainData.{key_of, object_of};
 ghost use Rattle.occ_sets.specs.PlainSets.{rows_of};
 ghost use Rattle.occ_text.specs.Faults.{widened};
@@ -130,8 +131,8 @@ pub(crate) fn take_mark<R: Read, A: Allocator>(
 }
 
 /// Whether an object comes behind another one, if there is one.
-fn is_behind<A: Allocator>(last: &Option<Object<A>>, object: &Object<A>) -> bool
-    ensures { result ≡ is_behind (option_map object_of last.now) (object_of object.now) }
+fn is_behind<A: Allocator>(last: Option<&Object<A>>, object: &Object<A>) -> bool
+    ensures { result ≡ is_behind (option_map object_of (option_copied last.entry)) (object_of object.now) }
 {
     match last {
         Some(last) => last < object,
@@ -157,7 +158,7 @@ pub(crate) fn take_at<R: Read, A: Allocator + Copy>(
         read_at(alloc, version, section, schema, input.line()),
         input.number(),
     )?;
-    if !is_behind(last, &object) {
+    if !is_behind(last.as_ref(), &object) {
         return Err(ReadFault::Malformed(input.number()));
     }
     Ok((object, row))

@@ -1,5 +1,6 @@
 //! The events that move the locked state: each is one step of the model, with its publishing.
 ghost use Rattle.std.specs.Prelude.{◌≡◌, ◌+◌, ◌^◌, ◌<◌, ℕ, Option, None, IfOk, IfErr, OnOk};
+ghost use Rattle.std.specs.Option.{option_copied};
 ghost use Rattle.boxcar.specs.Table.{Where, Shows};
 ghost use Rattle.occ_types.specs.Question.{One, Span};
 ghost use Rattle.occ_types.specs.PlainData.{key_of, end_of};
@@ -103,10 +104,10 @@ impl<N: Name, A: Allocator + Copy> Shared<N, A> {
         number: u64,
         start: u64,
         table: usize,
-        lower: &Option<Key<A>>,
-        upper: &Option<Key<A>>,
+        lower: Option<&Key<A>>,
+        upper: Option<&Key<A>>,
     ) -> Result<Vec<(Key<A>, Row<A>), A>, Fault>
-        ensures { Happens self.old session (Read session number start (Span table (end_of lower.now) (end_of upper.now))) (replied (λ rows. Answered (Rows (rows_of rows.items))) result) self.new }
+        ensures { Happens self.old session (Read session number start (Span table (end_of (option_copied lower.entry)) (end_of (option_copied upper.entry)))) (replied (λ rows. Answered (Rows (rows_of rows.items))) result) self.new }
     {
         law(&self.filed);
         self.filed.scan(session, number, start, table, lower, upper)

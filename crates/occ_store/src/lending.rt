@@ -31,8 +31,8 @@ impl<N: Name, A: Allocator + Copy> Readable<A> for Shared<N, A> {
         number: u64,
         start: u64,
         table: usize,
-        lower: &Option<Key<A>>,
-        upper: &Option<Key<A>>,
+        lower: Option<&Key<A>>,
+        upper: Option<&Key<A>>,
     ) -> Result<Vec<(Key<A>, Row<A>), A>, Fault> {
         self.scan(session, number, start, table, lower, upper)
     }

@@ -1,4 +1,4 @@
-use Rattle.std.proofs.Common.{◌≡◌, true, option_map, ◌∙◌, Err, sym}
+use Rattle.std.proofs.Common.{◌≡◌, true, option_map, ◌∙◌, Err, sym, ap}
 use Rattle.occ_reading.proofs.Common.{AtFits, at_of, entry_line, is_behind, object_of}
 use Rattle.occ_reading.proofs.SingleLines.{ReadsLine, line_read, told_alone, line_barred, narrowed}
 use Rattle.occ_reading.proofs.single_lines.take_at.Goals as goal
@@ -17,4 +17,4 @@ returns-then-not-is_behind-clause-taken g c =
     line_barred (entry_line c.args.section c.args.schema.now) (AtFits c.args.version c.args.schema.now) (λ entry. is_behind (option_map object_of c.args.last.now) entry.0 ≡ true) (at_of {Z = g.row.A.Denot} (c.in_ok-object.object, c.in_ok-object.row)) c.line.result.now _ _
     c.number-then-not-is_behind.result _ _
     (record { line = c.take_line.new.self.line; taken = c.in_ok-take_line.ensures.gives; same = c.line.ensures; here = c.number-then-not-is_behind.ensures })
-    (told_alone (at_of {Z = g.row.A.Denot}) (entry_line c.args.section c.args.schema.now) (AtFits c.args.version c.args.schema.now) c.line.result.now c.read_at.result (c.in_ok-object.object, c.in_ok-object.row) reads c.in_ok-object.ensures.taken) (λ yes. let e = sym yes ∙ sym c.is_behind.ensures ∙ c.if-not-is_behind.true in absurd cc)
+    (told_alone (at_of {Z = g.row.A.Denot}) (entry_line c.args.section c.args.schema.now) (AtFits c.args.version c.args.schema.now) c.line.result.now c.read_at.result (c.in_ok-object.object, c.in_ok-object.row) reads c.in_ok-object.ensures.taken) (λ yes. let e = sym yes ∙ ap (λ last. is_behind (option_map object_of last) (object_of c.in_ok-object.object)) (sym c.as_ref.ensures.value) ∙ sym c.is_behind.ensures ∙ c.if-not-is_behind.true in absurd cc)
