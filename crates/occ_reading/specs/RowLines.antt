@@ -1,5 +1,6 @@
 -- Lines that have keys and rows: of a read, of a row that a range answered, of a write, and of a row of a state.
-use Rattle.std.specs.Prelude.{◌≡◌, ◌<◌, ◌≤◌, ◌^◌, ◌-◌, ℕ, length, List, [], ◌∷◌, Option, Some, None, if◌then◌else◌, option_map, option_and_then, codes}
+use Rattle.std.specs.Prelude.{◌≡◌, ◌<◌, ◌≤◌, ◌^◌, ◌-◌, ◌||◌, ℕ, Bool, false, length, List, [], ◌∷◌, Option, Some, None, is_some, if◌then◌else◌, option_map, option_and_then, codes}
+use Rattle.std.specs.Option.{option_map_or}
 use Rattle.std.specs.Str.{bytes_eq}
 use Rattle.std.specs.Fmt.{decimal}
 use Rattle.occ_types.specs.Key.{Key}
@@ -18,7 +19,9 @@ use Rattle.occ_print.specs.Books.{table_name, question_text, answer_text, read_l
 use Rattle.occ_print.specs.declared.sections.Section.{Section}
 use Rattle.occ_reading.specs.declared.row_lines.Asked as code_asked
 use Rattle.occ_reading.specs.declared.row_lines.Asked.TheVariants as asked
-use Rattle.occ_text.specs.Fields.{Tokens, Field, before, next_token, after, both, ◌⊗◌, behind, by_word, of_line}
+use Rattle.occ_text.specs.Fields.{Tokens, Field, before, next_token, next_word, after, both, ◌⊗◌, behind, by_word, of_line}
+use Rattle.occ_text.specs.ValueFields.{next_takes}
+use Rattle.occ_text.specs.Reading.{tokens_of}
 use Rattle.occ_reading.specs.SchemaReaders.{unless_fault, row_in, next_table, next_key, next_row, next_object}
 use Rattle.occ_reading.specs.NumberLines.{number64}
 
@@ -183,3 +186,20 @@ at_field version section schema = after (entry_word section) (both (object_field
 
 unfoldable pub at_of_line : Version → Section → Schema → List ℕ → Option (Object × Row)
 at_of_line version section schema line = of_line (at_field version section schema) line
+
+-- ---- which lines take memory, where they aren't malformed at their first word (our own choice)
+
+unfoldable pub line_takes : (Tokens → Bool) → List ℕ → Bool
+line_takes takes line = option_map_or takes (tokens_of line) false
+
+abbrev pub pair_takes : Tokens → Bool
+pair_takes tokens = is_some (next_word (codes "pair") tokens)
+
+abbrev pub at_takes : Section → Tokens → Bool
+at_takes section tokens = is_some (next_word (entry_word section) tokens)
+
+abbrev pub write_takes : Tokens → Bool
+write_takes tokens = next_takes (λ word. bytes_eq word (codes "put") || bytes_eq word (codes "del")) tokens
+
+abbrev pub asked_takes : Tokens → Bool
+asked_takes tokens = next_takes (λ word. bytes_eq word (codes "one") || bytes_eq word (codes "span")) tokens

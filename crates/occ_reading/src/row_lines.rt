@@ -1,6 +1,6 @@
 //! Lines that have keys and rows: of a read, of a row that a range answered, of a write, and of a row of a state.
 
-ghost use Rattle.std.specs.Prelude.{◌≡◌, IfOk, Some};
+ghost use Rattle.std.specs.Prelude.{◌≡◌, true, IfOk, IfErr, Some};
 ghost use Rattle.occ_types.specs.Key.{Key as PlainKey};
 ghost use Rattle.occ_types.specs.Object.{Object as PlainObject};
 ghost use Rattle.occ_types.specs.Row.{Row as PlainRow};
@@ -8,7 +8,7 @@ ghost use Rattle.occ_model.specs.State.{Write as PlainWrite};
 ghost use Rattle.occ_text.specs.Escapes.{Gives};
 ghost use Rattle.occ_print.specs.Books.{pair_line, write_line, entry_line};
 ghost use Rattle.occ_text.specs.Fields.{GivesNext};
-ghost use Rattle.occ_reading.specs.RowLines.{Asked as PlainAsked, asked_text, AskedFits, PairFits, WriteFits, AtFits, asked_of, pair_of, write_of, at_of, found_in, next_found, one_behind, span_behind, next_asked, asked_of_line, pair_of_line, put_behind, del_behind, next_write, write_of_line, at_of_line};
+ghost use Rattle.occ_reading.specs.RowLines.{Asked as PlainAsked, asked_text, AskedFits, PairFits, WriteFits, AtFits, asked_of, pair_of, write_of, at_of, found_in, next_found, one_behind, span_behind, next_asked, asked_of_line, pair_of_line, put_behind, del_behind, next_write, write_of_line, at_of_line, line_takes, pair_takes, at_takes, write_takes, asked_takes};
 
 use crate::schema_readers::{next_key, next_object, next_row, next_table, row_in, unless_fault};
 use occ_print::sections::{Section, entry_word};
@@ -107,14 +107,15 @@ fn span_behind<A: Allocator + Copy>(
     Ok(Asked::Span { question, count })
 }
 
-#[tactic(auto, unfolding(crate::specs::RowLines::next_asked))]
+#[tactic(auto, using(occ_text::proofs::Causes::may_take), unfolding(crate::specs::RowLines::next_asked, occ_text::specs::ValueFields::next_takes))]
 fn next_asked<A: Allocator + Copy>(
     alloc: A,
     version: Version,
     schema: &Schema<A>,
     parts: &mut Parts<'_>,
 ) -> Result<Asked<A>, Unread>
-    ensures { GivesNext asked_of result (next_asked version schema.now parts.old) parts.new }
+    ensures exact { GivesNext asked_of result (next_asked version schema.now parts.old) parts.new }
+    ensures memory { IfErr result (λ unread. unread ≡ Unread.Memory → asked_takes parts.old ≡ true) }
 {
     let word = next_token(parts).ok_or(Unread::Malformed)?;
     if is_word(word, "one") {
@@ -126,14 +127,15 @@ fn next_asked<A: Allocator + Copy>(
     }
 }
 
-#[tactic(auto, unfolding(crate::specs::RowLines::asked_of_line))]
+#[tactic(auto, unfolding(crate::specs::RowLines::asked_of_line, crate::specs::RowLines::line_takes))]
 fn asked_value<A: Allocator + Copy>(
     alloc: A,
     version: Version,
     schema: &Schema<A>,
     line: &[u8],
 ) -> Result<Asked<A>, Unread>
-    ensures { Gives asked_of result (asked_of_line version schema.now line.now) }
+    ensures exact { Gives asked_of result (asked_of_line version schema.now line.now) }
+    ensures memory { IfErr result (λ unread. unread ≡ Unread.Memory → line_takes asked_takes line.now ≡ true) }
 {
     let mut parts = tokens(line).ok_or(Unread::Malformed)?;
     let asked = next_asked(alloc, version, schema, &mut parts)?;
@@ -149,6 +151,7 @@ pub fn read_asked<A: Allocator + Copy>(
     line: &[u8],
 ) -> Result<Asked<A>, Unread>
     ensures exact { Gives asked_of result (asked_of_line version schema.now line.now) }
+    ensures memory { IfErr result (λ unread. unread ≡ Unread.Memory → line_takes asked_takes line.now ≡ true) }
     ensures found { IfOk result (λ x. (line.now ≡ asked_text schema.now (asked_of x)) × AskedFits version schema.now (asked_of x)) }
     ensures again { (asked : PlainAsked) → AskedFits version schema.now asked → line.now ≡ asked_text schema.now asked → Gives asked_of result (Some asked) }
 {
@@ -157,7 +160,7 @@ pub fn read_asked<A: Allocator + Copy>(
     asked_value(alloc, version, schema, line)
 }
 
-#[tactic(auto, unfolding(crate::specs::RowLines::pair_of_line))]
+#[tactic(auto, unfolding(crate::specs::RowLines::pair_of_line, crate::specs::RowLines::line_takes))]
 fn pair_value<A: Allocator + Copy>(
     alloc: A,
     version: Version,
@@ -165,7 +168,8 @@ fn pair_value<A: Allocator + Copy>(
     table: usize,
     line: &[u8],
 ) -> Result<(Key<A>, Row<A>), Unread>
-    ensures { Gives pair_of result (pair_of_line version schema.now table line.now) }
+    ensures exact { Gives pair_of result (pair_of_line version schema.now table line.now) }
+    ensures memory { IfErr result (λ unread. unread ≡ Unread.Memory → line_takes pair_takes line.now ≡ true) }
 {
     let mut parts = tokens(line).ok_or(Unread::Malformed)?;
     next_word(&mut parts, "pair").ok_or(Unread::Malformed)?;
@@ -185,6 +189,7 @@ pub fn read_pair<A: Allocator + Copy>(
     line: &[u8],
 ) -> Result<(Key<A>, Row<A>), Unread>
     ensures exact { Gives pair_of result (pair_of_line version schema.now table line.now) }
+    ensures memory { IfErr result (λ unread. unread ≡ Unread.Memory → line_takes pair_takes line.now ≡ true) }
     ensures found { IfOk result (λ x. (line.now ≡ pair_line (pair_of x)) × PairFits version schema.now table (pair_of x)) }
     ensures again { (pair : PlainKey × PlainRow) → PairFits version schema.now table pair → line.now ≡ pair_line pair → Gives pair_of result (Some pair) }
 {
@@ -222,14 +227,15 @@ fn del_behind<A: Allocator + Copy>(
     Ok((object, None))
 }
 
-#[tactic(auto, unfolding(crate::specs::RowLines::next_write))]
+#[tactic(auto, using(occ_text::proofs::Causes::may_take), unfolding(crate::specs::RowLines::next_write, occ_text::specs::ValueFields::next_takes))]
 fn next_write<A: Allocator + Copy>(
     alloc: A,
     version: Version,
     schema: &Schema<A>,
     parts: &mut Parts<'_>,
 ) -> Result<(Object<A>, Option<Row<A>>), Unread>
-    ensures { GivesNext write_of result (next_write version schema.now parts.old) parts.new }
+    ensures exact { GivesNext write_of result (next_write version schema.now parts.old) parts.new }
+    ensures memory { IfErr result (λ unread. unread ≡ Unread.Memory → write_takes parts.old ≡ true) }
 {
     let word = next_token(parts).ok_or(Unread::Malformed)?;
     if is_word(word, "put") {
@@ -241,14 +247,15 @@ fn next_write<A: Allocator + Copy>(
     }
 }
 
-#[tactic(auto, unfolding(crate::specs::RowLines::write_of_line))]
+#[tactic(auto, unfolding(crate::specs::RowLines::write_of_line, crate::specs::RowLines::line_takes))]
 fn write_value<A: Allocator + Copy>(
     alloc: A,
     version: Version,
     schema: &Schema<A>,
     line: &[u8],
 ) -> Result<(Object<A>, Option<Row<A>>), Unread>
-    ensures { Gives write_of result (write_of_line version schema.now line.now) }
+    ensures exact { Gives write_of result (write_of_line version schema.now line.now) }
+    ensures memory { IfErr result (λ unread. unread ≡ Unread.Memory → line_takes write_takes line.now ≡ true) }
 {
     let mut parts = tokens(line).ok_or(Unread::Malformed)?;
     let write = next_write(alloc, version, schema, &mut parts)?;
@@ -265,6 +272,7 @@ pub fn read_write<A: Allocator + Copy>(
     line: &[u8],
 ) -> Result<(Object<A>, Option<Row<A>>), Unread>
     ensures exact { Gives write_of result (write_of_line version schema.now line.now) }
+    ensures memory { IfErr result (λ unread. unread ≡ Unread.Memory → line_takes write_takes line.now ≡ true) }
     ensures found { IfOk result (λ x. (line.now ≡ write_line schema.now (write_of x)) × WriteFits version schema.now (write_of x)) }
     ensures again { (write : PlainWrite) → WriteFits version schema.now write → line.now ≡ write_line schema.now write → Gives write_of result (Some write) }
 {
@@ -273,7 +281,7 @@ pub fn read_write<A: Allocator + Copy>(
     write_value(alloc, version, schema, line)
 }
 
-#[tactic(auto, unfolding(crate::specs::RowLines::at_of_line))]
+#[tactic(auto, unfolding(crate::specs::RowLines::at_of_line, crate::specs::RowLines::line_takes))]
 fn at_value<A: Allocator + Copy>(
     alloc: A,
     version: Version,
@@ -281,7 +289,8 @@ fn at_value<A: Allocator + Copy>(
     schema: &Schema<A>,
     line: &[u8],
 ) -> Result<(Object<A>, Row<A>), Unread>
-    ensures { Gives at_of result (at_of_line version section schema.now line.now) }
+    ensures exact { Gives at_of result (at_of_line version section schema.now line.now) }
+    ensures memory { IfErr result (λ unread. unread ≡ Unread.Memory → line_takes (at_takes section) line.now ≡ true) }
 {
     let mut parts = tokens(line).ok_or(Unread::Malformed)?;
     next_word(&mut parts, entry_word(section)).ok_or(Unread::Malformed)?;
@@ -300,6 +309,7 @@ pub fn read_at<A: Allocator + Copy>(
     line: &[u8],
 ) -> Result<(Object<A>, Row<A>), Unread>
     ensures exact { Gives at_of result (at_of_line version section schema.now line.now) }
+    ensures memory { IfErr result (λ unread. unread ≡ Unread.Memory → line_takes (at_takes section) line.now ≡ true) }
     ensures found { IfOk result (λ x. (line.now ≡ entry_line section schema.now (at_of x)) × AtFits version schema.now (at_of x)) }
     ensures again { (entry : PlainObject × PlainRow) → AtFits version schema.now entry → line.now ≡ entry_line section schema.now entry → Gives at_of result (Some entry) }
 {

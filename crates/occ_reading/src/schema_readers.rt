@@ -5,7 +5,8 @@ ghost use Rattle.std.specs.Result.{result_err};
 ghost use Rattle.occ_types.specs.PlainData.{key_of, object_of};
 ghost use Rattle.occ_text.specs.Escapes.{Gives, key_takes};
 ghost use Rattle.occ_text.specs.Fields.{GivesNext, before};
-ghost use Rattle.occ_reading.specs.SchemaReaders.{unless_fault, place_of, key_in, row_in, next_table, next_key, next_row, next_object};
+ghost use Rattle.occ_text.specs.ValueFields.{next_takes};
+ghost use Rattle.occ_reading.specs.SchemaReaders.{unless_fault, place_of, key_in, row_in, next_table, next_key, next_row, next_object, object_takes};
 
 use occ_text::cursors::next_token;
 use occ_text::separated_parts::Parts;
@@ -74,7 +75,7 @@ pub(crate) fn next_table<A: Allocator>(schema: &Schema<A>, parts: &mut Parts<'_>
 }
 
 /// The next token as a key of a table.
-#[tactic(auto, unfolding(crate::specs::SchemaReaders::next_key))]
+#[tactic(auto, unfolding(crate::specs::SchemaReaders::next_key, occ_text::specs::ValueFields::next_takes))]
 pub(crate) fn next_key<A: Allocator + Copy>(
     alloc: A,
     version: Version,
@@ -82,7 +83,8 @@ pub(crate) fn next_key<A: Allocator + Copy>(
     table: usize,
     parts: &mut Parts<'_>,
 ) -> Result<Key<A>, Unread>
-    ensures { GivesNext key_of result (next_key version schema.now table parts.old) parts.new }
+    ensures exact { GivesNext key_of result (next_key version schema.now table parts.old) parts.new }
+    ensures memory { IfErr result (λ unread. unread ≡ Unread.Memory → next_takes (key_takes version) parts.old ≡ true) }
 {
     let token = next_token(parts).ok_or(Unread::Malformed)?;
     let key = key_in(alloc, version, schema, table, token)?;
@@ -105,14 +107,15 @@ pub(crate) fn next_row<A: Allocator + Clone>(
 }
 
 /// The name of a row, from the next two tokens: its table's name and its key.
-#[tactic(auto, unfolding(crate::specs::SchemaReaders::next_object))]
+#[tactic(auto, unfolding(crate::specs::SchemaReaders::next_object, crate::specs::SchemaReaders::object_takes))]
 pub(crate) fn next_object<A: Allocator + Copy>(
     alloc: A,
     version: Version,
     schema: &Schema<A>,
     parts: &mut Parts<'_>,
 ) -> Result<Object<A>, Unread>
-    ensures { GivesNext object_of result (next_object version schema.now parts.old) parts.new }
+    ensures exact { GivesNext object_of result (next_object version schema.now parts.old) parts.new }
+    ensures memory { IfErr result (λ unread. unread ≡ Unread.Memory → object_takes version schema.now parts.old ≡ true) }
 {
     let table = next_table(schema, parts).ok_or(Unread::Malformed)?;
     let key = next_key(alloc, version, schema, table, parts)?;

@@ -163,6 +163,7 @@ fn add_write<A: Allocator + Copy>(
     ensures ok { OnOk result (writes.new ≡ writes.old ++ (object_of object, row) ∷ []) }
     ensures unwritten { IfOk result (λ _. is_some (own writes.old (object_of object)) ≡ false) }
     ensures err { IfErr result (λ unread. unread ≡ Unread.Malformed → is_some (own writes.old (object_of object)) ≡ true) }
+    ensures memory { IfErr result (λ unread. unread ≡ Unread.Memory → is_some (own writes.old (object_of object)) ≡ false) }
 {
     if writes.writes(&object) {
         return Err(Unread::Malformed);
