@@ -23,11 +23,16 @@ impl<A: Allocator + Copy> Client<A> {
     /// Reads the whole table, in a read phase that starts now.
     pub(crate) fn scan(&mut self, session: usize, number: u64) -> Option<()> {
         let (start, before) = (self.core.tnc(), self.shown()?);
-        match self.core.scan(session, number, start, 0, None, None) {
+        let end = None;
+        let whole = (end.as_ref(), end.as_ref());
+        match self.core.scan(session, number, start, 0, whole.0, whole.1) {
             Ok(rows) => self.hear(&rows),
             Err(fault) => {
                 self.check(fault, &before)?;
-                let rows = self.core.scan(session, number, start, 0, None, None).ok()?;
+                let rows = self
+                    .core
+                    .scan(session, number, start, 0, whole.0, whole.1)
+                    .ok()?;
                 self.hear(&rows)
             }
         }

@@ -158,7 +158,9 @@ impl<A: Allocator + Copy> Client<A> {
 
     fn reads_want_memory(&mut self, key: &Key<A>) -> Option<()> {
         holds(self.core.read(1, 1, 0, 0, key).err() == Some(Fault::Memory))?;
-        holds(self.core.scan(1, 1, 0, 0, None, None).err() == Some(Fault::Memory))?;
+        let end = None;
+        let scanned = self.core.scan(1, 1, 0, 0, end.as_ref(), end.as_ref());
+        holds(scanned.err() == Some(Fault::Memory))?;
         holds(self.core.book().err() == Some(Fault::Memory))
     }
 
