@@ -2,7 +2,8 @@
 //!
 //! A program makes a `Frame`, names it and opens it: it gets the `Store`, which threads share, a `Session` for each client and a `Lane`
 //! for what each session hands in. Each holding of the store's lock is one event, and between any two of them the log is in order,
-//! serial replay explains it, and the board shows each session's last transaction that is over.
+//! serial replay explains it, and the board shows each session's last transaction that is over. A `Worker` joins a session and its lane
+//! for one thread. What a program names of the crates below stands here too, so that it lists this crate alone.
 #![tactic(auto)]
 
 mod advancing;
@@ -34,6 +35,12 @@ pub use frames::Frame;
 pub use lanes::Lane;
 pub use leases::Lease;
 pub use names::Name;
+pub use occ_book::Standing;
+pub use occ_case::Cause;
+pub use occ_sets::Op;
+pub use occ_types::{
+    Cell, Fault, Key, KeyKind, KeyPart, Kind, Pair, Refused, Row, Schema, TableDef, Text,
+};
 pub use serving::{AlwaysGo, Gate, Pace, Point, Served};
 pub use sessions::Session;
 pub use shared::Shared;
