@@ -1,3 +1,5 @@
+pub mod AccountLines
+pub mod Accounting
 pub mod RowsCome
 pub mod CausesTold
 pub mod Keeping

@@ -1,5 +1,5 @@
 -- What clauses see of a lane, and what one event makes of it (our own choice).
-use Rattle.std.specs.Prelude.{◌≡◌, ℕ, ◌+◌, ◌==◌, ◌&&◌, Bool, true, false, Option, None, Some, Result, Ok, Err, is_some, if◌then◌else◌}
+use Rattle.std.specs.Prelude.{◌≡◌, ℕ, ◌+◌, ◌==◌, ◌&&◌, Bool, true, false, List, length, Option, None, Some, Result, Ok, Err, is_some, if◌then◌else◌}
 use Rattle.std.specs.List.{list_any}
 use Rattle.boxcar.specs.Table.{Where}
 use Rattle.occ_types.specs.declared.fault.Fault.{Fault}
@@ -78,6 +78,17 @@ is_nothing (Decided number verdict) = false
 
 abbrev pub is_closed : LaneView → Bool
 is_closed lane = list_any is_mark lane.receiver.taken && is_nothing lane.left
+
+-- 1 where it is so
+abbrev pub count_if : Bool → ℕ
+count_if b = if b then 1 else 0
+
+-- What was taken is the rows that entered, the closing mark once that entered, and the item that is kept. Nothing is under way after the mark, for it is the last item.
+abbrev pub AddsUp : List Item → ℕ → Left → Type 0
+AddsUp taken entered Nothing = length taken ≡ entered + count_if (list_any is_mark taken)
+AddsUp taken entered (Kept item) = (length taken ≡ entered + 1) × (list_any is_mark taken ≡ is_mark item)
+AddsUp taken entered (Open number token) = (length taken ≡ entered) × (list_any is_mark taken ≡ false)
+AddsUp taken entered (Decided number verdict) = (length taken ≡ entered) × (list_any is_mark taken ≡ false)
 
 -- whether a row is left that is not decided
 abbrev pub is_open : Left → Bool

@@ -1,3 +1,4 @@
+pub mod Accounts
 pub mod Ended
 pub mod Frames
 pub mod Lanes

@@ -1,12 +1,14 @@
 //! One event of a lane, on the locked state.
-ghost use Rattle.std.specs.Prelude.{◌≡◌, ◌+◌, ◌^◌, ◌<◌, ◌≤◌, ℕ, None, IfSome, IfErr, OnOk, is_some};
+ghost use Rattle.std.specs.Prelude.{◌≡◌, ◌⊎◌, ◌+◌, ◌^◌, ◌<◌, ◌≤◌, ℕ, List, false, None, IfSome, IfOk, IfErr, OnOk, is_some};
+ghost use Rattle.std.specs.List.{list_any};
 ghost use Rattle.boxcar.specs.Table.{Shows};
-ghost use Rattle.occ_model.specs.Event.{Item as PlainItem, WriteOne, Finish};
+ghost use Rattle.occ_model.specs.Event.{Item as PlainItem, WriteOne, Finish, Reply};
 ghost use Rattle.occ_model.specs.declared.verdict.Verdict.TheVariants.{Commit, BackUp};
-ghost use Rattle.occ_core.specs.Replies.{replied_back, outcome_of, next_object};
-ghost use Rattle.occ_queue.specs.Items.{item_of, number_of};
+ghost use Rattle.occ_core.specs.Replies.{replied_back, outcome_of, next_object, CanEnter, CanEnd};
+ghost use Rattle.occ_queue.specs.Items.{item_of, number_of, is_mark};
+ghost use Rattle.occ_filed.specs.Filed.{token_of};
 ghost use Rattle.occ_store.specs.Locked.{world_of, rows_entered};
-ghost use Rattle.occ_store.specs.Lanes.{Nothing, Kept, Open, Decided, left_of, token_left, open_rows, ends_serially, point_of, left_entering, Ends, TakesIn, DecidesAs, GoesOn, Advances};
+ghost use Rattle.occ_store.specs.Lanes.{Nothing, Kept, Open, Decided, left_of, token_left, open_rows, ends_serially, reached, point_of, left_entering, AddsUp, Ends, TakesIn, DecidesAs, GoesOn, Advances};
 
 use crate::lanes::Lane;
 use crate::names::Name;
@@ -39,39 +41,19 @@ impl<N: Name, A: Allocator + Copy> Lane<N, A> {
     {
         match std::mem::replace(&mut self.left, Left::Nothing) {
             Left::Nothing => Err(Fault::NothingEntered),
-            Left::Kept(item) => self.enter(rt, shared, item),
+            Left::Kept(item) => {
+                let policy = (self.files, self.serial);
+                let share = &mut self.share;
+                let entered = &mut self.entered;
+                let (left, reached) = enter(rt, shared, self.session, item, share, entered, policy);
+                self.left = left;
+                reached
+            }
             Left::Open { number, token } => self.decide(shared, number, token, judged),
             Left::Decided { number, verdict } => match verdict {
                 Verdict::Commit => self.write_or_finish(shared, number),
                 Verdict::BackUp(cause) => self.back_up(shared, number, cause),
             },
-        }
-    }
-
-    // A kept item enters, or ends serially.
-    fn enter<R: Wait>(
-        &mut self,
-        rt: &R,
-        shared: &mut Shared<N, A>,
-        item: Item<A>,
-    ) -> Result<Point, Fault>
-        requires taken { self.old.left ≡ Nothing }
-        ensures { GoesOn (Kept (item_of item)) self.old None shared.old result self.new shared.new }
-    {
-        let number = item.number();
-        let session = self.session;
-        let policy = (self.files, self.serial);
-        match take_in(rt, shared, session, item, &mut self.share, policy) {
-            Ok(outcome) => {
-                self.entered += rows_in(&outcome);
-                let token = shared.token(session);
-                self.keep(left_by(&outcome, number, token));
-                Ok(point_by(outcome))
-            }
-            Err(refused) => {
-                self.keep(Left::Kept(refused.value));
-                Err(refused.fault)
-            }
         }
     }
 
@@ -87,6 +69,7 @@ impl<N: Name, A: Allocator + Copy> Lane<N, A> {
         requires own_token { IfSome token (Shows N.named.file) }
         requires own_file { IfSome judged (Shows N.named.file) }
         requires one_more { self.old.judged < self.old.entered }
+        requires unmarked { list_any is_mark self.old.receiver.taken ≡ false }
         ensures { GoesOn (Open number token) self.old judged shared.old result self.new shared.new }
     {
         let more = match judged {
@@ -109,6 +92,7 @@ impl<N: Name, A: Allocator + Copy> Lane<N, A> {
     // A row that is decided to commit does its next single write, or finishes.
     fn write_or_finish(&mut self, shared: &mut Shared<N, A>, number: u64) -> Result<Point, Fault>
         requires taken { self.old.left ≡ Nothing }
+        requires unmarked { list_any is_mark self.old.receiver.taken ≡ false }
         ensures { GoesOn (Decided number Commit) self.old None shared.old result self.new shared.new }
     {
         if writes_left(shared, self.session) {
@@ -121,6 +105,7 @@ impl<N: Name, A: Allocator + Copy> Lane<N, A> {
     // It does its next single write.
     fn write(&mut self, shared: &mut Shared<N, A>, number: u64) -> Result<Point, Fault>
         requires taken { self.old.left ≡ Nothing }
+        requires unmarked { list_any is_mark self.old.receiver.taken ≡ false }
         ensures { Ends (WriteOne self.old.session) number self.old shared.old result self.new shared.new }
     {
         let wrote = shared.write_one(self.session);
@@ -134,6 +119,7 @@ impl<N: Name, A: Allocator + Copy> Lane<N, A> {
     // It finishes.
     fn finish(&mut self, shared: &mut Shared<N, A>, number: u64) -> Result<Point, Fault>
         requires taken { self.old.left ≡ Nothing }
+        requires unmarked { list_any is_mark self.old.receiver.taken ≡ false }
         ensures { Ends (Finish self.old.session) number self.old shared.old result self.new shared.new }
     {
         match shared.finish(self.session) {
@@ -153,6 +139,7 @@ impl<N: Name, A: Allocator + Copy> Lane<N, A> {
         cause: Cause,
     ) -> Result<Point, Fault>
         requires taken { self.old.left ≡ Nothing }
+        requires unmarked { list_any is_mark self.old.receiver.taken ≡ false }
         ensures { GoesOn (Decided number (BackUp cause)) self.old None shared.old result self.new shared.new }
     {
         match shared.back_up(self.session, cause) {
@@ -169,9 +156,41 @@ impl<N: Name, A: Allocator + Copy> Lane<N, A> {
     fn keep(&mut self, left: Left<A>)
         requires own { IfSome (token_left (left_of left)) (Shows N.named.file) }
         requires room { self.old.judged + open_rows (left_of left) ≤ self.old.entered }
+        requires adds_up { AddsUp self.old.receiver.taken self.old.entered (left_of left) }
         ensures { self.new ≡ record self.old { left = left_of left } }
     {
         self.left = left;
+    }
+}
+
+// A kept item enters, or ends serially, under the policy of its lane. It answers what is left of it, and the point that it reached.
+fn enter<N: Name, A: Allocator + Copy, R: Wait>(
+    rt: &R,
+    shared: &mut Shared<N, A>,
+    session: usize,
+    item: Item<A>,
+    share: &mut Share<N>,
+    entered: &mut u64,
+    policy: (bool, bool),
+) -> (Left<A>, Result<Point, Fault>)
+    requires part { 0 < share.old.parts }
+    requires amount { share.old.amount ≡ entered.old }
+    ensures step { (reply : Reply) × TakesIn session policy.0 policy.1 (item_of item) shared.old reply shared.new × (result.1 ≡ reached reply)
+        × (left_of result.0 ≡ left_entering (item_of item) (token_of shared.new.filed.tokens session) reply) × (entered.new ≡ entered.old + rows_entered reply) }
+    ensures own { IfSome (token_left (left_of result.0)) (Shows N.named.file) }
+    ensures room { entered.old + open_rows (left_of result.0) ≤ entered.new }
+    ensures adds_up { (taken : List PlainItem) → AddsUp taken entered.old (Kept (item_of item)) → AddsUp taken entered.new (left_of result.0) }
+    ensures amount { share.new.amount ≡ entered.new }
+    ensures parts { share.new.parts ≡ share.old.parts }
+{
+    let number = item.number();
+    match take_in(rt, shared, session, item, share, policy) {
+        Ok(outcome) => {
+            *entered += rows_in(&outcome);
+            let token = shared.token(session);
+            (left_by(&outcome, number, token), Ok(point_by(outcome)))
+        }
+        Err(refused) => (Left::Kept(refused.value), Err(refused.fault)),
     }
 }
 
@@ -186,6 +205,7 @@ fn take_in<N: Name, A: Allocator + Copy, R: Wait>(
 ) -> Result<Outcome<A>, Refused<Item<A>>>
     requires part { 0 < share.old.parts }
     ensures step { TakesIn session policy.0 policy.1 (item_of item) shared.old (replied_back outcome_of result) shared.new }
+    ensures outcome { IfOk result (λ outcome. CanEnter (item_of item) outcome ⊎ CanEnd (item_of item) outcome) }
     ensures handed_back { IfErr result (λ refused. item_of refused.value ≡ item_of item) }
     ensures counted { share.new.amount ≡ share.old.amount + rows_entered (replied_back outcome_of result) }
     ensures bound { OnOk result (share.new.amount < 2 ^ 64) }

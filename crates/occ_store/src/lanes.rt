@@ -1,5 +1,5 @@
 //! Lanes: each takes what one session hands in, and brings it to its end.
-ghost use Rattle.std.specs.Prelude.{◌≡◌, ℕ, None, IfSome, IfNone};
+ghost use Rattle.std.specs.Prelude.{◌≡◌, ℕ, [], None, IfSome, IfNone};
 ghost use mathlib.Core.List.{IsPrefix};
 ghost use Rattle.boxcar.specs.Table.{Shows};
 ghost use Rattle.occ_model.specs.Event.{Item as PlainItem};
@@ -36,7 +36,7 @@ impl<N: Name, A: Allocator> Model for Lane<N, A> {
     ghost use Rattle.std.specs.Coded.{codes};
     ghost use Rattle.boxcar.specs.Table.{where_coded, Shows};
     ghost use Rattle.occ_store.specs.Names.{lane_of};
-    ghost use Rattle.occ_store.specs.Lanes.{LaneView, left_of, token_left, open_rows};
+    ghost use Rattle.occ_store.specs.Lanes.{LaneView, left_of, token_left, open_rows, AddsUp};
 
     ghost Value = { LaneView };
 
@@ -48,7 +48,8 @@ impl<N: Name, A: Allocator> Model for Lane<N, A> {
         × IfSome (token_left (left_of l.left)) (Shows N.named.file)
         × (l.share.parts ≡ 1)
         × (l.share.amount ≡ l.entered)
-        × (l.judged + open_rows (left_of l.left) ≤ l.entered) };
+        × (l.judged + open_rows (left_of l.left) ≤ l.entered)
+        × AddsUp l.receiver.taken l.entered (left_of l.left) };
 }
 
 impl<N: Name, A: Allocator> Lane<N, A> {
@@ -151,6 +152,7 @@ pub(crate) fn unused_lane<N: Name, A: Allocator>(
     share: Share<N>,
 ) -> Lane<N, A>
     requires lane { receiver.lane ≡ lane_of N.named session }
+    requires taken { receiver.taken ≡ [] }
     requires share { (share.parts ≡ 1) × (share.amount ≡ 0) }
     ensures { result ≡ unused session receiver }
 {

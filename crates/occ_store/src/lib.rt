@@ -6,6 +6,7 @@
 //! for one thread. What a program names of the crates below stands here too, so that it lists this crate alone.
 #![tactic(auto)]
 
+mod accounts;
 mod advancing;
 mod ended;
 mod events;
@@ -30,6 +31,7 @@ mod unfinished;
 mod validators;
 mod workers;
 
+pub use accounts::{Account, AccountLine, Parties};
 pub use ended::Ended;
 pub use frames::Frame;
 pub use lanes::Lane;

@@ -1,5 +1,7 @@
 //! The name of a store, by which its parts know one another.
-use std::marker::Brand;
+ghost use Rattle.std.specs.Prelude.{◌≡◌};
+
+use std::marker::{Brand, Model, PhantomData};
 use std::sync::ledger::Ledger;
 
 /// Which store it is: what it was opened with, its file of cases, its board and its lanes; and the ledger in which its lanes count the
@@ -14,4 +16,35 @@ impl Name for Brand {
     ghost use Rattle.occ_store.specs.Names.{unnamed};
 
     ghost named = { unnamed };
+}
+
+/// That the ledger has a part for each session of the store.
+#[derive(Drop)]
+pub(crate) struct Cut<N: Name> {
+    name: PhantomData<N>,
+}
+
+impl<N: Name> Model for Cut<N> {
+    ghost use Rattle.std.specs.Prelude.{◌≡◌};
+
+    ghost Value = { Unit {0} };
+
+    ghost view = { λ _. tt };
+
+    ghost invariant = { λ _. N.parts ≡ N.named.settings.sessions };
+}
+
+impl<N: Name> Cut<N> {
+    pub(crate) fn new() -> Cut<N>
+        requires { N.parts ≡ N.named.settings.sessions }
+    {
+        Cut { name: PhantomData }
+    }
+
+    // What it says. It computes nothing.
+    pub(crate) fn law(&self)
+        ensures { N.parts ≡ N.named.settings.sessions }
+    {
+        let _ = &self.name;
+    }
 }

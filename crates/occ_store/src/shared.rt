@@ -4,6 +4,7 @@ ghost use Rattle.boxcar.specs.Table.{Shows};
 ghost use Rattle.occ_model.specs.Invariant.{Invariant};
 ghost use Rattle.occ_model.specs.Content.{IsInSchema};
 ghost use Rattle.occ_model.specs.Log.{Audited};
+ghost use Rattle.occ_model.specs.World.{next_place};
 ghost use Rattle.occ_published.specs.Published.{Published, NumbersFit};
 ghost use Rattle.occ_model.specs.Poll.{row_numbered};
 ghost use Rattle.occ_log.specs.Rows.{standing_of, log_of};
@@ -12,6 +13,7 @@ ghost use Rattle.occ_filed.specs.Filed.{token_of};
 ghost use Rattle.occ_store.specs.Locked.{world_of, told_standing};
 
 use crate::names::Name;
+use crate::publishing::law;
 use occ_board::Publisher;
 use occ_book::Standing;
 use occ_case::{CaseToken, OpenCase};
@@ -20,7 +22,7 @@ use occ_filed::FiledCore;
 use occ_types::Fault;
 use std::alloc::Allocator;
 use std::marker::Model;
-use std::sync::ledger::Book;
+use std::sync::ledger::{Book, Share};
 
 /// The locked state of a store: its core with the file of its cases, the publisher of its board, and the book of the rows that lanes
 /// entered. Clauses see the world of the core, with what shows its cases, and the words that stand on the board; these show the world.
@@ -78,6 +80,25 @@ impl<N: Name, A: Allocator> Shared<N, A> {
         self.filed.token(session)
     }
 
+    // How many sessions the store has; they are numbered from 1.
+    pub(crate) fn sessions(&self) -> usize
+        ensures { result ≡ N.named.settings.sessions }
+    {
+        self.law();
+        self.core().sessions()
+    }
+
+    // How many rows entered, those that were folded too. Where all parts of the ledger are here, it is what they count.
+    pub(crate) fn entered(&mut self, whole: &mut Share<N>) -> u64
+        requires all { whole.old.parts ≡ N.parts }
+        ensures counted { result ≡ whole.old.amount }
+        ensures rows { result ≡ next_place (world_of self.old) }
+        ensures same { self.new ≡ self.old }
+    {
+        self.rows.audit(whole);
+        all_rows(&self.filed)
+    }
+
     /// How the row of a session's transaction with this number stands; none where it does not stand in the log.
     pub fn row(&self, session: usize, number: u64) -> Option<Standing<()>>
         ensures { result ≡ option_map (λ row. told_standing row.standing) (row_numbered session number (world_of self.now).log) }
@@ -101,6 +122,15 @@ impl<N: Name, A: Allocator + Copy> Shared<N, A> {
         self.law();
         self.core().book()
     }
+}
+
+// How many rows entered, those that were folded too.
+fn all_rows<A: Allocator>(filed: &FiledCore<A>) -> u64
+    ensures { result ≡ next_place filed.now.world }
+{
+    law(filed);
+    let core = filed.core();
+    (core.base().place() + core.log().len()) as u64
 }
 
 // How a row stands, without its case.

@@ -10,7 +10,7 @@ ghost use Rattle.occ_store.specs.Frames.{IsPart, fresh_session, fresh_lane, fres
 use crate::frames::Frame;
 use crate::lanes::{Lane, unused_lane};
 use crate::leases::Turns;
-use crate::names::Name;
+use crate::names::{Cut, Name};
 use crate::parts::Part;
 use crate::sessions::Session;
 use crate::shared::Shared;
@@ -27,6 +27,7 @@ pub struct Store<N: Name, A: Allocator> {
     pub(crate) shared: Mutex<Shared<N, A>>,
     pub(crate) lease: Mutex<Turns>,
     pub(crate) file: Arc<CaseFile<A>, A>,
+    pub(crate) cut: Cut<N>,
     ghost own_file: { arc_value file ≡ N.named.file },
 }
 
@@ -76,6 +77,7 @@ impl<N: Name, A: Allocator + Copy> Store<N, A> {
             }),
             lease: Mutex::new(Turns),
             file,
+            cut: Cut::new(),
         };
         Ok((store, clients, lanes))
     }

@@ -1,12 +1,12 @@
 use Rattle.std.proofs.Common.{None, sym, ap, ◌∙◌}
 use Rattle.occ_queue.specs.Items.{item_of}
 use Rattle.occ_store.specs.Lanes.{Decided, left_of}
-use Rattle.occ_store.proofs.LaneSteps.{went_kept, went_committing, went_backing}
+use Rattle.occ_store.proofs.LaneSteps.{went_committing, went_backing}
+use Rattle.occ_store.proofs.Accounting.{went_in}
 use Rattle.occ_store.proofs.lanes.Lane.advance.Goals as goal
 
 pub returns-in-Kept : goal.returns-in-Kept
-returns-in-Kept g c =
-    went_kept _ _ c.args.judged None _ _ _ _ c.self.view_is (item_of c.in-Kept.item) (ap left_of (sym c.in-Kept.ensures.value)) _ (ap left_of c.in-Kept.ensures.after) c.enter.ensures
+returns-in-Kept g c = went_in _ _ c.args.judged _ _ _ c.self.view_is (item_of c.in-Kept.item) (ap left_of (sym c.in-Kept.ensures.value)) _ _ c.enter-left.ensures.step
 
 pub returns-in-Commit : goal.returns-in-Commit
 returns-in-Commit g c =

@@ -1,0 +1,15 @@
+use Rattle.std.proofs.Common.{refl, sym, ap, ◌∙◌}
+use Rattle.occ_store.specs.Names.{lane_of}
+use Rattle.occ_store.specs.Lanes.{LaneView}
+use Rattle.occ_store.specs.Sessions.{SessionView}
+use Rattle.occ_store.proofs.Accounting.{line_made}
+use Rattle.occ_store.proofs.accounts.line_of.Goals as goal
+
+pub drain-requires-clause-lane : goal.drain-requires-clause-lane
+drain-requires-clause-lane g c =
+    let same = ap (λ (s : SessionView). s.session) c.session.view_is ∙ sym c.requires.same ∙ sym (ap (λ (l : LaneView). l.session) c.lane.view_is) in
+    c.session.invariant.3 ∙ ap (lane_of g.N.Name.named) same ∙ sym c.lane.invariant.0
+
+pub returns-clause-line : goal.returns-clause-line
+returns-clause-line g c =
+    line_made _ _ _ _ _ c.next.result c.lane.view_is c.session.view_is c.next.ensures.number refl c.taken.ensures.number refl c.kept.ensures c.lane.invariant.5 c.drain.ensures

@@ -1,0 +1,262 @@
+//! The closing account of a store.
+ghost use Rattle.std.specs.Prelude.{◌≡◌, ◌==◌, ◌&&◌, ◌+◌, ◌≤◌, true, [], length, map, vec_len, vec_capacity, IfOk, IfErr, IsOkUnless, MatchResult};
+ghost use Rattle.occ_types.specs.declared.fault.Fault.TheVariants.{Memory};
+ghost use Rattle.occ_store.specs.Accounts.{kept_in, kept_of, line_of, IsLine, AreLines, are_numbered, is_complete, end_fault, rows_of, held, IsRoom, AreRooms};
+ghost use Rattle.occ_store.specs.Lanes.{left_of};
+
+use crate::lanes::Lane;
+use crate::names::Name;
+use crate::sessions::Session;
+use crate::stores::Store;
+use crate::unfinished::Left;
+use occ_queue::{Item, drain};
+use occ_types::{Fault, Refused};
+use std::alloc::Allocator;
+use std::sync::Wait;
+use std::sync::ledger::{Ledger, Share};
+
+/// What became of a session, and of all that it handed in.
+#[derive(Drop)]
+pub struct AccountLine<A: Allocator> {
+    /// How many items were pushed, the closing mark too.
+    pub pushed: u64,
+    /// How many of them its lane took.
+    pub taken: u64,
+    /// How many rows its lane entered.
+    pub rows: u64,
+    /// The item that its lane took, and that has not entered.
+    pub kept: Option<Item<A>>,
+    /// The items that were not taken, the first one first.
+    pub left: Vec<Item<A>, A>,
+}
+
+/// The closing account of a store.
+#[derive(Drop)]
+pub struct Account<A: Allocator> {
+    /// How many rows entered, those that were folded too.
+    pub entered: u64,
+    /// A line for each session, the first session's first.
+    pub lines: Vec<AccountLine<A>, A>,
+}
+
+/// The lanes and the sessions of a store.
+pub type Parties<N, A> = (Vec<Lane<N, A>, A>, Vec<Session<N, A>, A>);
+
+impl<N: Name, A: Allocator + Copy> Store<N, A> {
+    /// Ends all lanes and sessions of the store, and tells what became of what was handed in. Of each session, what was pushed is what
+    /// its lane took, followed by what is left; and what was taken is the rows that the lane entered, the closing mark once that has
+    /// entered, and the item that the lane keeps. The rows that entered are those of all lanes. What a session has open was never
+    /// pushed, and is dropped. The store itself stays, for its book. It takes the lock.
+    ///
+    /// Refused, the first of these that holds: with `NoSession` where these are not all lanes and all sessions of the store, each list in
+    /// the order of the numbers, as `Store::open` gives them; and with `Memory` where there is none for the account. Both lists are
+    /// handed back whole then.
+    pub fn end<R: Wait>(
+        &self,
+        rt: &R,
+        lanes: Vec<Lane<N, A>, A>,
+        sessions: Vec<Session<N, A>, A>,
+    ) -> Result<Account<A>, Refused<Parties<N, A>>>
+        ensures entered { IfOk result (λ account. account.entered ≡ rows_of lanes.items) }
+        ensures lines { IfOk result (λ account. AreLines lanes.items sessions.items (map line_of account.lines.items)) }
+        ensures handed_back { IfErr result (λ refused. (refused.value.0 ≡ lanes) × (refused.value.1 ≡ sessions)) }
+        ensures fault { MatchResult result
+            (λ _. is_complete N.named.settings.sessions lanes.items sessions.items ≡ true)
+            (λ refused. refused.fault ≡ end_fault N.named.settings.sessions lanes.items sessions.items) }
+    {
+        if !self.owns_all(rt, lanes.as_slice(), sessions.as_slice()) {
+            return Err(Refused {
+                value: (lanes, sessions),
+                fault: Fault::NoSession,
+            });
+        }
+        match room(*lanes.allocator(), lanes.as_slice(), sessions.as_slice()) {
+            Ok((rooms, lines)) => Ok(self.account(rt, lanes, sessions, rooms, lines)),
+            Err(fault) => Err(Refused {
+                value: (lanes, sessions),
+                fault,
+            }),
+        }
+    }
+
+    // Whether these are all its lanes and sessions, in the order of their numbers.
+    fn owns_all<R: Wait>(&self, rt: &R, lanes: &[Lane<N, A>], sessions: &[Session<N, A>]) -> bool
+        ensures { result ≡ is_complete N.named.settings.sessions lanes.now sessions.now }
+    {
+        let count = self.lock(rt).sessions();
+        is_complete(count, lanes, sessions)
+    }
+
+    // The account of all lanes and sessions, in the room for what each queue has left and for the lines. It takes no memory.
+    fn account<R: Wait>(
+        &self,
+        rt: &R,
+        lanes: Vec<Lane<N, A>, A>,
+        sessions: Vec<Session<N, A>, A>,
+        rooms: Vec<Vec<Item<A>, A>, A>,
+        lines: Vec<AccountLine<A>, A>,
+    ) -> Account<A>
+        requires complete { is_complete N.named.settings.sessions lanes.items sessions.items ≡ true }
+        requires rooms { AreRooms lanes.items sessions.items rooms.items }
+        requires empty { (lines.items ≡ []) × (vec_len lines ≡ 0) }
+        requires room { length lanes.items ≤ vec_capacity lines }
+        ensures entered { result.entered ≡ rows_of lanes.items }
+        ensures lines { AreLines lanes.items sessions.items (map line_of result.lines.items) }
+    {
+        let mut lines = lines;
+        let mut clients = sessions.into_iter();
+        let mut rooms = rooms.into_iter();
+        let mut parts: Option<Share<N>> = None;
+        for lane in lanes {
+            let Some(client) = clients.next() else {
+                unreachable!()
+            };
+            let Some(room) = rooms.next() else {
+                unreachable!()
+            };
+            let (line, part) = line_of(rt, lane, client, room);
+            merge(&mut parts, part);
+            lines.push_reserved(line);
+        }
+        let entered = match parts {
+            None => 0,
+            Some(mut whole) => self.entered(rt, &mut whole),
+        };
+        Account { entered, lines }
+    }
+
+    // How many rows entered, as all parts of the ledger together have it.
+    fn entered<R: Wait>(&self, rt: &R, whole: &mut Share<N>) -> u64
+        requires { whole.old.parts ≡ N.named.settings.sessions }
+        ensures { result ≡ whole.old.amount }
+    {
+        self.cut.law();
+        self.lock(rt).entered(whole)
+    }
+}
+
+// Whether these are the lanes and sessions of a store of so many sessions, in the order of their numbers.
+fn is_complete<N: Name, A: Allocator>(
+    count: usize,
+    lanes: &[Lane<N, A>],
+    sessions: &[Session<N, A>],
+) -> bool
+    ensures { result ≡ is_complete count lanes.now sessions.now }
+{
+    if lanes.len() != count {
+        return false;
+    }
+    if sessions.len() != count {
+        return false;
+    }
+    are_numbered(lanes, sessions)
+}
+
+// Whether they have the numbers from 1 on.
+fn are_numbered<N: Name, A: Allocator>(lanes: &[Lane<N, A>], sessions: &[Session<N, A>]) -> bool
+    requires { length lanes.now ≡ length sessions.now }
+    ensures { result ≡ are_numbered 1 lanes.now sessions.now }
+{
+    for place in 0..lanes.len() {
+        if !have_number(&lanes[place], &sessions[place], place + 1) {
+            return false;
+        }
+    }
+    true
+}
+
+// Whether a lane and a session have this number.
+fn have_number<N: Name, A: Allocator>(
+    lane: &Lane<N, A>,
+    session: &Session<N, A>,
+    number: usize,
+) -> bool
+    ensures { result ≡ (lane.now.session == number && session.now.session == number) }
+{
+    lane.session() == number && session.session() == number
+}
+
+// Room for what each queue has left, and for the lines.
+fn room<N: Name, A: Allocator + Copy>(
+    alloc: A,
+    lanes: &[Lane<N, A>],
+    sessions: &[Session<N, A>],
+) -> Result<(Vec<Vec<Item<A>, A>, A>, Vec<AccountLine<A>, A>), Fault>
+    requires { length lanes.now ≡ length sessions.now }
+    ensures rooms { IfOk result (λ made. AreRooms lanes.now sessions.now made.0.items) }
+    ensures empty { IfOk result (λ made. (made.1.items ≡ []) × (vec_len made.1 ≡ 0)) }
+    ensures room { IfOk result (λ made. length lanes.now ≤ vec_capacity made.1) }
+    ensures memory { IsOkUnless result Memory }
+{
+    let mut rooms = Vec::with_capacity(alloc, lanes.len())?;
+    for place in 0..lanes.len() {
+        rooms.push(room_for(alloc, &lanes[place], &sessions[place])?)?;
+    }
+    let lines = Vec::with_capacity(alloc, lanes.len())?;
+    Ok((rooms, lines))
+}
+
+// Room for what a queue has left.
+fn room_for<N: Name, A: Allocator>(
+    alloc: A,
+    lane: &Lane<N, A>,
+    session: &Session<N, A>,
+) -> Result<Vec<Item<A>, A>, Fault>
+    ensures room { IfOk result (IsRoom lane.now session.now) }
+    ensures memory { IsOkUnless result Memory }
+{
+    let pushed = session.sender.next() - 1;
+    let left = pushed.saturating_sub(lane.receiver.taken());
+    Ok(Vec::with_capacity(alloc, left as usize)?)
+}
+
+// The line of a session and its lane, and the lane's part of the ledger.
+fn line_of<N: Name, A: Allocator, R: Wait>(
+    rt: &R,
+    lane: Lane<N, A>,
+    session: Session<N, A>,
+    room: Vec<Item<A>, A>,
+) -> (AccountLine<A>, Share<N>)
+    requires same { lane.session ≡ session.session }
+    requires room { IsRoom lane session room }
+    ensures line { IsLine lane session (line_of result.0) }
+    ensures part { (result.1.parts ≡ 1) × (result.1.amount ≡ lane.entered) }
+{
+    let Lane {
+        receiver,
+        left,
+        entered,
+        share,
+        ..
+    } = lane;
+    let Session { sender, .. } = session;
+    let line = AccountLine {
+        pushed: sender.next() - 1,
+        taken: receiver.taken(),
+        rows: entered,
+        kept: kept(left),
+        left: drain(rt, sender, receiver, room),
+    };
+    (line, share)
+}
+
+// The item that was taken and has not entered.
+fn kept<A: Allocator>(left: Left<A>) -> Option<Item<A>>
+    ensures { kept_in result ≡ kept_of (left_of left) }
+{
+    match left {
+        Left::Kept(item) => Some(item),
+        Left::Nothing | Left::Open { .. } | Left::Decided { .. } => None,
+    }
+}
+
+// Another part of the ledger joins those that are here.
+fn merge<L: Ledger>(parts: &mut Option<Share<L>>, part: Share<L>)
+    ensures parts { held (λ s. s.parts) parts.new ≡ held (λ s. s.parts) parts.old + part.parts }
+    ensures amount { held (λ s. s.amount) parts.new ≡ held (λ s. s.amount) parts.old + part.amount }
+{
+    match parts {
+        None => *parts = Some(part),
+        Some(before) => before.merge(part),
+    }
+}
