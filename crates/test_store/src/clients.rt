@@ -1,0 +1,204 @@
+//! Clients that do what a seed says.
+use crate::desks::seven;
+use occ_sets::Op;
+use occ_store::{Name, Session, Store};
+use occ_types::{Cell, Fault, Key, Row};
+use std::alloc::Allocator;
+use std::sync::Wait;
+use std::thread;
+
+/// How many keys there are. The first of them is written by half of the transactions.
+const KEYS: u64 = 40;
+
+/// A stream of numbers that a seed gives.
+#[derive(Clone, Copy)]
+pub(crate) struct Random(u64);
+
+impl Random {
+    /// The stream of a seed.
+    pub(crate) fn new(seed: u64) -> Random {
+        Random(seed.wrapping_mul(0x9E37_79B9_7F4A_7C15) | 1)
+    }
+
+    /// A number below this one, or 0.
+    pub(crate) fn below(&mut self, limit: u64) -> u64 {
+        let mut state = self.0;
+        state ^= state << 13;
+        state ^= state >> 7;
+        state ^= state << 17;
+        self.0 = state;
+        (state >> 8).checked_rem(limit).unwrap_or(0)
+    }
+
+    /// A key, which is the first in half of the cases.
+    fn key(&mut self) -> u64 {
+        if self.below(2) == 0 {
+            return 0;
+        }
+        self.below(KEYS)
+    }
+}
+
+/// A client of a session: up to 120 transactions, and then it closes. Whether each was handed in and came to its end.
+pub(crate) fn run_client<N: Name, A: Allocator + Copy, R: Wait>(
+    rt: &R,
+    alloc: A,
+    store: &Store<N, A>,
+    session: &mut Session<N, A>,
+    seed: u64,
+) -> Result<bool, Fault> {
+    let mut random = Random::new(seed);
+    let mut met = Ok(());
+    for _ in 0..random.below(120) {
+        met = run_one(rt, alloc, store, session, &mut random);
+        if met.is_err() {
+            break;
+        }
+    }
+    let mark = close(rt, session)?;
+    met?;
+    Ok(wait(rt, session, mark.saturating_sub(1)) == mark.saturating_sub(1))
+}
+
+// Closes a session, as soon as there is room for the mark.
+fn close<N: Name, A: Allocator + Copy, R: Wait>(
+    rt: &R,
+    session: &mut Session<N, A>,
+) -> Result<u64, Fault> {
+    for _ in rt.forever() {
+        match session.close(rt) {
+            Err(Fault::QueueFull) => thread::yield_now(),
+            closed => return closed,
+        }
+    }
+    unreachable!()
+}
+
+// One transaction, of one of the kinds. It waits for the end of one in three.
+fn run_one<N: Name, A: Allocator + Copy, R: Wait>(
+    rt: &R,
+    alloc: A,
+    store: &Store<N, A>,
+    session: &mut Session<N, A>,
+    random: &mut Random,
+) -> Result<(), Fault> {
+    match random.below(12) {
+        0 => add_alone(rt, alloc, session, random),
+        1 => fold(rt, store),
+        kind => {
+            let _begun = session.begin()?;
+            ask(rt, store, session, random, kind)?;
+            if kind == 2 {
+                let _forgotten = session.abandon(rt, store)?;
+                return Ok(());
+            }
+            let number = submit(rt, session)?;
+            if random.below(3) == 0 {
+                let _settled = wait(rt, session, number);
+            }
+            Ok(())
+        }
+    }
+}
+
+// What the open transaction reads and writes: it puts the number of the rows of a range, deletes a key, or adds 1 under it.
+fn ask<N: Name, A: Allocator + Copy, R: Wait>(
+    rt: &R,
+    store: &Store<N, A>,
+    session: &mut Session<N, A>,
+    random: &mut Random,
+    kind: u64,
+) -> Result<(), Fault> {
+    let key = random.key();
+    if kind == 3 {
+        let lower = Some(Key::Num(random.below(KEYS)));
+        let rows = session.scan(rt, store, 0, lower, None)?;
+        return put(session, key, rows.len() as i64);
+    }
+    let found = session.get(rt, store, 0, Key::Num(key))?;
+    if kind <= 5 {
+        session.delete(0, Key::Num(key))?;
+        return Ok(());
+    }
+    let number = found.as_ref().and_then(|row| row.int(0)).unwrap_or(0);
+    put(session, key, number.saturating_add(1))
+}
+
+fn put<N: Name, A: Allocator + Copy>(
+    session: &mut Session<N, A>,
+    key: u64,
+    number: i64,
+) -> Result<(), Fault> {
+    session.put(0, Key::Num(key), Row::from_cell(Cell::Int(number)))?;
+    Ok(())
+}
+
+// Puts a row and adds 1 to it, alone, if there is room in the queue.
+fn add_alone<N: Name, A: Allocator + Copy, R: Wait>(
+    rt: &R,
+    alloc: A,
+    session: &mut Session<N, A>,
+    random: &mut Random,
+) -> Result<(), Fault> {
+    let key = random.key();
+    let mut operations = Vec::new(alloc);
+    operations.push(Op::Put {
+        table: 0,
+        key: Key::Num(key),
+        row: seven(),
+    })?;
+    operations.push(Op::Add {
+        table: 0,
+        key: Key::Num(key),
+        amount: 1,
+    })?;
+    match session.alone(rt, operations) {
+        Ok(_number) => Ok(()),
+        Err(refused) => unless_full(refused.fault),
+    }
+}
+
+fn unless_full(fault: Fault) -> Result<(), Fault> {
+    if fault == Fault::QueueFull {
+        return Ok(());
+    }
+    Err(fault)
+}
+
+// Folds what can be folded, unless a row is open.
+fn fold<N: Name, A: Allocator + Copy, R: Wait>(rt: &R, store: &Store<N, A>) -> Result<(), Fault> {
+    match store.checkpoint(rt) {
+        Ok(_) | Err(Fault::StoreBusy) => Ok(()),
+        Err(fault) => Err(fault),
+    }
+}
+
+// Hands in the open transaction, again while there is no room. Its number.
+fn submit<N: Name, A: Allocator + Copy, R: Wait>(
+    rt: &R,
+    session: &mut Session<N, A>,
+) -> Result<u64, Fault> {
+    for _ in rt.forever() {
+        match session.submit(rt) {
+            Err(Fault::QueueFull) => thread::yield_now(),
+            submitted => return submitted,
+        }
+    }
+    unreachable!()
+}
+
+// Waits until the transaction with a number is over. The number of the last one that is over.
+fn wait<N: Name, A: Allocator + Copy, R: Wait>(
+    rt: &R,
+    session: &mut Session<N, A>,
+    number: u64,
+) -> u64 {
+    for _ in rt.forever() {
+        let last = session.poll().number;
+        if last >= number {
+            return last;
+        }
+        thread::yield_now();
+    }
+    unreachable!()
+}
