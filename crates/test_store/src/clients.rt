@@ -5,6 +5,7 @@ use occ_store::{Name, Session, Store};
 use occ_types::{Cell, Fault, Key, Row};
 use std::alloc::Allocator;
 use std::sync::Wait;
+use std::sync::atomic::{AtomicU64, Ordering};
 use std::thread;
 
 /// How many keys there are. The first of them is written by half of the transactions.
@@ -39,39 +40,47 @@ impl Random {
     }
 }
 
-/// A client of a session: up to 120 transactions, and then it closes. Whether each was handed in and came to its end.
+/// A client of a session: up to 120 transactions, and then it closes. Whether each was handed in and came to its end. It no longer waits for
+/// anything once `serving` is 0, which tells that nobody serves its lane.
 pub(crate) fn run_client<N: Name, A: Allocator + Copy, R: Wait>(
     rt: &R,
     alloc: A,
     store: &Store<N, A>,
     session: &mut Session<N, A>,
     seed: u64,
+    serving: &AtomicU64,
 ) -> Result<bool, Fault> {
     let mut random = Random::new(seed);
     let mut met = Ok(());
     for _ in 0..random.below(120) {
-        met = run_one(rt, alloc, store, session, &mut random);
+        met = run_one(rt, alloc, store, session, &mut random, serving);
         if met.is_err() {
             break;
         }
     }
-    let mark = close(rt, session)?;
+    let last = close(rt, session, serving)?.saturating_sub(1);
     met?;
-    Ok(wait(rt, session, mark.saturating_sub(1)) == mark.saturating_sub(1))
+    Ok(wait(rt, session, last, serving) == last)
 }
 
 // Closes a session, as soon as there is room for the mark.
 fn close<N: Name, A: Allocator + Copy, R: Wait>(
     rt: &R,
     session: &mut Session<N, A>,
+    serving: &AtomicU64,
 ) -> Result<u64, Fault> {
     for _ in rt.forever() {
-        match session.close(rt) {
-            Err(Fault::QueueFull) => thread::yield_now(),
-            closed => return closed,
+        let closed = session.close(rt);
+        if closed != Err(Fault::QueueFull) || is_over(serving) {
+            return closed;
         }
+        thread::yield_now();
     }
     unreachable!()
+}
+
+fn is_over(serving: &AtomicU64) -> bool {
+    serving.load(Ordering::SeqCst) == 0
 }
 
 // One transaction, of one of the kinds. It waits for the end of one in three.
@@ -81,6 +90,7 @@ fn run_one<N: Name, A: Allocator + Copy, R: Wait>(
     store: &Store<N, A>,
     session: &mut Session<N, A>,
     random: &mut Random,
+    serving: &AtomicU64,
 ) -> Result<(), Fault> {
     match random.below(12) {
         0 => add_alone(rt, alloc, session, random),
@@ -92,9 +102,9 @@ fn run_one<N: Name, A: Allocator + Copy, R: Wait>(
                 let _forgotten = session.abandon(rt, store)?;
                 return Ok(());
             }
-            let number = submit(rt, session)?;
+            let number = submit(rt, session, serving)?;
             if random.below(3) == 0 {
-                let _settled = wait(rt, session, number);
+                let _settled = wait(rt, session, number, serving);
             }
             Ok(())
         }
@@ -177,12 +187,14 @@ fn fold<N: Name, A: Allocator + Copy, R: Wait>(rt: &R, store: &Store<N, A>) -> R
 fn submit<N: Name, A: Allocator + Copy, R: Wait>(
     rt: &R,
     session: &mut Session<N, A>,
+    serving: &AtomicU64,
 ) -> Result<u64, Fault> {
     for _ in rt.forever() {
-        match session.submit(rt) {
-            Err(Fault::QueueFull) => thread::yield_now(),
-            submitted => return submitted,
+        let submitted = session.submit(rt);
+        if submitted != Err(Fault::QueueFull) || is_over(serving) {
+            return submitted;
         }
+        thread::yield_now();
     }
     unreachable!()
 }
@@ -192,10 +204,12 @@ fn wait<N: Name, A: Allocator + Copy, R: Wait>(
     rt: &R,
     session: &mut Session<N, A>,
     number: u64,
+    serving: &AtomicU64,
 ) -> u64 {
     for _ in rt.forever() {
+        let all_over = is_over(serving);
         let last = session.poll().number;
-        if last >= number {
+        if all_over || last >= number {
             return last;
         }
         thread::yield_now();

@@ -1,6 +1,7 @@
 //! A store with its sessions and lanes, on which tests play.
 ghost use Rattle.std.specs.Prelude.{◌≡◌};
 
+use crate::account_tests::end;
 use crate::refused_tests::serve_refused;
 use crate::soak_tests::soak;
 use crate::steps::{Step, take_all};
@@ -54,6 +55,8 @@ pub(crate) enum Play<'a> {
     Worker,
     /// A put whose request for memory at this place is refused, counted from the serving of its lane.
     Refused(&'a Refusing<Global>, u64),
+    /// An end, whose request for memory at this place is refused, counted from its first call that gives an account.
+    End(&'a Refusing<Global>, u64),
 }
 
 /// Plays on a new store of one table, whose keys are numbers and whose rows are one number. Whether all came as it should.
@@ -98,45 +101,31 @@ fn played_on<
         alloc,
         store,
         sessions,
-        groups: deal(alloc, lanes, groups)?,
+        groups: Vec::new(alloc),
     };
-    play_with(rt, &mut desk, play)
+    deal_and_play(rt, &mut desk, lanes, groups, play)
 }
 
-fn play_with<
+// Deals the lanes into so many groups, and plays.
+fn deal_and_play<
     N: Name + Send + Sync,
     A: Allocator + Copy + Send + Sync,
     R: Threads + Wait + Clock + Sync,
->(rt: &R, desk: &mut Desk<N, A>, play: Play<'_>) -> Result<bool, Fault> {
+>(
+    rt: &R,
+    desk: &mut Desk<N, A>,
+    lanes: Vec<Lane<N, A>, A>,
+    groups: usize,
+    play: Play<'_>,
+) -> Result<bool, Fault> {
+    desk.deal(lanes, groups)?;
     match play {
         Play::Steps(steps) => take_all(rt, desk, steps),
         Play::Soak(seed) => soak(rt, desk, seed),
         Play::Worker => call_worker(rt, desk),
         Play::Refused(refusing, place) => serve_refused(rt, desk, refusing, place),
+        Play::End(refusing, place) => end(rt, desk, refusing, place),
     }
-}
-
-// So many groups, into which lanes are dealt in turn.
-fn deal<N: Name, A: Allocator + Copy>(
-    alloc: A,
-    lanes: Vec<Lane<N, A>, A>,
-    count: usize,
-) -> Result<Vec<Group<N, A>, A>, Fault> {
-    let mut groups = Vec::new(alloc);
-    for _ in 0..count {
-        groups.push(Group::new(Vec::new(alloc)))?;
-    }
-    for lane in lanes {
-        let place = lane
-            .session()
-            .wrapping_sub(1)
-            .checked_rem(count)
-            .unwrap_or(0);
-        if let Some(group) = groups.get_mut(place) {
-            group.lanes.push(lane)?;
-        }
-    }
-    Ok(groups)
 }
 
 /// The lane of a session, which was dealt out with the others.
@@ -162,6 +151,21 @@ pub(crate) fn seven<A: Allocator>() -> Row<A> {
 }
 
 impl<N: Name, A: Allocator + Copy> Desk<N, A> {
+    // Deals lanes in turn into so many groups.
+    fn deal(&mut self, lanes: Vec<Lane<N, A>, A>, count: usize) -> Result<(), Fault> {
+        for _ in 0..count {
+            self.groups.push(Group::new(Vec::new(self.alloc)))?;
+        }
+        for lane in lanes {
+            let dealt = lane.session().wrapping_sub(1);
+            let place = dealt.checked_rem(count).unwrap_or(0);
+            if let Some(group) = self.groups.get_mut(place) {
+                group.lanes.push(lane)?;
+            }
+        }
+        Ok(())
+    }
+
     /// A session.
     pub(crate) fn session(&mut self, session: usize) -> Result<&mut Session<N, A>, Fault> {
         match self.sessions.get_mut(session.wrapping_sub(1)) {

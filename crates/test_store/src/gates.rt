@@ -4,9 +4,10 @@ use std::alloc::Allocator;
 use std::sync::Wait;
 use std::sync::atomic::{AtomicU64, Ordering};
 use std::thread;
+use std::time::{Clock, Duration};
 
-/// For how many turns a session is held at most.
-const TURNS: u64 = 100_000_000;
+/// How often a session that is held looks for the other, each time after a sleep of 10 milliseconds.
+const LOOKS: u64 = 1_000;
 
 /// Stops a session at its first pass of a point.
 #[derive(Drop)]
@@ -37,34 +38,36 @@ impl Gate for StopOnce {
     }
 }
 
-/// Holds each session at a point until two have come there, and stops one that waits too long.
+/// Holds each session at a point until two have come there, and stops one that waits for some 10 seconds.
 #[derive(Drop)]
-pub(crate) struct Together {
+pub(crate) struct Together<'a, R: Clock> {
+    rt: &'a R,
     point: Point,
     come: AtomicU64,
 }
 
-impl Together {
+impl<'a, R: Clock> Together<'a, R> {
     /// It holds them at this point.
-    pub(crate) fn at(point: Point) -> Together {
+    pub(crate) fn at(rt: &'a R, point: Point) -> Together<'a, R> {
         Together {
+            rt,
             point,
             come: AtomicU64::new(0),
         }
     }
 }
 
-impl Gate for Together {
+impl<R: Clock> Gate for Together<'_, R> {
     fn pass(&self, point: Point, _session: usize, _number: u64) -> Pace {
         if point != self.point {
             return Pace::Go;
         }
         let _before = self.come.fetch_add(1, Ordering::SeqCst);
-        for _ in 0..TURNS {
+        for _ in 0..LOOKS {
             if self.come.load(Ordering::SeqCst) >= 2 {
                 return Pace::Go;
             }
-            thread::yield_now();
+            thread::sleep(self.rt, Duration::from_millis(10));
         }
         Pace::Stop
     }

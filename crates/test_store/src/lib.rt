@@ -2,6 +2,8 @@
 #![tactic(auto)]
 
 #[cfg(test)]
+mod account_tests;
+#[cfg(test)]
 mod clients;
 #[cfg(test)]
 mod desks;

@@ -24,8 +24,8 @@ const THREE: Settings = Settings {
     groups: 3,
 };
 
-// From now on the request at a place is refused, counted from here.
-fn refuse<A: Allocator>(refusing: &Refusing<A>, place: u64) {
+/// From now on the request at a place is refused, counted from here.
+pub(crate) fn refuse<A: Allocator>(refusing: &Refusing<A>, place: u64) {
     refusing.follow(Plan::Once(refusing.requests().saturating_add(place)));
 }
 

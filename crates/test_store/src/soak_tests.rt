@@ -1,7 +1,7 @@
 //! Many clients and validators, from a seed.
 use crate::clients::{Random, run_client};
 use crate::desks::{Desk, Play, Settings, lane_of, played};
-use occ_store::{AlwaysGo, Group, Name, Session, Store, run_validators};
+use occ_store::{AlwaysGo, Group, Name, Session, Store};
 use occ_types::Fault;
 use std::alloc::{Allocator, Global};
 use std::sync::Wait;
@@ -26,90 +26,127 @@ pub(crate) fn soak<
         lane.set_files(random.below(4) != 0);
         lane.set_serial(random.below(4) == 0);
     }
-    let clients = Clients {
+    let load = Load {
         alloc: desk.alloc,
         seed,
+        failed: AtomicU64::new(0),
+        serving: AtomicU64::new(desk.groups.len() as u64),
     };
-    let right = run_all(
-        rt,
-        clients,
-        &desk.store,
-        &mut desk.sessions,
-        &mut desk.groups,
-    );
-    Ok(right && desk.groups.iter().all(is_over) && desk.is_right(rt)?)
+    let mut all = parties(desk)?;
+    let right = run_all(rt, &load, &desk.store, &mut all);
+    Ok(right && desk.is_right(rt)?)
 }
 
-// What the clients have in common.
-#[derive(Clone, Copy)]
-struct Clients<A: Allocator> {
+// A client's session, or a group of lanes.
+#[derive(Drop)]
+enum Party<N: Name, A: Allocator> {
+    Client(Session<N, A>),
+    Server(Group<N, A>),
+}
+
+// All sessions and groups of a desk, each as a party.
+fn parties<N: Name, A: Allocator + Copy>(
+    desk: &mut Desk<N, A>,
+) -> Result<Vec<Party<N, A>, A>, Fault> {
+    let mut parties = Vec::new(desk.alloc);
+    for _ in 0..desk.sessions.len() {
+        if let Some(session) = desk.sessions.pop() {
+            parties.push(Party::Client(session))?;
+        }
+    }
+    for _ in 0..desk.groups.len() {
+        if let Some(group) = desk.groups.pop() {
+            parties.push(Party::Server(group))?;
+        }
+    }
+    Ok(parties)
+}
+
+// What the parties have in common.
+#[derive(Drop)]
+struct Load<A: Allocator> {
     alloc: A,
     seed: u64,
+    // How many clients came to something else than they should.
+    failed: AtomicU64,
+    // How many groups are still served.
+    serving: AtomicU64,
 }
 
-// Whether a group met no fault, and each of its lanes is closed.
-fn is_over<N: Name, A: Allocator>(group: &Group<N, A>) -> bool {
-    group.fault.is_none() && group.lanes.iter().all(|lane| lane.is_closed())
+impl<A: Allocator> Load<A> {
+    // One more came to something else than it should.
+    fn fail(&self) {
+        let _before = self.failed.fetch_add(1, Ordering::SeqCst);
+    }
 }
 
-// Runs the clients and the validators. Whether none met a fault.
+// Whether a client, or a group that met no fault and whose lanes are all closed.
+fn is_over<N: Name, A: Allocator>(party: &Party<N, A>) -> bool {
+    match party {
+        Party::Client(_) => true,
+        Party::Server(group) => {
+            group.fault.is_none() && group.lanes.iter().all(|lane| lane.is_closed())
+        }
+    }
+}
+
+// Runs the parties, each in a thread. Whether all came as it should.
 fn run_all<
     N: Name + Send + Sync,
     A: Allocator + Copy + Send + Sync,
     R: Threads + Wait + Clock + Sync,
->(
-    rt: &R,
-    clients: Clients<A>,
-    store: &Store<N, A>,
-    sessions: &mut [Session<N, A>],
-    groups: &mut [Group<N, A>],
-) -> bool {
-    let (right, fault) = thread::join(
-        rt,
-        || run_clients(rt, clients, store, sessions),
-        || run_validators(rt, store, groups, &AlwaysGo),
-    );
-    right && fault.is_none()
-}
-
-// Runs the clients, each in a thread. Whether none met a fault.
-fn run_clients<N: Name + Send + Sync, A: Allocator + Copy + Send + Sync, R: Threads + Wait + Sync>(
-    rt: &R,
-    clients: Clients<A>,
-    store: &Store<N, A>,
-    sessions: &mut [Session<N, A>],
-) -> bool {
-    let wrong = AtomicU64::new(0);
-    let failed = &wrong;
+>(rt: &R, load: &Load<A>, store: &Store<N, A>, parties: &mut [Party<N, A>]) -> bool {
     thread::scope(thread::scope_env(), rt, |scope| {
-        for session in sessions.iter_mut() {
-            let started = scope.spawn(move || run(rt, clients, store, session, failed));
+        for party in parties.iter_mut() {
+            let started = scope.spawn(move || run_party(rt, load, store, party));
             if started.is_err() {
-                let _before = failed.fetch_add(1, Ordering::SeqCst);
+                load.fail();
             }
         }
     });
-    wrong.into_inner() == 0
+    load.failed.load(Ordering::SeqCst) == 0 && parties.iter().all(is_over)
+}
+
+fn run_party<N: Name, A: Allocator + Copy, R: Wait + Clock>(
+    rt: &R,
+    load: &Load<A>,
+    store: &Store<N, A>,
+    party: &mut Party<N, A>,
+) {
+    match party {
+        Party::Client(session) => run(rt, load, store, session),
+        Party::Server(group) => serve(rt, load, store, group),
+    }
+}
+
+fn serve<N: Name, A: Allocator + Copy, R: Wait + Clock>(
+    rt: &R,
+    load: &Load<A>,
+    store: &Store<N, A>,
+    group: &mut Group<N, A>,
+) {
+    group.serve(rt, store, &AlwaysGo);
+    let _before = load.serving.fetch_sub(1, Ordering::SeqCst);
 }
 
 // A client, and a count of those that came to something else than they should.
 fn run<N: Name, A: Allocator + Copy, R: Wait>(
     rt: &R,
-    clients: Clients<A>,
+    load: &Load<A>,
     store: &Store<N, A>,
     session: &mut Session<N, A>,
-    failed: &AtomicU64,
 ) {
-    let own = clients
-        .seed
-        .wrapping_mul(64)
-        .wrapping_add(session.session() as u64);
-    match run_client(rt, clients.alloc, store, session, own) {
+    let number = session.session() as u64;
+    let own = load.seed.wrapping_mul(64).wrapping_add(number);
+    match run_client(rt, load.alloc, store, session, own, &load.serving) {
         Ok(true) => {}
-        _ => {
-            let _before = failed.fetch_add(1, Ordering::SeqCst);
-        }
+        _ => load.fail(),
     }
+}
+
+// A number from 1 to this one.
+fn at_least_one(random: &mut Random, most: u64) -> usize {
+    random.below(most).saturating_add(1) as usize
 }
 
 // The store of a seed: the first has 64 sessions and 8 validators, the others up to so many.
@@ -121,12 +158,12 @@ fn soaked<R: Threads + Wait + Clock + Sync>(
     let mut random = Random::new(seed);
     let (mut sessions, mut groups) = (64, 8);
     if seed > 0 {
-        sessions = 1 + random.below(64) as usize;
-        groups = 1 + random.below(8) as usize;
+        sessions = at_least_one(&mut random, 64);
+        groups = at_least_one(&mut random, 8);
     }
     let settings = Settings {
         sessions,
-        capacity: 1 + random.below(4) as usize,
+        capacity: at_least_one(&mut random, 4),
         keep: random.below(64) as usize,
         groups,
     };

@@ -132,7 +132,7 @@ fn serve_together<
     A: Allocator + Copy + Send + Sync,
     R: Threads + Wait + Clock + Sync,
 >(rt: &R, desk: &mut Desk<N, A>, point: Point) -> bool {
-    let gate = Together::at(point);
+    let gate = Together::at(rt, point);
     run_validators(rt, &desk.store, &mut desk.groups, &gate).is_none()
 }
 
