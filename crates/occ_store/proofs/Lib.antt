@@ -6,6 +6,7 @@ pub mod Keeping
 pub mod LaneSteps
 pub mod Happening
 pub mod PartsMade
+pub mod Performing
 pub mod BooksAudited
 pub mod Points
 pub mod Rounds

@@ -1,4 +1,5 @@
 pub mod Accounts
+pub mod Bodies
 pub mod Ended
 pub mod Frames
 pub mod Lanes

@@ -1,10 +1,16 @@
 -- What a worker does (our own choice).
-use Rattle.std.specs.Prelude.{◌≡◌, ◌⊎◌, ℕ, ◌<◌, ◌≤◌, Bool, true, false, List, ◌++◌, length, None, if◌then◌else◌, ◌==◌}
-use Rattle.std.specs.List.{list_all}
-use Rattle.occ_model.specs.State.{Write}
+use Rattle.std.specs.Prelude.{◌≡◌, ◌⊎◌, ℕ, ◌<◌, ◌≤◌, List, [], ◌∷◌, ◌++◌, length, Option, None, Some, Result, Ok, Err, if◌then◌else◌, ◌==◌}
+use Rattle.occ_types.specs.declared.fault.Fault.{Fault}
+use Rattle.occ_types.specs.declared.fault.Fault.TheVariants as faults
 use Rattle.occ_model.specs.Operations.{Operation}
-use Rattle.occ_model.specs.Event.{Item, Request, Alone, Close}
-use Rattle.occ_store.specs.Sessions.{SessionView, due}
+use Rattle.occ_model.specs.Event.{Item, Request, Alone, Close, Reply}
+use Rattle.occ_model.specs.World.{Settings}
+use Rattle.occ_sets.specs.Sets.{Copied}
+use Rattle.occ_client.specs.Transactions.{begun, Abandons}
+use Rattle.occ_store.specs.Sessions.{SessionView, due, begin_fault, submit_fault, request, handed_in, alone_fault, IsRefusedBy, InOneHolding}
+use Rattle.occ_store.specs.Transactions.{TransactionView}
+use Rattle.occ_store.specs.Bodies.{Making, Performing}
+use Rattle.occ_store.specs.Lanes.{LaneView, Nothing, number_left}
 use Rattle.occ_queue.specs.Lanes.{pushing}
 use Rattle.occ_store.specs.Ended.{IsTold}
 use Rattle.occ_store.specs.declared.ended.Ended.{Ended}
@@ -14,15 +20,25 @@ use Rattle.occ_store.specs.declared.ended.Ended.TheVariants.{Committed, BackedUp
 abbrev pub most_tries : ℕ → ℕ
 most_tries tries = if tries == 0 then 1 else tries
 
--- whether an item is a request
-abbrev pub is_request : Item → Bool
-is_request (Request number start writes) = true
-is_request (Alone number operations) = false
-is_request (Close number) = false
+-- a request that was made so of a transaction without a write, which the session began under that number
+abbrev pub IsMade : Making → ℕ → Item → Type 0
+IsMade Made session (Request number start writes) = (began : ℕ) × (after : TransactionView)
+    × (after.draft ≡ Some (record { number = number; start = start; writes = writes }))
+    × Made (record { session = session; draft = Some (begun number began) }) (Ok tt) after
+IsMade Made session (Alone number operations) = ⊥
+IsMade Made session (Close number) = ⊥
 
--- so many requests were handed in
-abbrev pub Requests : ℕ → List Item → List Item → Type 0
-Requests count old new = (items : List Item) × (new ≡ old ++ items) × (length items ≡ count) × (list_all is_request items ≡ true)
+abbrev pub AllMade : Making → ℕ → List Item → Type 0
+AllMade Made session [] = Unit {0}
+AllMade Made session (item ∷ items) = IsMade Made session item × AllMade Made session items
+
+-- So many requests were handed in, each of which was made so. Nothing else of the session changes but what its seat saw, and no transaction is open where none was.
+pub record Requests (Made : Making) (count : ℕ) (old new : SessionView) : Type 0 where
+  pub items : List Item
+  pub pushed : new ≡ record old { seat = new.seat; sender = record old.sender { pushed = old.sender.pushed ++ items }; draft = new.draft }
+  pub many : length items ≡ count
+  pub made : AllMade Made old.session items
+  pub none_open : old.draft ≡ None → new.draft ≡ None
 
 -- all tries were made, if the last one was backed up
 abbrev pub IsLastTry : ℕ → ℕ → Ended → Type 0
@@ -30,30 +46,93 @@ IsLastTry count most (Committed tn) = Unit {0}
 IsLastTry count most (BackedUp cause) = count ≡ most
 
 -- So many tries were made, each of which handed in one request. The board tells how the last one ended, and no transaction is open.
-pub record Tried (count : ℕ) (old : SessionView) (ended : Ended) (new : SessionView) : Type 0 where
-  pub requests : Requests count old.sender.pushed new.sender.pushed
+pub record Tried (Made : Making) (count : ℕ) (old : SessionView) (ended : Ended) (new : SessionView) : Type 0 where
+  pub requests : Requests Made count old new
   pub told : IsTold new.seat.last (length new.sender.pushed) ended
   pub none_open : new.draft ≡ None
 
 -- The tries of a transaction. There is at least one; and after a back-up there were as many as there may be.
-abbrev pub Ends : ℕ → SessionView → Ended → SessionView → Type 0
-Ends most old ended new = (count : ℕ) × (0 < count) × (count ≤ most) × IsLastTry count most ended × Tried count old ended new
+abbrev pub Ends : Making → ℕ → SessionView → Ended → SessionView → Type 0
+Ends Made most old ended new = (count : ℕ) × (0 < count) × (count ≤ most) × IsLastTry count most ended × Tried Made count old ended new
 
 -- at most so many requests were handed in
-abbrev pub HandsInUpTo : ℕ → SessionView → SessionView → Type 0
-HandsInUpTo most old new = (count : ℕ) × (count ≤ most) × Requests count old.sender.pushed new.sender.pushed
+abbrev pub HandsInUpTo : Making → ℕ → SessionView → SessionView → Type 0
+HandsInUpTo Made most old new = (count : ℕ) × (count ≤ most) × Requests Made count old new
 
 -- one request was handed in, with this number
-abbrev pub HandsInOne : SessionView → ℕ → SessionView → Type 0
-HandsInOne old number new = (number ≡ due old) × (new.draft ≡ None)
-    × ((start : ℕ) × (writes : List Write) × (new.sender ≡ pushing old.sender (Request number start writes)))
+abbrev pub HandsInOne : Making → SessionView → ℕ → SessionView → Type 0
+HandsInOne Made old number new = (number ≡ due old) × ((copy : Copied) × (number ≡ copy.number)
+    × (new ≡ record old { seat = new.seat; sender = pushing old.sender (request copy); draft = None })
+    × IsMade Made old.session (request copy))
+
+-- the open transaction as it is lent to a body
+abbrev pub lent : SessionView → TransactionView
+lent session = record { session = session.session; draft = session.draft }
+
+-- it became this one, in a run that ended so
+abbrev pub RunsIn : Making → SessionView → Result (Unit {0}) Fault → Option Copied → Type 0
+RunsIn Made session ran draft = (after : TransactionView) × (draft ≡ after.draft) × Made (lent session) ran after
+
+-- why a run fails: it was refused, or another transaction came back than the one that was lent to it
+abbrev pub RunFails : Making → SessionView → Fault → Type 0
+RunFails Made session fault = ((draft : Option Copied) × RunsIn Made session (Err fault) draft) ⊎ (fault ≡ faults.OutOfTurn)
+
+-- the transaction is another one, under this number
+abbrev pub Reopens : SessionView → ℕ → SessionView → Type 0
+Reopens old number new = (copy : Copied) × (copy.number ≡ number) × (new ≡ record old { draft = Some copy })
+
+-- A transaction is given up: none is open then, and the state forgets what it read, in one holding of the lock.
+abbrev pub GivesUp : Settings → SessionView → SessionView → Type 0
+GivesUp settings old new = (reply : Reply) × InOneHolding settings (λ before after. Abandons before old.session old.draft reply after) × (new ≡ record old { draft = None })
+
+-- why it is: a run in it failed, which began without a write; or it is refused as `submit` is
+abbrev pub IsGivenUpFor : Making → SessionView → Fault → Type 0
+IsGivenUpFor Made session fault = ((began : ℕ) × RunFails Made (record session { draft = Some (begun (due session) began) }) fault)
+    ⊎ IsRefusedBy (submit_fault session) session fault
+
+-- why a transaction isn't handed in: none may begin, or it was given up
+abbrev pub NotHandedIn : Making → Settings → SessionView → Fault → Type 0
+NotHandedIn Made settings session fault = (begin_fault session ≡ Some fault)
+    ⊎ ((before : SessionView) × GivesUp settings before session × IsGivenUpFor Made before fault)
+
+-- a lane has something left
+abbrev pub IsKept : LaneView → Type 0
+IsKept lane = (number : ℕ) × (number_left lane.left ≡ Some number)
+
+-- Why tries are refused: serving the lane met the fault, and the lane keeps what it had; or it has nothing left, and a transaction isn't handed in.
+abbrev pub Stops : Making → Settings → SessionView → LaneView → Fault → Type 0
+Stops Made settings session lane fault = IsKept lane ⊎ ((lane.left ≡ Nothing) × NotHandedIn Made settings session fault)
 
 -- operations were handed in to run alone, and committed
 abbrev pub RunsAlone : List Operation → SessionView → ℕ → SessionView → Type 0
-RunsAlone operations old tn new = (new.sender ≡ pushing old.sender (Alone (due old) operations)) × (new.draft ≡ None)
+RunsAlone operations old tn new = (new ≡ record (handed_in old (Alone (due old) operations)) { seat = new.seat })
     × IsTold new.seat.last (due old) (Committed tn)
 
--- Operations commit: as a transaction in one of its tries, or alone after as many as there may be.
-abbrev pub Runs : ℕ → List Operation → SessionView → ℕ → SessionView → Type 0
-Runs most operations old tn new = Ends most old (Committed tn) new
-    ⊎ ((between : SessionView) × Requests most old.sender.pushed between.sender.pushed × RunsAlone operations between tn new)
+-- at most once they were handed in so
+abbrev pub HandsInAlone : List Operation → SessionView → SessionView → Type 0
+HandsInAlone operations old new = (new ≡ old) ⊎ (new ≡ handed_in old (Alone (due old) operations))
+
+-- Why they don't: serving the lane met the fault, and the lane keeps what it had; or there is no memory for their copies, or they aren't handed in.
+abbrev pub AloneStops : List Operation → SessionView → LaneView → Fault → Type 0
+AloneStops operations session lane fault = IsKept lane
+    ⊎ ((lane.left ≡ Nothing) × ((fault ≡ faults.Memory) ⊎ IsRefusedBy (alone_fault session operations) session fault))
+
+-- operations were tried: they committed, or each of the tries was backed up
+abbrev pub TriesList : Settings → ℕ → List Operation → SessionView → Option ℕ → SessionView → Type 0
+TriesList settings most operations old (Some tn) new = Ends (Performing settings operations) most old (Committed tn) new
+TriesList settings most operations old None new = Requests (Performing settings operations) most old new
+
+-- Operations commit: as a transaction in one of its tries, each of which performed them, or alone after as many as there may be.
+abbrev pub Runs : Settings → ℕ → List Operation → SessionView → ℕ → SessionView → Type 0
+Runs settings most operations old tn new = TriesList settings most operations old (Some tn) new
+    ⊎ ((between : SessionView) × TriesList settings most operations old None between × RunsAlone operations between tn new)
+
+-- What was handed in where they don't: at most so many tries; or all of them, and then at most once the operations, to run alone.
+abbrev pub RunsOut : Settings → ℕ → List Operation → SessionView → SessionView → Type 0
+RunsOut settings most operations old new = HandsInUpTo (Performing settings operations) most old new
+    ⊎ ((between : SessionView) × TriesList settings most operations old None between × HandsInAlone operations between new)
+
+-- Why they don't: they can't be handed in; or as tries are refused; or as they don't run alone.
+abbrev pub RunStops : Settings → List Operation → SessionView → LaneView → Fault → Type 0
+RunStops settings operations session lane fault = (alone_fault session operations ≡ Some fault)
+    ⊎ (Stops (Performing settings operations) settings session lane fault ⊎ AloneStops operations session lane fault)

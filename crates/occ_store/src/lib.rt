@@ -27,6 +27,7 @@ mod sessions;
 mod shared;
 mod stores;
 mod transactions;
+mod tries;
 mod unfinished;
 mod validators;
 mod workers;

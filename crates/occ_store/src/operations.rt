@@ -1,11 +1,13 @@
 //! A list of operations as the body of a transaction.
-ghost use Rattle.std.specs.Prelude.{◌≡◌, IfOk, IsOkUnless};
-ghost use Rattle.std.specs.Option.{option_copied};
+ghost use Rattle.std.specs.Prelude.{◌≡◌, None, Some, IfOk, OnOk, IsOkUnless};
 ghost use Rattle.occ_types.specs.declared.fault.Fault.TheVariants.{Memory};
-ghost use Rattle.occ_types.specs.PlainData.{end_of};
-ghost use Rattle.occ_model.specs.Operations.{number_in};
-ghost use Rattle.occ_model.specs.State.{Found};
+ghost use Rattle.occ_types.specs.PlainData.{key_of, end_of};
+ghost use Rattle.occ_types.specs.Question.{One, Span};
+ghost use Rattle.occ_model.specs.Operations.{Add, number_in, held_sum};
+ghost use Rattle.occ_model.specs.State.{Found, Rows};
 ghost use Rattle.occ_sets.specs.Operations.{op_of, ops_of};
+ghost use Rattle.occ_sets.specs.PlainSets.{rows_of};
+ghost use Rattle.occ_store.specs.Bodies.{Sees, with_write, Performs, PerformsAll, Performing};
 
 use crate::names::Name;
 use crate::stores::Store;
@@ -22,17 +24,31 @@ pub(crate) struct Operations<'o, A: Allocator> {
 }
 
 impl<N: Name, A: Allocator + Copy, R: Wait> Body<N, A, R> for Operations<'_, A> {
+    ghost makes = { λ body. Performing N.named.settings (ops_of body.list.now) };
+
     fn run(
         &mut self,
         rt: &R,
         store: &Store<N, A>,
         transaction: &mut Transaction<N, A>,
     ) -> Result<(), Fault> {
-        for operation in self.list {
-            perform(rt, store, transaction, operation)?;
-        }
-        Ok(())
+        perform_all(rt, store, transaction, self.list)
     }
+}
+
+// Performs operations, one after another.
+fn perform_all<N: Name, A: Allocator + Copy, R: Wait>(
+    rt: &R,
+    store: &Store<N, A>,
+    transaction: &mut Transaction<N, A>,
+    operations: &[Op<A>],
+) -> Result<(), Fault>
+    ensures { OnOk result (PerformsAll N.named.settings (ops_of operations.now) transaction.old transaction.new) }
+{
+    for operation in operations {
+        perform(rt, store, transaction, operation)?;
+    }
+    Ok(())
 }
 
 // Performs one operation.
@@ -41,10 +57,12 @@ fn perform<N: Name, A: Allocator + Copy, R: Wait>(
     store: &Store<N, A>,
     transaction: &mut Transaction<N, A>,
     operation: &Op<A>,
-) -> Result<(), Fault> {
+) -> Result<(), Fault>
+    ensures { OnOk result (Performs N.named.settings (op_of operation.now) transaction.old transaction.new) }
+{
     match operation {
         Op::Get { table, key } => {
-            let _row = transaction.get(rt, store, *table, key.clone()?)?;
+            let _row = get(rt, store, transaction, *table, key)?;
             Ok(())
         }
         Op::Scan {
@@ -52,19 +70,44 @@ fn perform<N: Name, A: Allocator + Copy, R: Wait>(
             lower,
             upper,
         } => {
-            let _rows = transaction.scan(
-                rt,
-                store,
-                *table,
-                copied_end(lower)?,
-                copied_end(upper)?,
-            )?;
+            let _rows = scan(rt, store, transaction, *table, lower, upper)?;
             Ok(())
         }
         Op::Put { table, key, row } => put(transaction, *table, key, row.clone()?),
         Op::Delete { table, key } => delete(transaction, *table, key),
-        Op::Add { table, key, amount } => add(rt, store, transaction, *table, key, *amount),
+        Op::Add { table, key, amount } => add(rt, store, transaction, *table, key, amount),
     }
+}
+
+// The row under a key.
+fn get<N: Name, A: Allocator + Copy, R: Wait>(
+    rt: &R,
+    store: &Store<N, A>,
+    transaction: &Transaction<N, A>,
+    table: usize,
+    key: &Key<A>,
+) -> Result<Option<Row<A>>, Fault>
+    ensures { IfOk result (λ row. Sees N.named.settings transaction.now (One table (key_of key.now)) (Found row)) }
+{
+    let row = transaction.get(rt, store, table, key.clone()?)?;
+    Ok(row)
+}
+
+// The rows of a range.
+fn scan<N: Name, A: Allocator + Copy, R: Wait>(
+    rt: &R,
+    store: &Store<N, A>,
+    transaction: &Transaction<N, A>,
+    table: usize,
+    lower: &Option<Key<A>>,
+    upper: &Option<Key<A>>,
+) -> Result<Vec<(Key<A>, Row<A>), A>, Fault>
+    ensures { IfOk result (λ rows. Sees N.named.settings transaction.now (Span table (end_of lower.now) (end_of upper.now)) (Rows (rows_of rows.items))) }
+{
+    let lower = copied_end(lower)?;
+    let upper = copied_end(upper)?;
+    let rows = transaction.scan(rt, store, table, lower, upper)?;
+    Ok(rows)
 }
 
 // Writes a row under a copy of a key.
@@ -73,7 +116,9 @@ fn put<N: Name, A: Allocator + Copy>(
     table: usize,
     key: &Key<A>,
     row: Row<A>,
-) -> Result<(), Fault> {
+) -> Result<(), Fault>
+    ensures { OnOk result (transaction.new ≡ with_write transaction.old (table, key_of key.now) (Some row)) }
+{
     transaction.put(table, key.clone()?, row)?;
     Ok(())
 }
@@ -83,7 +128,9 @@ fn delete<N: Name, A: Allocator + Copy>(
     transaction: &mut Transaction<N, A>,
     table: usize,
     key: &Key<A>,
-) -> Result<(), Fault> {
+) -> Result<(), Fault>
+    ensures { OnOk result (transaction.new ≡ with_write transaction.old (table, key_of key.now) None) }
+{
     transaction.delete(table, key.clone()?)?;
     Ok(())
 }
@@ -95,11 +142,20 @@ fn add<N: Name, A: Allocator + Copy, R: Wait>(
     transaction: &mut Transaction<N, A>,
     table: usize,
     key: &Key<A>,
-    amount: i64,
-) -> Result<(), Fault> {
-    let row = transaction.get(rt, store, table, key.clone()?)?;
-    let sum = number_in(&row).saturating_add(amount);
+    amount: &i64,
+) -> Result<(), Fault>
+    ensures { OnOk result (Performs N.named.settings (Add table (key_of key.now) amount.now) transaction.old transaction.new) }
+{
+    let row = get(rt, store, transaction, table, key)?;
+    let sum = added(&row, amount);
     put(transaction, table, key, Row::from(sum))
+}
+
+// The number in a row with an amount added, held at the ends of 64 bits.
+fn added<A: Allocator>(row: &Option<Row<A>>, amount: &i64) -> i64
+    ensures { result ≡ held_sum (number_in (Found row.now)) amount.now }
+{
+    number_in(row).saturating_add(*amount)
 }
 
 // The whole number in a row of one cell, and 0 where there is no row.

@@ -1,17 +1,18 @@
 //! What a worker does with its session.
-ghost use Rattle.std.specs.Prelude.{◌≡◌, None, Some, IfOk, OnErr, IsOkUnless};
-ghost use Rattle.occ_types.specs.declared.fault.Fault.TheVariants.{Memory};
+ghost use Rattle.std.specs.Prelude.{◌≡◌, ◌⊎◌, None, Some, Ok, Err, IfOk, IfErr, OnOk, OnErr, IsOkUnless};
+ghost use Rattle.occ_types.specs.declared.fault.Fault.TheVariants.{Memory, OutOfTurn};
 ghost use Rattle.occ_sets.specs.Operations.{ops_of};
-ghost use Rattle.occ_sets.specs.Sets.{Copied};
 ghost use Rattle.occ_client.specs.Transactions.{begun as no_writes};
 ghost use Rattle.occ_store.specs.Ended.{ended_by, IsTold};
-ghost use Rattle.occ_store.specs.Sessions.{Submits, IsNext, MayBeSubmitted};
+ghost use Rattle.occ_store.specs.Sessions.{Submits, IsNext, MayBeSubmitted, IsRefusedBy, submit_fault};
+ghost use Rattle.occ_store.specs.Workers.{GivesUp, Reopens};
 ghost use Rattle.occ_store.specs.declared.ended.Ended.TheVariants.{Committed};
 
 use crate::ended::Ended;
 use crate::names::Name;
 use crate::operations::copied;
 use crate::sessions::Session;
+use crate::stores::Store;
 use crate::transactions::Transaction;
 use occ_client::OpenTransaction;
 use occ_model::Verdict;
@@ -43,35 +44,62 @@ impl<N: Name, A: Allocator + Copy> Session<N, A> {
     /// and the answer is `OutOfTurn`.
     pub(crate) fn take_back(
         &mut self,
-        open: OpenTransaction<A>,
+        back: OpenTransaction<A>,
         number: u64,
         start: u64,
     ) -> Result<(), Fault>
         requires none { self.old.draft ≡ None }
         requires next { IsNext self.old.sender (no_writes number start) }
-        ensures { (copy : Copied) × (copy.number ≡ number) × (self.new ≡ record self.old { draft = Some copy }) }
+        ensures opened { Reopens self.old number self.new }
+        ensures ok { OnOk result (self.new.draft ≡ back) }
+        ensures fault { IsOkUnless result OutOfTurn }
     {
-        if open.number() == Some(number) {
-            self.open = open;
+        if back.number() == Some(number) {
+            self.open = back;
             return Ok(());
         }
         self.open.begin(self.alloc, number, start)?;
         Err(Fault::OutOfTurn)
     }
 
-    /// Submits the open transaction, unless its body met a fault or another one came back.
-    pub(crate) fn submit_after<R: Wait>(
+    /// Submits the open transaction, unless the run of its body failed. Where it isn't submitted it is given up.
+    pub(crate) fn submit_or_give_up<R: Wait>(
         &mut self,
         rt: &R,
+        store: &Store<N, A>,
         ran: Result<(), Fault>,
-        came_back: Result<(), Fault>,
     ) -> Result<u64, Fault>
-        ensures ok { IfOk result (λ number. Submits self.old number self.new) }
-        ensures err { OnErr result (self.new ≡ self.old) }
+        ensures ok { IfOk result (λ number. (ran ≡ Ok tt) × Submits self.old number self.new) }
+        ensures given_up { OnErr result (GivesUp N.named.settings self.old self.new) }
+        ensures fault { IfErr result (λ fault. (ran ≡ Err fault) ⊎ IsRefusedBy (submit_fault self.old) self.old fault) }
     {
-        ran?;
-        came_back?;
+        let fault = match self.submit_after(rt, ran) {
+            Ok(number) => return Ok(number),
+            Err(fault) => fault,
+        };
+        self.give_up(rt, store);
+        Err(fault)
+    }
+
+    // Submits the open transaction, unless the run of its body failed.
+    fn submit_after<R: Wait>(&mut self, rt: &R, ran: Result<(), Fault>) -> Result<u64, Fault>
+        ensures ok { IfOk result (λ number. (ran ≡ Ok tt) × Submits self.old number self.new) }
+        ensures err { OnErr result (self.new ≡ self.old) }
+        ensures fault { IfErr result (λ fault. (ran ≡ Err fault) ⊎ IsRefusedBy (submit_fault self.old) self.old fault) }
+    {
+        match ran {
+            Ok(()) => {}
+            Err(fault) => return Err(fault),
+        }
         self.submit(rt)
+    }
+
+    // The open transaction is given up. What the state answers isn't told: it is refused only where it has no such session.
+    fn give_up<R: Wait>(&mut self, rt: &R, store: &Store<N, A>)
+        ensures { GivesUp N.named.settings self.old self.new }
+    {
+        let _forgotten = self.abandon(rt, store);
+        let _none = self.lend();
     }
 
     /// Polls until the board tells that the transaction with a number committed, and answers its transaction number.

@@ -20,13 +20,22 @@ use std::sync::{Arc, Wait};
 /// What a transaction reads and writes. A worker runs it, and runs it anew after a back-up, so that it begins from what it reads each
 /// time, and leaves nothing outside that a later run would see.
 pub trait Body<N: Name, A: Allocator, R: Wait> {
-    /// Reads and writes in the transaction. A fault abandons the transaction, and is handed on to the worker's caller.
+    ghost use Rattle.occ_store.specs.Bodies.{Making, Goes};
+
+    /// How a run may end, and what it may make of a transaction then, as far as clauses are to know: anything, where an `impl` doesn't
+    /// say.
+    ghost makes: { Self → Making } = { λ body before ran after. Unit {0} };
+
+    /// Reads and writes in the transaction. A fault abandons the transaction, and is handed on to the worker's caller. What a later run
+    /// may make, this one may make.
     fn run(
         &mut self,
         rt: &R,
         store: &Store<N, A>,
         transaction: &mut Transaction<N, A>,
-    ) -> Result<(), Fault>;
+    ) -> Result<(), Fault>
+        ensures made { makes self.old transaction.old result transaction.new }
+        ensures keeps { Goes (makes self.new) (makes self.old) };
 }
 
 /// The transaction that a worker has begun, for its body to read and write in.

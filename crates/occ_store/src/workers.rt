@@ -1,20 +1,20 @@
 //! Workers: a session with its own lane, for one thread a client.
-ghost use Rattle.std.specs.Prelude.{◌≡◌, ◌<◌, ◌==◌, false, if◌then◌else◌, IfErr, IfOk, OnOk, OnErr};
+ghost use Rattle.std.specs.Prelude.{⊤, ◌≡◌, ◌⊎◌, ◌<◌, ◌==◌, false, if◌then◌else◌, true, is_some, Err, IfErr, IfOk, OnOk, OnErr, MatchOption};
 ghost use Rattle.occ_types.specs.declared.fault.Fault.TheVariants.{NoSession, Memory};
 ghost use Rattle.occ_sets.specs.Operations.{ops_of};
 ghost use Rattle.occ_store.specs.Lanes.{Nothing};
-ghost use Rattle.occ_store.specs.Workers.{Ends, Tried, HandsInUpTo, most_tries, HandsInOne, Runs, RunsAlone};
+ghost use Rattle.occ_store.specs.Sessions.{alone_fault};
+ghost use Rattle.occ_store.specs.Bodies.{Performing};
+ghost use Rattle.occ_store.specs.Workers.{Ends, HandsInUpTo, Stops, IsKept, most_tries, TriesList, Runs, RunsOut, RunStops, RunsAlone, HandsInAlone, AloneStops};
 
 use crate::ended::Ended;
 use crate::lanes::Lane;
 use crate::leases::Lease;
 use crate::names::Name;
 use crate::operations::Operations;
-use crate::serving::{AlwaysGo, Served};
 use crate::sessions::Session;
 use crate::stores::Store;
 use crate::transactions::{Body, Transaction};
-use occ_client::OpenTransaction;
 use occ_sets::Op;
 use occ_types::{Fault, Refused};
 use std::alloc::Allocator;
@@ -28,9 +28,9 @@ const BUSY_TRIES: usize = 1000000;
 /// are not filed, so that the store keeps nothing of what is folded.
 #[derive(Drop)]
 pub struct Worker<N: Name, A: Allocator> {
-    session: Session<N, A>,
-    lane: Lane<N, A>,
-    transaction: Transaction<N, A>,
+    pub(crate) session: Session<N, A>,
+    pub(crate) lane: Lane<N, A>,
+    pub(crate) transaction: Transaction<N, A>,
     ghost own_lane: { session.session ≡ lane.session },
 }
 
@@ -77,12 +77,13 @@ impl<N: Name, A: Allocator> Worker<N, A> {
 impl<N: Name, A: Allocator + Copy> Worker<N, A> {
     /// Tries a transaction until it commits, at most so many times and at least once, each time in a lease of its own, and tells how the
     /// last try ended: by its transaction number, or by the cause for which it was backed up. A try begins a transaction, runs the body
-    /// in it, hands it in and serves it to its end.
+    /// in it, hands it in and serves it to its end: what it hands in is what the body made, as far as `Body::makes` tells.
     ///
     /// What an earlier call left, as after a fault, is ended first; how that ended is not told. Refused with the fault that ending it
     /// meets, with `StoreBusy` where operations that run alone are left and a row of another session is under way; as `Session::begin`;
-    /// with the body's fault, and the transaction is abandoned then; as `Session::submit`; and with the fault that serving it meets: the
-    /// lane keeps it then, and the next call ends it.
+    /// with the body's fault, or with `OutOfTurn` where it left another transaction in the place of its own, and the transaction is
+    /// abandoned then; as `Session::submit`; and with the fault that serving it meets: the lane keeps it then, and the next call ends it.
+    /// No transaction is open then, unless one was before.
     pub fn transact<R: Wait, B: Body<N, A, R>>(
         &mut self,
         rt: &R,
@@ -90,9 +91,10 @@ impl<N: Name, A: Allocator + Copy> Worker<N, A> {
         tries: usize,
         body: &mut B,
     ) -> Result<Ended, Fault>
-        ensures ended { IfOk result (λ ended. Ends (most_tries tries) self.old.session ended self.new.session) }
+        ensures ended { IfOk result (λ ended. Ends (B.makes body.old) (most_tries tries) self.old.session ended self.new.session) }
         ensures nothing_left { OnOk result (self.new.lane.left ≡ Nothing) }
-        ensures fault { OnErr result (HandsInUpTo (most_tries tries) self.old.session self.new.session) }
+        ensures few { OnErr result (HandsInUpTo (B.makes body.old) (most_tries tries) self.old.session self.new.session) }
+        ensures fault { IfErr result (Stops (B.makes body.old) N.named.settings self.new.session self.new.lane) }
     {
         self.try_up_to(rt, store, false, at_least_one(tries), body)
     }
@@ -106,15 +108,17 @@ impl<N: Name, A: Allocator + Copy> Worker<N, A> {
         tries: usize,
         body: &mut B,
     ) -> Result<Ended, Fault>
-        ensures ended { IfOk result (λ ended. Ends (most_tries tries) self.old.session ended self.new.session) }
+        ensures ended { IfOk result (λ ended. Ends (B.makes body.old) (most_tries tries) self.old.session ended self.new.session) }
         ensures nothing_left { OnOk result (self.new.lane.left ≡ Nothing) }
-        ensures fault { OnErr result (HandsInUpTo (most_tries tries) self.old.session self.new.session) }
+        ensures few { OnErr result (HandsInUpTo (B.makes body.old) (most_tries tries) self.old.session self.new.session) }
+        ensures fault { IfErr result (Stops (B.makes body.old) N.named.settings self.new.session self.new.lane) }
     {
         self.try_up_to(rt, store, true, at_least_one(tries), body)
     }
 
     /// Tries operations as a transaction, at most so many times, and runs them alone where each try was backed up: they commit, and the
-    /// answer is their transaction number. What they read is not told.
+    /// answer is their transaction number. A try hands in what they make, one after another, where an `Add` is a read and a write. What
+    /// they read is not told.
     ///
     /// What an earlier call left is ended first, as in `transact`. Refused as `Session::alone`, which hands nothing in then; with
     /// `Memory` where there is none for what they read and write, or for their copy; as `transact`; and with `StoreBusy` where they wait
@@ -126,17 +130,54 @@ impl<N: Name, A: Allocator + Copy> Worker<N, A> {
         tries: usize,
         operations: &[Op<A>],
     ) -> Result<u64, Fault>
-        ensures committed { IfOk result (λ tn. Runs tries (ops_of operations.now) self.old.session tn self.new.session) }
+        ensures checked { MatchOption (alone_fault self.old.session (ops_of operations.now)) ⊤ (λ fault. (result ≡ Err fault) × (self.new ≡ self.old)) }
+        ensures committed { IfOk result (λ tn. Runs N.named.settings tries (ops_of operations.now) self.old.session tn self.new.session) }
         ensures nothing_left { OnOk result (self.new.lane.left ≡ Nothing) }
+        ensures few { OnErr result (RunsOut N.named.settings tries (ops_of operations.now) self.old.session self.new.session) }
+        ensures fault { IfErr result (RunStops N.named.settings (ops_of operations.now) self.new.session self.new.lane) }
     {
         self.session.check_alone(operations)?;
-        if tries > 0 {
-            let mut body = Operations { list: operations };
-            if let Ended::Committed(tn) = self.try_up_to(rt, store, false, tries, &mut body)? {
-                return Ok(tn);
-            }
+        self.run_checked(rt, store, tries, operations)
+    }
+
+    // Does so with operations that may be handed in.
+    fn run_checked<R: Wait>(
+        &mut self,
+        rt: &R,
+        store: &Store<N, A>,
+        tries: usize,
+        operations: &[Op<A>],
+    ) -> Result<u64, Fault>
+        ensures committed { IfOk result (λ tn. Runs N.named.settings tries (ops_of operations.now) self.old.session tn self.new.session) }
+        ensures nothing_left { OnOk result (self.new.lane.left ≡ Nothing) }
+        ensures few { OnErr result (RunsOut N.named.settings tries (ops_of operations.now) self.old.session self.new.session) }
+        ensures fault { IfErr result (λ fault. Stops (Performing N.named.settings (ops_of operations.now)) N.named.settings self.new.session self.new.lane fault ⊎ AloneStops (ops_of operations.now) self.new.session self.new.lane fault) }
+    {
+        let Some(tn) = self.try_list(rt, store, tries, operations)? else {
+            return self.run_alone(rt, store, operations);
+        };
+        Ok(tn)
+    }
+
+    // Tries operations as a transaction, at most so many times. None where each try was backed up.
+    fn try_list<R: Wait>(
+        &mut self,
+        rt: &R,
+        store: &Store<N, A>,
+        tries: usize,
+        operations: &[Op<A>],
+    ) -> Result<Option<u64>, Fault>
+        ensures tried { IfOk result (λ tn. TriesList N.named.settings tries (ops_of operations.now) self.old.session tn self.new.session) }
+        ensures committed { IfOk result (λ tn. is_some tn ≡ true → self.new.lane.left ≡ Nothing) }
+        ensures few { OnErr result (HandsInUpTo (Performing N.named.settings (ops_of operations.now)) tries self.old.session self.new.session) }
+        ensures fault { IfErr result (Stops (Performing N.named.settings (ops_of operations.now)) N.named.settings self.new.session self.new.lane) }
+    {
+        if tries == 0 {
+            return Ok(None);
         }
-        self.run_alone(rt, store, operations)
+        let mut body = Operations { list: operations };
+        let ended = self.try_up_to(rt, store, false, tries, &mut body)?;
+        Ok(ended.tn())
     }
 
     // Runs operations alone.
@@ -148,6 +189,8 @@ impl<N: Name, A: Allocator + Copy> Worker<N, A> {
     ) -> Result<u64, Fault>
         ensures committed { IfOk result (λ tn. RunsAlone (ops_of operations.now) self.old.session tn self.new.session) }
         ensures nothing_left { OnOk result (self.new.lane.left ≡ Nothing) }
+        ensures few { OnErr result (HandsInAlone (ops_of operations.now) self.old.session self.new.session) }
+        ensures fault { IfErr result (AloneStops (ops_of operations.now) self.new.session self.new.lane) }
     {
         self.serve_patiently(rt, store)?;
         let copies = self.session.copied(operations)?;
@@ -160,6 +203,7 @@ impl<N: Name, A: Allocator + Copy> Worker<N, A> {
     fn serve_patiently<R: Wait>(&mut self, rt: &R, store: &Store<N, A>) -> Result<(), Fault>
         ensures same { self.new.session ≡ self.old.session }
         ensures nothing_left { OnOk result (self.new.lane.left ≡ Nothing) }
+        ensures kept { OnErr result (IsKept self.new.lane) }
     {
         for tried in 0..BUSY_TRIES {
             match self.serve_leased(rt, store) {
@@ -174,108 +218,10 @@ impl<N: Name, A: Allocator + Copy> Worker<N, A> {
     fn serve_leased<R: Wait>(&mut self, rt: &R, store: &Store<N, A>) -> Result<(), Fault>
         ensures same { self.new.session ≡ self.old.session }
         ensures nothing_left { OnOk result (self.new.lane.left ≡ Nothing) }
+        ensures kept { OnErr result (IsKept self.new.lane) }
     {
         let _lease = store.lease(rt);
         self.serve(rt, store)
-    }
-
-    // Tries a transaction until it commits, at most so many times, within a lease that the caller has, or not.
-    fn try_up_to<R: Wait, B: Body<N, A, R>>(
-        &mut self,
-        rt: &R,
-        store: &Store<N, A>,
-        within: bool,
-        most: usize,
-        body: &mut B,
-    ) -> Result<Ended, Fault>
-        requires { 0 < most }
-        ensures ended { IfOk result (λ ended. Ends most self.old.session ended self.new.session) }
-        ensures nothing_left { OnOk result (self.new.lane.left ≡ Nothing) }
-        ensures fault { OnErr result (HandsInUpTo most self.old.session self.new.session) }
-    {
-        let mut ended = self.try_leased(rt, store, within, body)?;
-        for tried in 1..most {
-            if let Ended::Committed(_) = ended {
-                return Ok(ended);
-            }
-            ended = self.try_leased(rt, store, within, body)?;
-        }
-        Ok(ended)
-    }
-
-    // One try, within a lease that the caller has, or else in one of its own.
-    fn try_leased<R: Wait, B: Body<N, A, R>>(
-        &mut self,
-        rt: &R,
-        store: &Store<N, A>,
-        within: bool,
-        body: &mut B,
-    ) -> Result<Ended, Fault>
-        ensures ended { IfOk result (λ ended. Tried 1 self.old.session ended self.new.session) }
-        ensures nothing_left { OnOk result (self.new.lane.left ≡ Nothing) }
-        ensures fault { OnErr result (HandsInUpTo 1 self.old.session self.new.session) }
-    {
-        if within {
-            return self.try_once(rt, store, body);
-        }
-        let _lease = store.lease(rt);
-        self.try_once(rt, store, body)
-    }
-
-    // One try.
-    fn try_once<R: Wait, B: Body<N, A, R>>(
-        &mut self,
-        rt: &R,
-        store: &Store<N, A>,
-        body: &mut B,
-    ) -> Result<Ended, Fault>
-        ensures ended { IfOk result (λ ended. Tried 1 self.old.session ended self.new.session) }
-        ensures nothing_left { OnOk result (self.new.lane.left ≡ Nothing) }
-        ensures fault { OnErr result (HandsInUpTo 1 self.old.session self.new.session) }
-    {
-        self.serve(rt, store)?;
-        let number = self.hand_in(rt, store, body)?;
-        self.serve(rt, store)?;
-        Ok(self.session.settled(rt, number))
-    }
-
-    // Begins a transaction, runs the body in it and hands it in. It is abandoned where the body meets a fault, or the queue has no room.
-    fn hand_in<R: Wait, B: Body<N, A, R>>(
-        &mut self,
-        rt: &R,
-        store: &Store<N, A>,
-        body: &mut B,
-    ) -> Result<u64, Fault>
-        ensures ok { IfOk result (λ number. HandsInOne self.old.session number self.new.session) }
-        ensures err { OnErr result (self.new.session.sender ≡ self.old.session.sender) }
-    {
-        let (number, start) = self.session.begin()?;
-        let open = self.session.lend();
-        let session = self.session.session();
-        let _none = self.transaction.replace(session, open);
-        let ran = body.run(rt, store, &mut self.transaction);
-        let open = self.transaction.replace(session, OpenTransaction::none());
-        let came_back = self.session.take_back(open, number, start);
-        let handed_in = self.session.submit_after(rt, ran, came_back);
-        if handed_in.is_err() {
-            let _forgotten = self.session.abandon(rt, store);
-        }
-        handed_in
-    }
-
-    // Serves the lane until nothing waits in it.
-    fn serve<R: Wait>(&mut self, rt: &R, store: &Store<N, A>) -> Result<(), Fault>
-        ensures same { self.new.session ≡ self.old.session }
-        ensures nothing_left { OnOk result (self.new.lane.left ≡ Nothing) }
-    {
-        for _ in rt.forever() {
-            match self.lane.serve_one(rt, store, &AlwaysGo)? {
-                Served::Idle | Served::LaneClosed => return Ok(()),
-                Served::Busy => return Err(Fault::StoreBusy),
-                Served::Settled(_) | Served::Stopped(_) => {}
-            }
-        }
-        unreachable!()
     }
 }
 

@@ -5,8 +5,8 @@ use Rattle.occ_store.specs.Sessions.{SessionView}
 use Rattle.occ_store.proofs.sessions.Session.take_back.Goals as goal
 
 -- one without a write is open in place of the one that was lent
-pub returns : goal.returns
-returns g c = (
+pub returns-clause-opened : goal.returns-clause-opened
+returns-clause-opened g c = (
   begun c.args.number c.args.start,
   refl,
   ap (λ (v : SessionView). record v { draft = c.begin.new.self }) c.self.view_is

@@ -1,6 +1,7 @@
-use Rattle.std.proofs.Common.{◌≡◌}
+use Rattle.std.proofs.Common.{◌≡◌, ◌<◌}
+use Rattle.occ_store.specs.Workers.{IsKept}
 use Rattle.occ_store.proofs.workers.Worker.serve_patiently.Given as goal
 
--- the session stays
+-- the session stays, and the lane keeps what it couldn't end
 abbrev pub invariant-loop-tried : goal.invariant-loop-tried
-invariant-loop-tried g l = l.self.session ≡ l.fn.self.session
+invariant-loop-tried g l = (l.self.session ≡ l.fn.self.session) × (0 < l.tried → IsKept l.self.lane)

@@ -1,16 +1,21 @@
-use Rattle.std.proofs.Common.{◌≡◌, arith}
-use Rattle.occ_store.proofs.Working.{ends_now, ends_last, tried_more, hands_in_more, on_err_any}
+use Rattle.std.proofs.Common.{arith}
+use Rattle.occ_store.proofs.Working.{ends_now, ends_last, tried_more, hands_in_more, stops_later, on_err_any}
 use Rattle.occ_store.proofs.workers.Worker.try_up_to.Goals as goal
 
 pub returns-in-Committed-clause-ended : goal.returns-in-Committed-clause-ended
 returns-in-Committed-clause-ended g c =
     let first = c.loop-tried.auto.tried in
     let below = c.loop-tried-test.true in
-    ends_now c.loop-tried.tried c.args.most c.in-Committed.field-0 c.args.self.now.session c.loop-tried.self.session c.loop-tried.ended (omega arith) (omega arith) c.in-Committed.is c.loop-tried.invariant.0
+    ends_now (g.B.Body.makes c.args.body.now) c.loop-tried.tried c.args.most c.in-Committed.field-0 c.args.self.now.session c.loop-tried.self.session c.loop-tried.ended (omega arith) (omega arith) c.in-Committed.is c.loop-tried.invariant.0
+
+pub returns-in_err-ended-2-clause-few : goal.returns-in_err-ended-2-clause-few
+returns-in_err-ended-2-clause-few g c =
+    on_err_any _ (hands_in_more (g.B.Body.makes c.args.body.now) (g.B.Body.makes c.loop-tried.body) c.loop-tried.tried c.args.most c.args.self.now.session c.loop-tried.self.session c.try_leased-in-loop-tried.new.self.session c.loop-tried.ended c.loop-tried-test.true c.loop-tried.invariant.2 c.loop-tried.invariant.0 c.in_err-ended-2.ensures.few)
 
 pub returns-in_err-ended-2-clause-fault : goal.returns-in_err-ended-2-clause-fault
 returns-in_err-ended-2-clause-fault g c =
-    on_err_any _ (hands_in_more c.loop-tried.tried c.args.most c.args.self.now.session c.loop-tried.self.session c.try_leased-in-loop-tried.new.self.session c.loop-tried.ended c.loop-tried-test.true c.loop-tried.invariant.0 c.in_err-ended-2.ensures.fault)
+    stops_later (g.B.Body.makes c.args.body.now) (g.B.Body.makes c.loop-tried.body) g.N.Name.named.settings c.try_leased-in-loop-tried.new.self.session c.try_leased-in-loop-tried.new.self.lane c.from_residual-in_err-ended-2.result c.in_err-ended-2.field-0.0
+    c.from_residual-in_err-ended-2.ensures.1 c.loop-tried.invariant.2 c.in_err-ended-2.ensures.fault
 
 pub returns-clause-ended : goal.returns-clause-ended
 returns-clause-ended g c =
@@ -18,10 +23,11 @@ returns-clause-ended g c =
     let some = c.requires in
     let end = c.loop-tried.auto.tried-end (omega arith) in
     let last = c.loop-tried-test.false in
-    ends_last c.loop-tried.tried c.args.most c.args.self.now.session c.loop-tried.self.session c.loop-tried.ended (omega arith) (omega arith) c.loop-tried.invariant.0
+    ends_last (g.B.Body.makes c.args.body.now) c.loop-tried.tried c.args.most c.args.self.now.session c.loop-tried.self.session c.loop-tried.ended (omega arith) (omega arith) c.loop-tried.invariant.0
 
 pub loop-tried-preserved : goal.loop-tried-preserved
 loop-tried-preserved g c = (
-  tried_more c.loop-tried.tried c.args.self.now.session c.loop-tried.self.session c.try_leased-in-loop-tried.new.self.session c.loop-tried.ended c.in_ok-ended-2.ended c.loop-tried.invariant.0 c.in_ok-ended-2.ensures.ended,
+  tried_more (g.B.Body.makes c.args.body.now) (g.B.Body.makes c.loop-tried.body) c.loop-tried.tried c.args.self.now.session c.loop-tried.self.session c.try_leased-in-loop-tried.new.self.session c.loop-tried.ended c.in_ok-ended-2.ended c.loop-tried.invariant.2 c.loop-tried.invariant.0 c.in_ok-ended-2.ensures.ended,
   c.in_ok-ended-2.ensures.nothing_left,
+  λ before ran after made. c.loop-tried.invariant.2 before ran after (c.try_leased-in-loop-tried.ensures.keeps before ran after made),
 )
