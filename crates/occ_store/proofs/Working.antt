@@ -1,12 +1,11 @@
 -- What the tries of a worker come to.
 use Rattle.std.proofs.Common.{◌≡◌, inl, inr, ◌⊎◌, ℕ, ◌+◌, ◌<◌, ◌≤◌, List, [], ◌∷◌, ◌++◌, length, Option, None, Some, Result, Ok, Err, OnOk, OnErr, IfOk, IfErr, refl, sym, ap, subst, ◌∙◌, append_assoc, arith, length-append}
-use Rattle.std.specs.Prelude.{IsSomeAnd, IsErrAnd, IsOkUnless, MatchOption, ⊤}
+use Rattle.std.specs.Prelude.{IsSomeAnd, IsErrAnd, IsOkUnless}
 use Rattle.occ_types.specs.declared.fault.Fault.{Fault}
 use Rattle.occ_types.specs.declared.fault.Fault.TheVariants.{OutOfTurn}
 use Rattle.occ_model.specs.Event.{Item, Request, Alone, Close}
 use Rattle.occ_model.specs.World.{Settings}
 use Rattle.occ_model.specs.Operations.{Operation}
-use Rattle.occ_model.specs.declared.verdict.Cause.{Cause}
 use Rattle.occ_sets.specs.Sets.{Copied}
 use Rattle.occ_client.specs.Transactions.{begun as no_writes}
 use Rattle.occ_queue.specs.Items.{number_of}
@@ -17,12 +16,12 @@ use Rattle.occ_store.specs.declared.ended.Ended.TheVariants.{Committed, BackedUp
 use Rattle.occ_store.specs.declared.serving.Served.{Served}
 use Rattle.occ_store.specs.declared.serving.Served.TheVariants as served
 use Rattle.occ_store.specs.Transactions.{TransactionView}
-use Rattle.occ_store.specs.Bodies.{Making, Goes, Performing}
+use Rattle.occ_store.specs.Bodies.{Making, Goes}
 use Rattle.occ_store.specs.Lanes.{LaneView}
 use Rattle.occ_store.specs.Serving.{Stops as MayStop, Serves, CarriesOn, keeping}
 use Rattle.occ_store.specs.Sessions.{SessionView, due, begun, begin_fault, submit_fault, request, handed_in, Submits, IsRefusedBy}
-use Rattle.occ_store.specs.Ended.{IsTold, tn_of}
-use Rattle.occ_store.specs.Workers.{IsMade, AllMade, Requests, IsLastTry, Tried, Ends, HandsInUpTo, HandsInOne, lent, RunsIn, RunFails, Reopens, GivesUp, IsGivenUpFor, NotHandedIn, IsKept, Stops, TriesList, RunsAlone, HandsInAlone, Runs, RunsOut}
+use Rattle.occ_store.specs.Ended.{IsTold}
+use Rattle.occ_store.specs.Workers.{IsMade, AllMade, Requests, IsLastTry, Tried, Ends, HandsInUpTo, HandsInOne, lent, RunsIn, RunFails, Reopens, GivesUp, IsGivenUpFor, NotHandedIn, IsKept, Stops, TriesList, HandsInAlone, RunsOut}
 
 made_so : (Made Other : Making) (session : ℕ) (item : Item) → Goes Made Other → IsMade Made session item → IsMade Other session item
 made_so Made Other session (Request number start writes) goes made = (made.0, made.1, made.2, goes _ _ _ made.3)
@@ -267,63 +266,9 @@ last_is count most (BackedUp cause) is = is
 pub ends_last : (Made : Making) (count most : ℕ) (old new : SessionView) (ended : Ended) → 0 < count → count ≡ most → Tried Made count old ended new → Ends Made most old ended new
 ends_last Made count most old new ended some is tried = (count, some, omega arith, last_is count most ended is, tried)
 
-all_backed_up : (Made : Making) (most : ℕ) (old new : SessionView) (cause : Cause) → Ends Made most old (BackedUp cause) new → Requests Made most old new
-all_backed_up Made most old new cause ends = subst (λ (n : ℕ). Requests Made n old new) ends.3 ends.4.requests
-
--- a list that was tried committed, or was backed up each time
-list_ended : (settings : Settings) (most : ℕ) (operations : List Operation) (old new : SessionView) (ended : Ended) → Ends (Performing settings operations) most old ended new → TriesList settings most operations old (tn_of ended) new
-list_ended settings most operations old new (Committed tn) ends = ends
-list_ended settings most operations old new (BackedUp cause) ends = all_backed_up (Performing settings operations) most old new cause ends
-
-pub list_tried : (settings : Settings) (most : ℕ) (operations : List Operation) (old new : SessionView) (ended : Ended) (tn : Option ℕ) → Ends (Performing settings operations) most old ended new → tn ≡ tn_of ended → TriesList settings most operations old tn new
-list_tried settings most operations old new ended tn ends is =
-    subst (λ (n : Option ℕ). TriesList settings most operations old n new) (sym is) (list_ended settings most operations old new ended ends)
-
--- and none was tried
-pub none_tried : (settings : Settings) (most : ℕ) (operations : List Operation) (old : SessionView) → most ≡ 0 → TriesList settings most operations old None old
-none_tried settings most operations old none = subst (λ (n : ℕ). Requests (Performing settings operations) n old old) (sym none) (none_handed (Performing settings operations) old old refl (λ none. none))
-
--- operations that run alone, the lane being served before and after it
-alone_handed : (operations copies : List Operation) (old first handed served : SessionView) (number : ℕ) → first ≡ old → copies ≡ operations → number ≡ due first → handed ≡ handed_in first (Alone number copies) → served ≡ handed → served ≡ handed_in old (Alone (due old) operations)
-alone_handed operations copies old first handed served number starts same number_is is stay =
-    let due_is : number ≡ due old = number_is ∙ ap (λ (v : SessionView). due v) starts in
-    stay ∙ is ∙ ap (λ (v : SessionView). handed_in v (Alone number copies)) starts
-    ∙ ap (λ (n : ℕ). handed_in old (Alone n copies)) due_is
-    ∙ ap (λ (list : List Operation). handed_in old (Alone (due old) list)) same
-
-pub alone_ended : (operations copies : List Operation) (old first handed served new : SessionView) (number tn : ℕ) → first ≡ old → copies ≡ operations → number ≡ due first → handed ≡ handed_in first (Alone number copies) → served ≡ handed → new ≡ record served { seat = new.seat } → IsTold new.seat.last number (Committed tn) → RunsAlone operations old tn new
-alone_ended operations copies old first handed served new number tn starts same number_is is stay ends told = (
-  ends ∙ ap (λ (v : SessionView). record v { seat = new.seat }) (alone_handed operations copies old first handed served number starts same number_is is stay),
-  subst (λ (n : ℕ). IsTold new.seat.last n (Committed tn)) (number_is ∙ ap (λ (v : SessionView). due v) starts) told,
-)
-
-pub alone_waits : (operations copies : List Operation) (old first handed served : SessionView) (number : ℕ) → first ≡ old → copies ≡ operations → number ≡ due first → handed ≡ handed_in first (Alone number copies) → served ≡ handed → HandsInAlone operations old served
-alone_waits operations copies old first handed served number starts same number_is is stay =
-    inr (alone_handed operations copies old first handed served number starts same number_is is stay)
-
--- what was tried of a list of operations is followed by a run alone, where it didn't commit
-pub runs_after : (settings : Settings) (most : ℕ) (operations : List Operation) (old between new : SessionView) (tried : Option ℕ) (result : Result ℕ Fault) → tried ≡ None → TriesList settings most operations old tried between → IfOk result (λ tn. RunsAlone operations between tn new) → IfOk result (λ tn. Runs settings most operations old tn new)
-runs_after settings most operations old between new tried (Ok tn) none list alone = inr (between, subst (λ (n : Option ℕ). TriesList settings most operations old n between) none list, alone)
-runs_after settings most operations old between new tried (Err fault) none list alone = tt
-
 pub runs_out_after : (settings : Settings) (most : ℕ) (operations : List Operation) (old between new : SessionView) (tried : Option ℕ) (result : Result ℕ Fault) → tried ≡ None → TriesList settings most operations old tried between → OnErr result (HandsInAlone operations between new) → OnErr result (RunsOut settings most operations old new)
 runs_out_after settings most operations old between new tried (Ok tn) none list alone = tt
 runs_out_after settings most operations old between new tried (Err fault) none list alone = inr (between, subst (λ (n : Option ℕ). TriesList settings most operations old n between) none list, alone)
-
-pub runs_now : (settings : Settings) (most tn : ℕ) (operations : List Operation) (old new : SessionView) (tried : Option ℕ) → tried ≡ Some tn → TriesList settings most operations old tried new → Runs settings most operations old tn new
-runs_now settings most tn operations old new tried some list = inl (subst (λ (n : Option ℕ). TriesList settings most operations old n new) some list)
-
--- of two reasons the second
-pub or_second : {X : Type 0} (One Other : Fault → Type 0) (result : Result X Fault) → IfErr result Other → IfErr result (λ fault. One fault ⊎ Other fault)
-or_second One Other (Ok x) is = tt
-or_second One Other (Err fault) is = inr is
-
--- a test before a call
-pub passed : (test : Option Fault) (Is : Fault → Type 0) → None ≡ test → MatchOption test ⊤ Is
-passed test Is none = subst (λ (t : Option Fault). MatchOption t ⊤ Is) none tt
-
-pub not_passed : (test : Option Fault) (Is : Fault → Type 0) (fault : Fault) → Some fault ≡ test → Is fault → MatchOption test ⊤ Is
-not_passed test Is fault some is = subst (λ (t : Option Fault). MatchOption t ⊤ Is) some is
 
 pub on_err_any : {X Y : Type 0} {P : Type 0} (result : Result X Y) → P → OnErr result P
 on_err_any (Ok x) p = tt
