@@ -25,7 +25,8 @@ use std::thread;
 const BUSY_TRIES: usize = 1000000;
 
 /// A session with its own lane, for the common shape of one thread a client: it hands in a transaction, and serves it itself. Its rows
-/// are not filed, so that the store keeps nothing of what is folded.
+/// are not filed, so that the store keeps nothing of what is folded, and while no other row is active its requests end serially, each in
+/// one event.
 #[derive(Drop)]
 pub struct Worker<N: Name, A: Allocator> {
     pub(crate) session: Session<N, A>,
@@ -41,7 +42,7 @@ impl<N: Name, A: Allocator> Worker<N, A> {
         session: Session<N, A>,
         mut lane: Lane<N, A>,
     ) -> Result<Worker<N, A>, Refused<(Session<N, A>, Lane<N, A>)>>
-        ensures ok { IfOk result (λ worker. (worker.session ≡ session) × (worker.lane ≡ record lane { files = false }) × (session.session ≡ lane.session)) }
+        ensures ok { IfOk result (λ worker. (worker.session ≡ session) × (worker.lane ≡ record lane { files = false; serial = true }) × (session.session ≡ lane.session)) }
         ensures handed_back { IfErr result (λ refused. refused.value ≡ (session, lane)) }
         ensures fault { IfErr result (λ refused. refused.fault ≡ (if session.session == lane.session then Memory else NoSession)) }
     {
@@ -58,6 +59,7 @@ impl<N: Name, A: Allocator> Worker<N, A> {
             });
         };
         lane.set_files(false);
+        lane.set_serial(true);
         Ok(Worker {
             session,
             lane,
