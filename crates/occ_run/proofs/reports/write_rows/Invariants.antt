@@ -1,0 +1,12 @@
+use Rattle.std.proofs.Common.{ℕ, take}
+use Rattle.std.specs.List.{flat_map}
+use Rattle.occ_model.specs.Log.{Case}
+use Rattle.occ_book.specs.Rows.{log_of}
+use Rattle.occ_text.specs.Line.{lines_text}
+use Rattle.occ_text.specs.Printing.{Pushed}
+use Rattle.occ_run.specs.Reports.{row_lines}
+use Rattle.occ_run.proofs.reports.write_rows.Given as goal
+
+abbrev pub invariant-loop-row : goal.invariant-loop-row
+invariant-loop-row g l = (opened : g.row.O.Denot → ℕ × Case) → Pushed (g.W.Write.contents l.fn.writer) (g.W.Write.contents l.writer) l.fn.output.held l.output.held
+    (lines_text (flat_map (row_lines l.session) (log_of opened (take l.row-index l.log))))

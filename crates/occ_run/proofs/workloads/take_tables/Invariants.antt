@@ -1,0 +1,17 @@
+use Rattle.std.proofs.Common.{◌-◌, length}
+use Rattle.std.specs.Io.KnownBytes.{prepend_known}
+use Rattle.occ_types.specs.PlainData.{tables_of}
+use Rattle.occ_text.specs.HeaderTaking.{TablesSoFar}
+use Rattle.occ_run.specs.Workloads.{point}
+use Rattle.occ_run.proofs.Openings.{TablesTaken}
+use Rattle.occ_run.proofs.workloads.take_tables.Given as goal
+
+-- the lines of the tables were taken
+abbrev pub invariant-loop-tables : goal.invariant-loop-tables
+invariant-loop-tables g l = record {
+  so_far : TablesSoFar l.settings.limits.version (tables_of l.tables.items);
+  taken : TablesTaken l.settings (point (prepend_known l.fn.input.unread (g.R.Read.remaining l.fn.reader)) l.fn.input.number) (point (prepend_known l.input.unread (g.R.Read.remaining l.reader)) l.input.number) (tables_of l.tables.items);
+}
+
+abbrev pub decreases-loop-tables : goal.decreases-loop-tables
+decreases-loop-tables g l = 32 - length l.tables.items

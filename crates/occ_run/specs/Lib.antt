@@ -1,0 +1,6 @@
+pub mod Clients
+pub mod Plans
+pub mod Reports
+pub mod Runs
+pub mod TransactionLines
+pub mod Workloads

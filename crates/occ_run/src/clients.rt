@@ -1,0 +1,242 @@
+//! The clients of a run, one for each session.
+
+ghost use Rattle.std.specs.Prelude.{◌≡◌, ◌==◌, ◌+◌, ◌<◌, ◌^◌, List, [], map, Ok, IfOk, IfSome, OnOk};
+ghost use Rattle.std.specs.Option.{option_to_list};
+ghost use Rattle.occ_model.specs.Event.{Item, Close};
+ghost use Rattle.occ_store.specs.Sessions.{due, handed_in};
+ghost use Rattle.occ_run.specs.Plans.{plan_of};
+ghost use Rattle.occ_run.specs.Clients.{own, own_plan, one_if, Played, HasPlayed, is_starved, gave_up};
+ghost use Rattle.occ_run.specs.declared.ends.End.TheVariants as ends;
+
+use crate::ends::{End, Stop};
+use crate::loads::{Job, Load};
+use crate::rounds::Round;
+use crate::trying::{run_plan, wait};
+use crate::workloads::Plan;
+use occ_store::{Name, Session, Store};
+use std::alloc::Allocator;
+use std::marker::{Model, PhantomData};
+use std::sync::Wait;
+
+/// The client of a session. Once it has closed its session, that handed in what its transactions ask for, whichever thread had it.
+#[derive(Drop)]
+pub(crate) struct Client<N: Name, L: Load, A: Allocator> {
+    session: Session<N, A>,
+    refused: u64,
+    end: End,
+    load: PhantomData<L>,
+}
+
+impl<N: Name, L: Load, A: Allocator> Model for Client<N, L, A> {
+    ghost use Rattle.occ_run.specs.Clients.{ClientView, EndsAs};
+
+    ghost Value = { ClientView };
+
+    ghost view = { λ c. record { session = c.session; refused = c.refused; end = c.end } };
+
+    ghost invariant = { λ c. EndsAs L.retries L.plans c.end c.refused c.session };
+}
+
+impl<N: Name, L: Load, A: Allocator + Copy> Client<N, L, A> {
+    /// The client of a session that handed in nothing yet.
+    pub(crate) fn new(session: Session<N, A>) -> Client<N, L, A>
+        requires { session.sender.pushed ≡ [] }
+    {
+        Client {
+            session,
+            refused: 0,
+            end: End::Unstarted,
+            load: PhantomData,
+        }
+    }
+
+    /// How many of its transactions had an operation that was refused. None where it is another session's, or did not close it.
+    pub(crate) fn refused(&self, session: usize) -> Option<u64>
+        ensures { IfSome result (λ refused. (pushed : List Item) × HasPlayed L.retries L.plans session refused pushed) }
+    {
+        let End::Closed = self.end else {
+            return None;
+        };
+        let own = self.session.session();
+        if own != session {
+            return None;
+        }
+        Some(self.refused)
+    }
+
+    /// Whether it wanted memory, or its thread never began.
+    pub(crate) fn is_starved(&self) -> bool
+        ensures { result ≡ is_starved self.now }
+    {
+        match self.end {
+            End::Unstarted | End::Starved => true,
+            End::Closed | End::GaveUp => false,
+        }
+    }
+
+    /// Its session, where it gave up.
+    pub(crate) fn gave_up(&self) -> Option<usize>
+        ensures { option_to_list result ≡ gave_up self.now }
+    {
+        match self.end {
+            End::GaveUp => Some(self.session.session()),
+            End::Unstarted | End::Closed | End::Starved => None,
+        }
+    }
+
+    /// Runs the transactions of its session in their order, and then closes the session. Where it gives up, it abandons what is open and
+    /// closes the session; for want of memory it tells all others to give up too. It runs once.
+    pub(crate) fn run<R: Wait>(&mut self, rt: &R, job: &Job<N, L, A>) {
+        let End::Unstarted = self.end else {
+            return;
+        };
+        let (end, refused) = ended(play(rt, &mut self.session, job));
+        self.refused = refused;
+        self.end = end;
+        job.round.client_ended();
+    }
+}
+
+// How a client ended, and its count, by what stopped it.
+fn ended(played: Result<u64, Stop>) -> (End, u64)
+    ensures closed { result.0 ≡ ends.Closed → played ≡ Ok result.1 }
+    ensures begun { result.0 ≡ ends.Unstarted → ⊥ }
+{
+    match played {
+        Ok(refused) => (End::Closed, refused),
+        Err(Stop::Patience) => (End::GaveUp, 0),
+        Err(Stop::Memory) => (End::Starved, 0),
+    }
+}
+
+// Runs the transactions of a session, and closes it, also where it gives up. How many of them had an operation that was refused.
+fn play<N: Name, L: Load, A: Allocator + Copy, R: Wait>(
+    rt: &R,
+    session: &mut Session<N, A>,
+    job: &Job<N, L, A>,
+) -> Result<u64, Stop>
+    requires { session.old.sender.pushed ≡ [] }
+    ensures { IfOk result (λ refused. HasPlayed L.retries L.plans session.new.session refused session.new.sender.pushed) }
+{
+    let ran = run_plans(rt, session, job);
+    if ran == Err(Stop::Memory) {
+        job.round.stop();
+    }
+    let left = leave(rt, session, &job.store, &job.round);
+    let refused = ran?;
+    left?;
+    Ok(refused)
+}
+
+// Runs the transactions of a session in their order. How many of them had an operation that was refused.
+fn run_plans<N: Name, L: Load, A: Allocator + Copy, R: Wait>(
+    rt: &R,
+    session: &mut Session<N, A>,
+    job: &Job<N, L, A>,
+) -> Result<u64, Stop>
+    ensures { IfOk result (λ refused. Played L.retries (own session.old.session L.plans) refused session.old session.new) }
+{
+    run_each(rt, session, job, job.plans.as_slice())
+}
+
+// Runs those of some transactions that are the session's. How many of them had an operation that was refused.
+fn run_each<N: Name, L: Load, A: Allocator + Copy, R: Wait>(
+    rt: &R,
+    session: &mut Session<N, A>,
+    job: &Job<N, L, A>,
+    plans: &[Plan<A>],
+) -> Result<u64, Stop>
+    ensures { IfOk result (λ refused. Played L.retries (own session.old.session (map plan_of plans.now)) refused session.old session.new) }
+{
+    let number = session.session();
+    let mut refused = 0;
+    for plan in plans {
+        let denied = run_own(rt, session, job, number, plan)?;
+        refused = counted(refused, denied);
+    }
+    Ok(refused)
+}
+
+// One more, where it is so.
+fn counted(count: u64, more: bool) -> u64
+    requires { count + 1 < 2 ^ 64 }
+    ensures { result ≡ count + one_if more }
+{
+    if more { count + 1 } else { count }
+}
+
+// Runs a transaction, if it is the session's. Whether an operation of it was refused.
+fn run_own<N: Name, L: Load, A: Allocator + Copy, R: Wait>(
+    rt: &R,
+    session: &mut Session<N, A>,
+    job: &Job<N, L, A>,
+    number: usize,
+    plan: &Plan<A>,
+) -> Result<bool, Stop>
+    ensures { IfOk result (λ refused. Played L.retries (own_plan number (plan_of plan.now)) (one_if refused) session.old session.new) }
+{
+    if !is_own(plan, number) {
+        return Ok(false);
+    }
+    run_plan(
+        rt,
+        job.alloc,
+        &job.store,
+        session,
+        &job.round,
+        job.retries,
+        plan.operations.as_slice(),
+    )
+}
+
+// Whether a transaction is a session's.
+fn is_own<A: Allocator>(plan: &Plan<A>, session: usize) -> bool
+    ensures { result ≡ (plan.now.session == session) }
+{
+    plan.session == session
+}
+
+// Abandons what is open, and closes the session.
+fn leave<N: Name, A: Allocator + Copy, R: Wait>(
+    rt: &R,
+    session: &mut Session<N, A>,
+    store: &Store<N, A>,
+    round: &Round,
+) -> Result<(), Stop>
+    ensures { OnOk result (session.new ≡ handed_in session.old (Close (due session.old))) }
+{
+    abandon_open(rt, session, store)?;
+    close(rt, session, round)
+}
+
+// Abandons the open transaction, where there is one.
+fn abandon_open<N: Name, A: Allocator + Copy, R: Wait>(
+    rt: &R,
+    session: &mut Session<N, A>,
+    store: &Store<N, A>,
+) -> Result<(), Stop>
+    ensures { session.new ≡ record session.old { draft = session.new.draft } }
+{
+    if session.open_number().is_none() {
+        return Ok(());
+    }
+    session.abandon(rt, store)?;
+    Ok(())
+}
+
+// Closes the session. A full queue is tried again, as often as a number is polled.
+fn close<N: Name, A: Allocator + Copy, R: Wait>(
+    rt: &R,
+    session: &mut Session<N, A>,
+    round: &Round,
+) -> Result<(), Stop>
+    ensures { OnOk result (session.new ≡ handed_in session.old (Close (due session.old))) }
+{
+    for _ in 0..round.patience() {
+        match session.close(rt) {
+            Ok(_mark) => return Ok(()),
+            Err(fault) => wait(fault, round)?,
+        }
+    }
+    Err(Stop::Patience)
+}

@@ -1,0 +1,23 @@
+//! Workloads: a text of transactions goes in, threads run them, and what became of them comes out.
+#![tactic(auto)]
+
+mod clients;
+mod ends;
+mod groups;
+pub mod laws;
+mod loads;
+mod named;
+mod observers;
+mod outcomes;
+mod performing;
+mod reports;
+mod rounds;
+mod runs;
+mod session_lines;
+mod transaction_lines;
+mod trying;
+pub mod workloads;
+
+pub use observers::{Observer, Progress, Unwatched};
+pub use occ_text::trouble::{Trouble, status_of};
+pub use runs::{PATIENCE, Ran, run_text, run_watched};
