@@ -1,0 +1,92 @@
+//! What is checked of each run.
+
+use occ_cli::audit_text;
+use occ_run::{Ran, Trouble, run_text};
+use std::alloc::{AllocError, Global};
+use std::sync::Wait;
+use std::thread::Threads;
+use std::time::Clock;
+use std::{fmt, str};
+
+/// What came of some runs.
+#[derive(Clone, Copy, Debug, Default)]
+pub(crate) struct Sums {
+    /// Runs in which each transaction committed once or was refused, each session was closed, and the audit was yes, twice.
+    right: u64,
+    /// Runs that ended otherwise.
+    wrong: u64,
+    /// The first line that was malformed, 0 where none was.
+    malformed: u64,
+}
+
+impl fmt::Display for Sums {
+    fn fmt<W: fmt::Write>(&self, f: &mut fmt::Formatter<W>) -> fmt::Result {
+        let (right, wrong, malformed) = (self.right, self.wrong, self.malformed);
+        write!(f, "{right} right, {wrong} wrong")?;
+        if malformed > 0 {
+            write!(f, ", line {malformed} malformed")?;
+        }
+        Ok(())
+    }
+}
+
+/// Runs a workload twice, once with its book, and adds what came of it.
+pub(crate) fn check<H: Threads + Wait + Clock + Sync>(
+    threads: &H,
+    alloc: Global,
+    text: &str,
+    sums: &mut Sums,
+) -> Result<(), AllocError> {
+    match is_right(threads, alloc, text) {
+        Ok(true) => sums.right = sums.right.saturating_add(1),
+        Err(Trouble::Malformed(line)) => sums.malformed = line,
+        Ok(false) | Err(_) => sums.wrong = sums.wrong.saturating_add(1),
+    }
+    Ok(())
+}
+
+// Whether all is as it has to be of a run without the book, and of one with it.
+fn is_right<H: Threads + Wait + Clock + Sync>(
+    threads: &H,
+    alloc: Global,
+    text: &str,
+) -> Result<bool, Trouble> {
+    let mut told = Vec::new(alloc);
+    let mut book = Vec::new(alloc);
+    let ran = run_text(threads, alloc, &mut text.as_bytes(), &mut told, false)?;
+    let again = run_text(threads, alloc, &mut text.as_bytes(), &mut book, true)?;
+    let mut audit = Vec::new(alloc);
+    let audited = audit_text(alloc, &mut book.as_slice(), &mut audit)?;
+    let ended = matches!((ran, again), (Ran::Audit(true), Ran::Audit(true)));
+    Ok(ended && audited && adds_up(text, str::from_utf8(told.as_slice()).unwrap_or("")))
+}
+
+// Whether what a run told has a committed row or a refusal for each transaction of its text, and a mark for each session.
+fn adds_up(text: &str, told: &str) -> bool {
+    let transactions = starting(text, "txn ");
+    let sessions = starting(told, "session ");
+    let committed = told.lines().filter(|line| line.contains(" done ")).count();
+    let mut refused = 0usize;
+    for line in told.lines() {
+        if line.starts_with("session ") {
+            refused = refused.saturating_add(last_number(line));
+        }
+    }
+    committed.saturating_add(refused) == transactions
+        && starting(told, "mark ") == sessions
+        && told.ends_with("audit yes\n")
+}
+
+// How many lines begin with a word.
+fn starting(text: &str, word: &str) -> usize {
+    text.lines().filter(|line| line.starts_with(word)).count()
+}
+
+// The number at the end of a line.
+fn last_number(line: &str) -> usize {
+    line.rsplit(' ')
+        .next()
+        .unwrap_or("")
+        .parse()
+        .unwrap_or(usize::MAX)
+}
