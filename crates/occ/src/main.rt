@@ -4,10 +4,14 @@
 use clap::error::ErrorKind;
 use clap::{Arg, ArgAction, Command};
 use occ_cli::{Trouble, audit_text, replay_text, status_of};
+use occ_run::{Ran, run_text};
 use std::alloc::{AllocError, Global};
 use std::fs::File;
 use std::io::ErrorKind as IoErrorKind;
 use std::process::ExitCode;
+use std::sync::Wait;
+use std::thread::Threads;
+use std::time::Clock;
 use thiserror::Error;
 
 #[cfg(test)]
@@ -45,9 +49,24 @@ impl From<clap::Error> for Stop {
     }
 }
 
+/// What an engine answers that didn't stop.
+#[derive(Debug, Drop)]
+enum Answer {
+    /// It did its work, and where it audited a book, whether that holds.
+    Right(bool),
+    /// The clients of these sessions gave up.
+    GaveUp(Vec<usize>),
+}
+
 fn main(rt: HostRuntime) -> ExitCode {
-    match run(&rt) {
-        Ok(right) => ExitCode::from(status_of(&Ok(right))),
+    match run(&rt, &rt) {
+        Ok(Answer::Right(right)) => ExitCode::from(status_of(&Ok(right))),
+        Ok(Answer::GaveUp(sessions)) => {
+            for session in &sessions {
+                let _written = eprintln!(rt; "gave up {session}");
+            }
+            ExitCode::from(1)
+        }
         Err(stop) => {
             // where this line can't be written either, the status still tells
             let _written = eprintln!(rt; "{stop}");
@@ -70,20 +89,26 @@ enum Task {
     Replay { file: Option<String>, quiet: bool },
     /// `occ audit`: the file.
     Audit { file: Option<String> },
+    /// `occ run`: the file, and whether the book is printed in place of what became of each session.
+    Run { file: Option<String>, book: bool },
 }
 
-/// Reads the words of the command line, and runs what they ask for. False is the answer of an audit that doesn't hold.
-fn run(rt: &HostRuntime) -> Result<bool, Stop> {
+/// Reads the words of the command line, and runs what they ask for. The second handle is the same, for what starts threads and waits.
+fn run<H: Threads + Wait + Clock + Sync>(rt: &HostRuntime, threads: &H) -> Result<Answer, Stop> {
     let words = words(rt)?;
     match task_of(rt.alloc(), words.as_slice())? {
         Task::Replay { file, quiet } => {
             replay(rt, file.as_deref(), quiet)?;
-            Ok(true)
+            Ok(Answer::Right(true))
         }
         Task::Audit { file } => {
             let right = audit(rt, file.as_deref())?;
-            Ok(right)
+            Ok(Answer::Right(right))
         }
+        Task::Run { file, book } => match run_workload(rt, threads, file.as_deref(), book)? {
+            Ran::Audit(right) => Ok(Answer::Right(right)),
+            Ran::GaveUp(sessions) => Ok(Answer::GaveUp(sessions)),
+        },
     }
 }
 
@@ -94,6 +119,11 @@ fn task_of(alloc: Global, words: &[String]) -> Result<Task, Stop> {
         let file = named(alloc, found.get_str("file"))?;
         let quiet = found.get_flag("quiet");
         return Ok(Task::Replay { file, quiet });
+    }
+    if let Some(found) = matches.subcommand_matches("run") {
+        let file = named(alloc, found.get_str("file"))?;
+        let book = found.get_flag("book");
+        return Ok(Task::Run { file, book });
     }
     match matches.subcommand_matches("audit") {
         Some(found) => {
@@ -123,19 +153,23 @@ fn words(rt: &HostRuntime) -> Result<Vec<String>, Stop> {
     }
 }
 
-/// `occ replay [FILE] [--quiet]` and `occ audit [FILE]`.
+/// `occ replay [FILE] [--quiet]`, `occ run [FILE] [--book]` and `occ audit [FILE]`.
 fn command<'a>(alloc: Global) -> Result<Command<'a>, AllocError> {
-    let quiet = Arg::new(alloc, "quiet")
-        .long("quiet")
-        .action(ArgAction::SetTrue);
-    let replay = plain(Command::new(alloc, "replay"))
-        .arg(Arg::new(alloc, "file"))?
-        .arg(quiet)?;
+    let replay = with_flag(alloc, "replay", "quiet")?;
+    let run = with_flag(alloc, "run", "book")?;
     let audit = plain(Command::new(alloc, "audit")).arg(Arg::new(alloc, "file"))?;
     plain(Command::new(alloc, "occ"))
         .subcommand_required(true)
         .subcommand(replay)?
+        .subcommand(run)?
         .subcommand(audit)
+}
+
+/// A command that takes a file and a flag.
+fn with_flag<'a>(alloc: Global, name: &'a str, flag: &'a str) -> Result<Command<'a>, AllocError> {
+    plain(Command::new(alloc, name))
+        .arg(Arg::new(alloc, "file"))?
+        .arg(Arg::new(alloc, flag).long(flag).action(ArgAction::SetTrue))
 }
 
 /// A command without help and version: asking for them is one more unknown word.
@@ -153,6 +187,24 @@ fn replay(rt: &HostRuntime, file: Option<&str>, quiet: bool) -> Result<(), Troub
         None => replay_text(rt.alloc(), &mut rt.stdin(), &mut output, quiet),
         Some(path) => match File::open(rt, path) {
             Ok(mut text) => replay_text(rt.alloc(), &mut text, &mut output, quiet),
+            Err(error) if error.kind() == IoErrorKind::OutOfMemory => Err(Trouble::Memory),
+            Err(_) => Err(Trouble::Read),
+        },
+    }
+}
+
+/// Runs the workload in a file, or on standard input where none is named.
+fn run_workload<H: Threads + Wait + Clock + Sync>(
+    rt: &HostRuntime,
+    threads: &H,
+    file: Option<&str>,
+    book: bool,
+) -> Result<Ran<Global>, Trouble> {
+    let mut output = rt.stdout();
+    match file {
+        None => run_text(threads, rt.alloc(), &mut rt.stdin(), &mut output, book),
+        Some(path) => match File::open(rt, path) {
+            Ok(mut text) => run_text(threads, rt.alloc(), &mut text, &mut output, book),
             Err(error) if error.kind() == IoErrorKind::OutOfMemory => Err(Trouble::Memory),
             Err(_) => Err(Trouble::Read),
         },

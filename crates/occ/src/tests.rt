@@ -41,6 +41,14 @@ fn audits(alloc: Global, words: &[&str], wanted: Option<&str>) -> bool {
     }
 }
 
+// Whether words ask for the run of a file, with the book of it or without.
+fn runs(alloc: Global, words: &[&str], wanted: Option<&str>, whole: bool) -> bool {
+    match asked(alloc, words) {
+        Ok(Task::Run { file, book }) => file.as_deref() == wanted && book == whole,
+        _ => false,
+    }
+}
+
 #[test]
 fn commands(rt: HostRuntime) -> Result<(), Fail> {
     let alloc = rt.alloc();
@@ -60,6 +68,18 @@ fn the_flag_stands_on_either_side_of_the_file(rt: HostRuntime) -> Result<(), Fai
     assert!(rt; is_usage(alloc, &["--quiet", "replay"]));
     assert!(rt; is_usage(alloc, &["replay", "--quiet", "--quiet"]));
     assert!(rt; is_usage(alloc, &["audit", "--quiet"]));
+    Ok(())
+}
+
+#[test]
+fn runs_of_workloads(rt: HostRuntime) -> Result<(), Fail> {
+    let alloc = rt.alloc();
+    assert!(rt; runs(alloc, &["run"], None, false));
+    assert!(rt; runs(alloc, &["run", "a", "--book"], Some("a"), true));
+    assert!(rt; runs(alloc, &["run", "--book", "a"], Some("a"), true));
+    assert!(rt; is_usage(alloc, &["run", "a", "--book", "--book"]));
+    assert!(rt; is_usage(alloc, &["run", "a", "--quiet"]));
+    assert!(rt; is_usage(alloc, &["replay", "a", "--book"]));
     Ok(())
 }
 

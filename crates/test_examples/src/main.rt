@@ -8,12 +8,17 @@ mod attack_tests;
 mod device_tests;
 #[cfg(test)]
 mod limit_tests;
+mod loads;
 mod refused;
 
 use altered::{tell_changed_schedule, tell_changes, tell_lines};
+use loads::{LOADS, tell_load};
 use occ_cli::{audit_text, replay_text, status_of};
 use refused::{Case, Engine, Tried, refuse_in_turn};
 use std::process::ExitCode;
+use std::sync::Wait;
+use std::thread::Threads;
+use std::time::Clock;
 use std::{fs, io};
 
 /// The schedules, each in a file `NAME.occ` with its text in `NAME.out`.
@@ -114,14 +119,15 @@ const CHANGED_BOOKS: [&str; 5] = [
 ];
 
 fn main(rt: HostRuntime) -> ExitCode {
-    match tell_all(&rt) {
+    match tell_all(&rt, &rt) {
         Ok(()) => ExitCode::SUCCESS,
         Err(_) => ExitCode::FAILURE,
     }
 }
 
-/// Prints a line for each example and one for each book, and then what came of them where memory was refused.
-fn tell_all(rt: &HostRuntime) -> io::Result<()> {
+/// Prints a line for each example, one for each book and one for each workload, and then what came of the examples and the books where
+/// memory was refused. The second handle is the same as the first, for what starts threads and waits.
+fn tell_all<H: Threads + Wait + Clock + Sync>(rt: &HostRuntime, threads: &H) -> io::Result<()> {
     for name in EXAMPLES {
         tell(rt, name)?;
     }
@@ -137,6 +143,9 @@ fn tell_all(rt: &HostRuntime) -> io::Result<()> {
     }
     for name in CHANGED_BOOKS {
         tell_changes(rt, name)?;
+    }
+    for name in LOADS {
+        tell_load(rt, threads, name)?;
     }
     tell_refusals(rt)
 }
