@@ -20,6 +20,11 @@ impl Numbers {
             .wrapping_add(1_442_695_040_888_963_407);
         (self.0 >> 33) % end.max(1)
     }
+
+    /// A number from 1 to `most`.
+    fn up_to(&mut self, most: u64) -> u64 {
+        self.below(most).saturating_add(1)
+    }
 }
 
 /// How a workload is made.
@@ -46,13 +51,13 @@ pub(crate) fn tell<H: Threads + Wait + Clock + Sync>(
     for seed in 0..count {
         let mut numbers = Numbers(seed.wrapping_mul(0x9e37_79b9_7f4a_7c15));
         let shape = Shape {
-            sessions: 1 + numbers.below(64),
-            queue: 1 + numbers.below(64),
-            keep: 1 + numbers.below(64),
-            validators: 1 + numbers.below(64),
+            sessions: numbers.up_to(64),
+            queue: numbers.up_to(64),
+            keep: numbers.up_to(64),
+            validators: numbers.up_to(64),
             retries: numbers.below(4),
-            count: 20 + numbers.below(100),
-            keys: 1 + numbers.below(30),
+            count: numbers.below(100).saturating_add(20),
+            keys: numbers.up_to(30),
         };
         let text = workload(rt.alloc(), shape, &mut numbers)?;
         check(threads, rt.alloc(), text.as_str(), &mut sums)?;
@@ -128,8 +133,8 @@ fn header(alloc: Global, shape: Shape) -> Result<String, AllocError> {
 fn workload(alloc: Global, shape: Shape, numbers: &mut Numbers) -> Result<String, AllocError> {
     let mut text = header(alloc, shape)?;
     for _ in 0..shape.count {
-        write!(text, "txn {}", 1 + numbers.below(shape.sessions))?;
-        for _ in 0..1 + numbers.below(4) {
+        write!(text, "txn {}", numbers.up_to(shape.sessions))?;
+        for _ in 0..numbers.up_to(4) {
             write_operation(&mut text, shape, numbers)?;
         }
         text.push('\n')?;
@@ -148,7 +153,11 @@ fn write_operation(
         0 => write!(text, " put:t:{key}:'a"),
         1 => write!(text, " get:other:{key}"),
         2..=6 => write!(text, " get:t:{key}"),
-        7..=9 => write!(text, " scan:t:{key}:{}", key + 1 + numbers.below(9)),
+        7..=9 => write!(
+            text,
+            " scan:t:{key}:{}",
+            key.saturating_add(numbers.up_to(9))
+        ),
         10..=13 => write!(text, " put:t:{key}:{}", numbers.below(100)),
         14..=15 => write!(text, " delete:t:{key}"),
         _ => write!(text, " add:t:{key}:1"),
