@@ -1,6 +1,5 @@
 //! The loads through clients.
-use crate::loads::{Shape, amount};
-use crate::store::TABLE;
+use bench_loads::{Shape, TABLE, amount};
 use occ_client::{Client, End};
 use occ_core::Core;
 use occ_types::{Cell, Fault, Key, Row};

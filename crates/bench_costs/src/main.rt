@@ -5,13 +5,10 @@
 //! how many requests for memory a transaction makes, and how many bytes of it stay.
 #![tactic(auto)]
 
-mod bare;
 mod by_clients;
-mod dice;
-mod loads;
 mod store;
 
-use loads::{Load, Shape};
+use bench_loads::{Bare, Dice, Load, Shape};
 use occ_types::Fault;
 use std::alloc::{Allocator, Global};
 use std::io;
@@ -36,7 +33,7 @@ fn run(rt: &HostRuntime) -> io::Result<bool> {
     let words: Vec<String> = std::env::args(rt)?.collect(rt.alloc())?;
     match words.as_slice() {
         [_] => tell_all(rt),
-        [_, load, way, rounds] => match (load_named(load), rounds.parse::<u64>()) {
+        [_, load, way, rounds] => match (Load::named(load), rounds.parse::<u64>()) {
             (Some(load), Ok(rounds)) => play(rt, load, way, rounds),
             _ => usage(rt),
         },
@@ -47,10 +44,6 @@ fn run(rt: &HostRuntime) -> io::Result<bool> {
 fn usage(rt: &HostRuntime) -> io::Result<bool> {
     eprintln!(rt; "bench_costs [LOAD WAY ROUNDS]")?;
     Ok(false)
-}
-
-fn load_named(name: &str) -> Option<Load> {
-    Load::ALL.into_iter().find(|load| load.name() == name)
 }
 
 /// Does some rounds of a load, and prints how many transactions committed.
@@ -90,8 +83,14 @@ fn committed<A: Allocator + Copy>(
 
 /// Does some rounds on a bare map; the answer is the sum of what was read, so that the reads are done.
 fn read_bare<A: Allocator + Copy>(alloc: A, shape: Shape, rounds: u64) -> Result<i64, Fault> {
-    let mut rows = bare::fill(alloc, &shape)?;
-    Ok(bare::play(&mut rows, &shape, rounds)?)
+    let mut map = Bare::fill(alloc, &shape)?;
+    let mut dice = Dice::new();
+    let mut sum = 0i64;
+    for _ in 0..rounds {
+        let read = map.turn(&shape, shape.first(&mut dice))?;
+        sum = sum.wrapping_add(read);
+    }
+    Ok(sum)
 }
 
 /// Prints what each load costs in memory, by each way.

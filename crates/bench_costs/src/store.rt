@@ -1,20 +1,15 @@
 //! The loads on a store.
 use crate::by_clients::{commit_all, number_in, read_and_write};
-use crate::dice::Dice;
-use crate::loads::{Shape, amount};
+use bench_loads::{Dice, PUTS, Shape, TABLE, amount, puts, schema};
 use occ_case::Verdict;
 use occ_client::Client;
 use occ_core::{Core, Outcome, SingleWrite};
 use occ_queue::Item;
 use occ_sets::{Op, PrivateCopy};
-use occ_types::{Cell, Fault, Key, KeyKind, Kind, Row, Schema, TableDef, Text};
+use occ_types::{Cell, Fault, Key, Row};
 use std::alloc::Allocator;
 use std::collections::VecDeque;
 
-/// The place of the one table.
-pub(crate) const TABLE: usize = 0;
-/// How many rows are put by one transaction at first.
-const PUTS: u64 = 256;
 /// After how many rounds of transactions the log is folded.
 const FOLDED_AFTER: u64 = 10_000;
 
@@ -200,30 +195,6 @@ impl<A: Allocator + Copy> Store<A> {
             .read(session, number, start, TABLE, &Key::Num(key))?;
         Ok(number_in(row))
     }
-}
-
-// Puts of rows of 0, from one key on and below another.
-fn puts<A: Allocator + Copy>(alloc: A, first: u64, behind: u64) -> Result<Vec<Op<A>, A>, Fault> {
-    let mut puts = Vec::new(alloc);
-    for key in first..behind {
-        puts.push(Op::Put {
-            table: TABLE,
-            key: Key::Num(key),
-            row: Row::from_cell(Cell::Int(0)),
-        })?;
-    }
-    Ok(puts)
-}
-
-// The one table, of rows of one number under number keys.
-fn schema<A: Allocator + Copy>(alloc: A) -> Result<Schema<A>, Fault> {
-    let mut tables = Vec::new(alloc);
-    tables.push(TableDef {
-        name: Text::new(alloc, "t")?,
-        key: KeyKind::Num,
-        columns: vec![in alloc; Kind::Int]?,
-    })?;
-    Ok(Schema::new(tables)?)
 }
 
 // Puts so many rows, by a session that does nothing else.
