@@ -1,6 +1,6 @@
 //! The loads on a store.
 use crate::by_clients::{commit_all, number_in, read_and_write};
-use bench_loads::{Dice, PUTS, Shape, TABLE, amount, puts, schema};
+use bench_loads::{Dice, PUTS, Shape, TABLE, amount, operations, puts, schema};
 use occ_case::Verdict;
 use occ_client::Client;
 use occ_core::{Core, Outcome, SingleWrite};
@@ -104,23 +104,10 @@ impl<A: Allocator + Copy> Store<A> {
         Ok(committed)
     }
 
-    // The operations of the next transaction. What is written is added, which reads it as well.
+    // The operations of the next transaction.
     fn operations(&mut self) -> Result<Vec<Op<A>, A>, Fault> {
-        let (alloc, shape) = (self.alloc, self.shape);
-        let first = shape.first(&mut self.dice);
-        let mut operations = Vec::new(alloc);
-        if shape.span > 0 {
-            operations.push(Op::Scan {
-                table: TABLE,
-                lower: Some(Key::Num(first)),
-                upper: Some(Key::Num(first.saturating_add(shape.span))),
-            })?;
-        }
-        for place in 0..shape.reads.max(shape.writes) {
-            let key = Key::Num(shape.key(first, place));
-            operations.push(operation(shape, place, key))?;
-        }
-        Ok(operations)
+        let first = self.shape.first(&mut self.dice);
+        operations(self.alloc, &self.shape, first)
     }
 
     // One transaction of each session: all begin before the first ends.
@@ -210,19 +197,6 @@ fn fill<A: Allocator + Copy>(
         let _done = core.run_alone(session, part.saturating_add(1), puts)?;
     }
     Ok(())
-}
-
-// The operation at a place of a transaction.
-fn operation<A: Allocator>(shape: Shape, place: u64, key: Key<A>) -> Op<A> {
-    if place < shape.writes {
-        Op::Add {
-            table: TABLE,
-            key,
-            amount: amount(place),
-        }
-    } else {
-        Op::Get { table: TABLE, key }
-    }
 }
 
 // What a session hands in.

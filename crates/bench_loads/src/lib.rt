@@ -10,4 +10,4 @@ mod rows;
 pub use bare::Bare;
 pub use dice::Dice;
 pub use loads::{Load, Shape, amount};
-pub use rows::{PUTS, TABLE, puts, schema};
+pub use rows::{PUTS, TABLE, operations, puts, schema};

@@ -1,4 +1,5 @@
-//! The table of a load, and its rows at first.
+//! The table of a load, its rows at first, and its transactions as operations.
+use crate::loads::{Shape, amount};
 use occ_sets::Op;
 use occ_types::{Cell, Fault, Key, KeyKind, Kind, Row, Schema};
 use std::alloc::Allocator;
@@ -28,4 +29,38 @@ pub fn puts<A: Allocator + Copy>(
         })?;
     }
     Ok(puts)
+}
+
+/// The operations of a transaction that begins at a key. What is written is added, which reads it as well.
+pub fn operations<A: Allocator + Copy>(
+    alloc: A,
+    shape: &Shape,
+    first: u64,
+) -> Result<Vec<Op<A>, A>, Fault> {
+    let mut operations = Vec::new(alloc);
+    if shape.span > 0 {
+        operations.push(Op::Scan {
+            table: TABLE,
+            lower: Some(Key::Num(first)),
+            upper: Some(Key::Num(first.saturating_add(shape.span))),
+        })?;
+    }
+    for place in 0..shape.reads.max(shape.writes) {
+        let key = Key::Num(shape.key(first, place));
+        operations.push(operation(shape, place, key))?;
+    }
+    Ok(operations)
+}
+
+// The operation at a place of a transaction.
+fn operation<A: Allocator>(shape: &Shape, place: u64, key: Key<A>) -> Op<A> {
+    if place < shape.writes {
+        Op::Add {
+            table: TABLE,
+            key,
+            amount: amount(place),
+        }
+    } else {
+        Op::Get { table: TABLE, key }
+    }
 }

@@ -1,12 +1,12 @@
 //! A load on an ordered map under one lock.
-use crate::budget::{Budget, Until};
-use crate::crew::{Done, Player, play_all};
-use crate::told::Told;
+use crate::budgets::Budget;
+use crate::outcomes::{Done, Told};
+use crate::tasks::Task;
 use bench_loads::{Bare, Dice, Shape};
 use occ_types::Fault;
 use std::alloc::Allocator;
 use std::sync::{Mutex, Wait};
-use std::thread::Threads;
+use std::thread::{self, Threads};
 use std::time::Clock;
 
 /// The map.
@@ -47,10 +47,9 @@ impl Locker {
         }
         true
     }
-}
 
-impl<A: Allocator + Copy, R: Wait> Player<Map<A>, R> for Locker {
-    fn play(&mut self, rt: &R, map: &Map<A>, many: u64) -> bool {
+    /// Makes so many transactions.
+    fn make<A: Allocator + Copy, R: Wait>(&mut self, rt: &R, map: &Map<A>, many: u64) -> bool {
         if self.keeps {
             return self.hold(rt, map, many);
         }
@@ -61,33 +60,77 @@ impl<A: Allocator + Copy, R: Wait> Player<Map<A>, R> for Locker {
         }
         true
     }
+
+    /// Makes transactions until the budget is spent, or one of them meets a fault.
+    fn work<A: Allocator + Copy, R: Wait + Clock>(
+        &mut self,
+        rt: &R,
+        map: &Map<A>,
+        budget: &Budget,
+    ) {
+        for _ in rt.forever() {
+            let Some(many) = budget.take(rt) else {
+                return;
+            };
+            if !self.make(rt, map, many) {
+                return;
+            }
+        }
+    }
 }
 
-/// Does a load on a map under one lock, which a thread takes for each transaction, or keeps for all that it makes at a time.
+/// Does a task on a map under one lock, which a thread takes for each transaction, or keeps for all that it makes at a time.
 pub(crate) fn run<A: Allocator + Copy + Send + Sync, R: Threads + Wait + Clock + Sync>(
     rt: &R,
     alloc: A,
-    shape: Shape,
-    threads: usize,
-    keeps: bool,
-    until: Until,
-) -> Result<Told<A>, Fault> {
+    task: Task,
+) -> Result<Told, Fault> {
+    let mut lockers = lockers(alloc, task)?;
+    let map = Mutex::new(Bare::fill(alloc, &task.load.shape)?);
+    Ok(play(rt, &map, &mut lockers, task))
+}
+
+/// Does it by these threads on a map, and tells what came of it.
+fn play<A: Allocator + Copy + Send + Sync, R: Threads + Wait + Clock + Sync>(
+    rt: &R,
+    map: &Map<A>,
+    lockers: &mut [Locker],
+    task: Task,
+) -> Told {
+    let budget = Budget::begin(rt, task.until);
+    work_at_once(rt, map, lockers, &budget);
+    let mut told = Told::new(task.load.shape, budget.micros(rt));
+    for locker in lockers.iter() {
+        told.add(locker.done);
+    }
+    told.sum = map.lock(rt).sum();
+    told
+}
+
+/// All of them at once, each in a thread of its own.
+fn work_at_once<A: Allocator + Copy + Send + Sync, R: Threads + Wait + Clock + Sync>(
+    rt: &R,
+    map: &Map<A>,
+    lockers: &mut [Locker],
+    budget: &Budget,
+) {
+    thread::scope(thread::scope_env(), rt, |scope| {
+        for locker in lockers.iter_mut() {
+            let _ = scope.spawn(move || locker.work(rt, map, budget));
+        }
+    });
+}
+
+/// One for each thread.
+fn lockers<A: Allocator + Copy>(alloc: A, task: Task) -> Result<Vec<Locker, A>, Fault> {
     let mut lockers = Vec::new(alloc);
-    for thread in 0..threads {
+    for thread in 0..task.threads {
         lockers.push(Locker {
-            shape,
-            keeps,
+            shape: task.load.shape,
+            keeps: task.way.keeps(),
             dice: Dice::of(thread as u64),
             done: Done::nothing(),
         })?;
     }
-    let map = Mutex::new(Bare::fill(alloc, &shape)?);
-    let budget = Budget::begin(rt, until);
-    play_all(rt, &map, &mut lockers, &budget);
-    let mut told = Told::new(alloc, shape, budget.micros(rt));
-    for locker in &lockers {
-        told.add(locker.done)?;
-    }
-    told.sum = map.lock(rt).sum();
-    Ok(told)
+    Ok(lockers)
 }

@@ -1,45 +1,72 @@
 //! What came of a load.
-use crate::budget::Until;
-use crate::crew::Done;
+use crate::budgets::Until;
 use bench_loads::{Shape, amount};
-use std::alloc::{AllocError, Allocator};
+use occ_types::Fault;
+
+/// What a thread has done.
+#[derive(Clone, Copy)]
+pub(crate) struct Done {
+    /// How many transactions committed.
+    pub(crate) committed: u64,
+    /// How often a transaction was tried.
+    pub(crate) tries: u64,
+    /// The fault that ended its work.
+    pub(crate) fault: Option<Fault>,
+}
+
+impl Done {
+    /// Nothing.
+    pub(crate) fn nothing() -> Done {
+        Done {
+            committed: 0,
+            tries: 0,
+            fault: None,
+        }
+    }
+
+    /// What it and another have done together.
+    pub(crate) fn and(self, other: Done) -> Done {
+        Done {
+            committed: self.committed.saturating_add(other.committed),
+            tries: self.tries.saturating_add(other.tries),
+            fault: self.fault.or(other.fault),
+        }
+    }
+}
 
 /// What came of a load.
-#[derive(Drop)]
-pub(crate) struct Told<A: Allocator> {
+#[derive(Clone, Copy)]
+pub(crate) struct Told {
     /// What its transactions do.
     pub(crate) shape: Shape,
     /// What all threads did together.
     pub(crate) all: Done,
-    /// How many transactions of each thread committed.
-    pub(crate) each: Vec<u64, A>,
+    /// How many transactions committed of the thread that made the fewest.
+    pub(crate) least: u64,
     /// How long the threads took, in microseconds.
     pub(crate) micros: u64,
     /// The sum of all rows at the end.
     pub(crate) sum: i64,
 }
 
-impl<A: Allocator + Copy> Told<A> {
-    /// A load of no threads.
-    pub(crate) fn new(alloc: A, shape: Shape, micros: u64) -> Told<A> {
+impl Told {
+    /// A load of no threads, which took so many microseconds.
+    pub(crate) fn new(shape: Shape, micros: u64) -> Told {
         Told {
             shape,
             all: Done::nothing(),
-            each: Vec::new(alloc),
+            least: u64::MAX,
             micros,
             sum: 0,
         }
     }
 
-    /// What one more thread did.
-    pub(crate) fn add(&mut self, done: Done) -> Result<(), AllocError> {
+    /// Adds what one more thread did.
+    pub(crate) fn add(&mut self, done: Done) {
         self.all = self.all.and(done);
-        self.each.push(done.committed)?;
-        Ok(())
+        self.least = self.least.min(done.committed);
     }
-}
 
-impl<A: Allocator> Told<A> {
     /// Whether no thread met a fault, each transaction committed, and the rows add up.
     pub(crate) fn is_right(&self, until: Until) -> bool {
         let all = match until {

@@ -3,7 +3,7 @@ use std::sync::atomic::{AtomicU64, Ordering};
 use std::time::{Clock, Instant};
 
 /// How many transactions a thread takes from the budget at a time, which are as many as it makes in a lease.
-pub(crate) const BATCH: u64 = 16;
+const BATCH: u64 = 16;
 
 /// When a load is over.
 #[derive(Clone, Copy)]
@@ -18,8 +18,14 @@ impl Until {
     /// The end that a word tells: `20000`, or `60s`.
     pub(crate) fn told(word: &str) -> Option<Until> {
         match word.strip_suffix('s') {
-            Some(seconds) => seconds.parse::<u64>().ok().map(Until::Seconds),
-            None => word.parse::<u64>().ok().map(Until::Count),
+            Some(seconds) => {
+                let seconds = seconds.parse::<u64>().ok()?;
+                Some(Until::Seconds(seconds))
+            }
+            None => {
+                let count = word.parse::<u64>().ok()?;
+                Some(Until::Count(count))
+            }
         }
     }
 }
@@ -61,15 +67,15 @@ impl Budget {
         }
     }
 
-    /// Takes the next transactions, at most so many, and tells how many; none where nothing is left.
-    pub(crate) fn take<R: Clock>(&self, rt: &R, most: u64) -> Option<u64> {
+    /// Takes the next transactions, and tells how many; none where nothing is left.
+    pub(crate) fn take<R: Clock>(&self, rt: &R) -> Option<u64> {
         if self.is_late(rt) {
             return None;
         }
-        let before = self.taken.fetch_add(most, Ordering::SeqCst);
+        let before = self.taken.fetch_add(BATCH, Ordering::SeqCst);
         let many = match self.until {
-            Until::Count(count) => count.saturating_sub(before).min(most),
-            Until::Seconds(_) => most,
+            Until::Count(count) => count.saturating_sub(before).min(BATCH),
+            Until::Seconds(_) => BATCH,
         };
         if many == 0 { None } else { Some(many) }
     }
