@@ -103,7 +103,7 @@ fn end_again<N: Name, A: Allocator + Copy, R: Wait>(
     Ok(refused.fault == Fault::Memory && is_right(&account))
 }
 
-// Of session 1 request 3 is kept and the mark is left, and of session 2 its request is left.
+// The lane of session 1 keeps its third item and leaves the mark; that of session 2 leaves its one item.
 fn is_right<A: Allocator>(account: &Account<A>) -> bool {
     account.entered == 2
         && account.lines.len() == 2
