@@ -25,7 +25,7 @@ numbers-cons session row left = of_cond (map (λ r. r.number)) (row.session == s
 abbrev pub IsNoted : BTreeMap ℕ ℕ → BTreeMap ℕ ℕ → ℕ → ℕ → Type 0
 IsNoted m n session number = (q : ℕ) → get nat_cmp n q ≡ cond (is_eq (nat_cmp session q)) (Some number) (get nat_cmp m q)
 
-noted : (base : Base) (m n : BTreeMap ℕ ℕ) (session number q : ℕ) → IsNoted m n session number → last_of base n q ≡ cond (session == q) number (last_of base m q)
+pub noted : (base : Base) (m n : BTreeMap ℕ ℕ) (session number q : ℕ) → IsNoted m n session number → last_of base n q ≡ cond (session == q) number (last_of base m q)
 noted base m n session number q is =
     ap (λ o. unwrap_or o (last_folded base q)) (is q ∙ ap (λ b. cond b (Some number) (get nat_cmp m q)) (unsigned_tied session q))
     ∙ of_cond (λ o. unwrap_or o (last_folded base q)) (session == q) (Some number) (get nat_cmp m q)

@@ -11,7 +11,7 @@ ghost use Rattle.occ_types.specs.PlainData.{end_of, object_of, question_of};
 ghost use Rattle.occ_sets.specs.PlainSets.{answer_of, rows_of};
 ghost use Rattle.occ_book.specs.Content.{is_backward, lower_bound, upper_bound};
 ghost use Rattle.occ_model.specs.State.{put, apply, answer, Rows};
-ghost use Rattle.occ_audit.specs.Replica.{lent, IsInOrder, SameTable, IsPlaced, IsTaken, row_under};
+ghost use Rattle.occ_audit.specs.Replica.{lent, IsInOrder, SameTable, IsPlaced, IsTaken, row_under, state_of};
 
 use occ_book::Tables;
 use occ_sets::{Answer, WriteSet};
@@ -23,10 +23,10 @@ use std::marker::Model;
 use std::ops::Bound;
 
 /// The rows of one table under their keys, all of them lent.
-type LentRows<'a, A> = BTreeMap<&'a Key<A>, &'a Row<A>, A>;
+pub type LentRows<'a, A> = BTreeMap<&'a Key<A>, &'a Row<A>, A>;
 
 /// A state with a map for each table that was ever written. Tables may have any place, also one that no schema has. Clauses see the state of the model.
-pub(crate) struct Replica<'a, A: Allocator> {
+pub struct Replica<'a, A: Allocator> {
     alloc: A,
     tables: BTreeMap<usize, LentRows<'a, A>, A>,
 }
@@ -58,8 +58,8 @@ impl<'a, A: Allocator> Drop for Replica<'a, A> {
 }
 
 impl<'a, A: Allocator + Copy> Replica<'a, A> {
-    // A state without rows, which takes no memory.
-    pub(crate) fn new(alloc: A) -> Replica<'a, A>
+    /// A state without rows, which takes no memory.
+    pub fn new(alloc: A) -> Replica<'a, A>
         ensures { result ≡ finite.empty }
     {
         Replica {
@@ -68,8 +68,8 @@ impl<'a, A: Allocator + Copy> Replica<'a, A> {
         }
     }
 
-    // The state of some tables, which lend it their rows.
-    pub(crate) fn of(alloc: A, tables: &'a Tables<A>) -> Result<Replica<'a, A>, AllocError>
+    /// The state of some tables, which lend it their rows.
+    pub fn of(alloc: A, tables: &'a Tables<A>) -> Result<Replica<'a, A>, AllocError>
         ensures { IfOk result (λ replica. replica ≡ tables.now.state) }
     {
         let mut replica = Replica::new(alloc);
@@ -103,8 +103,15 @@ impl<'a, A: Allocator + Copy> Replica<'a, A> {
         Ok(())
     }
 
-    // The rows of a table, or none where it was never written.
-    fn rows(&self, table: usize) -> Option<&LentRows<'a, A>>
+    /// The tables that were ever written, each with its rows, by their places.
+    pub fn tables(&self) -> &BTreeMap<usize, LentRows<'a, A>, A>
+        ensures { state_of result.now.entries ≡ self.now }
+    {
+        &self.tables
+    }
+
+    /// The rows of a table, or none where it was never written.
+    pub fn rows(&self, table: usize) -> Option<&LentRows<'a, A>>
         ensures { MatchOption result
             ((key : keys.Key) → finite.get self.now (table, key) ≡ None)
             (λ rows. (key : keys.Key) → finite.get self.now (table, key) ≡ row_under (lent rows.now.entries) key) }
@@ -112,20 +119,16 @@ impl<'a, A: Allocator + Copy> Replica<'a, A> {
         self.tables.get(&table)
     }
 
-    // The row of an object, or none where it is not there.
-    pub(crate) fn row(&self, object: &'a Object<A>) -> Option<&'a Row<A>>
+    /// The row of an object, or none where it is not there.
+    pub fn row(&self, object: &'a Object<A>) -> Option<&'a Row<A>>
         ensures { option_copied result ≡ finite.get self.now (object_of object.now) }
     {
         let rows = self.rows(object.table)?;
         rows.get(&&object.key).copied()
     }
 
-    // Does one write.
-    pub(crate) fn put(
-        &mut self,
-        object: &'a Object<A>,
-        row: Option<&'a Row<A>>,
-    ) -> Result<(), AllocError>
+    /// Does one write.
+    pub fn put(&mut self, object: &'a Object<A>, row: Option<&'a Row<A>>) -> Result<(), AllocError>
         ensures { OnOk result (self.new ≡ put self.old (object_of object.now, option_copied row.entry)) }
     {
         match row {
@@ -159,8 +162,8 @@ impl<'a, A: Allocator + Copy> Replica<'a, A> {
         }
     }
 
-    // Does the writes of a set in their order.
-    pub(crate) fn write(&mut self, writes: &'a WriteSet<A>) -> Result<(), AllocError>
+    /// Does the writes of a set in their order.
+    pub fn write(&mut self, writes: &'a WriteSet<A>) -> Result<(), AllocError>
         ensures { OnOk result (self.new ≡ apply self.old writes.now) }
     {
         for place in 0..writes.len() {
@@ -179,8 +182,8 @@ impl<'a, A: Allocator + Copy> Replica<'a, A> {
         self.put(object, row)
     }
 
-    // Whether the state answers a question so.
-    pub(crate) fn answers(&self, question: &'a Question<A>, given: &'a Answer<A>) -> bool
+    /// Whether the state answers a question so.
+    pub fn answers(&self, question: &'a Question<A>, given: &'a Answer<A>) -> bool
         ensures { Decides result (answer_of given.now ≡ answer (question_of question.now) self.now) }
     {
         match (question, given) {
@@ -220,8 +223,8 @@ impl<'a, A: Allocator + Copy> Replica<'a, A> {
         }
     }
 
-    // Whether the state is that of these tables.
-    pub(crate) fn is_of(&self, tables: &'a Tables<A>) -> bool
+    /// Whether the state is that of these tables.
+    pub fn is_of(&self, tables: &'a Tables<A>) -> bool
         ensures { Decides result (tables.now.state ≡ self.now) }
     {
         let count = tables.count();
@@ -298,7 +301,7 @@ fn are_kept<'a, A: Allocator>(rows: &LentRows<'a, A>, kept: &'a BTreeMap<Key<A>,
 }
 
 // Whether both ends of a range are there, and the lower one is above the upper one.
-fn is_backward<A: Allocator>(lower: Option<&Key<A>>, upper: Option<&Key<A>>) -> bool
+pub(crate) fn is_backward<A: Allocator>(lower: Option<&Key<A>>, upper: Option<&Key<A>>) -> bool
     ensures { result ≡ is_backward (end_of (option_copied lower.entry)) (end_of (option_copied upper.entry)) }
 {
     match (lower, upper) {
@@ -308,7 +311,7 @@ fn is_backward<A: Allocator>(lower: Option<&Key<A>>, upper: Option<&Key<A>>) -> 
 }
 
 // A lower end as a bound, which lies within the range.
-fn lower_bound<K>(lower: Option<&K>) -> Bound<&K>
+pub(crate) fn lower_bound<K>(lower: Option<&K>) -> Bound<&K>
     ensures { bound_map (λ end. end.now) result ≡ lower_bound (option_copied lower.entry) }
 {
     match lower {
@@ -318,7 +321,7 @@ fn lower_bound<K>(lower: Option<&K>) -> Bound<&K>
 }
 
 // An upper end as a bound, which lies outside of the range.
-fn upper_bound<K>(upper: Option<&K>) -> Bound<&K>
+pub(crate) fn upper_bound<K>(upper: Option<&K>) -> Bound<&K>
     ensures { bound_map (λ end. end.now) result ≡ upper_bound (option_copied upper.entry) }
 {
     match upper {

@@ -13,10 +13,10 @@ use std::alloc::{AllocError, Allocator};
 use std::collections::BTreeMap;
 
 /// The last write of each object among those that the open write phases have still to do.
-pub(crate) type Rests<'a, A> = LastWrites<'a, A>;
+pub type Rests<'a, A> = LastWrites<'a, A>;
 
-// The rests of a log.
-pub(crate) fn rests_of<'a, A: Allocator + Copy, O>(
+/// The last write of each object among those that the open write phases of a log have still to do.
+pub fn rests_of<'a, A: Allocator + Copy, O>(
     alloc: A,
     log: &'a [LogRow<A, O>],
 ) -> Result<Rests<'a, A>, AllocError>

@@ -46,8 +46,8 @@ fn play<'a, A: Allocator + Copy, O>(
     Ok(true)
 }
 
-// Whether a row that stands so is committed.
-fn is_committed<O>(standing: &Standing<O>) -> bool
+/// Whether a row that stands so is committed.
+pub fn is_committed<O>(standing: &Standing<O>) -> bool
     ensures { result ≡ is_committed (standing_of standing.now) }
 {
     matches!(standing, Standing::Writing(_) | Standing::Done(_))
