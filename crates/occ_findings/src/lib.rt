@@ -1,0 +1,14 @@
+//! What the audit of a log says no for: the first of all that stands wrong, told by its place, with what stands there due.
+//!
+//! A finding is data and no sentence. The library makes findings, by contract: none exactly where the audit says yes, and else the first one in this order. First the log is in order: from its first row on each place and each number is the next one, and then each closing mark, session by session. Then serial replay explains it, row by row and read by read. At last the tables are what the replay of the whole log leaves, object by object. What is wrong behind a first finding may follow from it, so it isn't looked for.
+#![tactic(auto)]
+
+mod explaining;
+mod findings;
+mod first_difference;
+mod first_read;
+mod orders;
+
+pub use explaining::explain_book;
+pub use findings::{Disorder, Finding, ObjectApart, WrongRead};
+pub use orders::first_disorder;
