@@ -1,13 +1,13 @@
 //! The engines of the store: a schedule goes in; answers, the book and an audit come out.
 #![tactic(auto)]
 
-mod answers;
+pub mod answers;
 mod clients;
 pub mod laws;
 mod operations;
 mod pairs;
 mod refusals;
-mod replay_steps;
+pub mod replay_steps;
 mod table_names;
 mod text_replay;
 mod tokens;

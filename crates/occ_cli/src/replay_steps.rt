@@ -26,7 +26,7 @@ use std::marker::Model;
 
 /// A store and its clients, one for each session, as the steps of a schedule leave them.
 #[derive(Drop)]
-pub(crate) struct Replay<A: Allocator> {
+pub struct Replay<A: Allocator> {
     alloc: A,
     core: Core<A>,
     clients: Vec<Client<A>, A>,
@@ -46,7 +46,7 @@ impl<A: Allocator> Model for Replay<A> {
 
 impl<A: Allocator + Copy> Replay<A> {
     /// An empty store with these tables, and a client for each of its sessions. Refused with `Memory` where there is none for it, and the schema is handed back then.
-    pub(crate) fn open(
+    pub fn open(
         alloc: A,
         schema: Schema<A>,
         limits: Limits,
@@ -72,7 +72,7 @@ impl<A: Allocator + Copy> Replay<A> {
     }
 
     /// Does a step, and answers it. It is an error where memory is refused, which comes only where no other refusal applies that is tried before, and where the step takes memory: as it can be for `enter`, `serial`, `write`, `get`, `scan`, `put`, `delete`, `alone`, `forge` and `rawread` only. Nothing has changed then, but that what was to enter is kept for the next time, as after any refusal.
-    pub(crate) fn answer(&mut self, step: Step<'_, A>) -> Result<Answer<A>, AllocError>
+    pub fn answer(&mut self, step: Step<'_, A>) -> Result<Answer<A>, AllocError>
         ensures ok { IfOk result (λ answer. Plays self.old (step_of step.entry) (answer_of answer) self.new) }
         ensures fed { IfOk result (λ answer. answer_of answer ≢ says.refused faults.Memory) }
         ensures err { OnErr result (Starved self.old (step_of step.entry) self.new) }
@@ -300,7 +300,7 @@ impl<A: Allocator + Copy> Replay<A> {
 
 impl<A: Allocator> Replay<A> {
     /// The store.
-    pub(crate) fn core(&self) -> &Core<A>
+    pub fn core(&self) -> &Core<A>
         ensures { result.now.world ≡ self.now.world }
     {
         &self.core
