@@ -1,0 +1,211 @@
+//! The rows of a picture: each with what it read and wrote, and the opponents that it met.
+
+use crate::lanes::Lanes;
+use crate::meetings::{Meetings, meetings_of};
+use crate::places::{track, x_of, y_of};
+use crate::sheets::{Point, Sheet};
+use crate::times::Times;
+use occ_book::{LogRow, Standing};
+use occ_model::Cause;
+use occ_print::lines::{read_line, write_line};
+use occ_sets::{ReadSet, WriteSet};
+use occ_types::Schema;
+use std::alloc::{AllocError, Allocator};
+
+/// How many reads, and how many writes, are told of a row.
+const TOLD: usize = 8;
+/// Where the places stand.
+const PLACES: u64 = 112;
+/// Where the counter stands.
+const COUNTERS: u64 = 126;
+
+/// What the rows of a picture are drawn from.
+#[derive(Drop)]
+pub(crate) struct Drawn<'a, A: Allocator, O> {
+    /// The tables.
+    pub(crate) schema: &'a Schema<A>,
+    /// The rows.
+    pub(crate) log: &'a [LogRow<A, O>],
+    /// Their columns.
+    pub(crate) times: Times<A>,
+    /// Their lanes.
+    pub(crate) lanes: Lanes<A>,
+}
+
+impl<A: Allocator, O> Drawn<'_, A, O> {
+    // Where a row is at a column.
+    fn point(&self, at: &LogRow<A, O>, column: u64) -> Point {
+        let lane = self.lanes.lane(at.session);
+        (x_of(column), y_of(lane, track(at.number)))
+    }
+}
+
+/// The name of the symbol and of the class of a standing.
+fn name_of<O>(standing: &Standing<O>) -> &'static str {
+    match standing {
+        Standing::Open(_) => "open",
+        Standing::Writing(_) => "writing",
+        Standing::Done(_) => "done",
+        Standing::Back(Cause::Conflict) => "conflict",
+        Standing::Back(Cause::TooOld) => "tooold",
+    }
+}
+
+// Whether a number is told on the axis: of long ones not each.
+fn is_told(number: u64) -> bool {
+    match number {
+        0..=99 => true,
+        100..=9999 => number % 5 == 0,
+        _ => number % 20 == 0,
+    }
+}
+
+impl<A: Allocator + Copy> Sheet<A> {
+    /// Appends a row and what belongs to it.
+    pub(crate) fn draw_row<O>(
+        &mut self,
+        alloc: A,
+        drawn: &Drawn<'_, A, O>,
+        row: usize,
+        at: &LogRow<A, O>,
+    ) -> Result<(), AllocError> {
+        self.draw_axis(&drawn.times, row, at)?;
+        let meetings = meetings_of(alloc, drawn.log, row, at)?;
+        self.draw_meetings(drawn, row, at, &meetings)?;
+        self.tell_row(at)?;
+        self.tell_meetings(drawn.log, &meetings)?;
+        self.tell_reads(drawn.schema, &at.reads)?;
+        self.tell_writes(drawn.schema, &at.writes)?;
+        self.draw_phases(drawn, row, at)
+    }
+
+    // Appends the place over the entry, and the number over the finish.
+    fn draw_axis<O>(
+        &mut self,
+        times: &Times<A>,
+        row: usize,
+        at: &LogRow<A, O>,
+    ) -> Result<(), AllocError> {
+        let place = at.place as u64;
+        if is_told(place) {
+            self.draw_label("axis", place, (x_of(times.entry(row)), PLACES))?;
+        }
+        match at.standing {
+            Standing::Done(number) if is_told(number) => {
+                let x = x_of(times.end_of(row, &at.standing));
+                self.draw_label("axis", number, (x, COUNTERS))
+            }
+            _ => Ok(()),
+        }
+    }
+
+    // Appends a line from the entry of a row to each opponent that it met: to its end, or to where it was at that entry.
+    fn draw_meetings<O>(
+        &mut self,
+        drawn: &Drawn<'_, A, O>,
+        row: usize,
+        at: &LogRow<A, O>,
+        meetings: &Meetings<A>,
+    ) -> Result<(), AllocError> {
+        let class = if meetings.are_certain {
+            "met"
+        } else {
+            "perhaps"
+        };
+        let entry = drawn.times.entry(row);
+        for place in &meetings.rows {
+            if let Some(other) = drawn.log.get(*place) {
+                let end = drawn.times.end_of(*place, &other.standing);
+                let to = drawn.point(other, end.min(entry));
+                self.draw_line(class, drawn.point(at, entry), to)?;
+            }
+        }
+        Ok(())
+    }
+
+    // Appends the beginning of the group of a row, and the first line of its title.
+    fn tell_row<O>(&mut self, at: &LogRow<A, O>) -> Result<(), AllocError> {
+        self.say("<g class=\"")?;
+        self.say(name_of(&at.standing))?;
+        self.put("\"><title>session ", at.session as u64)?;
+        self.put(", number ", at.number)?;
+        self.put(": place ", at.place as u64)?;
+        self.put(", start ", at.start)?;
+        self.put(", finish ", at.finish)?;
+        match at.standing {
+            Standing::Open(_) => self.say(", open"),
+            Standing::Writing(count) => self.put(", writing, writes done: ", count as u64),
+            Standing::Done(number) => self.put(", done with number ", number),
+            Standing::Back(Cause::Conflict) => self.say(", backed up for a conflict"),
+            Standing::Back(Cause::TooOld) => self.say(", backed up as too old"),
+        }
+    }
+
+    fn tell_meetings<O>(
+        &mut self,
+        log: &[LogRow<A, O>],
+        meetings: &Meetings<A>,
+    ) -> Result<(), AllocError> {
+        for row in &meetings.rows {
+            if let Some(other) = log.get(*row) {
+                self.say(if meetings.are_certain {
+                    "\nmet"
+                } else {
+                    "\nmay have met"
+                })?;
+                self.put(" session ", other.session as u64)?;
+                self.put(", number ", other.number)?;
+            }
+        }
+        if meetings.more > 0 {
+            self.put("\nand others: ", meetings.more)?;
+        }
+        if !meetings.are_all {
+            self.say("\nrows further back were not searched")?;
+        }
+        Ok(())
+    }
+
+    fn tell_reads(&mut self, schema: &Schema<A>, reads: &ReadSet<A>) -> Result<(), AllocError> {
+        self.put("\nreads: ", reads.len() as u64)?;
+        for read in reads.observations().iter().take(TOLD) {
+            read_line(&mut self.line, schema, read)?;
+            self.tell_line()?;
+        }
+        self.tell_more(reads.len())
+    }
+
+    fn tell_writes(&mut self, schema: &Schema<A>, writes: &WriteSet<A>) -> Result<(), AllocError> {
+        self.put("\nwrites: ", writes.len() as u64)?;
+        for (object, row) in writes.iter().take(TOLD) {
+            write_line(&mut self.line, schema, object, row)?;
+            self.tell_line()?;
+        }
+        self.tell_more(writes.len())
+    }
+
+    // Tells that there are more than are told.
+    fn tell_more(&mut self, count: usize) -> Result<(), AllocError> {
+        self.say(if count > TOLD { "\n..." } else { "" })
+    }
+
+    // Appends the end of the title of a row, its phases, its number and its symbol.
+    fn draw_phases<O>(
+        &mut self,
+        drawn: &Drawn<'_, A, O>,
+        row: usize,
+        at: &LogRow<A, O>,
+    ) -> Result<(), AllocError> {
+        let start = drawn.point(at, drawn.times.start(row, at.start));
+        let entry = drawn.point(at, drawn.times.entry(row));
+        let end = drawn.point(at, drawn.times.end_of(row, &at.standing));
+        self.say("</title>\n")?;
+        self.draw_symbol("start", start)?;
+        self.draw_line("read", start, entry)?;
+        self.draw_line("end", entry, end)?;
+        self.draw_symbol(name_of(&at.standing), end)?;
+        let beside = (entry.0.saturating_sub(6), entry.1.saturating_sub(4));
+        self.draw_label("number", at.number, beside)?;
+        self.say("</g>\n")
+    }
+}
