@@ -1,0 +1,100 @@
+//! The commands, and what help says of them.
+
+use clap::{Arg, ArgAction, Command};
+use std::alloc::{AllocError, Global};
+
+/// What the exit statuses mean.
+const STATUSES: &str = "\
+Exit status:
+  0  all is right
+  1  a file can't be read or written, memory was refused, or a run gave up
+  2  a line is malformed, or the words are no command
+  3  explain found something wrong, or the audit of a run says no";
+
+/// The program with its commands.
+pub(crate) fn program<'a>(alloc: Global) -> Result<Command<'a>, AllocError> {
+    let program = Command::new(alloc, "occ_lab")
+        .version("1.0")
+        .about("A laboratory for schedules, books and workloads")
+        .after_help(STATUSES)
+        .subcommand_required(true)
+        .arg_required_else_help(true);
+    let program = with(program, explain(alloc))?;
+    let program = with(program, picture(alloc))?;
+    let program = with(program, shell(alloc))?;
+    with(program, run(alloc))
+}
+
+/// The program with one command more, where that could be made.
+fn with<'a>(
+    program: Command<'a>,
+    command: Result<Command<'a>, AllocError>,
+) -> Result<Command<'a>, AllocError> {
+    program.subcommand(command?)
+}
+
+/// `occ_lab explain [--json] FILE`.
+fn explain<'a>(alloc: Global) -> Result<Command<'a>, AllocError> {
+    Command::new(alloc, "explain")
+        .about("Says what is wrong with a schedule or a book")
+        .after_help(STATUSES)
+        .arg(flag(alloc, "json", "Writes one object of JSON for each finding"))?
+        .arg(file(alloc, "A schedule or a book"))
+}
+
+/// `occ_lab picture FILE`.
+fn picture<'a>(alloc: Global) -> Result<Command<'a>, AllocError> {
+    Command::new(alloc, "picture")
+        .about("Writes the picture of a history, as SVG, to standard output")
+        .after_help(STATUSES)
+        .arg(file(alloc, "A schedule, which is replayed, or a book"))
+}
+
+/// `occ_lab shell [FILE]`.
+fn shell<'a>(alloc: Global) -> Result<Command<'a>, AllocError> {
+    Command::new(alloc, "shell")
+        .about("Answers the steps on standard input one by one; help is one of its words")
+        .after_help(STATUSES)
+        .arg(file(alloc, "A schedule whose header and steps stand first").required(false))
+}
+
+/// `occ_lab run [--json] [--book OUT] [--picture OUT] FILE`.
+fn run<'a>(alloc: Global) -> Result<Command<'a>, AllocError> {
+    let run = Command::new(alloc, "run")
+        .about("Runs a workload, and tells its time, commits, back-ups and memory")
+        .after_help(STATUSES)
+        .arg(flag(alloc, "json", "Writes one object of JSON"))?;
+    with_outputs(alloc, run)?.arg(file(alloc, "A workload"))
+}
+
+/// A command that may write a book and a picture.
+fn with_outputs<'a>(alloc: Global, command: Command<'a>) -> Result<Command<'a>, AllocError> {
+    command
+        .arg(out(alloc, "book", "Writes the book there"))?
+        .arg(out(alloc, "picture", "Writes the picture there, as SVG"))
+}
+
+/// The file that a command needs.
+fn file<'a>(alloc: Global, help: &'a str) -> Arg<'a> {
+    Arg::new(alloc, "file")
+        .required(true)
+        .value_name("FILE")
+        .help(help)
+}
+
+/// A flag.
+fn flag<'a>(alloc: Global, name: &'a str, help: &'a str) -> Arg<'a> {
+    Arg::new(alloc, name)
+        .long(name)
+        .action(ArgAction::SetTrue)
+        .help(help)
+}
+
+/// A file that is written.
+fn out<'a>(alloc: Global, name: &'a str, help: &'a str) -> Arg<'a> {
+    Arg::new(alloc, name)
+        .long(name)
+        .action(ArgAction::Set)
+        .value_name("OUT")
+        .help(help)
+}

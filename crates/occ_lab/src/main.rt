@@ -1,0 +1,83 @@
+//! The program `occ_lab`: what is wrong with a schedule or a book in words, a history as a picture, a shell, and a run to watch.
+#![tactic(auto)]
+
+use anyhow::Result;
+use clap::ArgMatches;
+use clap::error::ErrorKind;
+use std::process::ExitCode;
+use std::sync::Wait;
+use std::thread::Threads;
+use std::time::Clock;
+
+mod commands;
+mod explain;
+mod files;
+mod memory;
+mod picture;
+mod running;
+mod shell;
+mod watching;
+
+fn main(rt: HostRuntime) -> ExitCode {
+    match run(&rt, &rt) {
+        Ok(status) => ExitCode::from(status),
+        Err(error) => {
+            // where this line can't be written either, the status still tells
+            let _written = eprintln!(rt; "occ_lab: {error:#}");
+            ExitCode::from(1)
+        }
+    }
+}
+
+/// Reads the words of the command line and does what they ask for. The second handle is the same, for what starts threads and waits.
+fn run<H: Threads + Wait + Clock + Sync>(rt: &HostRuntime, threads: &H) -> Result<u8> {
+    let words: Vec<String> = std::env::args(rt)?.collect(rt.alloc())?;
+    let parsed = commands::program(rt.alloc())?.try_get_matches_from(words.as_slice());
+    match parsed {
+        Ok(matches) => serve(rt, threads, &matches),
+        Err(told) => {
+            let text = format!(in rt.alloc(); "{told}")?;
+            match told.kind() {
+                ErrorKind::DisplayHelp | ErrorKind::DisplayVersion => {
+                    print!(rt; "{text}")?;
+                    Ok(0)
+                }
+                _ => {
+                    eprint!(rt; "{text}")?;
+                    Ok(2)
+                }
+            }
+        }
+    }
+}
+
+/// Does what a command asks for, and answers the status.
+fn serve<H: Threads + Wait + Clock + Sync>(
+    rt: &HostRuntime,
+    threads: &H,
+    matches: &ArgMatches<'_>,
+) -> Result<u8> {
+    if let Some(found) = matches.subcommand_matches("explain") {
+        return explain::explain(rt, file(found), found.get_flag("json"));
+    }
+    if let Some(found) = matches.subcommand_matches("picture") {
+        return picture::picture(rt, file(found));
+    }
+    if let Some(found) = matches.subcommand_matches("shell") {
+        return shell::shell(rt, found.get_str("file"));
+    }
+    let Some(found) = matches.subcommand_matches("run") else {
+        return Ok(2);
+    };
+    let wanted = running::Wanted {
+        json: found.get_flag("json"),
+        book: found.get_str("book"),
+        picture: found.get_str("picture"),
+    };
+    running::run_file(rt, threads, file(found), &wanted)
+}
+
+/// The file that a command names.
+fn file<'m>(matches: &ArgMatches<'m>) -> &'m str {
+    matches.get_str("file").unwrap_or("")
+}
