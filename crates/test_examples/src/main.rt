@@ -110,7 +110,14 @@ const MALFORMED: [&str; 3] = [
 const BOOKS: [&str; 3] = ["changed-base", "changed-book", "unchanged-book"];
 
 /// Books, each in a file `NAME.book`, that are audited with each change of `NAME.changes`.
-const CHANGED_BOOKS: [&str; 5] = [
+const CHANGED_BOOKS: [&str; 12] = [
+    "histories/answered-late",
+    "histories/answered-late-searched",
+    "histories/lost-append",
+    "histories/serializable",
+    "histories/stale-read",
+    "histories/stale-read-searched",
+    "histories/write-skew",
     "keys-of-two-parts",
     "last-place",
     "lost-update-and-its-retry",
