@@ -1,6 +1,7 @@
 //! `occ_lab explain`.
 
-use crate::files::{read_file, tell_trouble};
+use crate::files::tell_trouble;
+use crate::fronts::read_text;
 use anyhow::{Context, Result};
 use occ_text::trouble::Trouble;
 use occ_words::explaining::explain_text;
@@ -10,7 +11,7 @@ use std::io::{BufWriter, Write};
 /// Says what is wrong with a schedule or a book, line by line, or as objects of JSON.
 pub(crate) fn explain(rt: &HostRuntime, path: &str, json: bool) -> Result<u8> {
     let alloc = rt.alloc();
-    let text = read_file(rt, path)?;
+    let text = read_text(rt, path)?;
     let style = if json { Style::Json } else { Style::Text };
     let mut told = Told::new(alloc, path, style)?;
     match write_told(rt, text.as_slice(), &mut told)? {

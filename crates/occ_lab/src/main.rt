@@ -12,6 +12,7 @@ use std::time::Clock;
 mod commands;
 mod explain;
 mod files;
+mod fronts;
 mod memory;
 mod picture;
 mod running;

@@ -1,6 +1,7 @@
 //! `occ_lab picture`.
 
-use crate::files::{read_file, tell_trouble};
+use crate::files::tell_trouble;
+use crate::fronts::read_text;
 use anyhow::Result;
 use occ_cli::replay_text;
 use occ_picture::write_picture;
@@ -13,7 +14,7 @@ use std::io::Write;
 
 /// Writes the picture of a book, or of a schedule's, to standard output.
 pub(crate) fn picture(rt: &HostRuntime, path: &str) -> Result<u8> {
-    let text = read_file(rt, path)?;
+    let text = read_text(rt, path)?;
     match draw(rt.alloc(), text.as_slice(), &mut rt.stdout()) {
         Ok(()) => Ok(0),
         Err(trouble) => tell_trouble(rt, path, text.as_slice(), trouble),

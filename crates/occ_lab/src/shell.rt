@@ -1,6 +1,7 @@
 //! `occ_lab shell`.
 
-use crate::files::{read_file, tell_trouble};
+use crate::files::tell_trouble;
+use crate::fronts::read_text;
 use anyhow::Result;
 use occ_text::trouble::Trouble;
 use occ_words::shells::shell_text;
@@ -11,7 +12,7 @@ pub(crate) fn shell(rt: &HostRuntime, path: Option<&str>) -> Result<u8> {
         let ended = shell_text(rt.alloc(), None, &mut rt.stdin(), &mut rt.stdout());
         return end(rt, "standard input", b"", ended);
     };
-    let text = read_file(rt, path)?;
+    let text = read_text(rt, path)?;
     let opening = Some(text.as_slice());
     let ended = shell_text(rt.alloc(), opening, &mut rt.stdin(), &mut rt.stdout());
     end(rt, path, text.as_slice(), ended)
