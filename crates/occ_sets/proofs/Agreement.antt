@@ -98,12 +98,12 @@ less table a b e =
 
 -- the code's key
 module _ (Z : Type 0) where
-  key_back : Key → code_key.Key Z
+  pub key_back : Key → code_key.Key Z
   key_back (Num n) = keys.Num n
   key_back (Text t) = keys.Text t
   key_back (Pair a b) = keys.Pair (a, b)
 
-  key_of-key_back : (k : Key) → key_of {Z = Z} (key_back k) ≡ k
+  pub key_of-key_back : (k : Key) → key_of {Z = Z} (key_back k) ≡ k
   unfolding key_back
   key_of-key_back (Num n) = refl
   key_of-key_back (Text t) = refl

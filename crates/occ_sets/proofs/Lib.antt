@@ -8,3 +8,6 @@ pub mod Observations
 pub mod OneByOne
 pub mod Placed
 pub mod Refusals
+pub mod Searches
+pub mod RowCopies
+pub mod Untouched

@@ -1,7 +1,9 @@
+pub mod InOrder
 pub mod Merging
 pub mod Operations
 pub mod Overlays
 pub mod OwnWrites
 pub mod PlainSets
+pub mod RangeRows
 pub mod Sets
 pub mod Shareable

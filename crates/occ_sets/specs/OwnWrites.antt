@@ -9,4 +9,4 @@ module _ {Z : Type 0} where
   -- all writes
   abbrev pub written : code.Content Z → List Write
   written (Few list) = writes_of list.items
-  written (Many map) = writes_of map.value.entries
+  written (Many many) = many.value

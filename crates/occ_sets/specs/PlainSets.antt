@@ -26,7 +26,7 @@ module _ {Z : Type 0} where
   -- the plain answer
   abbrev pub answer_of : code_answer.Answer Z → Answer
   answer_of (answers.Found row) = Found row
-  answer_of (answers.Rows rows) = Rows (rows_of rows.items)
+  answer_of (answers.Rows rows) = Rows rows
 
   -- the plain question and answer
   abbrev pub observation_of : code_observation.Observation Z → Observation

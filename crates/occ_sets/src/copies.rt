@@ -1,10 +1,14 @@
 //! Private copies.
-ghost use Rattle.std.specs.Prelude.{◌≡◌, ◌==◌, ◌<◌, [], false, cond, length, slice_get, None, Some, IfOk, IfErr, IfSome, OnOk, OnErr, MatchResult, IsOkUnless};
+ghost use Rattle.std.specs.Prelude.{◌≡◌, ◌==◌, ◌<◌, List, [], false, cond, length, slice_get, None, Some, IfOk, IfErr, IfSome, OnOk, OnErr, MatchResult, IsOkUnless};
 ghost use Rattle.std.specs.Option.{option_copied, option_map};
 ghost use Rattle.occ_types.specs.declared.fault.Fault.TheVariants.{SetFull, Memory};
 ghost use Rattle.occ_types.specs.declared.limits.TheConstants as limit;
 ghost use Rattle.occ_types.specs.PlainData.{key_of, object_of, question_of};
 ghost use Rattle.occ_model.specs.Overlay.{set, own, overlay};
+ghost use Rattle.occ_model.specs.State.{State, Rows as SeenRows, answer, meets_question};
+ghost use Rattle.occ_types.specs.Key as keys;
+ghost use Rattle.occ_types.specs.Row as rows;
+ghost use Rattle.occ_sets.specs.Overlays.{rows_over};
 ghost use Rattle.occ_sets.specs.PlainSets.{answer_of};
 ghost use Rattle.occ_sets.specs.Sets.{IsWriteSet, is_full_for};
 
@@ -94,6 +98,14 @@ impl<A: Allocator + Copy> PrivateCopy<A> {
 }
 
 impl<A: Allocator> PrivateCopy<A> {
+    /// Whether the transaction has written what the question asks for. A range of which it has written nothing is seen as the table answers it.
+    pub fn meets(&self, question: &Question<A>) -> bool
+        ensures value { result ≡ meets_question self.now.writes (question_of question.now) }
+        ensures untouched { result ≡ false → (state : State) (given : List (keys.Key × rows.Row)) → answer (question_of question.now) state ≡ SeenRows given → rows_over (question_of question.now) self.now.writes given ≡ given }
+    {
+        self.writes.meets(question)
+    }
+
     /// The number of the transaction.
     pub fn number(&self) -> u64
         ensures { result ≡ self.now.number }

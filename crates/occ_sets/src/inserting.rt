@@ -10,7 +10,8 @@ ghost use Rattle.occ_sets.specs.Sets.{WritesOnce};
 
 use crate::appending::append;
 use crate::few_writes::{is_new, place_of};
-use crate::own_writes::{Content, FEW, Write, WriteMap};
+use crate::many_writes::{ManyWrites, WriteMap};
+use crate::own_writes::{Content, FEW, Write};
 use occ_types::{Fault, Object, Refused, Row};
 use std::alloc::{AllocError, AllocFailed, Allocator};
 use std::mem;
@@ -32,7 +33,7 @@ pub(crate) fn insert_in<A: Allocator + Copy>(
     }
     match content {
         Content::Few(list) => insert_in_list(list, write),
-        Content::Many(map) => insert_in_map(map, write),
+        Content::Many(many) => many.insert(write),
     }
 }
 
@@ -47,6 +48,8 @@ fn is_list_full_for<A: Allocator>(content: &Content<A>, object: &Object<A>) -> b
 }
 
 // Moves the writes of a list into a map. An error, where there is no memory for it, leaves them in the list.
+#[cold]
+#[inline(never)]
 fn move_into_map<A: Allocator + Copy>(content: &mut Content<A>) -> Result<(), AllocError>
     requires { WritesOnce (written content.old) }
     ensures { written content.new ≡ written content.old }
@@ -56,8 +59,8 @@ fn move_into_map<A: Allocator + Copy>(content: &mut Content<A>) -> Result<(), Al
     };
     let empty = Vec::new(*list.allocator());
     match into_map(mem::replace(list, empty)) {
-        Ok(map) => {
-            *content = Content::Many(map);
+        Ok(many) => {
+            *content = Content::Many(many);
             Ok(())
         }
         Err(list) => {
@@ -90,24 +93,6 @@ fn insert_in_list<A: Allocator + Copy>(
     }
 }
 
-// Does a write on those of a map. It is refused, and handed back, where there is no memory.
-fn insert_in_map<A: Allocator + Copy>(
-    map: &mut WriteMap<A>,
-    write: Write<A>,
-) -> Result<(), Refused<Write<A>>>
-    ensures ok { OnOk result (writes_of map.new.entries ≡ set (writes_of map.old.entries) (object_of write.0) write.1) }
-    ensures err { OnErr result (writes_of map.new.entries ≡ writes_of map.old.entries) }
-    ensures handed_back { IfErr result (λ refused. refused.value ≡ write) }
-    ensures memory { IfErr result (λ refused. refused.fault ≡ Memory) }
-    ensures only_new { OnErr result (own (writes_of map.old.entries) (object_of write.0) ≡ None) }
-{
-    let (object, row) = write;
-    match map.insert(object, row) {
-        Ok(_) => Ok(()),
-        Err(AllocFailed { value }) => Err(memory(value)),
-    }
-}
-
 // There is no memory for a write.
 fn memory<A: Allocator>(value: Write<A>) -> Refused<Write<A>>
     ensures { result ≡ record { value = value; fault = Memory } }
@@ -121,20 +106,21 @@ fn memory<A: Allocator>(value: Write<A>) -> Refused<Write<A>>
 // A map with the writes of a list and room for as many more. The list is handed back where there is no memory for it.
 fn into_map<A: Allocator + Copy>(
     list: Vec<Write<A>, A>,
-) -> Result<Box<WriteMap<A>, A>, Vec<Write<A>, A>>
+) -> Result<Box<ManyWrites<A>, A>, Vec<Write<A>, A>>
     requires { WritesOnce (writes_of list.items) }
-    ensures ok { IfOk result (λ map. writes_of map.value.entries ≡ writes_of list.items) }
+    ensures ok { IfOk result (λ many. many.value ≡ writes_of list.items) }
     ensures err { IfErr result (λ back. back ≡ list) }
 {
     let alloc = *list.allocator();
-    let Ok(map) = WriteMap::with_capacity(alloc, list.len().saturating_mul(2)) else {
+    let Ok(mut many) = Box::new(alloc, ManyWrites::from_map(WriteMap::new(alloc))) else {
         return Err(list);
     };
-    let Ok(mut map) = Box::new(alloc, map) else {
+    let Ok(mut map) = WriteMap::with_capacity(alloc, list.len().saturating_mul(2)) else {
         return Err(list);
     };
     fill(&mut map, list);
-    Ok(map)
+    *many = ManyWrites::from_map(map);
+    Ok(many)
 }
 
 // Moves writes of distinct objects into a map without a write that has room for them.

@@ -23,6 +23,6 @@ pub fn meets_writes<A: Allocator>(writes: &WriteSet<A>, others: &WriteSet<A>) ->
 {
     match others.own_writes().content() {
         Content::Few(list) => list.iter().any(|write| writes.writes(&write.0)),
-        Content::Many(map) => map.keys().any(|object| writes.writes(object)),
+        Content::Many(many) => many.as_map().keys().any(|object| writes.writes(object)),
     }
 }

@@ -14,6 +14,7 @@ ghost use Rattle.occ_sets.specs.declared.reads.Answer.TheVariants as answers;
 ghost use Rattle.occ_types.specs.declared.fault.Fault.TheVariants.{Memory};
 
 use crate::own_writes::OwnWrites;
+use crate::range_rows::RangeRows;
 use crate::reads::Answer;
 use occ_types::{Fault, Key, Object, Question, Refused, Row};
 use std::alloc::{AllocError, Allocator};
@@ -45,9 +46,9 @@ pub(crate) fn over_row<A: Allocator + Clone>(
 pub(crate) fn over_range<A: Allocator + Copy>(
     writes: &OwnWrites<A>,
     question: &Question<A>,
-    rows: Vec<(Key<A>, Row<A>), A>,
+    rows: RangeRows<A>,
 ) -> Result<Answer<A>, Refused<Answer<A>>>
-    ensures seen { IfOk result (λ seen. answer_of seen ≡ Rows (rows_over (question_of question.now) writes.now (rows_of rows.items))) }
+    ensures seen { IfOk result (λ seen. answer_of seen ≡ Rows (rows_over (question_of question.now) writes.now rows)) }
     ensures refused { IfErr result (λ refused. refused ≡ record { value = answers.Rows rows; fault = Memory }) }
 {
     match over_rows(writes, question, &rows) {
@@ -63,14 +64,15 @@ pub(crate) fn over_range<A: Allocator + Copy>(
 fn over_rows<A: Allocator + Copy>(
     writes: &OwnWrites<A>,
     question: &Question<A>,
-    rows: &Vec<(Key<A>, Row<A>), A>,
-) -> Result<Vec<(Key<A>, Row<A>), A>, AllocError>
-    ensures { IfOk result (λ seen. rows_of seen.items ≡ rows_over (question_of question.now) writes.now (rows_of rows.now.items)) }
+    rows: &RangeRows<A>,
+) -> Result<RangeRows<A>, Fault>
+    ensures { IfOk result (λ seen. seen ≡ rows_over (question_of question.now) writes.now rows.now) }
 {
     let alloc = writes.allocator();
-    let mut seen = rows_asked(alloc, question, rows.clone()?)?;
+    let mut seen = rows_asked(alloc, question, rows.to_vec()?)?;
     write_all(&mut seen, question, writes)?;
-    let rows = in_order(alloc, seen)?;
+    let laid = in_order(alloc, seen)?;
+    let rows = RangeRows::shared(laid)?;
     Ok(rows)
 }
 

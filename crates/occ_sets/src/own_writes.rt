@@ -13,23 +13,14 @@ ghost use Rattle.occ_sets.specs.Sets.{WritesOnce, is_full_for};
 
 use crate::few_writes::{meets_few, own_in};
 use crate::inserting::insert_in;
-use indexmap::IndexMap;
+use crate::many_writes::{ManyWrites, WriteMap};
 use occ_types::limits::MAX_WRITES;
 use occ_types::{Fault, Object, Question, Refused, Row};
 use std::alloc::{AllocError, AllocFailed, Allocator};
-use std::hash::{BuildHasherDefault, FoldHasher};
 use std::marker::Model;
 
 /// A write: an object with its new row, or with none where it is deleted.
 pub type Write<A> = (Object<A>, Option<Row<A>>);
-
-/// Writes in the order of the first writes of their objects, which are found by their hashes.
-pub(crate) type WriteMap<A> = IndexMap<
-    Object<A>,
-    Option<Row<A>>,
-    BuildHasherDefault<FoldHasher>,
-    A,
->;
 
 /// The most writes that stand in a list. A transaction that writes no more takes one request for memory for them.
 pub(crate) const FEW: usize = 8;
@@ -48,7 +39,7 @@ pub(crate) enum Content<A: Allocator> {
     /// A few, in a list that is searched from its beginning.
     Few(Vec<Write<A>, A>),
     /// More, in a map behind a handle, so that they are short to move.
-    Many(Box<WriteMap<A>, A>),
+    Many(Box<ManyWrites<A>, A>),
 }
 
 impl<A: Allocator> Model for OwnWrites<A> {
@@ -87,7 +78,7 @@ impl<A: Allocator + Copy> OwnWrites<A> {
     pub(crate) fn allocator(&self) -> A {
         match &self.content {
             Content::Few(list) => *list.allocator(),
-            Content::Many(map) => *map.allocator(),
+            Content::Many(many) => *many.as_map().allocator(),
         }
     }
 }
@@ -108,7 +99,7 @@ impl<A: Allocator> OwnWrites<A> {
     {
         match &self.content {
             Content::Few(list) => list.len(),
-            Content::Many(map) => map.len(),
+            Content::Many(many) => many.as_map().len(),
         }
     }
 
@@ -125,7 +116,7 @@ impl<A: Allocator> OwnWrites<A> {
     {
         match &self.content {
             Content::Few(list) => own_in(list.as_slice(), object),
-            Content::Many(map) => map.get(object).map(|row| row.as_ref()),
+            Content::Many(many) => many.as_map().get(object).map(|row| row.as_ref()),
         }
     }
 
@@ -150,28 +141,40 @@ impl<A: Allocator> OwnWrites<A> {
                 None => None,
                 Some(write) => Some((&write.0, write.1.as_ref())),
             },
-            Content::Many(map) => match map.get_index(place) {
+            Content::Many(many) => match many.as_map().get_index(place) {
                 None => None,
                 Some((object, row)) => Some((object, row.as_ref())),
             },
         }
     }
 
-    /// Whether the writes are of what the question asks for: one look-up for a single key, one pass for a range.
+    /// Whether the writes are of what the question asks for: one look-up for a single key, and for a range a search where the writes are in order, and else one pass.
     pub(crate) fn meets(&self, question: &Question<A>) -> bool
         ensures { result ≡ meets_question self.now (question_of question.now) }
     {
         match (&self.content, question) {
             (Content::Few(list), _) => meets_few(list.as_slice(), question),
             (Content::Many(_), Question::One(object)) => self.writes(object),
-            (Content::Many(map), Question::Span { .. }) => map
-                .keys()
-                .any(|object| question.asks(object.table, &object.key)),
+            (Content::Many(many), Question::Span { table, lower, .. }) => many.meets_range(
+                *table,
+                lower.as_ref(),
+                question,
+            ),
         }
     }
 }
 
 impl<A: Allocator + Copy> OwnWrites<A> {
+    /// Puts the writes in order for searches, where they are more than a few. An error where there is no memory for it. The writes stay as they were either way.
+    pub(crate) fn put_in_order(&mut self) -> Result<(), AllocError>
+        ensures { self.new ≡ self.old }
+    {
+        match &mut self.content {
+            Content::Few(_) => Ok(()),
+            Content::Many(many) => many.put_in_order(),
+        }
+    }
+
     /// Writes an object, or deletes it where `row` is none. A new object goes last; one that is there keeps its place and takes the new row, which needs no memory. A new one is refused with `Memory` where there is none for it. That leaves the writes as they were and hands the write back.
     pub(crate) fn insert(
         &mut self,
@@ -229,8 +232,8 @@ fn content_for<A: Allocator + Copy>(alloc: A, count: usize) -> Result<Content<A>
 fn in_a_box<A: Allocator>(alloc: A, map: WriteMap<A>) -> Result<Content<A>, AllocError>
     ensures { IfOk result (λ content. written content ≡ writes_of map.entries) }
 {
-    match Box::new(alloc, map) {
-        Ok(map) => Ok(Content::Many(map)),
+    match Box::new(alloc, ManyWrites::from_map(map)) {
+        Ok(many) => Ok(Content::Many(many)),
         Err(AllocFailed { .. }) => Err(AllocError),
     }
 }
@@ -245,15 +248,16 @@ impl<A: Allocator + Clone> Clone for OwnWrites<A> {
 }
 
 // A copy of the writes.
+#[inline(never)]
 fn copied<A: Allocator + Clone>(content: &Content<A>) -> Result<Content<A>, AllocError>
     ensures { IfOk result (λ copy. written copy ≡ written content.now) }
 {
     match content {
         Content::Few(list) => Ok(Content::Few(list.clone()?)),
-        Content::Many(map) => {
-            let plain: &WriteMap<A> = map;
-            let alloc = plain.allocator().clone()?;
-            in_a_box(alloc, plain.clone()?)
+        Content::Many(many) => {
+            let map = many.as_map();
+            let alloc = map.allocator().clone()?;
+            in_a_box(alloc, map.clone()?)
         }
     }
 }

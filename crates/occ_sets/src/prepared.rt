@@ -16,6 +16,7 @@ ghost use Rattle.occ_sets.specs.PlainSets.{rows_of};
 
 use crate::copies::PrivateCopy;
 use crate::own_writes::OwnWrites;
+use crate::range_rows::RangeRows;
 use occ_types::limits::MAX_ANSWER_ROWS;
 use occ_types::{Fault, Key, Question, Row};
 use std::alloc::{AllocError, Allocator};
@@ -29,7 +30,7 @@ pub struct Prepared<'a, A: Allocator> {
     question: &'a Question<A>,
     writes: &'a OwnWrites<A>,
     own: BTreeMap<Key<A>, Option<Row<A>>, A>,
-    room: Vec<(Key<A>, Row<A>), A>,
+    room: Box<Vec<(Key<A>, Row<A>), A>, A>,
 }
 
 impl<'a, A: Allocator> Model for Prepared<'a, A> {
@@ -47,7 +48,7 @@ impl<'a, A: Allocator> Model for Prepared<'a, A> {
 
     // The own writes do among the keys that are asked for what all writes do, and there is room for them and for the most rows of an answer.
     ghost invariant = { λ p. ((state : State) → Led (question_of p.question.now) p.own.entries state (apply state p.writes.now))
-        × (p.room.items ≡ []) × (vec_len p.room ≡ 0) × (MAX_ANSWER_ROWS + btree_map_len p.own ≤ vec_capacity p.room) };
+        × (p.room.value.items ≡ []) × (vec_len p.room.value ≡ 0) × (MAX_ANSWER_ROWS + btree_map_len p.own ≤ vec_capacity p.room.value) };
 }
 
 impl<A: Allocator + Copy> PrivateCopy<A> {
@@ -60,6 +61,7 @@ impl<A: Allocator + Copy> PrivateCopy<A> {
         let alloc = writes.allocator();
         let own = own_asked(alloc, question, writes)?;
         let room = Vec::with_capacity(alloc, MAX_ANSWER_ROWS + own.len())?;
+        let room = Box::new(alloc, room)?;
         Ok(Prepared {
             question,
             writes,
@@ -71,34 +73,34 @@ impl<A: Allocator + Copy> PrivateCopy<A> {
 
 impl<'a, A: Allocator> Prepared<'a, A> {
     /// The rows that a table answers to the question, with the own writes over them. It takes no memory.
-    pub fn over(self, rows: Vec<(Key<A>, Row<A>), A>) -> Vec<(Key<A>, Row<A>), A>
+    pub fn over(self, rows: Vec<(Key<A>, Row<A>), A>) -> RangeRows<A>
         requires answered { (state : State) × (answer self.question state ≡ Rows (rows_of rows.items)) }
         requires few { length rows.items ≤ limit.MAX_ANSWER_ROWS }
-        ensures { rows_of result.items ≡ rows_over self.entry.question self.entry.writes (rows_of rows.items) }
+        ensures { result ≡ rows_over self.entry.question self.entry.writes (rows_of rows.items) }
     {
-        let Prepared { own, room, .. } = self;
-        merge(own, room, rows)
+        let Prepared { own, mut room, .. } = self;
+        merge(own, &mut room, rows);
+        RangeRows::own(room)
     }
 }
 
 // Lays rows, with the own writes over them, into a room that is large enough.
 pub(crate) fn merge<A: Allocator>(
     mut own: BTreeMap<Key<A>, Option<Row<A>>, A>,
-    mut room: Vec<(Key<A>, Row<A>), A>,
+    room: &mut Vec<(Key<A>, Row<A>), A>,
     rows: Vec<(Key<A>, Row<A>), A>,
-) -> Vec<(Key<A>, Row<A>), A>
-    requires empty { (room.items ≡ []) × (vec_len room ≡ 0) }
-    requires enough { length rows.items + btree_map_len own ≤ vec_capacity room }
-    ensures rows { result.items ≡ merged (on key_of key_cmp) rows.items own.entries }
+)
+    requires empty { (room.old.items ≡ []) × (vec_len room.old ≡ 0) }
+    requires enough { length rows.items + btree_map_len own ≤ vec_capacity room.old }
+    ensures rows { room.new.items ≡ merged (on key_of key_cmp) rows.items own.entries }
     ensures ordered { IsStrictlySortedBy (on key_of key_cmp) (keys_of own.entries) }
 {
     // Its clause says that the keys are in order.
     let _len = own.len();
     for (key, row) in rows {
-        lay_row(&mut own, &mut room, key, row);
+        lay_row(&mut own, room, key, row);
     }
-    lay_rest(&mut own, &mut room);
-    room
+    lay_rest(&mut own, room);
 }
 
 // Lays the own writes up to a row, and then the row, where it has no own write.

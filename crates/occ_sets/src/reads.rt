@@ -7,9 +7,10 @@ ghost use Rattle.occ_sets.specs.Sets.{is_full};
 ghost use Rattle.occ_sets.specs.Shareable.{held};
 
 use crate::appending::append;
+use crate::range_rows::RangeRows;
 use crate::shareable::Shareable;
 use occ_types::limits::MAX_QUESTIONS;
-use occ_types::{Fault, Key, Question, Refused, Row};
+use occ_types::{Fault, Question, Refused, Row};
 use std::alloc::{AllocError, AllocFailed, Allocator};
 use std::marker::Model;
 
@@ -20,7 +21,7 @@ pub enum Answer<A: Allocator> {
     /// To a single key its row, or none where there is none.
     Found(Option<Row<A>>),
     /// To a range its keys and rows, in the order of the keys.
-    Rows(Vec<(Key<A>, Row<A>), A>),
+    Rows(RangeRows<A>),
 }
 
 impl<A: Allocator + Clone> Clone for Answer<A> {

@@ -75,6 +75,19 @@ impl<T: Drop, A: Allocator> Shareable<T, A> {
         if let Shareable::Plain(_) = self {
             return Ok(());
         }
+        self.take_from_handle(empty)
+    }
+
+    // The same of a value behind a handle. It stands apart, since few values have one before the last change of them.
+    #[cold]
+    #[inline(never)]
+    fn take_from_handle(&mut self, empty: T) -> Result<(), AllocError>
+    where
+        T: Clone,
+        ensures alone { OnOk result (IsPlain self.new) }
+        ensures ok { OnOk result ((held self.new ≡ held self.old) ⊎ T.is_clone (held self.old) (held self.new)) }
+        ensures err { OnErr result (held self.new ≡ held self.old) }
+    {
         let content = mem::replace(self, Shareable::Plain(empty));
         match content.into_plain() {
             Ok(value) => {

@@ -12,6 +12,7 @@ ghost use Rattle.occ_sets.specs.Shareable.{held};
 
 use crate::own_writes::{OwnWrites, Write};
 use crate::prepared::{merge, own_asked};
+use crate::range_rows::RangeRows;
 use crate::shareable::Shareable;
 use occ_types::{Fault, Key, Object, Question, Refused, Row};
 use std::alloc::{AllocError, Allocator};
@@ -146,18 +147,39 @@ impl<A: Allocator + Copy> WriteSet<A> {
         if own.len() == 0 {
             return Ok(rows);
         }
-        let Ok(room) = Vec::with_capacity(alloc, rows.len() + own.len()) else {
+        let Ok(mut room) = Vec::with_capacity(alloc, rows.len() + own.len()) else {
             return Err(no_memory(rows));
         };
-        Ok(merge(own, room, rows))
+        merge(own, &mut room, rows);
+        Ok(room)
     }
 
-    /// From now on a clone of the set is one more owner of it, and copies nothing. Refused with `Memory` where there is none for the handle. The set has its writes either way.
+    /// What `over` answers, of rows that several may share: these rows, where the set writes none of those that are asked for, and else copies with the writes over them. Refused with `Memory` where there is none for the copies.
+    pub fn over_shared(
+        &self,
+        question: &Question<A>,
+        rows: &RangeRows<A>,
+    ) -> Result<RangeRows<A>, Fault>
+        requires answered { (state : State) × (answer (question_of question.now) state ≡ Rows rows.now) }
+        ensures seen { IfOk result (λ seen. seen ≡ rows_over (question_of question.now) self.now rows.now) }
+        ensures memory { IsOkUnless result Memory }
+    {
+        if !self.meets(question) {
+            let untouched = rows.clone()?;
+            return Ok(untouched);
+        }
+        let seen = self.over(question, rows.to_vec()?)?;
+        let shared = RangeRows::shared(seen)?;
+        Ok(shared)
+    }
+
+    /// From now on a clone of the set is one more owner of it, and copies nothing. Refused with `Memory` where there is none for the handle, or for the order in which many writes are searched. The set has its writes either way.
     pub fn share(&mut self) -> Result<(), Fault>
         ensures kept { self.new ≡ self.old }
         ensures memory { IsOkUnless result Memory }
     {
         let alloc = self.own_writes().allocator();
+        put_in_order(&mut self.content)?;
         self.content.share(alloc, OwnWrites::new(alloc))?;
         Ok(())
     }
@@ -206,6 +228,18 @@ impl<A: Allocator + Copy> WriteSet<A> {
         ensures memory { IfErr result (λ refused. refused.fault ≡ Memory) }
     {
         insert_in(&mut self.content, (Object { table, key }, row))
+    }
+}
+
+// Puts writes that nobody shares in order for searches. An error, where there is no memory for it, leaves them too.
+fn put_in_order<A: Allocator + Copy>(
+    content: &mut Shareable<OwnWrites<A>, A>,
+) -> Result<(), AllocError>
+    ensures { held content.new ≡ held content.old }
+{
+    match content {
+        Shareable::Plain(writes) => writes.put_in_order(),
+        Shareable::Shared(_) => Ok(()),
     }
 }
 

@@ -24,7 +24,7 @@ returns-in-Few g c =
 pub returns-in-Many : goal.returns-in-Many
 returns-in-Many g c =
     let writes = c.args.writes.now in
-    let es = c.deref-in-Many.result.now.entries in
-    let seen : writes_of es ≡ c.args.others.now = ap (λ m. writes_of m.entries) c.deref-in-Many.ensures ∙ ap written (sym c.in-Many.is) ∙ c.content.ensures ∙ c.own_writes.ensures in
+    let es = c.as_map.result.now.entries in
+    let seen : writes_of es ≡ c.args.others.now = c.as_map.ensures ∙ c.deref-in-Many.ensures ∙ ap written (sym c.in-Many.is) ∙ c.content.ensures ∙ c.own_writes.ensures in
     let found : c.any-in-Many.result ≡ list_any (λ o. is_some (own writes (object_of o))) (keys_of es) = any_from_yields_List (λ o. is_some (own writes (object_of o))) _ _ c.any-in-Many.result c.any-in-Many.ensures.ran (YieldsList-from_rest (keys_of es) cc) (λ x b q k. search (rules, tests)) in
     found ∙ meets_writes-keys writes es ∙ ap (meets_writes writes) seen

@@ -1,5 +1,4 @@
-use Rattle.std.proofs.Common.{◌≡◌, sym, ap, ◌∙◌}
-use Rattle.std.proofs.lemmas.Map.Entries.{entries_from_clone}
+use Rattle.std.proofs.Common.{sym, ap, ◌∙◌}
 use Rattle.occ_types.specs.PlainData.{question_of, table_asked}
 use Rattle.occ_model.specs.State.{apply}
 use Rattle.occ_model.specs.Overlay as model
@@ -12,9 +11,9 @@ use Rattle.occ_sets.proofs.overlays.over_rows.Goals as goal
 pub returns : goal.returns
 returns g c =
     let q = question_of c.args.question.now in
-    let copied = rows_of c.in_ok-clone.field-0.items in
-    let same = ap rows_of (entries_from_clone (λ a b. b ≡ a) (λ a b. b ≡ a) (λ _ _ is. is) (λ _ _ is. is) c.args.rows.now.items c.in_ok-clone.field-0.items c.in_ok-clone.ensures.cases.0) in
+    let copied = rows_of c.in_ok-to_vec.field-0.items in
     let given = model.rows_of (table_asked q) copied in
-    ap rows_of c.in_ok-rows.ensures.rows
-    ∙ sym (answer_of_entries q _ (apply given c.args.writes.now) (c.in_ok-write_all.ensures given c.in_ok-seen.ensures) c.in_ok-rows.ensures.sorted)
-    ∙ ap (λ rows. rows_over q c.args.writes.now rows) same
+    c.in_ok-rows.ensures
+    ∙ ap rows_of c.in_ok-laid.ensures.rows
+    ∙ sym (answer_of_entries q _ (apply given c.args.writes.now) (c.in_ok-write_all.ensures given c.in_ok-seen.ensures) c.in_ok-laid.ensures.sorted)
+    ∙ ap (λ rows. rows_over q c.args.writes.now rows) c.in_ok-to_vec.ensures

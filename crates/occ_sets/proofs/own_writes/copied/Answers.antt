@@ -26,6 +26,6 @@ returns-in_ok-clone-in-Few g c =
 -- and one of the map its entries
 pub returns-in_ok-clone-in-Many : goal.returns-in_ok-clone-in-Many
 returns-in_ok-clone-in-Many g c =
-    let same = same_from_all_zip _ c.deref-plain.result.now.entries c.in_ok-clone-in-Many.field-0.entries c.in_ok-clone-in-Many.ensures.cases (same_entry (λ e copy h. h.0) (λ x y row h. absurd h.1) (λ x y row h. absurd h.1) (λ x y row copy h. h.1)) in
-    let seen : writes_of c.in_ok-clone-in-Many.field-0.entries ≡ written c.args.content.now = ap writes_of same ∙ ap (λ m. writes_of m.entries) c.deref-plain.ensures ∙ ap written (sym c.in-Many.is) in
+    let same = same_from_all_zip _ c.as_map-map.result.now.entries c.in_ok-clone-in-Many.field-0.entries c.in_ok-clone-in-Many.ensures.cases (same_entry (λ e copy h. h.0) (λ x y row h. absurd h.1) (λ x y row h. absurd h.1) (λ x y row copy h. h.1)) in
+    let seen : writes_of c.in_ok-clone-in-Many.field-0.entries ≡ written c.args.content.now = ap writes_of same ∙ c.as_map-map.ensures ∙ c.deref.ensures ∙ ap written (sym c.in-Many.is) in
     subst (λ ws. IfOk c.in_a_box.result (λ content. written content ≡ ws)) seen c.in_a_box.ensures

@@ -20,8 +20,8 @@ returns-in-Some-clause-value g c =
 
 pub returns-in-Some-get_index-clause-value : goal.returns-in-Some-get_index-clause-value
 returns-in-Some-get_index-clause-value g c =
-    let es = c.deref-in-Many.result.now.entries in
-    let seen : writes_of es ≡ c.args.self.now = ap (λ m. writes_of m.entries) c.deref-in-Many.ensures ∙ ap written (sym c.in-Many.is) ∙ c.self.view_is in
+    let es = c.as_map.result.now.entries in
+    let seen : writes_of es ≡ c.args.self.now = c.as_map.ensures ∙ c.deref-in-Many.ensures ∙ ap written (sym c.in-Many.is) ∙ c.self.view_is in
     ap (λ row. Some (object_of c.in-Some-get_index.object.now, row)) c.as_ref-in-Some-get_index.ensures.value
     ∙ ap (option_map write_of) (ap (option_map deref_pair) (sym c.in-Some-get_index.is) ∙ c.get_index.ensures.entry)
     ∙ sym (slice_get-map write_of es c.args.place)

@@ -1,7 +1,7 @@
 use Rattle.std.proofs.Common.{is_some, refl, sym, ap, ◌∙◌}
 use Rattle.occ_sets.specs.PlainSets.{writes_of}
 use Rattle.occ_sets.proofs.WriteEntries.{own_absent, set-writes_of}
-use Rattle.occ_sets.proofs.inserting.insert_in_map.Goals as goal
+use Rattle.occ_sets.proofs.many_writes.insert_in_map.Goals as goal
 
 -- an insert is one more write
 pub returns-in-Ok-clause-ok : goal.returns-in-Ok-clause-ok
