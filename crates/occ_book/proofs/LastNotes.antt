@@ -88,7 +88,7 @@ module _ {Z : Type 0} where
   once-writes_in (e ∷ es) h = (apart-below (object_of e.0.now) es h.0, once-writes_in es h.1)
 
   -- each object is that of the code's, behind some reference
-  code_of : (o : Object) → (x : Bor (code_object.Object Z)) × (object_of x.now ≡ o)
+  pub code_of : (o : Object) → (x : Bor (code_object.Object Z)) × (object_of x.now ≡ o)
   code_of (t, Num n) = (record { ref_ptr = (0, 0); now = record { table = t; key = keys.Num n } }, refl)
   code_of (t, KeyText s) = (record { ref_ptr = (0, 0); now = record { table = t; key = keys.Text s } }, refl)
   code_of (t, Pair a b) = (record { ref_ptr = (0, 0); now = record { table = t; key = keys.Pair (a, b) } }, refl)

@@ -1,6 +1,7 @@
 pub mod Common
 pub mod Copies
 pub mod TableEntries
+pub mod FoldedEntries
 pub mod Folding
 pub mod LastNotes
 pub mod MarkViews

@@ -1,6 +1,7 @@
 -- One map for each table, seen as one state: what the state has at an object, what a change of one map does to it, and what it answers to a range.
-use Rattle.std.proofs.Common.{◌≡◌, ℕ, suc, zero, ◌+◌, ◌<◌, ◌≤◌, nat_eq, Bool, true, false, ◌&&◌, cond, T, List, [], ◌∷◌, ◌++◌, length, Option, None, Some, refl, sym, ap, subst, ◌∙◌, arith, map, slice_get, slice_set, option_copied, slice_index_or, Bor, BTreeMap, Less, is_eq, is_lt}
-use Rattle.occ_book.proofs.Common.{nat_tests, sorted_head, sorted_tail, option_or, slice_get_past, slice_get_read, length-set, length-map, Bound, entries_between, AllByRecursion, IsStrictlySortedBy, keys_of, IsOrdered, on, eq_by_cmp, ordering_then, eq_by_cmp_equiv, tied_itself, nat_cmp_total, unsigned_Decides, get, empty, find, is_sorted, get-from_entries, below_all, Key, key_cmp, key_cmp_total, Object, object_cmp, object_cmp_total, Span, asks, Row, key_of, end_of, asks-One, Rows, answer, answer_size, put, same, get-put, same_state, Content, is_backward, lower_bound, upper_bound, seen, entries_within, placed, placed_from, state_of, content_of, IsPut}
+use Rattle.std.proofs.Common.{Vec, ◌≡◌, ℕ, suc, zero, ◌+◌, ◌<◌, ◌≤◌, nat_eq, Bool, true, false, ◌&&◌, cond, T, List, [], ◌∷◌, ◌++◌, length, Option, None, Some, refl, sym, ap, subst, ◌∙◌, arith, map, slice_get, slice_set, option_copied, slice_index_or, Bor, BTreeMap, Less, is_eq, is_lt}
+use Rattle.occ_book.specs.Content.{IsAllUpTo, AnswersUpTo}
+use Rattle.occ_book.proofs.Common.{Answer, nat_tests, sorted_head, sorted_tail, option_or, slice_get_past, slice_get_read, length-set, length-map, Bound, entries_between, AllByRecursion, IsStrictlySortedBy, keys_of, IsOrdered, on, eq_by_cmp, ordering_then, eq_by_cmp_equiv, tied_itself, nat_cmp_total, unsigned_Decides, get, empty, find, is_sorted, get-from_entries, below_all, Key, key_cmp, key_cmp_total, Object, object_cmp, object_cmp_total, Span, asks, Row, key_of, end_of, asks-One, Rows, answer, answer_size, put, same, get-put, same_state, Content, is_backward, lower_bound, upper_bound, seen, entries_within, placed, placed_from, state_of, content_of, IsPut}
 use Rattle.std.specs.Slice.{IsItemAt}
 use Rattle.std.specs.FinMap as finite
 use Rattle.occ_types.specs.declared.keys.Key as code_key
@@ -208,6 +209,14 @@ module _ {Z : Type 0} where
   pub size-found : (maps : List (BTreeMap (code_key.Key Z) Row)) (t : ℕ) (m : BTreeMap (code_key.Key Z) Row) (a b : Option Key) (old : Content) → content_of maps ≡ old → slice_get maps t ≡ Some m → IsOrdered (on key_of key_cmp) m → length (entries_within a b m.entries) ≡ answer_size (answer (Span t a b) old.state)
   size-found maps t m a b old view at ordered =
       sym (length-map (entries_within a b m.entries) seen) ∙ sym (ap answer_size (answer-found maps t m a b old view at ordered))
+
+  -- what is found of some entries is found of the answer that they give
+  pub up_to_answers : (most : ℕ) (es : List (code_key.Key Z × Row)) (given : Answer) (found : Option (Vec (code_key.Key Z × Row) Z)) → given ≡ Rows (map seen es) → IsAllUpTo most es found → AnswersUpTo most given found
+  up_to_answers most es given None is more = subst (λ (n : ℕ). most < n) (sym (length-map es seen) ∙ sym (ap answer_size is)) more
+  up_to_answers most es given (Some rows) is all = (
+    subst (λ (n : ℕ). n ≤ most) (sym (length-map es seen) ∙ sym (ap answer_size is)) all.0,
+    ap (λ es. Rows (map seen es)) all.1 ∙ sym is,
+  )
 
   pub entries_within-backward : (a b : Option Key) (es : List (code_key.Key Z × Row)) → is_backward a b ≡ true → entries_within a b es ≡ []
   entries_within-backward a b [] e = refl

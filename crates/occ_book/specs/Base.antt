@@ -31,6 +31,10 @@ abbrev pub base_content_code : Coded BaseContent
 base_content_code =
     code_by (ℕ × (ℕ × Base)) (coded× coded_ℕ (coded× coded_ℕ base_code)) (λ c. (c.tables, (c.sessions, c.base))) (λ p. record { tables = p.0; sessions = p.1.0; base = p.1.1 }) (λ _. refl)
 
+-- what some tables hold with some writes done over it
+abbrev pub written_over : Content → List Write → Content
+written_over tables writes = record { tables = tables.tables; state = apply tables.state writes }
+
 -- a base with such tables and numbers, and with this as the next place
 abbrev pub base_content : Content → Marked → ℕ → BaseContent
 base_content tables numbers place = record {

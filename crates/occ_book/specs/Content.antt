@@ -1,5 +1,5 @@
 -- What clauses see of the tables: how many they are, and the rows of all.
-use Rattle.std.specs.Prelude.{◌≡◌, ℕ, ℤ, suc, length, Bool, false, ◌&&◌, cond, ◌⊎◌, List, [], ◌∷◌, ◌++◌, map, Option, None, Some, refl}
+use Rattle.std.specs.Prelude.{◌≡◌, ◌<◌, ◌≤◌, ℕ, ℤ, suc, length, Vec, Bool, false, ◌&&◌, cond, ◌⊎◌, List, [], ◌∷◌, ◌++◌, map, Option, None, Some, refl}
 use Rattle.std.proofs.Common.{inl, inr}
 use Rattle.std.specs.Coded.{Coded, code_by, coded×, coded⊎, coded_ℕ, coded_ℤ, coded_list}
 use Rattle.std.specs.declared.ops.Bound.{Bound}
@@ -16,7 +16,7 @@ use Rattle.occ_types.specs.Row.{Cell, Int, Text as CellText, Row}
 use Rattle.occ_types.specs.Question.{is_from, is_below}
 use Rattle.occ_types.specs.PlainData.{key_of}
 use Rattle.occ_types.specs.declared.keys.Key as code_key
-use Rattle.occ_model.specs.State.{State}
+use Rattle.occ_model.specs.State.{State, Answer, Rows, answer_size}
 
 -- how many tables there are, and the rows of all
 pub record Content : Type 0 where
@@ -111,6 +111,16 @@ module _ {Z : Type 0} where
   -- the entries whose keys lie between two ends
   abbrev pub entries_within : Option Key → Option Key → List (code_key.Key Z × Row) → List (code_key.Key Z × Row)
   entries_within lower upper = filter (λ e. is_within lower upper (key_of e.0))
+
+  -- copies of all entries where they are at most so many, and none where they are more
+  abbrev pub IsAllUpTo : ℕ → List (code_key.Key Z × Row) → Option (Vec (code_key.Key Z × Row) Z) → Type 0
+  IsAllUpTo most es None = most < length es
+  IsAllUpTo most es (Some rows) = (length es ≤ most) × (rows.items ≡ es)
+
+  -- the rows of an answer where they are at most so many, and none where they are more
+  abbrev pub AnswersUpTo : ℕ → Answer → Option (Vec (code_key.Key Z × Row) Z) → Type 0
+  AnswersUpTo most given None = most < answer_size given
+  AnswersUpTo most given (Some rows) = (answer_size given ≤ most) × (Rows (map seen rows.items) ≡ given)
 
   -- the rows of the table at a place, under their objects
   abbrev pub placed : ℕ → List (code_key.Key Z × Row) → List (Object × Row)

@@ -1,5 +1,6 @@
 pub mod Base
 pub mod Content
+pub mod Folded
 pub mod LastWrites
 pub mod Marks
 pub mod Rows

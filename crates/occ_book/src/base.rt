@@ -1,15 +1,17 @@
 //! What was folded out of a log.
-ghost use Rattle.std.specs.Prelude.{◌≡◌, ◌<◌, ◌+◌, ◌^◌, ℕ, length, IfOk, OnOk, OnErr, IsOkUnless};
+ghost use Rattle.std.specs.Prelude.{◌≡◌, ◌<◌, ◌+◌, ◌^◌, ℕ, drop, length, IfOk, OnOk, OnErr, IsOkUnless};
 ghost use Rattle.std.specs.FinMap as finite;
 ghost use Rattle.occ_types.specs.declared.fault.Fault.TheVariants.{Memory};
 ghost use Rattle.occ_model.specs.Content.{IsSession};
 ghost use Rattle.occ_model.specs.Log.{Case};
+ghost use Rattle.occ_model.specs.State.{apply};
 ghost use Rattle.occ_model.specs.Step.{folded};
 ghost use Rattle.occ_model.specs.World.{empty_base};
-ghost use Rattle.occ_book.specs.Base.{AllFitIn, base_content, written, numbered};
+ghost use Rattle.occ_book.specs.Base.{AllFitIn, base_content, numbered};
 ghost use Rattle.occ_book.specs.Rows.{log_of};
+ghost use Rattle.occ_book.specs.Undo.{ArePlaced};
 
-use crate::lasts::last_writes;
+use crate::folded_writes::FoldedWrites;
 use crate::marks::Marks;
 use crate::rows::LogRow;
 use crate::tables::Tables;
@@ -18,9 +20,12 @@ use std::alloc::{AllocError, Allocator};
 use std::marker::Model;
 
 /// What was folded out of a log: the state that its committed rows made, the last number of each session among its rows, and the place of the next row to enter. Clauses see the base of the model, and how many tables and sessions there are.
+///
+/// The state is that of some tables with the last write of each object that was folded since. Nobody asks it for a range, so these writes are found by hashes; `state` puts all rows in order.
 #[derive(Drop)]
 pub struct Base<A: Allocator> {
-    tables: Tables<A>,
+    origin: Tables<A>,
+    since: FoldedWrites<A>,
     numbers: Marks<A>,
     next: usize,
 }
@@ -32,28 +37,21 @@ impl<A: Allocator> Model for Base<A> {
 
     ghost coded = { base_content_code };
 
-    ghost use Rattle.occ_book.specs.Base.{base_content};
+    ghost use Rattle.occ_book.specs.Base.{base_content, written_over};
+    ghost use Rattle.occ_book.specs.Undo.{ArePlaced};
 
-    ghost view = { λ b. base_content b.tables b.numbers b.next };
+    ghost view = { λ b. base_content (written_over b.origin b.since) b.numbers b.next };
+
+    ghost invariant = { λ b. ArePlaced b.origin.tables b.since };
 }
 
 impl<A: Allocator> Base<A> {
-    /// A base with the rows of these tables, with these as the last numbers of the sessions, and with the place of the next row. It takes no memory.
-    pub fn from_parts(state: Tables<A>, last: Marks<A>, place: usize) -> Base<A>
-        ensures { result ≡ base_content state last place }
+    /// The state that the folded rows made, in the two parts that it is kept in: the rows of some tables, and what was written since. It takes no memory.
+    pub fn parts(&self) -> (&Tables<A>, &FoldedWrites<A>)
+        ensures tables { result.0.now.tables ≡ self.now.tables }
+        ensures state { apply result.0.now.state result.1.now ≡ self.now.base.state }
     {
-        Base {
-            tables: state,
-            numbers: last,
-            next: place,
-        }
-    }
-
-    /// The state that the folded rows made.
-    pub fn state(&self) -> &Tables<A>
-        ensures { result.now ≡ record { tables = self.now.tables; state = self.now.base.state } }
-    {
-        &self.tables
+        (&self.origin, &self.since)
     }
 
     /// The last folded number of each session, session by session.
@@ -79,6 +77,18 @@ impl<A: Allocator> Base<A> {
 }
 
 impl<A: Allocator + Copy> Base<A> {
+    /// A base with the rows of these tables, with these as the last numbers of the sessions, and with the place of the next row. It takes no memory.
+    pub fn from_parts(state: Tables<A>, last: Marks<A>, place: usize) -> Base<A>
+        ensures { result ≡ base_content state last place }
+    {
+        Base {
+            since: FoldedWrites::new(state.allocator()),
+            origin: state,
+            numbers: last,
+            next: place,
+        }
+    }
+
     /// The base of a log of which nothing was folded, with so many tables, and with room for the numbers of so many sessions. Refused with `Memory` where there is none for them.
     pub fn new(alloc: A, tables: usize, sessions: usize) -> Result<Base<A>, Fault>
         ensures empty { IfOk result (λ base. base ≡ record { tables = tables; sessions = sessions; base = empty_base }) }
@@ -91,9 +101,9 @@ impl<A: Allocator + Copy> Base<A> {
 
     /// Folds some rows after those that were folded: what their committed ones write, their numbers, and their places. A row that is open or backed up writes nothing. The tables that the rows write to and their sessions have to be there.
     ///
-    /// The last write of each object is looked for first, and it alone is done; so the time is that of a search for each write, and no other row of the state is looked at.
+    /// Room is made for all writes first, and then they are done, which can't fail. The time is that of a search for each write, and no other row of the state is looked at.
     ///
-    /// Refused with `Memory` where there is none to note the writes, for a copy of a row or of a new key, or for the list of the rows that are replaced. That leaves the base as it was.
+    /// Refused with `Memory` where there is none to list the writes, or for a copy of a row or of a new key. That leaves the base as it was.
     pub fn fold<O>(&mut self, rows: &[LogRow<A, O>]) -> Result<(), Fault>
         requires fits { AllFitIn self.old.tables self.old.sessions rows.now }
         requires places { self.old.base.place + length rows.now < 2 ^ 64 }
@@ -101,26 +111,10 @@ impl<A: Allocator + Copy> Base<A> {
         ensures err { OnErr result (self.new ≡ self.old) }
         ensures memory { IsOkUnless result Memory }
     {
-        fold_state(&mut self.tables, rows)?;
+        self.since.fold(&self.origin, rows)?;
         note_numbers(&mut self.numbers, rows);
         self.next = place_behind(self.next, rows);
         Ok(())
-    }
-}
-
-// Does the writes of the committed rows, all or none.
-fn fold_state<A: Allocator + Copy, O>(
-    tables: &mut Tables<A>,
-    rows: &[LogRow<A, O>],
-) -> Result<(), Fault>
-    requires { (sessions : ℕ) × AllFitIn tables.old.tables sessions rows.now }
-    ensures ok { OnOk result (tables.new ≡ record { tables = tables.old.tables; state = written tables.old.state rows.now }) }
-    ensures err { OnErr result (tables.new ≡ tables.old) }
-    ensures memory { IsOkUnless result Memory }
-{
-    match last_writes(tables.allocator(), rows) {
-        Ok(last) => tables.put_last(&last),
-        Err(_) => Err(Fault::Memory),
     }
 }
 
@@ -150,12 +144,51 @@ fn place_behind<A: Allocator, O>(place: usize, rows: &[LogRow<A, O>]) -> usize
     place + rows.len()
 }
 
+impl<A: Allocator + Clone> Base<A> {
+    /// How many tables there are.
+    pub fn tables(&self) -> usize
+        ensures { result ≡ self.now.tables }
+    {
+        self.origin.count()
+    }
+
+    /// The state that the folded rows made, as tables of its own, whose rows are in order. Refused with `Memory` where there is none for them.
+    pub fn state(&self) -> Result<Tables<A>, Fault>
+        ensures state { IfOk result (λ tables. tables ≡ record { tables = self.now.tables; state = self.now.base.state }) }
+        ensures memory { IsOkUnless result Memory }
+    {
+        let mut tables = self.origin.clone()?;
+        for place in 0..self.since.len() {
+            write_at(&mut tables, &self.since, place)?;
+        }
+        Ok(tables)
+    }
+}
+
+// Does the write at a place.
+fn write_at<A: Allocator + Clone>(
+    tables: &mut Tables<A>,
+    writes: &FoldedWrites<A>,
+    place: usize,
+) -> Result<(), Fault>
+    requires { ArePlaced tables.old.tables writes.now }
+    ensures tables { tables.new.tables ≡ tables.old.tables }
+    ensures state { OnOk result (apply tables.new.state (drop (place + 1) writes.now) ≡ apply tables.old.state (drop place writes.now)) }
+    ensures memory { IsOkUnless result Memory }
+{
+    match writes.write_at(place) {
+        Some((object, row)) => tables.put(object.table, &object.key, row),
+        None => Ok(()),
+    }
+}
+
 impl<A: Allocator + Clone> Clone for Base<A> {
     ghost is_clone = { λ source copy. copy ≡ source };
 
     fn clone(&self) -> Result<Base<A>, AllocError> {
         Ok(Base {
-            tables: self.tables.clone()?,
+            origin: self.origin.clone()?,
+            since: self.since.clone()?,
             numbers: self.numbers.clone()?,
             next: self.next,
         })

@@ -3,6 +3,7 @@
 
 mod base;
 mod books;
+mod folded_writes;
 mod lasts;
 mod maps;
 mod marks;
@@ -12,6 +13,7 @@ mod writes;
 
 pub use base::Base;
 pub use books::{Book, BookView};
+pub use folded_writes::FoldedWrites;
 pub use lasts::{LastWrites, note_writes};
 pub use marks::Marks;
 pub use rows::{LogRow, Standing};

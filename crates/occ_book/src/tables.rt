@@ -11,7 +11,7 @@ ghost use Rattle.occ_types.specs.Object as objects;
 ghost use Rattle.occ_types.specs.Question.{Span};
 ghost use Rattle.occ_types.specs.PlainData.{key_of, end_of};
 ghost use Rattle.occ_model.specs.State.{put, answer, Rows, answer_size};
-ghost use Rattle.occ_book.specs.Content.{seen, entries_within, is_backward, lower_bound, upper_bound};
+ghost use Rattle.occ_book.specs.Content.{seen, entries_within, is_backward, lower_bound, upper_bound, IsAllUpTo, AnswersUpTo};
 
 use crate::maps::{delete_row, exchange_row, put_row, set_back_row};
 use occ_types::{Fault, Key, Row};
@@ -119,6 +119,26 @@ impl<A: Allocator + Clone> Tables<A> {
         }
     }
 
+    /// Copies of the rows as `rows` gives them, where they are at most `most`, and none where they are more. It goes over the rows once, with room for `most` of them, of which it gives back what is not needed.
+    ///
+    /// Refused with `Memory` where there is none for the copies, however many they would be.
+    pub fn rows_up_to(
+        &self,
+        most: usize,
+        table: usize,
+        lower: Option<&Key<A>>,
+        upper: Option<&Key<A>>,
+    ) -> Result<Option<Vec<(Key<A>, Row<A>), A>>, Fault>
+        ensures memory { IsOkUnless result Memory }
+        ensures answered { IfOk result (AnswersUpTo most (answer (Span table (end_of (option_copied lower.entry)) (end_of (option_copied upper.entry))) self.now.state)) }
+    {
+        let alloc = self.maps.allocator().clone()?;
+        match self.maps.get(table) {
+            Some(map) => copy_up_to(alloc, most, map, lower, upper),
+            None => Ok(Some(Vec::new(alloc))),
+        }
+    }
+
     /// How many rows `rows` copies, counted over these rows alone and without memory.
     pub fn count_rows(&self, table: usize, lower: Option<&Key<A>>, upper: Option<&Key<A>>) -> usize
         ensures { result ≡ answer_size (answer (Span table (end_of (option_copied lower.entry)) (end_of (option_copied upper.entry))) self.now.state) }
@@ -211,6 +231,32 @@ fn copy_between<A: Allocator + Clone>(
         rows.push((key.clone()?, row.clone()?))?;
     }
     Ok(rows)
+}
+
+// Copies of the entries between two ends, where they are at most `most`.
+fn copy_up_to<A: Allocator + Clone>(
+    alloc: A,
+    most: usize,
+    map: &BTreeMap<Key<A>, Row<A>, A>,
+    lower: Option<&Key<A>>,
+    upper: Option<&Key<A>>,
+) -> Result<Option<Vec<(Key<A>, Row<A>), A>>, Fault>
+    ensures memory { IsOkUnless result Memory }
+    ensures rows { IfOk result (IsAllUpTo most (entries_within (end_of (option_copied lower.entry)) (end_of (option_copied upper.entry)) map.now.entries)) }
+    ensures ordered { IsOrdered (on key_of key_cmp) map.now }
+{
+    if has_none_between(map, lower, upper) {
+        return Ok(Some(Vec::new(alloc)));
+    }
+    let mut rows = Vec::with_capacity(alloc, most)?;
+    for (key, row) in map.range((lower_bound(lower), upper_bound(upper))) {
+        if rows.len() >= most {
+            return Ok(None);
+        }
+        rows.push_reserved((key.clone()?, row.clone()?));
+    }
+    rows.shrink_to_fit();
+    Ok(Some(rows))
 }
 
 // How many entries lie between two ends.

@@ -4,10 +4,8 @@ ghost use Rattle.std.specs.Option.{option_copied};
 ghost use Rattle.occ_types.specs.declared.fault.Fault.TheVariants.{Memory};
 ghost use Rattle.occ_types.specs.PlainData.{object_of};
 ghost use Rattle.occ_model.specs.State.{State, Write, put, apply};
-ghost use Rattle.occ_book.specs.LastWrites.{writes_in};
 ghost use Rattle.occ_book.specs.Undo.{ArePlaced, if_put, puts, if_deletion, deletions, Replaced, KeepsReplaced, kept_writes};
 
-use crate::lasts::LastWrites;
 use crate::tables::Tables;
 use occ_sets::WriteSet;
 use occ_types::{Fault, Object, Row};
@@ -161,54 +159,5 @@ impl<A: Allocator + Copy> Tables<A> {
             return;
         }
         self.delete(object.table, &object.key);
-    }
-
-    /// Does the last writes of objects, or none of them. Their tables have to be there.
-    ///
-    /// Refused with `Memory` where there is none for a copy of a row, for a new key, or for the list of the rows that are replaced. That leaves the tables as they were.
-    pub fn put_last<'w>(&mut self, last: &LastWrites<'w, A>) -> Result<(), Fault>
-        requires { ArePlaced self.old.tables (writes_in last.now.entries) }
-        ensures ok { OnOk result (self.new ≡ record { tables = self.old.tables; state = apply self.old.state (writes_in last.now.entries) }) }
-        ensures err { OnErr result (self.new ≡ self.old) }
-        ensures memory { IsOkUnless result Memory }
-    {
-        let mut kept = Vec::new(self.allocator());
-        if let Err(fault) = self.put_last_rows(last, &mut kept) {
-            self.take_back(kept);
-            return Err(fault);
-        }
-        // its clause says that the objects are in order, so the deletions may come last
-        let _objects = last.len();
-        self.delete_last_rows(last);
-        Ok(())
-    }
-
-    // Puts the rows of last writes, and keeps what they replace. What was put before a refusal stands.
-    fn put_last_rows<'w>(
-        &mut self,
-        last: &LastWrites<'w, A>,
-        kept: &mut Vec<Kept<'w, A>, A>,
-    ) -> Result<(), Fault>
-        requires { ArePlaced self.old.tables (writes_in last.now.entries) }
-        ensures tables { self.new.tables ≡ self.old.tables }
-        ensures replaced { KeepsReplaced (kept_writes kept.old.items) self.old.state (kept_writes kept.new.items) self.new.state }
-        ensures ok { OnOk result (self.new.state ≡ apply self.old.state (puts (writes_in last.now.entries))) }
-        ensures memory { IsOkUnless result Memory }
-    {
-        for (object, row) in last {
-            self.put_if_row(*object, *row, kept)?;
-        }
-        Ok(())
-    }
-
-    // Deletes what last writes delete. It takes no memory.
-    fn delete_last_rows<'w>(&mut self, last: &LastWrites<'w, A>)
-        requires { ArePlaced self.old.tables (writes_in last.now.entries) }
-        ensures tables { self.new.tables ≡ self.old.tables }
-        ensures state { self.new.state ≡ apply self.old.state (deletions (writes_in last.now.entries)) }
-    {
-        for (object, row) in last {
-            self.delete_if_none(*object, *row);
-        }
     }
 }

@@ -1,0 +1,11 @@
+use Rattle.std.proofs.Common.{◌≡◌, ℕ}
+use Rattle.occ_book.proofs.Common.{apply, ArePlaced}
+use Rattle.occ_sets.specs.PlainSets.{writes_of}
+use Rattle.occ_book.proofs.folded_writes.forget_writes.Given as goal
+
+-- the state stays
+abbrev pub invariant-loop-place : goal.invariant-loop-place
+invariant-loop-place g l = record {
+  same : apply l.origin.state (writes_of l.map.entries) ≡ apply l.origin.state (writes_of l.fn.map.entries);
+  placed : (tables : ℕ) → ArePlaced tables (writes_of l.fn.map.entries) → ArePlaced tables (writes_of l.map.entries);
+}
