@@ -8,7 +8,7 @@ ghost use Rattle.occ_model.specs.State.{answer, Rows};
 ghost use Rattle.occ_audit.specs.Replica.{lent};
 
 use crate::replica::{Replica, is_backward, lower_bound, upper_bound};
-use occ_sets::Answer;
+use occ_sets::{Answer, RangeRows};
 use occ_types::{Key, Question, Row};
 use std::alloc::{AllocError, Allocator};
 use std::collections::btree_map::Range;
@@ -29,7 +29,8 @@ impl<'a, A: Allocator + Copy> Replica<'a, A> {
                 upper,
             } => {
                 let rows = self.rows_between(alloc, *table, lower.as_ref(), upper.as_ref())?;
-                Ok(Answer::Rows(rows))
+                let shared = RangeRows::shared(rows)?;
+                Ok(Answer::Rows(shared))
             }
         }
     }

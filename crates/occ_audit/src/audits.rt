@@ -56,7 +56,7 @@ fn is_replayed<A: Allocator + Copy, O>(
 ) -> Result<bool, AllocError>
     ensures { IfOk result (λ yes. Decides yes (Explained book.now.base.now.base.state (log_of book.now.log.now) × (settled book.now.table.now.state (log_of book.now.log.now) ≡ serial book.now.base.now.base.state (log_of book.now.log.now)))) }
 {
-    let Some(replayed) = replay(alloc, book.base.state(), book.log)? else {
+    let Some(replayed) = replay(alloc, book.base, book.log)? else {
         return Ok(false);
     };
     let rests = rests_of(alloc, book.log)?;

@@ -13,7 +13,7 @@ ghost use Rattle.occ_book.specs.Content.{is_backward, lower_bound, upper_bound};
 ghost use Rattle.occ_model.specs.State.{put, apply, answer, Rows};
 ghost use Rattle.occ_audit.specs.Replica.{lent, IsInOrder, SameTable, IsPlaced, IsTaken, row_under, state_of};
 
-use occ_book::Tables;
+use occ_book::{Base, FoldedWrites, Tables};
 use occ_sets::{Answer, WriteSet};
 use occ_types::{Key, Object, Question, Row};
 use std::alloc::{AllocError, Allocator};
@@ -76,6 +76,16 @@ impl<'a, A: Allocator + Copy> Replica<'a, A> {
         for table in 0..tables.count() {
             replica.take_table(tables, table)?;
         }
+        Ok(replica)
+    }
+
+    /// The state of a base, which lends it its rows.
+    pub fn of_base(alloc: A, base: &'a Base<A>) -> Result<Replica<'a, A>, AllocError>
+        ensures { IfOk result (λ replica. replica ≡ base.now.base.state) }
+    {
+        let (origin, since) = base.parts();
+        let mut replica = Replica::of(alloc, origin)?;
+        replica.write_folded(since)?;
         Ok(replica)
     }
 
@@ -174,6 +184,30 @@ impl<'a, A: Allocator + Copy> Replica<'a, A> {
 
     // Does the write at a place, where there is one.
     fn write_at(&mut self, writes: &'a WriteSet<A>, place: usize) -> Result<(), AllocError>
+        ensures { OnOk result (apply self.new (drop (place + 1) writes.now) ≡ apply self.old (drop place writes.now)) }
+    {
+        let Some((object, row)) = writes.write_at(place) else {
+            return Ok(());
+        };
+        self.put(object, row)
+    }
+
+    // Does the writes that were folded.
+    fn write_folded(&mut self, writes: &'a FoldedWrites<A>) -> Result<(), AllocError>
+        ensures { OnOk result (self.new ≡ apply self.old writes.now) }
+    {
+        for place in 0..writes.len() {
+            self.write_folded_at(writes, place)?;
+        }
+        Ok(())
+    }
+
+    // Does the folded write at a place, where there is one.
+    fn write_folded_at(
+        &mut self,
+        writes: &'a FoldedWrites<A>,
+        place: usize,
+    ) -> Result<(), AllocError>
         ensures { OnOk result (apply self.new (drop (place + 1) writes.now) ≡ apply self.old (drop place writes.now)) }
     {
         let Some((object, row)) = writes.write_at(place) else {

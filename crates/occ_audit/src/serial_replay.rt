@@ -5,21 +5,21 @@ ghost use Rattle.occ_model.specs.Log.{AreAnswers, Explained, is_committed, after
 ghost use Rattle.occ_audit.specs.Rows.{log_of, log_row_of, standing_of};
 
 use crate::replica::Replica;
-use occ_book::{LogRow, Standing, Tables};
+use occ_book::{Base, LogRow, Standing};
 use occ_sets::ReadSet;
 use std::alloc::{AllocError, Allocator};
 
-// The state that serial replay of a log makes from that of some tables on, or none where some committed row read what the replay of those before it doesn't answer.
+// The state that serial replay of a log makes from that of a base on, or none where some committed row read what the replay of those before it doesn't answer.
 pub(crate) fn replay<'a, A: Allocator + Copy, O>(
     alloc: A,
-    folded: &'a Tables<A>,
+    base: &'a Base<A>,
     log: &'a [LogRow<A, O>],
 ) -> Result<Option<Replica<'a, A>>, AllocError>
     ensures { IfOk result (λ found. MatchOption found
-        (Explained folded.now.state (log_of log.now) → ⊥)
-        (λ replica. Explained folded.now.state (log_of log.now) × (replica ≡ serial folded.now.state (log_of log.now)))) }
+        (Explained base.now.base.state (log_of log.now) → ⊥)
+        (λ replica. Explained base.now.base.state (log_of log.now) × (replica ≡ serial base.now.base.state (log_of log.now)))) }
 {
-    let mut replica = Replica::of(alloc, folded)?;
+    let mut replica = Replica::of_base(alloc, base)?;
     for row in log {
         if !play(&mut replica, row)? {
             return Ok(None);

@@ -66,7 +66,7 @@ fn replay_finding<A: Allocator + Copy, O>(
 ) -> Result<Option<Finding<A>>, AllocError>
     ensures { IfOk result (IsBehind book.now.base.now.base.state book.now.table.now.state (log_of book.now.log.now)) }
 {
-    match replay_rows(alloc, book.base.state(), book.log)? {
+    match replay_rows(alloc, book.base, book.log)? {
         Replayed::To(wrong) => Ok(Some(Finding::Read(wrong))),
         Replayed::Whole(replayed) => tables_finding(alloc, book.table, book.log, replayed),
     }

@@ -8,7 +8,7 @@ ghost use Rattle.occ_findings.specs.Replaying.{IsWrongAnswer, ReplayGives, RowPl
 use crate::findings::WrongRead;
 use occ_audit::replica::Replica;
 use occ_audit::serial_replay::is_committed;
-use occ_book::{LogRow, Tables};
+use occ_book::{Base, LogRow};
 use occ_sets::{Answer, ReadSet};
 use std::alloc::{AllocError, Allocator};
 
@@ -29,15 +29,15 @@ struct WrongAnswer<A: Allocator> {
     replayed: Answer<A>,
 }
 
-// Replays a log from the state of some tables on, up to the first read that serial replay doesn't answer so.
+// Replays a log from the state of a base on, up to the first read that serial replay doesn't answer so.
 pub(crate) fn replay_rows<'a, A: Allocator + Copy, O>(
     alloc: A,
-    folded: &'a Tables<A>,
+    base: &'a Base<A>,
     log: &'a [LogRow<A, O>],
 ) -> Result<Replayed<'a, A>, AllocError>
-    ensures { IfOk result (ReplayGives folded.now.state (log_of log.now)) }
+    ensures { IfOk result (ReplayGives base.now.base.state (log_of log.now)) }
 {
-    let mut replica = Replica::of(alloc, folded)?;
+    let mut replica = Replica::of_base(alloc, base)?;
     for (index, row) in log.iter().enumerate() {
         let found = play(alloc, &mut replica, index, row)?;
         if let Some(wrong) = found {

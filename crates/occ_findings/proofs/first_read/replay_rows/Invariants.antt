@@ -4,4 +4,4 @@ use Rattle.occ_findings.proofs.first_read.replay_rows.Given as goal
 
 -- the rows so far are explained, and lead to the state so far
 abbrev pub invariant-loop-index : goal.invariant-loop-index
-invariant-loop-index g l = Explained l.folded.state (log_of (take l.index l.log)) × (l.replica ≡ serial l.folded.state (log_of (take l.index l.log)))
+invariant-loop-index g l = Explained l.base.base.state (log_of (take l.index l.log)) × (l.replica ≡ serial l.base.base.state (log_of (take l.index l.log)))
