@@ -1,7 +1,8 @@
 -- What the calls of a readable store reply, as replies of the model.
-use Rattle.std.specs.Prelude.{Bool, Option, Result, Vec}
+use Rattle.std.specs.Prelude.{Bool, List, Option, Result, Vec}
 use Rattle.occ_types.specs.declared.fault.Fault.{Fault}
 use Rattle.occ_types.specs.declared.keys.Key as code_key
+use Rattle.occ_types.specs.Key.{Key}
 use Rattle.occ_types.specs.Row.{Row}
 use Rattle.occ_model.specs.State.{Found, Rows}
 use Rattle.occ_model.specs.Event.{Reply, Answered, Forgotten}
@@ -15,7 +16,11 @@ reading = replied (λ row. Answered (Found row))
 abbrev pub forgetting : Result Bool Fault → Reply
 forgetting = replied Forgotten
 
+-- what a read of a range replies
+abbrev pub scanning : Result (List (Key × Row)) Fault → Reply
+scanning = replied (λ rows. Answered (Rows rows))
+
 module _ {Z : Type 0} where
-  -- what a read of a range replies
-  abbrev pub scanning : Result (Vec (code_key.Key Z × Row) Z) Fault → Reply
-  scanning = replied (λ rows. Answered (Rows (rows_of rows.items)))
+  -- the same, where it gives copies
+  abbrev pub copying : Result (Vec (code_key.Key Z × Row) Z) Fault → Reply
+  copying = replied (λ rows. Answered (Rows (rows_of rows.items)))

@@ -15,7 +15,7 @@ use crate::by_steps::write_out;
 use crate::ending::{End, Handed, close_session, end_request};
 use crate::kept_transactions::KeptTransaction;
 use occ_core::Core;
-use occ_sets::Write;
+use occ_sets::{RangeRows, Write};
 use occ_types::{Fault, Key, Refused, Row};
 use std::alloc::Allocator;
 use std::marker::Model;
@@ -160,7 +160,7 @@ impl<A: Allocator + Copy> Client<A> {
         table: usize,
         lower: Option<Key<A>>,
         upper: Option<Key<A>>,
-    ) -> Result<Vec<(Key<A>, Row<A>), A>, Fault>
+    ) -> Result<RangeRows<A>, Fault>
         ensures kept { self.new ≡ record self.old { returned = self.new.returned } }
         ensures read { OrStarves ((self.old.returned ≡ true) ⊎ WantsRange store.old.world.settings.schema (Span table (end_of lower) (end_of upper)) self.old.current) store.old.world (scanning result) store.new.world
             (Scans store.old.world self.old.session (Span table (end_of lower) (end_of upper)) self.old.current (scanning result) store.new.world) }

@@ -3,6 +3,7 @@ ghost use Rattle.std.specs.Prelude.{◌≡◌};
 
 use crate::readable::Readable;
 use occ_core::Core;
+use occ_sets::RangeRows;
 use occ_types::{Fault, Key, Row, Schema};
 use std::alloc::Allocator;
 
@@ -32,8 +33,20 @@ impl<A: Allocator + Copy> Readable<A> for Core<A> {
         table: usize,
         lower: Option<&Key<A>>,
         upper: Option<&Key<A>>,
-    ) -> Result<Vec<(Key<A>, Row<A>), A>, Fault> {
+    ) -> Result<RangeRows<A>, Fault> {
         self.scan(session, number, start, table, lower, upper)
+    }
+
+    fn scan_apart(
+        &mut self,
+        session: usize,
+        number: u64,
+        start: u64,
+        table: usize,
+        lower: Option<&Key<A>>,
+        upper: Option<&Key<A>>,
+    ) -> Result<Vec<(Key<A>, Row<A>), A>, Fault> {
+        self.scan_apart(session, number, start, table, lower, upper)
     }
 
     fn forget(&mut self, session: usize, number: u64) -> Result<bool, Fault> {

@@ -10,7 +10,7 @@ ghost use Rattle.occ_client.specs.Transactions.{IsRefusedBy, begin_fault, begun,
 
 use crate::open_transactions::OpenTransaction;
 use crate::readable::Readable;
-use occ_sets::{RequestWrites, Write};
+use occ_sets::{RangeRows, RequestWrites, Write};
 use occ_types::{Fault, Key, Object, Refused, Row, Schema};
 use std::alloc::Allocator;
 use std::marker::Model;
@@ -205,7 +205,7 @@ impl<A: Allocator + Copy> KeptTransaction<A> {
         table: usize,
         lower: Option<Key<A>>,
         upper: Option<Key<A>>,
-    ) -> Result<Vec<(Key<A>, Row<A>), A>, Fault>
+    ) -> Result<RangeRows<A>, Fault>
         ensures current { self.new.current ≡ self.old.current }
         ensures read { OrStarves (IsShared self.old ⊎ WantsRange (S.world store.old).settings.schema (Span table (end_of lower) (end_of upper)) self.old.current) (S.world store.old) (scanning result) (S.world store.new)
             (Scans (S.world store.old) session (Span table (end_of lower) (end_of upper)) self.old.current (scanning result) (S.world store.new)) }

@@ -16,7 +16,7 @@ ghost use Rattle.occ_client.specs.Transactions.{IsRefusedBy, begin_fault, begun,
 use crate::asking::{get, scan};
 use crate::readable::Readable;
 use crate::writing::write_copy;
-use occ_sets::{PrivateCopy, RequestWrites, Write};
+use occ_sets::{PrivateCopy, RangeRows, RequestWrites, Write};
 use occ_types::limits::MAX_NUMBER;
 use occ_types::{Fault, Key, Object, Question, Refused, Row, Schema};
 use std::alloc::Allocator;
@@ -202,7 +202,7 @@ impl<A: Allocator + Copy> OpenTransaction<A> {
         table: usize,
         lower: Option<Key<A>>,
         upper: Option<Key<A>>,
-    ) -> Result<Vec<(Key<A>, Row<A>), A>, Fault>
+    ) -> Result<RangeRows<A>, Fault>
         ensures { OrStarves (WantsRange (S.world store.old).settings.schema (Span table (end_of lower) (end_of upper)) self.now) (S.world store.old) (scanning result) (S.world store.new)
             (Scans (S.world store.old) session (Span table (end_of lower) (end_of upper)) self.now (scanning result) (S.world store.new)) }
     {

@@ -6,8 +6,9 @@ ghost use Rattle.occ_types.specs.Question.{One, Span};
 ghost use Rattle.occ_model.specs.World.{World};
 ghost use Rattle.occ_model.specs.Event.{Read, Forget};
 ghost use Rattle.occ_model.specs.Step.{Step};
-ghost use Rattle.occ_client.specs.Replies.{reading, scanning, forgetting};
+ghost use Rattle.occ_client.specs.Replies.{reading, scanning, copying, forgetting};
 
+use occ_sets::RangeRows;
 use occ_types::{Fault, Key, Row, Schema};
 use std::alloc::Allocator;
 
@@ -31,8 +32,8 @@ pub trait Readable<A: Allocator> {
     ) -> Result<Option<Row<A>>, Fault>
         ensures { Step (world self.old) (Read session number start (One table (key_of key.now))) (reading result) (world self.new) };
 
-    /// Copies of the rows of a table from the lower end on and below the upper one, with their keys and in the order of the keys. The
-    /// question is noted with its answer as by `read`.
+    /// The rows of a table from the lower end on and below the upper one, with their keys and in the order of the keys. The question is
+    /// noted with its answer as by `read`, which may share the rows.
     fn scan(
         &mut self,
         session: usize,
@@ -41,8 +42,20 @@ pub trait Readable<A: Allocator> {
         table: usize,
         lower: Option<&Key<A>>,
         upper: Option<&Key<A>>,
-    ) -> Result<Vec<(Key<A>, Row<A>), A>, Fault>
+    ) -> Result<RangeRows<A>, Fault>
         ensures { Step (world self.old) (Read session number start (Span table (end_of (option_copied lower.entry)) (end_of (option_copied upper.entry)))) (scanning result) (world self.new) };
+
+    /// The same, as copies of the rows that the caller alone owns.
+    fn scan_apart(
+        &mut self,
+        session: usize,
+        number: u64,
+        start: u64,
+        table: usize,
+        lower: Option<&Key<A>>,
+        upper: Option<&Key<A>>,
+    ) -> Result<Vec<(Key<A>, Row<A>), A>, Fault>
+        ensures { Step (world self.old) (Read session number start (Span table (end_of (option_copied lower.entry)) (end_of (option_copied upper.entry)))) (copying result) (world self.new) };
 
     /// Forgets what a session has read under a number, and answers whether it has read anything. It takes no memory.
     fn forget(&mut self, session: usize, number: u64) -> Result<bool, Fault>

@@ -1,6 +1,8 @@
 -- What the reads of the core have to show, over plain parts.
-use Rattle.std.proofs.Common.{◌≡◌, ℕ, zero, suc, ◌-◌, ◌<◌, Bool, not, ◌&&◌, List, [], ◌∷◌, length, Option, None, Some, Result, Err, refl, sym, ap, subst, ◌∙◌, arith, Vec, slice_get, nat_le, nat_lt, ◌++◌}
+use Rattle.std.proofs.Common.{◌≡◌, ℕ, zero, suc, ◌-◌, ◌<◌, Bool, not, ◌&&◌, List, [], ◌∷◌, length, Option, None, Some, Result, Ok, Err, false, ◌≤◌, refl, sym, ap, subst, ◌∙◌, inl, inr, arith, Vec, slice_get, nat_le, nat_lt, ◌++◌}
 use Rattle.std.proofs.lemmas.Bool.{leb-true, ltb-true}
+use Rattle.std.specs.Prelude.{IfSome}
+use Rattle.std.specs.Result.{is_err, result_err}
 use Rattle.std.specs.FinMap as finite
 use Rattle.std.specs.FinMap.{FinMap}
 use Rattle.occ_types.specs.declared.fault.Fault.{Fault}
@@ -12,20 +14,22 @@ use Rattle.occ_types.specs.Row.{Row}
 use Rattle.occ_types.specs.PlainData.{key_of}
 use Rattle.occ_types.specs.declared.keys.Key as code_key
 use Rattle.occ_types.specs.Question.{Question, One}
-use Rattle.occ_model.specs.State.{State, Answer, Found, Observation, answer}
+use Rattle.occ_model.specs.State.{State, Answer, Found, Rows, Observation, answer, answer_size}
 use Rattle.occ_model.specs.World.{World, ReadPhase, phase_cmp, last_entered}
-use Rattle.occ_model.specs.Event.{Event, Read, Forget, Refused, Answered, Forgotten}
+use Rattle.occ_model.specs.Event.{Read, Forget, Refused, Answered, Forgotten}
 use Rattle.occ_model.specs.Refusal as refusals
 use Rattle.occ_model.specs.Refusal.{refusal}
 use Rattle.occ_model.specs.Step.{Step, refused, starved, taken, read_more}
 use Rattle.occ_model.proofs.Tests as tests
 use Rattle.occ_model.proofs.Phases.{not_refused}
 use Rattle.occ_model.proofs.InSchema.{keeps_lawful}
+use Rattle.occ_sets.specs.PlainSets.{rows_of}
+use Rattle.occ_book.specs.Content.{AnswersUpTo}
 use Rattle.occ_log.specs.Phases.{reads_of}
 use Rattle.occ_core.specs.Reads.{session_fault, closed_fault, number_fault, start_fault, turn_to_read, size_fault, room_to_read, noted}
 use Rattle.occ_core.specs.Replies.{replied}
 use Rattle.occ_log.specs.SessionStates.{last_of}
-use Rattle.occ_core.specs.Core.{parts_of, IsCore}
+use Rattle.occ_core.specs.Core.{parts_of, IsCore, IsRefusal}
 use Rattle.occ_core.specs.CoreParts.{Parts, world_of, AreSound}
 use Rattle.occ_core.specs.declared.core_state.Core.TheInside.{Inside}
 use Rattle.occ_core.proofs.Moves.{slot_same, read_moves}
@@ -122,6 +126,17 @@ one_fits table place key = tests.decided (nat_lt MAX_ANSWER_ROWS 1)
     (λ yes. let h = ltb-true MAX_ANSWER_ROWS 1 yes in absurd (omega arith))
     (λ no. ap (λ b. fault_if b faults.RangeTooLarge) no)
 
+-- a test without a fault is passed
+pub test_passed : {X : Type 0} (r : Result X Fault) (fault : Option Fault) → false ≡ is_err r → result_err r ≡ fault → fault ≡ None
+test_passed (Ok x) fault passed is = sym is
+test_passed (Err f) fault passed is = cc
+
+-- an answer that has not too many rows fits
+pub size_fits : (table : State) (question : Question) → answer_size (answer question table) ≤ MAX_ANSWER_ROWS → size_fault table question ≡ None
+size_fits table question few = tests.decided (nat_lt MAX_ANSWER_ROWS (answer_size (answer question table)))
+    (λ yes. let h = ltb-true MAX_ANSWER_ROWS (answer_size (answer question table)) yes in absurd (omega (arith, few, h)))
+    (λ no. ap (λ b. fault_if b faults.RangeTooLarge) no)
+
 -- the tests of a read, in their order, where this read phase is under way
 abbrev pub read_fault : Parts → Option ReadPhase → ℕ → ℕ → ℕ → Question → Option Fault
 read_fault parts begun session number start question = first_fault (
@@ -156,6 +171,20 @@ last_decides a b c d p q r =
     alone None = refl
     alone (Some f) = refl
 
+-- a read whose tests are passed is not refused
+pub read_passed : (parts : Parts) (world : World) → world_of parts ≡ world → AreSound parts → (session number start : ℕ) (question : Question) (begun : Option ReadPhase) → begun ≡ finite.get parts.phases (session, number)
+    → turn_to_read parts.slots parts.marks begun parts.counter session number start ≡ None → check_question parts.settings.schema question ≡ None → answer_size (answer question parts.table) ≤ MAX_ANSWER_ROWS → room_to_read begun ≡ None
+    → refusal world (Read session number start question) ≡ None
+read_passed parts world seen sound session number start question begun is turn fits few room =
+    read_refused parts world seen sound session number start question begun is
+    ∙ last_decides _ _ _ _ turn fits (size_fits parts.table question few)
+    ∙ room
+
+-- what is found of a range that may be read are all its rows
+pub found_whole : {Z N : Type 0} (most : ℕ) (given shown : Answer) (found : Option (Vec (code_key.Key Z × Row) Z)) → AnswersUpTo most given found → given ≡ shown → (answer_size given ≤ most → N) → IfSome found (λ rows. N × (Rows (rows_of rows.items) ≡ shown))
+found_whole most given shown None is told free = tt
+found_whole most given shown (Some rows) is told free = (free is.0, is.1 ∙ told)
+
 -- and where nothing refuses, it does not
 last_lets : (a b c d : Option Fault) → first_fault (a ∷ b ∷ c ∷ d ∷ []) ≡ None → d ≡ None
 last_lets None None None None free = refl
@@ -172,6 +201,11 @@ read_roomy parts world seen sound session number start question none =
     last_lets (turn_to_read parts.slots parts.marks begun parts.counter session number start) (check_question parts.settings.schema question) (size_fault parts.table question) (room_to_read begun) (sym (read_refused parts world seen sound session number start question _ refl) ∙ none)
 
 -- The exits of a read, seen from outside.
+
+-- a read that may not be is refused, and moves nothing
+pub not_read : (world : World) (session number start : ℕ) (question : Question) (fault : Fault) → IsRefusal world (Read session number start question) fault → Step world (Read session number start question) (Refused fault) world
+not_read world session number start question fault (inl why) = refused fault why refl refl
+not_read world session number start question fault (inr why) = starved why.1 refl (ap Refused why.0) refl
 
 -- there is no memory, and the read phases are as they were
 pub read_starved : (parts : Parts) (world : World) → world_of parts ≡ world → AreSound parts → (session number start : ℕ) (question : Question) → refusal world (Read session number start question) ≡ None

@@ -1,5 +1,5 @@
 -- What each step is replied, and a list of them.
-use Rattle.std.proofs.Common.{◌≡◌, List, [], ◌∷◌, ◌++◌, Some, None, Result, Err, ℕ, refl, sym, ap, subst, inl, inr, ◌⊎◌, ◌∙◌, MatchResult}
+use Rattle.std.proofs.Common.{◌≡◌, List, [], ◌∷◌, ◌++◌, Some, None, Result, Err, refl, sym, ap, subst, inl, inr, ◌⊎◌, ◌∙◌, MatchResult}
 use Rattle.occ_types.specs.declared.fault.Fault.{Fault}
 use Rattle.occ_types.specs.declared.fault.Refused as refusals
 use Rattle.occ_model.specs.World.{World}

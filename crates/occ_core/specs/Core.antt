@@ -1,7 +1,10 @@
 -- What clauses see of a core, what a call does to it, and what holds of its parts.
-use Rattle.std.specs.Prelude.{◌≡◌, ℕ, length}
+use Rattle.std.specs.Prelude.{◌≡◌, ◌⊎◌, ℕ, None, Some, length}
+use Rattle.occ_types.specs.declared.fault.Fault.{Fault}
+use Rattle.occ_types.specs.declared.fault.Fault.TheVariants.{Memory}
 use Rattle.occ_model.specs.World.{World}
 use Rattle.occ_model.specs.Event.{Event, Reply}
+use Rattle.occ_model.specs.Refusal.{refusal}
 use Rattle.occ_model.specs.Step.{Step}
 use Rattle.occ_book.specs.Base.{BaseContent}
 use Rattle.occ_log.specs.SessionStates.{HoldsArePlaced}
@@ -16,6 +19,10 @@ pub record Seen : Type 0 where
 -- What each call that moves a core does to it: an event happens and gets this reply, and the world makes that step of the model.
 abbrev pub Transition : Seen → Event → Reply → Seen → Type 0
 Transition old event reply new = Step old.world event reply new.world
+
+-- why an event is refused: for its first fault, or for want of memory where it has none
+abbrev pub IsRefusal : World → Event → Fault → Type 0
+IsRefusal world event fault = (refusal world event ≡ Some fault) ⊎ ((fault ≡ Memory) × (refusal world event ≡ None))
 
 -- the base has room for so many tables and sessions
 pub record IsBaseOf (content : BaseContent) (tables sessions : ℕ) : Type 0 where

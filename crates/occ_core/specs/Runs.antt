@@ -8,7 +8,6 @@ use Rattle.occ_model.specs.Event.{Event, Item, Alone, Read, Forget, Enter, Decid
 use Rattle.occ_model.specs.Refusal.{refusal, has_writes_left}
 use Rattle.occ_core.specs.Core.{Seen, Transition}
 use Rattle.occ_core.specs.Replies.{outcome_of}
-use Rattle.occ_sets.specs.PlainSets.{rows_of}
 use Rattle.occ_sets.specs.Operations.{ops_of}
 use Rattle.occ_queue.specs.Items.{item_of}
 use Rattle.occ_core.specs.declared.steps.Step as code_step
@@ -34,7 +33,7 @@ module _ {Z : Type 0} where
   -- the plain reply
   abbrev pub reply_of : code_reply.Reply Z → Reply
   reply_of (replies.Found row) = Answered (Found row)
-  reply_of (replies.Rows rows) = Answered (Rows (rows_of rows.items))
+  reply_of (replies.Rows rows) = Answered (Rows rows)
   reply_of (replies.Forgotten there) = Forgotten there
   reply_of (replies.Outcome outcome) = outcome_of outcome
   reply_of (replies.Decided verdict) = Decided verdict

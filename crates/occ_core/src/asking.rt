@@ -10,7 +10,8 @@ ghost use Rattle.occ_sets.specs.PlainSets.{rows_of};
 ghost use Rattle.occ_core.specs.Performed.{so_far, one};
 
 use occ_book::Tables;
-use occ_sets::{Answer, ReadSet, WriteSet};
+use occ_sets::{Answer, RangeRows, ReadSet, WriteSet};
+use occ_types::limits::MAX_ANSWER_ROWS;
 use occ_types::{Fault, Key, Object, Question, Row};
 use std::alloc::Allocator;
 
@@ -55,16 +56,33 @@ pub(crate) fn ask_range<A: Allocator + Copy>(
     table: usize,
     lower: Option<&Key<A>>,
     upper: Option<&Key<A>>,
-) -> Result<Vec<(Key<A>, Row<A>), A>, Fault>
+) -> Result<RangeRows<A>, Fault>
     ensures registered { OnOk result (reads.new ≡ asked tables.now.state (Span table (end_of (option_copied lower.entry)) (end_of (option_copied upper.entry))) (so_far reads.old writes.now)) }
-    ensures seen { IfOk result (λ rows. Rows (rows_of rows.items) ≡ seen tables.now.state (Span table (end_of (option_copied lower.entry)) (end_of (option_copied upper.entry))) (so_far reads.old writes.now)) }
+    ensures seen { IfOk result (λ rows. Rows rows ≡ seen tables.now.state (Span table (end_of (option_copied lower.entry)) (end_of (option_copied upper.entry))) (so_far reads.old writes.now)) }
     ensures memory { IsOkUnless result Memory }
 {
     let question = span(table, lower, upper)?;
-    let rows = tables.rows(table, lower, upper)?;
-    let seen = writes.over(&question, tables.rows(table, lower, upper)?)?;
+    let found = rows_of_table(tables, table, lower, upper)?;
+    let rows = RangeRows::shared(found)?;
+    let seen = writes.over_shared(&question, &rows)?;
     reads.push(question, Answer::Rows(rows))?;
     Ok(seen)
+}
+
+// The rows that the tables have of a range. Most are few enough to be copied in one walk, with room for all of them.
+fn rows_of_table<A: Allocator + Copy>(
+    tables: &Tables<A>,
+    table: usize,
+    lower: Option<&Key<A>>,
+    upper: Option<&Key<A>>,
+) -> Result<Vec<(Key<A>, Row<A>), A>, Fault>
+    ensures answered { IfOk result (λ rows. Rows (rows_of rows.items) ≡ answer (Span table (end_of (option_copied lower.entry)) (end_of (option_copied upper.entry))) tables.now.state) }
+    ensures memory { IsOkUnless result Memory }
+{
+    match tables.rows_up_to(MAX_ANSWER_ROWS, table, lower, upper)? {
+        Some(rows) => Ok(rows),
+        None => tables.rows(table, lower, upper),
+    }
 }
 
 // The question for a range.

@@ -1,5 +1,5 @@
 //! What a transaction reads of the tables in its read phase.
-ghost use Rattle.std.specs.Prelude.{◌≡◌, IfOk, OnOk, OnErr, IsOkUnless, None};
+ghost use Rattle.std.specs.Prelude.{◌≡◌, IfOk, IfErr, IfSome, OnOk, OnErr, IsOkUnless, None};
 ghost use Rattle.std.specs.FinMap as finite;
 ghost use Rattle.std.specs.Option.{option_copied};
 ghost use Rattle.std.specs.Result.{result_err};
@@ -11,7 +11,7 @@ ghost use Rattle.occ_model.specs.State.{answer, Found, Rows};
 ghost use Rattle.occ_sets.specs.PlainSets.{observation_of, rows_of};
 ghost use Rattle.occ_core.specs.Reads.{room_to_read, noted};
 ghost use Rattle.occ_types.specs.declared.fault.Fault.TheVariants.{Memory};
-ghost use Rattle.occ_core.specs.Core.{Transition};
+ghost use Rattle.occ_core.specs.Core.{Transition, IsRefusal};
 ghost use Rattle.occ_core.specs.Replies.{replied};
 
 use crate::asking::{copied, span};
@@ -19,9 +19,10 @@ use crate::core_state::Core;
 use crate::read_checks::{check_room_to_read, check_session, check_size, check_turn_to_read};
 use occ_book::Tables;
 use occ_log::{ReadPhases, Transaction};
-use occ_sets::{Answer, Observation};
+use occ_sets::{Answer, Observation, RangeRows};
+use occ_types::limits::MAX_ANSWER_ROWS;
 use occ_types::{Fault, Key, Object, Question, Row};
-use std::alloc::{AllocError, Allocator};
+use std::alloc::Allocator;
 
 impl<A: Allocator> Core<A> {
     /// Forgets what a session has read under a number, and answers whether it has read anything. The number may then be read under
@@ -63,12 +64,35 @@ impl<A: Allocator + Copy> Core<A> {
         Ok(row)
     }
 
-    /// Copies of the rows of a table from the lower end on and below the upper one, with their keys and in the order of the keys, as
-    /// the table has them now. The question is noted with its answer as by `read`.
+    /// The rows of a table from the lower end on and below the upper one, with their keys and in the order of the keys, as
+    /// the table has them now. The question is noted with its answer as by `read`, and the rows are shared with what is noted.
     ///
     /// Refused as `read` is, where the ends must fit the schema and the lower one be below the upper one; and after that, before the
-    /// room for questions is looked at, where the answer has more than 1,024 rows. They are counted before any is copied.
+    /// room for questions is looked at, where the answer has more than 1,024 rows.
     pub fn scan(
+        &mut self,
+        session: usize,
+        number: u64,
+        start: u64,
+        table: usize,
+        lower: Option<&Key<A>>,
+        upper: Option<&Key<A>>,
+    ) -> Result<RangeRows<A>, Fault>
+        ensures { Transition self.old (Read session number start (Span table (end_of (option_copied lower.entry)) (end_of (option_copied upper.entry)))) (replied (λ rows. Answered (Rows rows)) result) self.new }
+    {
+        let transaction = Transaction {
+            session,
+            number,
+            start,
+        };
+        let rows = self.rows_asked(transaction, table, lower, upper)?;
+        let (seen, rows) = share_rows(rows, table, lower, upper)?;
+        note(&mut self.phases, self.alloc, transaction, seen)?;
+        Ok(rows)
+    }
+
+    /// The same, as copies of the rows that the caller alone owns. Refused as `scan` is.
+    pub fn scan_apart(
         &mut self,
         session: usize,
         number: u64,
@@ -84,10 +108,65 @@ impl<A: Allocator + Copy> Core<A> {
             number,
             start,
         };
-        self.check_scan(transaction, table, lower, upper)?;
-        let (seen, rows) = observe_rows(&self.tables, table, lower, upper)?;
+        let rows = self.rows_asked(transaction, table, lower, upper)?;
+        let (seen, rows) = copy_rows(rows, table, lower, upper)?;
         note(&mut self.phases, self.alloc, transaction, seen)?;
         Ok(rows)
+    }
+
+    // Copies of the rows of a range that may be read for a transaction, or why it may not. The rows are gone over once; only a refusal
+    // goes over them again, to find the first fault.
+    fn rows_asked(
+        &self,
+        transaction: Transaction,
+        table: usize,
+        lower: Option<&Key<A>>,
+        upper: Option<&Key<A>>,
+    ) -> Result<Vec<(Key<A>, Row<A>), A>, Fault>
+        ensures answered { IfOk result (λ rows. (refusal self.now.world (Read transaction.session transaction.number transaction.start (Span table (end_of (option_copied lower.entry)) (end_of (option_copied upper.entry)))) ≡ None) × (Rows (rows_of rows.items) ≡ answer (Span table (end_of (option_copied lower.entry)) (end_of (option_copied upper.entry))) self.now.world.table)) }
+        ensures refused { IfErr result (IsRefusal self.now.world (Read transaction.session transaction.number transaction.start (Span table (end_of (option_copied lower.entry)) (end_of (option_copied upper.entry))))) }
+    {
+        match self.rows_at_once(transaction, table, lower, upper) {
+            Some(rows) => Ok(rows),
+            None => {
+                self.check_scan(transaction, table, lower, upper)?;
+                Err(Fault::Memory)
+            }
+        }
+    }
+
+    // Copies of the rows of a range; none where it may not be read for a transaction, or there is no memory for them.
+    fn rows_at_once(
+        &self,
+        transaction: Transaction,
+        table: usize,
+        lower: Option<&Key<A>>,
+        upper: Option<&Key<A>>,
+    ) -> Option<Vec<(Key<A>, Row<A>), A>>
+        ensures { IfSome result (λ rows. (refusal self.now.world (Read transaction.session transaction.number transaction.start (Span table (end_of (option_copied lower.entry)) (end_of (option_copied upper.entry)))) ≡ None) × (Rows (rows_of rows.items) ≡ answer (Span table (end_of (option_copied lower.entry)) (end_of (option_copied upper.entry))) self.now.world.table)) }
+    {
+        let begun = self.phases.get(transaction.session, transaction.number);
+        if check_turn_to_read(
+            &self.sessions,
+            &self.marks,
+            begun,
+            self.counter,
+            transaction,
+        )
+        .is_err()
+        {
+            return None;
+        }
+        if self.schema.check_range(table, lower, upper).is_err() {
+            return None;
+        }
+        if check_room_to_read(begun).is_err() {
+            return None;
+        }
+        match self.tables.rows_up_to(MAX_ANSWER_ROWS, table, lower, upper) {
+            Ok(rows) => rows,
+            Err(_) => None,
+        }
     }
 }
 
@@ -167,27 +246,34 @@ fn observe_row<A: Allocator + Clone>(
     Ok((Observation { question, answer }, row))
 }
 
-// The question for a range and what the tables answer, and a copy of the rows. The tables are asked once.
-fn observe_rows<A: Allocator + Clone>(
-    tables: &Tables<A>,
+// The question for a range with its rows, and the rows again, which share their memory.
+fn share_rows<A: Allocator + Copy>(
+    rows: Vec<(Key<A>, Row<A>), A>,
+    table: usize,
+    lower: Option<&Key<A>>,
+    upper: Option<&Key<A>>,
+) -> Result<(Observation<A>, RangeRows<A>), Fault>
+    ensures seen { IfOk result (λ shared. (observation_of shared.0 ≡ (Span table (end_of (option_copied lower.entry)) (end_of (option_copied upper.entry)), Rows (rows_of rows.items))) × (shared.1 ≡ rows_of rows.items)) }
+    ensures memory { IsOkUnless result Memory }
+{
+    let question = span(table, lower, upper)?;
+    let rows = RangeRows::shared(rows)?;
+    let answer = Answer::Rows(rows.clone()?);
+    Ok((Observation { question, answer }, rows))
+}
+
+// The question for a range with copies of its rows, and the rows themselves.
+fn copy_rows<A: Allocator + Copy>(
+    rows: Vec<(Key<A>, Row<A>), A>,
     table: usize,
     lower: Option<&Key<A>>,
     upper: Option<&Key<A>>,
 ) -> Result<(Observation<A>, Vec<(Key<A>, Row<A>), A>), Fault>
+    ensures seen { IfOk result (λ copies. (observation_of copies.0 ≡ (Span table (end_of (option_copied lower.entry)) (end_of (option_copied upper.entry)), Rows (rows_of rows.items))) × (copies.1 ≡ rows)) }
     ensures memory { IsOkUnless result Memory }
-    ensures answered { IfOk result (λ copies. (observation_of copies.0 ≡ (Span table (end_of (option_copied lower.entry)) (end_of (option_copied upper.entry)), answer (Span table (end_of (option_copied lower.entry)) (end_of (option_copied upper.entry))) tables.now.state)) × (Rows (rows_of copies.1.items) ≡ answer (Span table (end_of (option_copied lower.entry)) (end_of (option_copied upper.entry))) tables.now.state)) }
 {
     let question = span(table, lower, upper)?;
-    let rows = tables.rows(table, lower, upper)?;
-    let answer = Answer::Rows(copy_rows(&rows)?);
+    let copied = rows.clone()?;
+    let answer = Answer::Rows(RangeRows::shared(copied)?);
     Ok((Observation { question, answer }, rows))
-}
-
-// A copy of the rows of a range, with their keys.
-fn copy_rows<A: Allocator + Clone>(
-    rows: &Vec<(Key<A>, Row<A>), A>,
-) -> Result<Vec<(Key<A>, Row<A>), A>, AllocError>
-    ensures { IfOk result (λ copied. rows_of copied.items ≡ rows_of rows.now.items) }
-{
-    Ok(rows.clone()?)
 }

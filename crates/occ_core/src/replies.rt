@@ -5,7 +5,8 @@ ghost use Rattle.occ_core.specs.declared.replies.Reply.TheVariants as replies;
 use crate::outcomes::Outcome;
 use occ_case::Verdict;
 use occ_queue::Item;
-use occ_types::{Fault, Key, Object, Refused, Row};
+use occ_sets::RangeRows;
+use occ_types::{Fault, Object, Refused, Row};
 use std::alloc::Allocator;
 
 /// What a core replies to a step.
@@ -14,7 +15,7 @@ pub enum Reply<A: Allocator> {
     /// To a read: the row, or none where there is none.
     Found(Option<Row<A>>),
     /// To a scan: the keys of the range and their rows, in the order of the keys.
-    Rows(Vec<(Key<A>, Row<A>), A>),
+    Rows(RangeRows<A>),
     /// To a forget: whether there was such a read phase.
     Forgotten(bool),
     /// To an entry, a serial end or a run alone: what came of it.

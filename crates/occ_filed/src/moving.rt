@@ -15,7 +15,7 @@ ghost use Rattle.occ_filed.specs.Filed.{Moves};
 use crate::filed_core::FiledCore;
 use occ_core::{Outcome, SingleWrite};
 use occ_queue::Item;
-use occ_sets::{Answer, Op};
+use occ_sets::{Answer, Op, RangeRows};
 use occ_types::{Fault, Key, Refused, Row};
 use std::alloc::Allocator;
 
@@ -66,10 +66,26 @@ impl<A: Allocator + Copy> FiledCore<A> {
         table: usize,
         lower: Option<&Key<A>>,
         upper: Option<&Key<A>>,
+    ) -> Result<RangeRows<A>, Fault>
+        ensures { Moves self.old (Read session number start (Span table (end_of (option_copied lower.entry)) (end_of (option_copied upper.entry)))) (replied (λ rows. Answered (Rows rows)) result) self.new }
+    {
+        self.core.scan(session, number, start, table, lower, upper)
+    }
+
+    /// As `Core::scan_apart`.
+    pub fn scan_apart(
+        &mut self,
+        session: usize,
+        number: u64,
+        start: u64,
+        table: usize,
+        lower: Option<&Key<A>>,
+        upper: Option<&Key<A>>,
     ) -> Result<Vec<(Key<A>, Row<A>), A>, Fault>
         ensures { Moves self.old (Read session number start (Span table (end_of (option_copied lower.entry)) (end_of (option_copied upper.entry)))) (replied (λ rows. Answered (Rows (rows_of rows.items))) result) self.new }
     {
-        self.core.scan(session, number, start, table, lower, upper)
+        self.core
+            .scan_apart(session, number, start, table, lower, upper)
     }
 
     /// As `Core::write_one`.
