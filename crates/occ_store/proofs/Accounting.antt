@@ -1,6 +1,6 @@
 -- What a lane took adds up, whatever happens to the lane.
-use Rattle.std.proofs.Common.{◌≡◌, ℕ, zero, suc, ◌+◌, ◌-◌, ◌≤◌, Bool, true, false, List, [], ◌∷◌, ◌++◌, length, Option, None, Some, is_some, Result, Ok, Err, IfOk, IfSome, inl, inr, refl, sym, ap, subst, ◌∙◌, arith}
-use Rattle.std.specs.Prelude.{◌⊎◌, ◌&&◌, ◌||◌, if◌then◌else◌}
+use Rattle.std.proofs.Common.{◌≡◌, ℕ, ◌+◌, ◌-◌, ◌≤◌, Bool, true, false, List, [], ◌∷◌, ◌++◌, length, Option, is_some, Result, IfSome, inl, inr, refl, sym, ap, subst, ◌∙◌, arith}
+use Rattle.std.specs.Prelude.{◌⊎◌, ◌&&◌, ◌||◌}
 use Rattle.std.specs.List.{list_any}
 use Rattle.std.proofs.lemmas.List.{length_push}
 use Rattle.std.proofs.lemmas.List.Folds.{list_any-append}
@@ -13,7 +13,6 @@ use Rattle.occ_core.specs.Replies.{outcome_of, CanEnter, CanEnd}
 use Rattle.occ_core.specs.declared.outcomes.Outcome as code_outcome
 use Rattle.occ_core.specs.declared.outcomes.Outcome.TheVariants as outcomes
 use Rattle.occ_queue.specs.Items.{is_mark}
-use Rattle.occ_queue.specs.Lanes.{Known, taking}
 use Rattle.occ_filed.specs.Filed.{token_of}
 use Rattle.occ_store.specs.Locked.{Locked, rows_entered}
 use Rattle.occ_store.specs.Lanes.{Left, Nothing, Kept, Open, Decided, LaneView, AddsUp, count_if, is_closed, is_nothing, open_rows, token_left, left_entering, TakesIn, reached, Advances, GoesOn}

@@ -17,7 +17,7 @@ use std::sync::ledger::{Ledger, Share};
 
 /// What became of a session, and of all that it handed in.
 #[derive(Drop)]
-pub struct AccountLine<A: Allocator> {
+pub struct AccountLine<A: Allocator + Copy> {
     /// How many items were pushed, the closing mark too.
     pub pushed: u64,
     /// How many of them its lane took.
@@ -32,7 +32,7 @@ pub struct AccountLine<A: Allocator> {
 
 /// The closing account of a store.
 #[derive(Drop)]
-pub struct Account<A: Allocator> {
+pub struct Account<A: Allocator + Copy> {
     /// How many rows entered, those that were folded too.
     pub entered: u64,
     /// A line for each session, the first session's first.
@@ -136,7 +136,7 @@ impl<N: Name, A: Allocator + Copy> Store<N, A> {
 }
 
 // Whether these are the lanes and sessions of a store of so many sessions, in the order of their numbers.
-fn is_complete<N: Name, A: Allocator>(
+fn is_complete<N: Name, A: Allocator + Copy>(
     count: usize,
     lanes: &[Lane<N, A>],
     sessions: &[Session<N, A>],
@@ -153,7 +153,10 @@ fn is_complete<N: Name, A: Allocator>(
 }
 
 // Whether they have the numbers from 1 on.
-fn are_numbered<N: Name, A: Allocator>(lanes: &[Lane<N, A>], sessions: &[Session<N, A>]) -> bool
+fn are_numbered<N: Name, A: Allocator + Copy>(
+    lanes: &[Lane<N, A>],
+    sessions: &[Session<N, A>],
+) -> bool
     requires { length lanes.now ≡ length sessions.now }
     ensures { result ≡ are_numbered 1 lanes.now sessions.now }
 {
@@ -166,7 +169,7 @@ fn are_numbered<N: Name, A: Allocator>(lanes: &[Lane<N, A>], sessions: &[Session
 }
 
 // Whether a lane and a session have this number.
-fn have_number<N: Name, A: Allocator>(
+fn have_number<N: Name, A: Allocator + Copy>(
     lane: &Lane<N, A>,
     session: &Session<N, A>,
     number: usize,
@@ -197,7 +200,7 @@ fn room<N: Name, A: Allocator + Copy>(
 }
 
 // Room for what a queue has left.
-fn room_for<N: Name, A: Allocator>(
+fn room_for<N: Name, A: Allocator + Copy>(
     alloc: A,
     lane: &Lane<N, A>,
     session: &Session<N, A>,
@@ -211,7 +214,7 @@ fn room_for<N: Name, A: Allocator>(
 }
 
 // The line of a session and its lane, and the lane's part of the ledger.
-fn line_of<N: Name, A: Allocator, R: Wait>(
+fn line_of<N: Name, A: Allocator + Copy, R: Wait>(
     rt: &R,
     lane: Lane<N, A>,
     session: Session<N, A>,
@@ -241,7 +244,7 @@ fn line_of<N: Name, A: Allocator, R: Wait>(
 }
 
 // The item that was taken and has not entered.
-fn kept<A: Allocator>(left: Left<A>) -> Option<Item<A>>
+fn kept<A: Allocator + Copy>(left: Left<A>) -> Option<Item<A>>
     ensures { kept_in result ≡ kept_of (left_of left) }
 {
     match left {

@@ -222,7 +222,11 @@ fn take_in<N: Name, A: Allocator + Copy, R: Wait>(
 }
 
 // Whether an item ends serially.
-fn ends_serially<N: Name, A: Allocator>(shared: &Shared<N, A>, serial: bool, item: &Item<A>) -> bool
+fn ends_serially<N: Name, A: Allocator + Copy>(
+    shared: &Shared<N, A>,
+    serial: bool,
+    item: &Item<A>,
+) -> bool
     ensures { result ≡ ends_serially (world_of shared.now) serial (item_of item.now) }
 {
     if !serial {
@@ -235,7 +239,7 @@ fn ends_serially<N: Name, A: Allocator>(shared: &Shared<N, A>, serial: bool, ite
 }
 
 // A decision, by the verdict of a judged case where there is one.
-fn decide_as<N: Name, A: Allocator>(
+fn decide_as<N: Name, A: Allocator + Copy>(
     shared: &mut Shared<N, A>,
     session: usize,
     judged: Option<Judged<A>>,
@@ -257,7 +261,7 @@ fn writes_left<N: Name, A: Allocator + Copy>(shared: &Shared<N, A>, session: usi
 }
 
 // A row that is decided to commit.
-fn committing<A: Allocator>(number: u64) -> Left<A>
+fn committing<A: Allocator + Copy>(number: u64) -> Left<A>
     ensures { left_of result ≡ Decided number Commit }
 {
     Left::Decided {
@@ -267,7 +271,11 @@ fn committing<A: Allocator>(number: u64) -> Left<A>
 }
 
 // What is left of an item with this number by what came of it; the row of a request has this token.
-fn left_by<A: Allocator>(outcome: &Outcome<A>, number: u64, token: Option<CaseToken<A>>) -> Left<A>
+fn left_by<A: Allocator + Copy>(
+    outcome: &Outcome<A>,
+    number: u64,
+    token: Option<CaseToken<A>>,
+) -> Left<A>
     ensures { (item : PlainItem) → number ≡ number_of item → left_of result ≡ left_entering item token (outcome_of outcome.now) }
 {
     match outcome {
@@ -280,7 +288,7 @@ fn left_by<A: Allocator>(outcome: &Outcome<A>, number: u64, token: Option<CaseTo
 }
 
 // The point that what was handed in reached by what came of it.
-fn point_by<A: Allocator>(outcome: Outcome<A>) -> Point
+fn point_by<A: Allocator + Copy>(outcome: Outcome<A>) -> Point
     ensures { result ≡ point_of (outcome_of outcome) }
 {
     match outcome {

@@ -19,12 +19,13 @@ use crate::shared::Shared;
 use occ_case::{Cause, Judged, Verdict};
 use occ_core::{Outcome, SingleWrite};
 use occ_queue::Item;
+use occ_sets::RangeRows;
 use occ_types::{Fault, Key, Refused, Row};
 use std::alloc::Allocator;
 use std::sync::Wait;
 use std::sync::ledger::Share;
 
-impl<N: Name, A: Allocator> Shared<N, A> {
+impl<N: Name, A: Allocator + Copy> Shared<N, A> {
     // Forgets a read phase.
     pub(crate) fn forget(&mut self, session: usize, number: u64) -> Result<bool, Fault>
         ensures { Happens self.old session (Forget session number) (replied Forgotten result) self.new }
@@ -106,11 +107,28 @@ impl<N: Name, A: Allocator + Copy> Shared<N, A> {
         table: usize,
         lower: Option<&Key<A>>,
         upper: Option<&Key<A>>,
+    ) -> Result<RangeRows<A>, Fault>
+        ensures { Happens self.old session (Read session number start (Span table (end_of (option_copied lower.entry)) (end_of (option_copied upper.entry)))) (replied (λ rows. Answered (Rows rows)) result) self.new }
+    {
+        law(&self.filed);
+        self.filed.scan(session, number, start, table, lower, upper)
+    }
+
+    // Reads the rows of a range, as copies that the caller alone owns.
+    pub(crate) fn scan_apart(
+        &mut self,
+        session: usize,
+        number: u64,
+        start: u64,
+        table: usize,
+        lower: Option<&Key<A>>,
+        upper: Option<&Key<A>>,
     ) -> Result<Vec<(Key<A>, Row<A>), A>, Fault>
         ensures { Happens self.old session (Read session number start (Span table (end_of (option_copied lower.entry)) (end_of (option_copied upper.entry)))) (replied (λ rows. Answered (Rows (rows_of rows.items))) result) self.new }
     {
         law(&self.filed);
-        self.filed.scan(session, number, start, table, lower, upper)
+        self.filed
+            .scan_apart(session, number, start, table, lower, upper)
     }
 
     // Does the next single write of what a session has under way.

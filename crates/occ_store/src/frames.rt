@@ -22,7 +22,7 @@ use std::sync::ledger::Blank;
 
 /// All of a store but its name: the core with the file of its cases, the board, and the queue of each session.
 #[derive(Drop)]
-pub struct Frame<A: Allocator> {
+pub struct Frame<A: Allocator + Copy> {
     pub(crate) alloc: A,
     pub(crate) filed: FiledCore<A>,
     pub(crate) file: Arc<CaseFile<A>, A>,
@@ -31,7 +31,7 @@ pub struct Frame<A: Allocator> {
     pub(crate) rows: Blank,
 }
 
-impl<A: Allocator> Model for Frame<A> {
+impl<A: Allocator + Copy> Model for Frame<A> {
     ghost use Rattle.std.specs.Coded.{codes};
     ghost use Rattle.boxcar.specs.Table.{shelves_coded};
     ghost use Rattle.std.specs.Arc.{arc_value};

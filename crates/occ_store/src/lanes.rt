@@ -20,7 +20,7 @@ use std::sync::ledger::Share;
 /// The lane of a session: it takes what the session hands in, one item after another, and brings each to its end. Between two calls it
 /// keeps what it has not ended.
 #[derive(Drop)]
-pub struct Lane<N: Name, A: Allocator> {
+pub struct Lane<N: Name, A: Allocator + Copy> {
     pub(crate) session: usize,
     pub(crate) receiver: Receiver<A>,
     pub(crate) left: Left<A>,
@@ -31,7 +31,7 @@ pub struct Lane<N: Name, A: Allocator> {
     pub(crate) share: Share<N>,
 }
 
-impl<N: Name, A: Allocator> Model for Lane<N, A> {
+impl<N: Name, A: Allocator + Copy> Model for Lane<N, A> {
     ghost use Rattle.std.specs.Prelude.{◌≡◌, ◌+◌, ◌≤◌, ℕ, Some, IfSome};
     ghost use Rattle.std.specs.Coded.{codes};
     ghost use Rattle.boxcar.specs.Table.{where_coded, Shows};
@@ -52,7 +52,7 @@ impl<N: Name, A: Allocator> Model for Lane<N, A> {
         × AddsUp l.receiver.taken l.entered (left_of l.left) };
 }
 
-impl<N: Name, A: Allocator> Lane<N, A> {
+impl<N: Name, A: Allocator + Copy> Lane<N, A> {
     /// The number of its session.
     pub fn session(&self) -> usize
         ensures { result ≡ self.now.session }
@@ -146,7 +146,7 @@ impl<N: Name, A: Allocator> Lane<N, A> {
 }
 
 // The lane of a session out of which nothing was taken, with a part of the ledger.
-pub(crate) fn unused_lane<N: Name, A: Allocator>(
+pub(crate) fn unused_lane<N: Name, A: Allocator + Copy>(
     session: usize,
     receiver: Receiver<A>,
     share: Share<N>,

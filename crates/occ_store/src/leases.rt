@@ -21,7 +21,7 @@ pub struct Lease<'s, N: Name> {
     _name: PhantomData<N>,
 }
 
-impl<N: Name, A: Allocator> Store<N, A> {
+impl<N: Name, A: Allocator + Copy> Store<N, A> {
     /// Waits for the turn at the store, and takes it.
     pub fn lease<R: Wait>(&self, rt: &R) -> Lease<'_, N> {
         Lease {

@@ -4,6 +4,7 @@ ghost use Rattle.std.specs.Prelude.{◌≡◌};
 use crate::names::Name;
 use crate::shared::Shared;
 use occ_client::Readable;
+use occ_sets::RangeRows;
 use occ_types::{Fault, Key, Row, Schema};
 use std::alloc::Allocator;
 
@@ -33,8 +34,20 @@ impl<N: Name, A: Allocator + Copy> Readable<A> for Shared<N, A> {
         table: usize,
         lower: Option<&Key<A>>,
         upper: Option<&Key<A>>,
-    ) -> Result<Vec<(Key<A>, Row<A>), A>, Fault> {
+    ) -> Result<RangeRows<A>, Fault> {
         self.scan(session, number, start, table, lower, upper)
+    }
+
+    fn scan_apart(
+        &mut self,
+        session: usize,
+        number: u64,
+        start: u64,
+        table: usize,
+        lower: Option<&Key<A>>,
+        upper: Option<&Key<A>>,
+    ) -> Result<Vec<(Key<A>, Row<A>), A>, Fault> {
+        self.scan_apart(session, number, start, table, lower, upper)
     }
 
     fn forget(&mut self, session: usize, number: u64) -> Result<bool, Fault> {

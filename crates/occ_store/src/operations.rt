@@ -6,20 +6,19 @@ ghost use Rattle.occ_types.specs.Question.{One, Span};
 ghost use Rattle.occ_model.specs.Operations.{Add, number_in, held_sum};
 ghost use Rattle.occ_model.specs.State.{Found, Rows};
 ghost use Rattle.occ_sets.specs.Operations.{op_of, ops_of};
-ghost use Rattle.occ_sets.specs.PlainSets.{rows_of};
 ghost use Rattle.occ_store.specs.Bodies.{Sees, with_write, Performs, PerformsAll, Performing};
 
 use crate::names::Name;
 use crate::stores::Store;
 use crate::transactions::{Body, Transaction};
-use occ_sets::Op;
+use occ_sets::{Op, RangeRows};
 use occ_types::{Cell, Fault, Key, Row};
 use std::alloc::{AllocError, Allocator};
 use std::sync::Wait;
 
 /// The body that performs a list of operations, one after another, and drops what they read.
 #[derive(Drop)]
-pub(crate) struct Operations<'o, A: Allocator> {
+pub(crate) struct Operations<'o, A: Allocator + Copy> {
     pub(crate) list: &'o [Op<A>],
 }
 
@@ -101,8 +100,8 @@ fn scan<N: Name, A: Allocator + Copy, R: Wait>(
     table: usize,
     lower: &Option<Key<A>>,
     upper: &Option<Key<A>>,
-) -> Result<Vec<(Key<A>, Row<A>), A>, Fault>
-    ensures { IfOk result (λ rows. Sees N.named.settings transaction.now (Span table (end_of lower.now) (end_of upper.now)) (Rows (rows_of rows.items))) }
+) -> Result<RangeRows<A>, Fault>
+    ensures { IfOk result (λ rows. Sees N.named.settings transaction.now (Span table (end_of lower.now) (end_of upper.now)) (Rows rows)) }
 {
     let lower = copied_end(lower)?;
     let upper = copied_end(upper)?;
@@ -152,14 +151,14 @@ fn add<N: Name, A: Allocator + Copy, R: Wait>(
 }
 
 // The number in a row with an amount added, held at the ends of 64 bits.
-fn added<A: Allocator>(row: &Option<Row<A>>, amount: &i64) -> i64
+fn added<A: Allocator + Copy>(row: &Option<Row<A>>, amount: &i64) -> i64
     ensures { result ≡ held_sum (number_in (Found row.now)) amount.now }
 {
     number_in(row).saturating_add(*amount)
 }
 
 // The whole number in a row of one cell, and 0 where there is no row.
-fn number_in<A: Allocator>(row: &Option<Row<A>>) -> i64
+fn number_in<A: Allocator + Copy>(row: &Option<Row<A>>) -> i64
     ensures { result ≡ number_in (Found row.now) }
 {
     let Some(row) = row else {
@@ -187,7 +186,7 @@ pub(crate) fn copied<A: Allocator + Copy>(
 }
 
 // A copy of an operation.
-fn copied_operation<A: Allocator>(operation: &Op<A>) -> Result<Op<A>, AllocError>
+fn copied_operation<A: Allocator + Copy>(operation: &Op<A>) -> Result<Op<A>, AllocError>
     ensures { IfOk result (λ copy. op_of copy ≡ op_of operation.now) }
 {
     match operation {
@@ -222,7 +221,7 @@ fn copied_operation<A: Allocator>(operation: &Op<A>) -> Result<Op<A>, AllocError
 }
 
 // A copy of an end of a range.
-fn copied_end<A: Allocator>(end: &Option<Key<A>>) -> Result<Option<Key<A>>, AllocError>
+fn copied_end<A: Allocator + Copy>(end: &Option<Key<A>>) -> Result<Option<Key<A>>, AllocError>
     ensures { IfOk result (λ copy. end_of copy ≡ end_of end.now) }
 {
     match end {

@@ -8,14 +8,14 @@ use std::sync::Arc;
 
 /// What becomes of one session and its lane: the seat at the board, the two ends of the queue, and a handle of the tables.
 #[derive(Drop)]
-pub(crate) struct Part<A: Allocator> {
+pub(crate) struct Part<A: Allocator + Copy> {
     pub(crate) seat: Seat<A>,
     pub(crate) sender: Sender<A>,
     pub(crate) receiver: Receiver<A>,
     pub(crate) schema: Arc<Schema<A>, A>,
 }
 
-impl<A: Allocator> Model for Part<A> {
+impl<A: Allocator + Copy> Model for Part<A> {
     ghost use Rattle.std.specs.Arc.{arc_value};
     ghost use Rattle.occ_store.specs.Frames.{PartView};
 

@@ -16,14 +16,14 @@ use std::alloc::Allocator;
 use std::sync::ledger::{Book, Share};
 
 // What holds of every core. It computes nothing.
-pub(crate) fn law<A: Allocator>(filed: &FiledCore<A>)
+pub(crate) fn law<A: Allocator + Copy>(filed: &FiledCore<A>)
     ensures { IsLawful filed.now.world }
 {
     filed.core().law();
 }
 
 // Stores what came of what was handed in, and counts its row in the ledger.
-pub(crate) fn account<N: Name, A: Allocator>(
+pub(crate) fn account<N: Name, A: Allocator + Copy>(
     filed: &FiledCore<A>,
     publisher: &mut Publisher<A>,
     rows: &mut Book<N>,
@@ -47,7 +47,7 @@ pub(crate) fn account<N: Name, A: Allocator>(
 }
 
 // How many rows came into the log by what was handed in.
-pub(crate) fn rows_in<A: Allocator>(outcome: &Outcome<A>) -> u64
+pub(crate) fn rows_in<A: Allocator + Copy>(outcome: &Outcome<A>) -> u64
     ensures { result ≡ rows_entered (outcome_of outcome.now) }
 {
     match outcome {
@@ -60,7 +60,11 @@ pub(crate) fn rows_in<A: Allocator>(outcome: &Outcome<A>) -> u64
 }
 
 // Stores what came of what was handed in, where a transaction is over by it.
-fn store_outcome<A: Allocator>(publisher: &mut Publisher<A>, session: usize, outcome: &Outcome<A>)
+fn store_outcome<A: Allocator + Copy>(
+    publisher: &mut Publisher<A>,
+    session: usize,
+    outcome: &Outcome<A>,
+)
     requires { MayStore publisher.old.words session (outcome_of outcome.now) }
     ensures { publisher.new ≡ record publisher.old { words = stored publisher.old.words session (outcome_of outcome.now) } }
 {
@@ -76,7 +80,11 @@ fn store_outcome<A: Allocator>(publisher: &mut Publisher<A>, session: usize, out
 }
 
 // Stores that the next transaction of a session has committed.
-pub(crate) fn store_commit<A: Allocator>(publisher: &mut Publisher<A>, session: usize, tn: u64)
+pub(crate) fn store_commit<A: Allocator + Copy>(
+    publisher: &mut Publisher<A>,
+    session: usize,
+    tn: u64,
+)
     requires { MayCommit publisher.old.words session tn }
     ensures { publisher.new ≡ record publisher.old { words = committed publisher.old.words session tn } }
 {
@@ -85,7 +93,7 @@ pub(crate) fn store_commit<A: Allocator>(publisher: &mut Publisher<A>, session: 
 }
 
 // The cause with which a row stands in the log, or the one that was kept.
-pub(crate) fn cause_told<A: Allocator>(
+pub(crate) fn cause_told<A: Allocator + Copy>(
     core: &Core<A>,
     session: usize,
     number: u64,
@@ -100,7 +108,7 @@ pub(crate) fn cause_told<A: Allocator>(
 }
 
 // The cause for which a row stands as backed up, or the one that was kept.
-fn cause_of<A: Allocator>(standing: &Standing<OpenCase<A>>, kept: Cause) -> Cause
+fn cause_of<A: Allocator + Copy>(standing: &Standing<OpenCase<A>>, kept: Cause) -> Cause
     ensures { result ≡ cause_of kept (standing_of standing.now) }
 {
     match standing {

@@ -85,7 +85,7 @@ pub enum Served {
     LaneClosed,
 }
 
-impl<N: Name, A: Allocator> Lane<N, A> {
+impl<N: Name, A: Allocator + Copy> Lane<N, A> {
     // Whether a decision is next, and the gate stops the lane before it.
     #[tactic(auto, using(crate::proofs::Points::open_left))]
     fn stops_at_verdict<G: Gate>(&self, gate: &G, number: u64) -> bool

@@ -11,7 +11,7 @@ use crate::names::Name;
 use crate::sessions::Session;
 use crate::shared::Shared;
 use crate::stores::Store;
-use occ_sets::Write;
+use occ_sets::{RangeRows, Write};
 use occ_types::{Fault, Key, Refused, Row};
 use std::alloc::Allocator;
 use std::sync::Wait;
@@ -70,7 +70,7 @@ impl<N: Name, A: Allocator + Copy> Session<N, A> {
         table: usize,
         lower: Option<Key<A>>,
         upper: Option<Key<A>>,
-    ) -> Result<Vec<(Key<A>, Row<A>), A>, Fault>
+    ) -> Result<RangeRows<A>, Fault>
         ensures { OrStarves (WantsRange (world_of shared.old).settings.schema (Span table (end_of lower) (end_of upper)) self.now.draft) (world_of shared.old) (scanning result) (world_of shared.new)
             (Scans (world_of shared.old) self.now.session (Span table (end_of lower) (end_of upper)) self.now.draft (scanning result) (world_of shared.new)) }
     {
@@ -111,7 +111,7 @@ impl<N: Name, A: Allocator + Copy> Session<N, A> {
         table: usize,
         lower: Option<Key<A>>,
         upper: Option<Key<A>>,
-    ) -> Result<Vec<(Key<A>, Row<A>), A>, Fault>
+    ) -> Result<RangeRows<A>, Fault>
         ensures { InOneHolding N.named.settings (λ old new.
             OrStarves (WantsRange old.settings.schema (Span table (end_of lower) (end_of upper)) self.now.draft) old (scanning result) new
             (Scans old self.now.session (Span table (end_of lower) (end_of upper)) self.now.draft (scanning result) new)) }

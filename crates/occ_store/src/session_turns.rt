@@ -22,7 +22,7 @@ use std::alloc::{AllocError, Allocator};
 use std::mem;
 use std::sync::{Arc, Wait};
 
-impl<N: Name, A: Allocator> Session<N, A> {
+impl<N: Name, A: Allocator + Copy> Session<N, A> {
     /// A transaction of the session, with none open. An error where the schema has too many owners to be counted.
     pub(crate) fn transaction(&self) -> Result<Transaction<N, A>, AllocError> {
         let schema = Arc::try_clone(&self.schema)?;

@@ -26,7 +26,7 @@ use std::sync::{Arc, Wait};
 /// The client's end of a session: it begins transactions, one at a time, keeps the writes of the open one to itself, and hands it in.
 /// Its seat at the board tells it the transaction counter and how its last transaction ended. One thread has it, which may be any.
 #[derive(Drop)]
-pub struct Session<N: Name, A: Allocator> {
+pub struct Session<N: Name, A: Allocator + Copy> {
     pub(crate) alloc: A,
     pub(crate) session: usize,
     pub(crate) schema: Arc<Schema<A>, A>,
@@ -36,7 +36,7 @@ pub struct Session<N: Name, A: Allocator> {
     name: PhantomData<N>,
 }
 
-impl<N: Name, A: Allocator> Model for Session<N, A> {
+impl<N: Name, A: Allocator + Copy> Model for Session<N, A> {
     ghost use Rattle.std.specs.Prelude.{◌≡◌};
     ghost use Rattle.std.specs.Arc.{arc_value};
     ghost use Rattle.occ_store.specs.Names.{lane_of};
@@ -53,7 +53,7 @@ impl<N: Name, A: Allocator> Model for Session<N, A> {
         × MayBeSubmitted s.sender s.open };
 }
 
-impl<N: Name, A: Allocator> Session<N, A> {
+impl<N: Name, A: Allocator + Copy> Session<N, A> {
     /// A session that did nothing yet.
     pub(crate) fn new(
         alloc: A,
@@ -272,7 +272,7 @@ fn reopened_as<A: Allocator + Copy, R: Wait>(
 }
 
 // The operations that an item was made of.
-fn operations_back<A: Allocator>(refused: Refused<Item<A>>) -> Refused<Vec<Op<A>, A>>
+fn operations_back<A: Allocator + Copy>(refused: Refused<Item<A>>) -> Refused<Vec<Op<A>, A>>
     requires { is_alone (item_of refused.value) ≡ true }
     ensures value { (number : ℕ) × (refused.value ≡ items.Alone number result.value) }
     ensures fault { result.fault ≡ refused.fault }

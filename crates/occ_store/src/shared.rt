@@ -27,13 +27,13 @@ use std::sync::ledger::{Book, Share};
 /// The locked state of a store: its core with the file of its cases, the publisher of its board, and the book of the rows that lanes
 /// entered. Clauses see the world of the core, with what shows its cases, and the words that stand on the board; these show the world.
 #[derive(Drop)]
-pub struct Shared<N: Name, A: Allocator> {
+pub struct Shared<N: Name, A: Allocator + Copy> {
     pub(crate) filed: FiledCore<A>,
     pub(crate) publisher: Publisher<A>,
     pub(crate) rows: Book<N>,
 }
 
-impl<N: Name, A: Allocator> Model for Shared<N, A> {
+impl<N: Name, A: Allocator + Copy> Model for Shared<N, A> {
     ghost use Rattle.std.specs.Coded.{codes};
     ghost use Rattle.std.specs.FinMap as finite;
     ghost use Rattle.boxcar.specs.Table.{shelves_coded, where_coded};
@@ -48,7 +48,7 @@ impl<N: Name, A: Allocator> Model for Shared<N, A> {
     ghost invariant = { λ s. IsLocked N.named s.filed s.publisher s.rows.total };
 }
 
-impl<N: Name, A: Allocator> Shared<N, A> {
+impl<N: Name, A: Allocator + Copy> Shared<N, A> {
     /// The law of every store, whatever its threads did: its log is in order, serial replay explains each committed transaction, and the
     /// table with the rest of each open write phase is the replay of the whole log; what stands in it fits its tables and sessions; and
     /// what stands on the board shows the last transaction of each session that is over. It computes nothing.
@@ -125,7 +125,7 @@ impl<N: Name, A: Allocator + Copy> Shared<N, A> {
 }
 
 // How many rows entered, those that were folded too.
-fn all_rows<A: Allocator>(filed: &FiledCore<A>) -> u64
+fn all_rows<A: Allocator + Copy>(filed: &FiledCore<A>) -> u64
     ensures { result ≡ next_place filed.now.world }
 {
     law(filed);
@@ -134,7 +134,7 @@ fn all_rows<A: Allocator>(filed: &FiledCore<A>) -> u64
 }
 
 // How a row stands, without its case.
-fn told_standing<A: Allocator>(standing: &Standing<OpenCase<A>>) -> Standing<()>
+fn told_standing<A: Allocator + Copy>(standing: &Standing<OpenCase<A>>) -> Standing<()>
     ensures { result ≡ told_standing (standing_of standing.now) }
 {
     match standing {

@@ -23,7 +23,7 @@ use std::sync::{Arc, Mutex, MutexGuard, Wait};
 
 /// A store, which threads share: the locked state, the file of its cases, and the turn of those who take leases.
 #[derive(Drop)]
-pub struct Store<N: Name, A: Allocator> {
+pub struct Store<N: Name, A: Allocator + Copy> {
     pub(crate) shared: Mutex<Shared<N, A>>,
     pub(crate) lease: Mutex<Turns>,
     pub(crate) file: Arc<CaseFile<A>, A>,
@@ -98,7 +98,7 @@ impl<N: Name, A: Allocator + Copy> Store<N, A> {
     }
 }
 
-impl<N: Name, A: Allocator> Store<N, A> {
+impl<N: Name, A: Allocator + Copy> Store<N, A> {
     /// Waits for the lock, and lends the locked state for as long as the guard lives. What `Shared::law` says holds of it.
     pub fn lock<R: Wait>(&self, rt: &R) -> MutexGuard<'_, Shared<N, A>> {
         self.shared.lock(rt)
@@ -134,7 +134,7 @@ fn room<N: Name, A: Allocator + Copy>(
 }
 
 // The session with this number, and its lane.
-fn named<N: Name, A: Allocator>(
+fn named<N: Name, A: Allocator + Copy>(
     alloc: A,
     session: usize,
     part: Part<A>,

@@ -10,7 +10,7 @@ ghost use Rattle.occ_store.specs.Sessions.{InOneHolding};
 use crate::names::Name;
 use crate::stores::Store;
 use occ_client::OpenTransaction;
-use occ_sets::Write;
+use occ_sets::{RangeRows, Write};
 use occ_types::{Fault, Key, Refused, Row, Schema};
 use std::alloc::Allocator;
 use std::marker::{Model, PhantomData};
@@ -19,7 +19,7 @@ use std::sync::{Arc, Wait};
 
 /// What a transaction reads and writes. A worker runs it, and runs it anew after a back-up, so that it begins from what it reads each
 /// time, and leaves nothing outside that a later run would see.
-pub trait Body<N: Name, A: Allocator, R: Wait> {
+pub trait Body<N: Name, A: Allocator + Copy, R: Wait> {
     ghost use Rattle.occ_store.specs.Bodies.{Making, Goes};
 
     /// How a run may end, and what it may make of a transaction then, as far as clauses are to know: anything, where an `impl` doesn't
@@ -40,14 +40,14 @@ pub trait Body<N: Name, A: Allocator, R: Wait> {
 
 /// The transaction that a worker has begun, for its body to read and write in.
 #[derive(Drop)]
-pub struct Transaction<N: Name, A: Allocator> {
+pub struct Transaction<N: Name, A: Allocator + Copy> {
     session: usize,
     schema: Arc<Schema<A>, A>,
     draft: OpenTransaction<A>,
     name: PhantomData<N>,
 }
 
-impl<N: Name, A: Allocator> Model for Transaction<N, A> {
+impl<N: Name, A: Allocator + Copy> Model for Transaction<N, A> {
     ghost use Rattle.std.specs.Prelude.{◌≡◌};
     ghost use Rattle.std.specs.Arc.{arc_value};
     ghost use Rattle.occ_store.specs.Transactions.{TransactionView};
@@ -59,7 +59,7 @@ impl<N: Name, A: Allocator> Model for Transaction<N, A> {
     ghost invariant = { λ t. arc_value t.schema ≡ N.named.settings.schema };
 }
 
-impl<N: Name, A: Allocator> Transaction<N, A> {
+impl<N: Name, A: Allocator + Copy> Transaction<N, A> {
     /// That of a session, with none open.
     pub(crate) fn new(session: usize, schema: Arc<Schema<A>, A>) -> Transaction<N, A>
         requires schema { arc_value schema ≡ N.named.settings.schema }
@@ -114,7 +114,7 @@ impl<N: Name, A: Allocator + Copy> Transaction<N, A> {
         table: usize,
         lower: Option<Key<A>>,
         upper: Option<Key<A>>,
-    ) -> Result<Vec<(Key<A>, Row<A>), A>, Fault>
+    ) -> Result<RangeRows<A>, Fault>
         ensures { InOneHolding N.named.settings (λ old new.
             OrStarves (WantsRange old.settings.schema (Span table (end_of lower) (end_of upper)) self.now.draft) old (scanning result) new
             (Scans old self.now.session (Span table (end_of lower) (end_of upper)) self.now.draft (scanning result) new)) }

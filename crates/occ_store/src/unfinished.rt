@@ -5,7 +5,7 @@ use std::alloc::Allocator;
 
 /// What a lane has not ended.
 #[derive(Drop)]
-pub enum Left<A: Allocator> {
+pub enum Left<A: Allocator + Copy> {
     /// Nothing.
     Nothing,
     /// An item that it took, and that has not entered.

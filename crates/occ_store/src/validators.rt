@@ -23,7 +23,7 @@ const LONGEST_SLEEP: u64 = 1_000;
 
 /// Lanes that one thread serves in turn, and the first fault that one of them met. All of them are of one store.
 #[derive(Drop)]
-pub struct Group<N: Name, A: Allocator> {
+pub struct Group<N: Name, A: Allocator + Copy> {
     /// The lanes.
     pub lanes: Vec<Lane<N, A>, A>,
     /// The first fault that one of them met.
@@ -167,7 +167,7 @@ fn serve_lane<N: Name, A: Allocator + Copy, R: Wait, G: Gate>(
 }
 
 // A mark for each lane, none of which is set.
-fn unmarked<A: Allocator>(alloc: A, lanes: usize) -> Result<Vec<bool, A>, AllocError>
+fn unmarked<A: Allocator + Copy>(alloc: A, lanes: usize) -> Result<Vec<bool, A>, AllocError>
     ensures count { IfOk result (λ marks. length marks.items ≡ lanes) }
     ensures none { IfOk result (λ marks. (place : ℕ) → get_or marks.items place false ≡ false) }
 {
@@ -212,7 +212,7 @@ pub fn run_validators<
 }
 
 // The fault of the first group that met one.
-fn first_met<N: Name, A: Allocator>(groups: &[Group<N, A>]) -> Option<Fault>
+fn first_met<N: Name, A: Allocator + Copy>(groups: &[Group<N, A>]) -> Option<Fault>
     ensures { result ≡ first_fault (map (λ group. group.fault) groups.now) }
 {
     for group in groups {

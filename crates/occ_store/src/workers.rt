@@ -28,14 +28,14 @@ const BUSY_TRIES: usize = 1000000;
 /// are not filed, so that the store keeps nothing of what is folded, and while no other row is active its requests end serially, each in
 /// one event.
 #[derive(Drop)]
-pub struct Worker<N: Name, A: Allocator> {
+pub struct Worker<N: Name, A: Allocator + Copy> {
     pub(crate) session: Session<N, A>,
     pub(crate) lane: Lane<N, A>,
     pub(crate) transaction: Transaction<N, A>,
     ghost own_lane: { session.session ≡ lane.session },
 }
 
-impl<N: Name, A: Allocator> Worker<N, A> {
+impl<N: Name, A: Allocator + Copy> Worker<N, A> {
     /// A worker of a session and its lane. Refused with `NoSession` where the lane is another session's, and with `Memory` where the
     /// schema has too many owners to be counted. Both are handed back then.
     pub fn new(

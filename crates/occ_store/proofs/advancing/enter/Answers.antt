@@ -1,4 +1,4 @@
-use Rattle.std.proofs.Common.{Ok, ◌+◌, refl, sym, ap, subst, ◌∙◌, arith}
+use Rattle.std.proofs.Common.{Ok, ◌+◌, refl, sym, ap, ◌∙◌, arith}
 use Rattle.occ_model.specs.Event.{Refused}
 use Rattle.occ_queue.specs.Items.{item_of}
 use Rattle.occ_core.specs.Replies.{outcome_of}

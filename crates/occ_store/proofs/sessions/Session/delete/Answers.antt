@@ -1,4 +1,4 @@
-use Rattle.std.proofs.Common.{Some, None}
+use Rattle.std.proofs.Common.{None}
 use Rattle.occ_types.specs.PlainData.{key_of}
 use Rattle.occ_store.proofs.Submittable.{still_next}
 use Rattle.occ_store.proofs.sessions.Session.delete.Goals as goal

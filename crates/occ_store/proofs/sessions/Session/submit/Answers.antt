@@ -1,13 +1,10 @@
-use Rattle.std.proofs.Common.{Option, ap, sym, subst, ◌∙◌}
-use Rattle.occ_sets.specs.Sets.{Copied}
+use Rattle.std.proofs.Common.{ap, sym, subst, ◌∙◌}
 use Rattle.occ_queue.specs.Lanes.{Known}
 use Rattle.occ_types.specs.declared.fault.Fault.TheVariants as faults
 use Rattle.occ_types.specs.Schema.{fault_if, first_fault}
 use Rattle.std.proofs.Common.{◌≡◌, Some, [], ◌∷◌}
 use Rattle.occ_queue.specs.Lanes.{as_queue}
-use Rattle.occ_queue.specs.Numbering.{is_full, refusal_of_submit}
-use Rattle.occ_queue.specs.Items.{item_of}
-use Rattle.occ_queue.specs.declared.items.Item as code_item
+use Rattle.occ_queue.specs.Numbering.{is_full}
 use Rattle.occ_client.specs.Transactions.{none_open}
 use Rattle.occ_store.specs.Sessions.{SessionView, MayBeSubmitted}
 use Rattle.occ_store.proofs.Submittable.{back_again, submit_refused}
