@@ -1,5 +1,6 @@
 -- Exits and calls of a replay, over plain data.
-use Rattle.std.proofs.Common.{IsErrAnd, ◌≡◌, ℕ, zero, suc, ◌-◌, ◌<◌, ◌⊎◌, List, length, get_or, Option, Some, Result, Ok, Err, refl, sym, ap, subst, ◌∙◌, inl, inr, arith, ◌≢◌, slice_get, slice_set, MatchOption, MatchResult, IsOkAnd, IfOk, OnErr, ok_or}
+use Rattle.std.proofs.Common.{IsErrAnd, IsTrue, ◌↔◌, Bool, false, ◌≡◌, ℕ, zero, suc, ◌-◌, ◌<◌, ◌⊎◌, List, length, get_or, Option, Some, Result, Ok, Err, refl, sym, ap, subst, ◌∙◌, inl, inr, arith, ◌≢◌, slice_get, slice_set, MatchOption, MatchResult, IsOkAnd, IfOk, OnErr, ok_or}
+use Rattle.std.proofs.lemmas.Bool.{false≢true}
 use Rattle.std.proofs.lemmas.Option.{slice_get_past, slice_get_read}
 use Rattle.occ_cli.proofs.Common.{err_from_is_err_and, set-get_or, Fault, World, Event, Item, Reply, Step, item_of, Played, PlayedIn, PutOff, Starved, Plays, next_item, still_waiting, kept_after, Client, Replayed, Given, client_of, ByStore, ByClient, ByBoth, ByAsking, Enters, played}
 use Rattle.occ_types.specs.declared.fault.Refused as code_refused
@@ -34,6 +35,13 @@ module _ {Z : Type 0} where
       → Played r (Starved old step new) (λ answer. Plays old step answer new) → Plays old step (played r) new
   plays_so old step new r other (inl memory) = absurd (other memory.0)
   plays_so old step new r other (inr so) = so
+
+  -- a step is done that didn't want memory, and its answer is no want of it
+  pub fed_so : (starved : Bool) (old : Replayed) (step : steps.Step) (new : Replayed) (r : Result (code_answer.Answer Z) Fault) → (IsTrue starved ↔ played r ≡ says.refused faults.Memory) → starved ≡ false
+      → Played r (Starved old step new) (λ answer. Plays old step answer new) → Plays old step (played r) new × (played r ≢ says.refused faults.Memory)
+  fed_so starved old step new r tells otherwise so =
+      let fed : played r ≢ says.refused faults.Memory = λ (want : played r ≡ says.refused faults.Memory). false≢true (sym otherwise ∙ tells.1 want) in
+      (plays_so old step new r fed so, fed)
 
   -- what a step ends with: its answer, unless that is a want of memory
   abbrev pub EndsWith : {E : Type 0} → Result (code_answer.Answer Z) E → Answer → Type 0

@@ -145,6 +145,11 @@ no_read P fault (Ok done) is = absurd is
 no_read P write_faults.Write (Err e) is = λ (read : e ≡ troubles.Read). absurd cc
 no_read P write_faults.Memory (Err e) is = λ (read : e ≡ troubles.Read). absurd cc
 
+-- a trouble that is passed on tells what it told
+pub told_on : {T : Type 0} (Tells : Trouble → Type 0) (trouble : Trouble) (result : Result T Trouble) → IsErrAnd result (λ e. e ≡ trouble) → Tells trouble → IfErr result Tells
+told_on Tells trouble (Ok done) is tells = absurd is
+told_on Tells trouble (Err e) is tells = subst Tells (sym is) tells
+
 -- a failed write is told for the cause that the fault behind it has
 pub wrote_for_cause : {T : Type 0} (Cause : Type 0) (fault : WriteFault) (result : Result T Trouble) → IsErrAnd result (λ e. e ≡ write_trouble fault) → (fault ≡ write_faults.Write → Cause) → IfErr result (λ e. e ≡ troubles.Write → Cause)
 wrote_for_cause Cause fault (Ok done) is cause = absurd is

@@ -1,7 +1,7 @@
 //! What a replay answers to a step, and the writer of its line.
 
 ghost use Rattle.std.specs.Fmt.{decimal};
-ghost use Rattle.std.specs.Prelude.{◌≡◌, ◌≢◌, ◌++◌, OnOk, MatchResult, codes, string_bytes};
+ghost use Rattle.std.specs.Prelude.{◌≡◌, ◌≢◌, ◌++◌, OnOk, MatchResult, IsTrue, ◌↔◌, codes, string_bytes};
 ghost use Rattle.std.specs.List.{flat_map};
 ghost use Rattle.std.specs.Option.{option_copied};
 ghost use Rattle.occ_sets.specs.PlainSets.{rows_of};
@@ -12,13 +12,14 @@ ghost use Rattle.occ_core.specs.Replies.{outcome_of};
 ghost use Rattle.occ_core.specs.Runs.{reply_of};
 ghost use Rattle.occ_cli.specs.Answers as says;
 ghost use Rattle.occ_cli.specs.Answers.{answer_of, answer_text, reply_text, object_text, name_at, fault_number, verdict_text, found_text, rows_text, counts_text};
+ghost use Rattle.occ_cli.specs.Replaying.{played};
 
 use crate::pairs::write_pairs;
 use crate::refusals::Refusal;
 use crate::tokens::write_ran_alone;
 use occ_case::{Cause, Verdict};
 use occ_core::{Outcome, Reply};
-use occ_text::writers::{write_key, write_row};
+use occ_text::writers::{write_counted, write_key, write_next_number, write_row};
 use occ_types::{Fault, Key, Object, Row, Schema};
 use std::alloc::{AllocError, Allocator};
 
@@ -59,7 +60,7 @@ pub enum Answer<A: Allocator> {
     Counted(Counts),
     /// `refused Fn`: the step is refused.
     Refused(Refusal),
-    /// What the store replied. To `get` and `scan` it is told here with the own writes over it.
+    /// What the store replied, which may be a refusal too. To `get` and `scan` it is told here with the own writes over it.
     Replied(Reply<A>),
 }
 
@@ -69,23 +70,39 @@ pub(crate) fn answered<A: Allocator>(answer: Answer<A>) -> Result<Answer<A>, All
         (λ same. (answer_of answer ≢ says.refused faults.Memory) × (answer_of same ≡ answer_of answer))
         (λ _. answer_of answer ≡ says.refused faults.Memory) }
 {
-    match answer {
-        Answer::Replied(reply) => replied(reply),
-        answer => Ok(answer),
+    if is_want(&answer) {
+        return Err(AllocError);
+    }
+    Ok(answer)
+}
+
+/// Whether what came of a step is a want of memory.
+pub(crate) fn is_starved<A: Allocator>(done: &Result<Answer<A>, Fault>) -> bool
+    ensures { IsTrue result ↔ played done.now ≡ says.refused faults.Memory }
+{
+    match done {
+        Ok(answer) => is_want(answer),
+        Err(fault) => is_memory(*fault),
     }
 }
 
-// What a reply is answered by: itself, and a refusal as one of the step.
-fn replied<A: Allocator>(reply: Reply<A>) -> Result<Answer<A>, AllocError>
-    ensures { MatchResult result
-        (λ same. (says.Replied (reply_of reply) ≢ says.refused faults.Memory) × (answer_of same ≡ says.Replied (reply_of reply)))
-        (λ _. says.Replied (reply_of reply) ≡ says.refused faults.Memory) }
+// Whether an answer is a want of memory.
+fn is_want<A: Allocator>(answer: &Answer<A>) -> bool
+    ensures { IsTrue result ↔ answer_of answer.now ≡ says.refused faults.Memory }
 {
-    match reply {
-        Reply::Refused(fault) => refused(fault),
-        Reply::RefusedItem(refusal) => refused(refusal.fault),
-        reply => Ok(Answer::Replied(reply)),
+    match answer {
+        Answer::Refused(refusal) => is_memory(refusal.fault),
+        Answer::Replied(Reply::Refused(fault)) => is_memory(*fault),
+        Answer::Replied(Reply::RefusedItem(refusal)) => is_memory(refusal.fault),
+        _ => false,
     }
+}
+
+// Whether a fault is a want of memory.
+fn is_memory(fault: Fault) -> bool
+    ensures { IsTrue result ↔ fault ≡ faults.Memory }
+{
+    matches!(fault, Fault::Memory)
 }
 
 /// What a fault is answered by: a refusal, but for a want of memory.
@@ -100,6 +117,20 @@ pub(crate) fn refused<A: Allocator>(fault: Fault) -> Result<Answer<A>, AllocErro
     }
 }
 
+/// Appends the line of what came of a step, without a line feed. Where memory is refused, a beginning of it may stand.
+pub(crate) fn write_played<A: Allocator>(
+    line: &mut String<A>,
+    schema: &Schema<A>,
+    done: &Result<Answer<A>, Fault>,
+) -> Result<(), AllocError>
+    ensures { OnOk result (string_bytes line.new ≡ string_bytes line.old ++ answer_text schema.now (played done.now)) }
+{
+    match done {
+        Ok(answer) => write_answer(line, schema, answer),
+        Err(fault) => write_refused(line, *fault),
+    }
+}
+
 /// Appends the line of an answer, without a line feed. Where memory is refused, a beginning of it may stand.
 pub fn write_answer<A: Allocator>(
     line: &mut String<A>,
@@ -109,10 +140,13 @@ pub fn write_answer<A: Allocator>(
     ensures { OnOk result (string_bytes line.new ≡ string_bytes line.old ++ answer_text schema.now (answer_of answer.now)) }
 {
     match answer {
-        Answer::Begun { number, start } => write!(line, "begun {number} {start}"),
+        Answer::Begun { number, start } => {
+            write_counted(line, "begun ", *number)?;
+            write_next_number(line, *start)
+        }
         Answer::Done => line.push_str("ok"),
-        Answer::Queued(number) => write!(line, "queued {number}"),
-        Answer::Closing(number) => write!(line, "closing {number}"),
+        Answer::Queued(number) => write_counted(line, "queued ", *number),
+        Answer::Closing(number) => write_counted(line, "closing ", *number),
         Answer::Empty => line.push_str("empty"),
         Answer::Counted(counts) => write_counts(line, counts),
         Answer::Refused(refusal) => write_refused(line, refusal.fault),
@@ -148,9 +182,9 @@ fn write_reply<A: Allocator>(
         Reply::Decided(verdict) => line.push_str(verdict_text(*verdict)),
         Reply::Wrote(object) => write_written(line, schema, object),
         Reply::NoMore => line.push_str("nomore"),
-        Reply::Finished { tn } => write!(line, "finished {tn}"),
-        Reply::BackedUp(number) => write!(line, "backed {number}"),
-        Reply::Folded(count) => write!(line, "folded {count}"),
+        Reply::Finished { tn } => write_counted(line, "finished ", *tn),
+        Reply::BackedUp(number) => write_counted(line, "backed ", *number),
+        Reply::Folded(count) => write_counted(line, "folded ", *count as u64),
         Reply::Refused(fault) => write_refused(line, *fault),
         Reply::RefusedItem(refused) => write_refused(line, refused.fault),
     }
@@ -161,8 +195,8 @@ fn write_outcome<A: Allocator>(line: &mut String<A>, outcome: &Outcome<A>) -> Re
     ensures { (schema : PlainSchema) → OnOk result (string_bytes line.new ≡ string_bytes line.old ++ reply_text schema (outcome_of outcome.now)) }
 {
     match outcome {
-        Outcome::Entered { place } => write!(line, "entered {place}"),
-        Outcome::Committed { tn } => write!(line, "finished {tn}"),
+        Outcome::Entered { place } => write_counted(line, "entered ", *place as u64),
+        Outcome::Committed { tn } => write_counted(line, "finished ", *tn),
         Outcome::BackedUp(cause) => line.push_str(verdict_text(Verdict::BackUp(*cause))),
         Outcome::RanAlone { tn, answers } => write_ran_alone(line, *tn, answers.as_slice()),
         Outcome::MarkedClosed => line.push_str("closed"),
@@ -189,8 +223,7 @@ fn write_rows<A: Allocator>(
 ) -> Result<(), AllocError>
     ensures { OnOk result (string_bytes line.new ≡ string_bytes line.old ++ rows_text (rows_of rows.now)) }
 {
-    let count = rows.len();
-    write!(line, "rows {count}")?;
+    write_counted(line, "rows ", rows.len() as u64)?;
     write_pairs(line, " ", rows)
 }
 
@@ -250,8 +283,7 @@ fn write_counts<A: Allocator>(line: &mut String<A>, counts: &Counts) -> Result<(
 fn write_refused<A: Allocator>(line: &mut String<A>, fault: Fault) -> Result<(), AllocError>
     ensures { OnOk result (string_bytes line.new ≡ string_bytes line.old ++ (codes "refused F" ++ decimal (fault_number fault))) }
 {
-    let number = fault_number(fault);
-    write!(line, "refused F{number}")
+    write_counted(line, "refused F", fault_number(fault) as u64)
 }
 
 /// The number of a fault: its place among all of them, from 1 on.

@@ -84,7 +84,7 @@ impl<A: Allocator + Copy> Replay<A> {
     }
 
     // Does a step. What a client refuses is an error; what the store refuses may be one, or a reply.
-    fn play(&mut self, step: Step<'_, A>) -> Result<Answer<A>, Fault>
+    pub(crate) fn play(&mut self, step: Step<'_, A>) -> Result<Answer<A>, Fault>
         ensures { Played result (Starved self.old (step_of step.entry) self.new) (λ answer. Plays self.old (step_of step.entry) answer self.new) }
     {
         match step {

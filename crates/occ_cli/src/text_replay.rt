@@ -4,7 +4,8 @@ ghost use Rattle.std.specs.Prelude.{◌≡◌, ◌<◌, ◌^◌, ◌∷◌, [], 
 ghost use Rattle.std.specs.Io.KnownBytes.{Appends, prepend_known};
 ghost use Rattle.occ_model.specs.Log.{Audited};
 ghost use Rattle.occ_log.specs.Rows.{log_of};
-ghost use Rattle.occ_cli.specs.Answers.{answer_of, answer_text};
+ghost use Rattle.occ_cli.specs.Answers.{answer_text};
+ghost use Rattle.occ_cli.specs.Replaying.{played};
 ghost use Rattle.occ_text.specs.Line.{lines_text, HasFailed};
 ghost use Rattle.occ_text.specs.Printing.{Pushed, PushedFront, PrintGives};
 ghost use Rattle.occ_text.specs.Steps.{step_of};
@@ -13,7 +14,7 @@ ghost use Rattle.occ_text.specs.declared.trouble.Trouble.TheVariants as troubles
 ghost use Rattle.occ_cli.specs.Schedules.{ReplayGives, AppendsFront, book_at};
 ghost use Rattle.occ_cli.specs.Turns.{AnswerGives, TurnGives, TurnsGive, ClosingGives, AuditGives, is_cut_short};
 
-use crate::answers::{Answer, write_answer};
+use crate::answers::{Answer, is_starved, write_played};
 use crate::replay_steps::Replay;
 use occ_audit::audit_rows;
 use occ_book::BookView;
@@ -28,7 +29,7 @@ use occ_text::step_reading::read_step;
 use occ_text::steps::Step;
 use occ_text::trouble::Trouble;
 use occ_text::versions::Version;
-use occ_types::Schema;
+use occ_types::{Fault, Schema};
 use std::alloc::Allocator;
 use std::io::{Read, Write};
 
@@ -119,17 +120,21 @@ fn take_turns<R: Read, W: Write, A: Allocator + Copy>(
     ensures unread { IfErr result (λ trouble. trouble ≡ troubles.Read → HasFailed input.new) }
     ensures unwritten { IfErr result (λ trouble. trouble ≡ troubles.Write → output.new.failed ≡ true) }
 {
-    while take_turn(alloc, input, reader, output, writer, replay, version, quiet)? {}
+    let mut text = String::new(alloc);
+    while take_turn(
+        alloc, input, reader, output, writer, &mut text, replay, version, quiet,
+    )? {}
     Ok(())
 }
 
-// Takes the next line, does its step and answers it. False where the text has no line more.
+// Takes the next line, does its step and answers it by a line, which it makes in `text`. False where no line is left.
 fn take_turn<R: Read, W: Write, A: Allocator + Copy>(
     alloc: A,
     input: &mut Input<A>,
     reader: &mut R,
     output: &mut Output<A>,
     writer: &mut W,
+    text: &mut String<A>,
     replay: &mut Replay<A>,
     version: Version,
     quiet: bool,
@@ -147,15 +152,15 @@ fn take_turn<R: Read, W: Write, A: Allocator + Copy>(
         Next::Line => {}
     }
     let step = read_at_line(read_step(alloc, version, input.line()), input.number())?;
-    answer_step(alloc, output, writer, replay, step, quiet)?;
+    answer_step(output, writer, text, replay, step, quiet)?;
     Ok(true)
 }
 
 // Does a step, and answers it by a line unless `quiet` is true.
 fn answer_step<W: Write, A: Allocator + Copy>(
-    alloc: A,
     output: &mut Output<A>,
     writer: &mut W,
+    text: &mut String<A>,
     replay: &mut Replay<A>,
     step: Step<'_, A>,
     quiet: bool,
@@ -165,27 +170,30 @@ fn answer_step<W: Write, A: Allocator + Copy>(
         (step_of step.entry) replay.old replay.new }
     ensures cause { IfErr result (λ fault. fault ≡ write_faults.Write → output.new.failed ≡ true) }
 {
-    let answer = replay.answer(step)?;
+    let done = replay.play(step);
+    if is_starved(&done) {
+        return Err(WriteFault::Memory);
+    }
     if quiet {
         return Ok(());
     }
-    say(alloc, output, writer, replay.core().schema(), &answer)
+    say(output, writer, text, replay.core().schema(), &done)
 }
 
-// Writes the line of an answer.
+// Writes the line of what came of a step, which it makes in `text`.
 fn say<W: Write, A: Allocator + Copy>(
-    alloc: A,
     output: &mut Output<A>,
     writer: &mut W,
+    text: &mut String<A>,
     schema: &Schema<A>,
-    answer: &Answer<A>,
+    done: &Result<Answer<A>, Fault>,
 ) -> Result<(), WriteFault>
-    ensures gives { PrintGives result (W.contents writer.old) (W.contents writer.new) output.old.held output.new.held (lines_text (answer_text schema.now (answer_of answer.now) ∷ [])) }
+    ensures gives { PrintGives result (W.contents writer.old) (W.contents writer.new) output.old.held output.new.held (lines_text (answer_text schema.now (played done.now) ∷ [])) }
     ensures cause { IfErr result (λ fault. fault ≡ write_faults.Write → output.new.failed ≡ true) }
 {
-    let mut line = String::new(alloc);
-    write_answer(&mut line, schema, answer)?;
-    push_line(output, writer, &mut line)
+    text.clear();
+    write_played(text, schema, done)?;
+    push_line(output, writer, text)
 }
 
 // Writes the book and its audit.

@@ -8,7 +8,7 @@ ghost use Rattle.occ_cli.specs.Answers.{answer_token, pair_text};
 
 use crate::pairs::write_pairs;
 use occ_sets::Answer;
-use occ_text::writers::write_row;
+use occ_text::writers::{write_counted, write_row};
 use occ_types::{Key, Row};
 use std::alloc::{AllocError, Allocator};
 
@@ -23,7 +23,7 @@ pub(crate) fn write_ran_alone<A: Allocator>(
 ) -> Result<(), AllocError>
     ensures { OnOk result (string_bytes line.new ≡ string_bytes line.old ++ ((codes "finished " ++ decimal number) ++ flat_map answer_token (map answer_of answers.now))) }
 {
-    write!(line, "finished {number}")?;
+    write_counted(line, "finished ", number)?;
     write_tokens(line, answers)
 }
 
@@ -58,7 +58,6 @@ fn write_range<A: Allocator>(
 ) -> Result<(), AllocError>
     ensures { OnOk result (string_bytes line.new ≡ string_bytes line.old ++ ((codes " rows:" ++ decimal (length (rows_of rows.now))) ++ flat_map (pair_text (codes ":")) (rows_of rows.now))) }
 {
-    let count = rows.len();
-    write!(line, " rows:{count}")?;
+    write_counted(line, " rows:", rows.len() as u64)?;
     write_pairs(line, ":", rows)
 }

@@ -1,20 +1,20 @@
 //! The book of a store, printed line by line: what is held is one line, and less than a block of what is on its way.
 
-ghost use Rattle.std.specs.Prelude.{◌≡◌, ℕ, ◌<◌, ◌++◌, ◌∷◌, [], true, IfErr, string_bytes};
+ghost use Rattle.std.specs.Prelude.{◌≡◌, ℕ, ◌<◌, ◌++◌, ◌∷◌, [], true, IfOk, IfErr, IsOkUnless, string_bytes};
 ghost use Rattle.std.specs.FinMap as finite;
 ghost use Rattle.occ_model.specs.Log.{Case};
 ghost use Rattle.occ_text.specs.Line.{lines_text};
 ghost use Rattle.occ_text.specs.Printing.{PrintGives};
 ghost use Rattle.occ_text.specs.declared.faults.WriteFault.TheVariants as write_faults;
 ghost use Rattle.occ_text.specs.Headers.{count_text};
-ghost use Rattle.occ_print.specs.Books.{book_of, header_of, header_lines, row_count, base_line, folded_lines, base_lines, counter_line, book_text};
+ghost use Rattle.occ_print.specs.Books.{book_of, header_of, header_lines, base_line, folded_lines, base_lines, counter_line, book_text};
 
 use crate::header_printing::print_header;
 use crate::lines::{base_line, count_line, counter_line};
 use crate::log_printing::print_log;
 use crate::sections::Section;
 use crate::state_printing::{print_all_rows, print_each_number, print_marks, print_state};
-use occ_book::{Base, BookView};
+use occ_book::{Base, BookView, Tables};
 use occ_text::faults::WriteFault;
 use occ_text::headers::Limits;
 use occ_text::output::Output;
@@ -54,14 +54,25 @@ fn print_base_line<W: Write, A: Allocator>(
     writer: &mut W,
     line: &mut String<A>,
     base: &Base<A>,
+    rows: usize,
 ) -> Result<(), WriteFault>
-    ensures printed { PrintGives result (W.contents writer.old) (W.contents writer.new) output.old.held output.new.held (lines_text (base_line base.now.base.place (finite.len base.now.base.last) (row_count base.now.base.state) ∷ [])) }
+    ensures printed { PrintGives result (W.contents writer.old) (W.contents writer.new) output.old.held output.new.held (lines_text (base_line base.now.base.place (finite.len base.now.base.last) rows ∷ [])) }
     ensures cause { IfErr result (λ fault. fault ≡ write_faults.Write → output.new.failed ≡ true) }
 {
     let numbers = base.numbers().len();
-    let rows = base.state().len();
     base_line(line, base.place(), numbers, rows)?;
     push_line(output, writer, line)
+}
+
+// The rows of a base, in order.
+fn rows_of<A: Allocator + Clone>(base: &Base<A>) -> Result<Tables<A>, WriteFault>
+    ensures rows { IfOk result (λ rows. rows.state ≡ base.now.base.state) }
+    ensures memory { IsOkUnless result write_faults.Memory }
+{
+    match base.state() {
+        Ok(rows) => Ok(rows),
+        Err(_memory) => Err(WriteFault::Memory),
+    }
 }
 
 fn print_folded<W: Write, A: Allocator + Clone>(
@@ -74,9 +85,10 @@ fn print_folded<W: Write, A: Allocator + Clone>(
     ensures printed { PrintGives result (W.contents writer.old) (W.contents writer.new) output.old.held output.new.held (lines_text (folded_lines schema.now base.now.base)) }
     ensures cause { IfErr result (λ fault. fault ≡ write_faults.Write → output.new.failed ≡ true) }
 {
-    print_base_line(output, writer, line, base)?;
+    let rows = rows_of(base)?;
+    print_base_line(output, writer, line, base, rows.len())?;
     print_each_number(output, writer, line, Section::Base, base.numbers())?;
-    print_all_rows(output, writer, line, Section::Base, schema, base.state())
+    print_all_rows(output, writer, line, Section::Base, schema, &rows)
 }
 
 // Nothing where nothing was folded.

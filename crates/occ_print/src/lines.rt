@@ -1,6 +1,6 @@
 //! Writers of the lines of a book. Each leaves one line, without its line feed, in place of what stood there; where memory is refused, a beginning of it may stand.
 
-ghost use Rattle.std.specs.Prelude.{◌≡◌, ℕ, ◌++◌, ◌∷◌, [], OnOk, codes, string_bytes};
+ghost use Rattle.std.specs.Prelude.{◌≡◌, ℕ, ◌++◌, ◌∷◌, [], OnOk, codes, decimal, length, string_bytes};
 ghost use Rattle.occ_text.specs.Line.{lines_text};
 ghost use Rattle.occ_text.specs.Spelling.{line_text};
 ghost use Rattle.std.specs.List.{flat_map};
@@ -17,7 +17,9 @@ use occ_book::{LogRow, Standing};
 use occ_model::Cause;
 use occ_sets::{Answer, Observation};
 use occ_text::versions::{Version, version_text};
-use occ_text::writers::{write_end, write_key, write_row};
+use occ_text::writers::{
+    write_counted, write_end, write_key, write_next_number, write_number, write_row,
+};
 use occ_types::{Key, KeyKind, Kind, Object, PartKind, Question, Row, Schema, TableDef};
 use std::alloc::{AllocError, Allocator};
 
@@ -104,6 +106,19 @@ fn table_name<A: Allocator>(schema: &Schema<A>, place: usize) -> &str
     }
 }
 
+/// Appends what stands before a word, the word and a space.
+fn write_words<A: Allocator>(
+    line: &mut String<A>,
+    before: &str,
+    word: &str,
+) -> Result<(), AllocError>
+    ensures { OnOk result (string_bytes line.new ≡ string_bytes line.old ++ (before.now ++ (word.now ++ codes " "))) }
+{
+    line.push_str(before)?;
+    line.push_str(word)?;
+    line.push(' ')
+}
+
 fn write_question<A: Allocator>(
     line: &mut String<A>,
     schema: &Schema<A>,
@@ -114,11 +129,11 @@ fn write_question<A: Allocator>(
     let name = table_name(schema, question.table());
     match question {
         Question::One(object) => {
-            write!(line, "one {name} ")?;
+            write_words(line, "one ", name)?;
             write_key(line, &object.key)
         }
         Question::Span { lower, upper, .. } => {
-            write!(line, "span {name} ")?;
+            write_words(line, "span ", name)?;
             write_end(line, lower)?;
             line.push(' ')?;
             write_end(line, upper)
@@ -131,11 +146,8 @@ fn write_answer<A: Allocator>(line: &mut String<A>, answer: &Answer<A>) -> Resul
 {
     match answer {
         Answer::Found(Some(row)) => write_row(line, row),
-        Answer::Found(None) => write!(line, "none"),
-        Answer::Rows(rows) => {
-            let count = rows.len();
-            write!(line, "{count}")
-        }
+        Answer::Found(None) => line.push_str("none"),
+        Answer::Rows(rows) => write_number(line, rows.len() as u64),
     }
 }
 
@@ -162,7 +174,7 @@ pub fn pair_line<A: Allocator>(
     ensures { OnOk result (string_bytes line.new ≡ pair_line (key_of key.now, row.now)) }
 {
     line.clear();
-    write!(line, "pair ")?;
+    line.push_str("pair ")?;
     write_key(line, key)?;
     line.push(' ')?;
     write_row(line, row)
@@ -181,11 +193,11 @@ pub fn write_line<A: Allocator>(
     let name = table_name(schema, object.table);
     match row {
         None => {
-            write!(line, "del {name} ")?;
+            write_words(line, "del ", name)?;
             write_key(line, &object.key)
         }
         Some(row) => {
-            write!(line, "put {name} ")?;
+            write_words(line, "put ", name)?;
             write_key(line, &object.key)?;
             line.push(' ')?;
             write_row(line, row)
@@ -193,22 +205,30 @@ pub fn write_line<A: Allocator>(
     }
 }
 
+/// `row PLACE S N START FINISH R W`.
+fn write_row_head<A: Allocator, O>(
+    line: &mut String<A>,
+    row: &LogRow<A, O>,
+) -> Result<(), AllocError>
+    ensures { OnOk result (string_bytes line.new ≡ line_text (codes "row" ∷ decimal row.now.place ∷ decimal row.now.session ∷ decimal row.now.number ∷ decimal row.now.start ∷ decimal row.now.finish ∷ decimal (length row.now.reads) ∷ decimal (length row.now.writes) ∷ [])) }
+{
+    line.clear();
+    line.push_str("row")?;
+    write_next_number(line, row.place as u64)?;
+    write_next_number(line, row.session as u64)?;
+    write_next_number(line, row.number)?;
+    write_next_number(line, row.start)?;
+    write_next_number(line, row.finish)?;
+    write_next_number(line, row.reads.len() as u64)?;
+    write_next_number(line, row.writes.len() as u64)
+}
+
 /// `row PLACE S N START FINISH R W STANDING`.
 pub fn row_line<A: Allocator, O>(line: &mut String<A>, row: &LogRow<A, O>) -> Result<(), AllocError>
     ensures { (opened : O → ℕ × Case) → OnOk result (string_bytes line.new ≡ row_line (log_row_of opened row.now)) }
 {
-    line.clear();
-    let place = row.place;
-    let session = row.session;
-    let number = row.number;
-    let start = row.start;
-    let finish = row.finish;
-    let reads = row.reads.len();
-    let writes = row.writes.len();
-    write!(
-        line,
-        "row {place} {session} {number} {start} {finish} {reads} {writes} "
-    )?;
+    write_row_head(line, row)?;
+    line.push(' ')?;
     write_standing(line, &row.standing)
 }
 
@@ -219,11 +239,11 @@ fn write_standing<A: Allocator, O>(
     ensures { (opened : O → ℕ × Case) → OnOk result (string_bytes line.new ≡ string_bytes line.old ++ standing_text (standing_of opened standing.now)) }
 {
     match standing {
-        Standing::Open(_) => write!(line, "open"),
-        Standing::Writing(done) => write!(line, "writing {done}"),
-        Standing::Done(number) => write!(line, "done {number}"),
-        Standing::Back(Cause::Conflict) => write!(line, "conflict"),
-        Standing::Back(Cause::TooOld) => write!(line, "tooold"),
+        Standing::Open(_) => line.push_str("open"),
+        Standing::Writing(done) => write_counted(line, "writing ", *done as u64),
+        Standing::Done(number) => write_counted(line, "done ", *number),
+        Standing::Back(Cause::Conflict) => line.push_str("conflict"),
+        Standing::Back(Cause::TooOld) => line.push_str("tooold"),
     }
 }
 
@@ -268,7 +288,8 @@ pub fn entry_line<A: Allocator>(
     line.clear();
     let word = entry_word(section);
     let name = table_name(schema, place);
-    write!(line, "{word} {name} ")?;
+    line.push_str(word)?;
+    write_words(line, " ", name)?;
     write_key(line, key)?;
     line.push(' ')?;
     write_row(line, row)

@@ -5,6 +5,7 @@ pub mod SchemaFields
 pub mod NumberLines
 pub mod RowLines
 pub mod LinesTaken
+pub mod LineParts
 pub mod SingleLines
 pub mod RowTaking
 pub mod RowPlaces

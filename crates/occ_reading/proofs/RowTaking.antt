@@ -39,7 +39,7 @@ pub rises-more : (rows now : List (Key × Row)) (pair : Key × Row) → now ≡ 
 rises-more [] now pair is above so_far = subst (RisesFrom None) (sym is) tt
 rises-more (row ∷ rows) now pair is above so_far = subst (RisesFrom None) (sym is) (rises_behind None row rows pair above so_far)
 
-pub span_taken : (version : Version) (schema : Schema) (question : Question) (rows : List (Key × Row)) (row : InRow) (reads n table : ℕ) {a b c : Position} → table ≡ table_asked question
+span_taken : (version : Version) (schema : Schema) (question : Question) (rows : List (Key × Row)) (row : InRow) (reads n table : ℕ) {a b c : Position} → table ≡ table_asked question
     → Took (ReadOf row reads) (pairs_to_come row reads (table_asked question) n None) a b (asked_text schema (AskedSpan question n) ∷ []) × AskedFits version schema (AskedSpan question n)
     → Took (pairs_to_come row reads table n None) (reads_to_come row reads) b c (map pair_line rows) × (AllFit (PairFits version schema table) n rows × RisesFrom None rows)
     → Took (ReadOf row reads) (reads_to_come row reads) a c (read_lines schema (question, Rows rows)) × ReadFits version schema (question, Rows rows)
@@ -52,6 +52,15 @@ span_taken version schema (Span t lower upper) rows row reads n table {a} {b} {c
       spelled (ap (λ (k : ℕ). asked k ∷ map pair_line rows) (sym pairs.1.0.1)) (head.0 and rest),
       (head.1.0, fit, pairs.1.1, subst (λ (k : ℕ). k ≤ 2 ^ 64 - 1) (sym pairs.1.0.1) head.1.1),
     )
+
+-- the same, where the rows are shared
+pub span_shared : (version : Version) (schema : Schema) (question : Question) (rows shared : List (Key × Row)) (row : InRow) (reads n table : ℕ) {a b c : Position} → shared ≡ rows → table ≡ table_asked question
+    → Took (ReadOf row reads) (pairs_to_come row reads (table_asked question) n None) a b (asked_text schema (AskedSpan question n) ∷ []) × AskedFits version schema (AskedSpan question n)
+    → Took (pairs_to_come row reads table n None) (reads_to_come row reads) b c (map pair_line rows) × (AllFit (PairFits version schema table) n rows × RisesFrom None rows)
+    → Took (ReadOf row reads) (reads_to_come row reads) a c (read_lines schema (question, Rows shared)) × ReadFits version schema (question, Rows shared)
+span_shared version schema question rows shared row reads n table {a = a} {c = c} is same head pairs =
+    subst (λ rows. Took (ReadOf row reads) (reads_to_come row reads) a c (read_lines schema (question, Rows rows)) × ReadFits version schema (question, Rows rows)) (sym is)
+    (span_taken version schema question rows row reads n table same head pairs)
 
 pub span_fails : (fault : ReadFault) (question : Question) (row : InRow) (reads n table : ℕ) {version : Version} {schema : Schema} {a b : Position} (c : Option (List ℕ)) → table ≡ table_asked question
     → Took (ReadOf row reads) (pairs_to_come row reads (table_asked question) n None) a b (asked_text schema (AskedSpan question n) ∷ []) × AskedFits version schema (AskedSpan question n)

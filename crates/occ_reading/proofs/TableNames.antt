@@ -110,5 +110,21 @@ place_reads schema token good = record {
   again = λ place there e. ap (place_of schema) e ∙ (named_there schema place good there).found;
 }
 
+absent : (schema : Schema) (token : List ℕ) (place : Option ℕ) → check_tables schema ≡ None → name_of token ≡ None → position (has_name token) schema ≡ place → place ≡ None
+absent schema token None good none is = refl
+absent schema token (Some place) good none is =
+    let p = placed schema token place is in
+    let name : name_of token ≡ Some token = name_again token (subst IsName (sym p.named) (named_there schema place good p.there).name) in
+    absurd cc
+
+-- the first table of which some bytes are the name is the one that they name: as the name of a table they are a name
+pub place_any : (schema : Schema) (token : List ℕ) → check_tables schema ≡ None → position (has_name token) schema ≡ place_of schema token
+unfolding place_of
+place_any schema token good = by (name_of token) refl
+  where
+    by : (name : Option (List ℕ)) → name_of token ≡ name → position (has_name token) schema ≡ option_and_then (λ name. position (has_name name) schema) name
+    by (Some name) is = ap (λ (n : List ℕ). position (has_name n) schema) (takes (name_reads token) name is).0
+    by None is = absent schema token (position (has_name token) schema) good is refl
+
 pub name_there : (schema : Schema) (place : ℕ) → check_tables schema ≡ None → place < length schema → IsName (table_name schema place)
 name_there schema place good there = (named_there schema place good there).name

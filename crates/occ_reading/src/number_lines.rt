@@ -2,8 +2,8 @@
 
 ghost use Rattle.std.specs.Prelude.{◌≡◌};
 ghost use Rattle.occ_text.specs.Reading.{Reads};
-ghost use Rattle.occ_text.specs.Fields.{before};
-ghost use Rattle.occ_reading.specs.NumberLines.{mark_text, counts_text, head_text, base_text, began_text, HeadFits, MarkFits, CountsFit, BaseHeadFits, BeganFits, next_stand, next_session, head_of_line, mark_of_line, base_of_line, began_of_line, counts_of_line};
+ghost use Rattle.occ_text.specs.Fields.{before, whole};
+ghost use Rattle.occ_reading.specs.NumberLines.{mark_text, counts_text, head_text, base_text, began_text, HeadFits, MarkFits, CountsFit, BaseHeadFits, BeganFits, next_stand, next_session, head_line, head_of_line, mark_of_line, base_of_line, began_of_line, counts_of_line};
 
 use occ_book::Standing;
 use occ_model::Cause;
@@ -107,11 +107,16 @@ fn next_session(sessions: usize, parts: &mut Parts<'_>) -> Option<usize>
     Some(session as usize)
 }
 
-#[tactic(auto, unfolding(crate::specs::NumberLines::head_of_line))]
 fn head_of_line(sessions: usize, line: &[u8]) -> Option<Head>
     ensures { result ≡ head_of_line sessions line.now }
 {
-    let mut parts = tokens(line)?;
+    // no head is read of parts that are no tokens, so they need no test before
+    head_of_parts(sessions, Parts::new(line, b' '))
+}
+
+fn head_of_parts(sessions: usize, mut parts: Parts<'_>) -> Option<Head>
+    ensures { result ≡ whole (head_line sessions) parts.entry }
+{
     next_word(&mut parts, "row")?;
     let place = next_number(&mut parts, u64::MAX)? as usize;
     let session = next_session(sessions, &mut parts)?;

@@ -1,14 +1,16 @@
 //! Lines that have keys and rows: of a read, of a row that a range answered, of a write, and of a row of a state.
 
-ghost use Rattle.std.specs.Prelude.{◌≡◌, true, IfOk, IfErr, Some};
+ghost use Rattle.std.specs.Prelude.{◌≡◌, ◌⊎◌, true, is_some, IfOk, IfErr, Some, None};
 ghost use Rattle.occ_types.specs.Key.{Key as PlainKey};
 ghost use Rattle.occ_types.specs.Object.{Object as PlainObject};
 ghost use Rattle.occ_types.specs.Row.{Row as PlainRow};
 ghost use Rattle.occ_model.specs.State.{Write as PlainWrite};
 ghost use Rattle.occ_text.specs.Escapes.{Gives};
 ghost use Rattle.occ_print.specs.Books.{pair_line, write_line, entry_line};
+ghost use Rattle.occ_text.specs.Reading.{tokens_of};
 ghost use Rattle.occ_text.specs.Fields.{GivesNext};
-ghost use Rattle.occ_reading.specs.RowLines.{Asked as PlainAsked, asked_text, AskedFits, PairFits, WriteFits, AtFits, asked_of, pair_of, write_of, at_of, found_in, next_found, one_behind, span_behind, next_asked, asked_of_line, pair_of_line, put_behind, del_behind, next_write, write_of_line, at_of_line, line_takes, pair_takes, at_takes, write_takes, asked_takes};
+ghost use Rattle.occ_types.specs.Schema.{check_tables};
+ghost use Rattle.occ_reading.specs.RowLines.{Asked as PlainAsked, asked_text, AskedFits, PairFits, WriteFits, AtFits, asked_of, pair_of, write_of, at_of, found_in, next_found, one_behind, span_behind, next_asked, asked_of_line, pair_field, at_field, pair_of_line, put_behind, del_behind, next_write, write_of_line, at_of_line, line_takes, pair_takes, at_takes, write_takes, asked_takes};
 
 use crate::schema_readers::{next_key, next_object, next_row, next_table, row_in, unless_fault};
 use occ_print::sections::{Section, entry_word};
@@ -36,6 +38,17 @@ pub enum Asked<A: Allocator> {
         /// How many `pair` lines follow.
         count: u64,
     },
+}
+
+// What is told of a line of which something wasn't read: a want of memory only where the line is tokens.
+fn of_tokens(unread: Unread, line: &[u8]) -> Unread
+    ensures malformed { result ≡ Unread.Malformed → (unread ≡ Unread.Malformed) ⊎ (tokens_of line.now ≡ None) }
+    ensures memory { result ≡ Unread.Memory → (unread ≡ Unread.Memory) × (is_some (tokens_of line.now) ≡ true) }
+{
+    match unread {
+        Unread::Memory if tokens(line).is_none() => Unread::Malformed,
+        unread => unread,
+    }
 }
 
 /// A row that a key had, or `none`.
@@ -127,20 +140,25 @@ fn next_asked<A: Allocator + Copy>(
     }
 }
 
-#[tactic(auto, unfolding(crate::specs::RowLines::asked_of_line, crate::specs::RowLines::line_takes))]
 fn asked_value<A: Allocator + Copy>(
     alloc: A,
     version: Version,
     schema: &Schema<A>,
     line: &[u8],
 ) -> Result<Asked<A>, Unread>
+    requires fits { check_tables schema.now ≡ None }
     ensures exact { Gives asked_of result (asked_of_line version schema.now line.now) }
     ensures memory { IfErr result (λ unread. unread ≡ Unread.Memory → line_takes asked_takes line.now ≡ true) }
 {
-    let mut parts = tokens(line).ok_or(Unread::Malformed)?;
-    let asked = next_asked(alloc, version, schema, &mut parts)?;
-    at_end(&mut parts).ok_or(Unread::Malformed)?;
-    Ok(asked)
+    let mut parts = Parts::new(line, b' ');
+    let asked = match next_asked(alloc, version, schema, &mut parts) {
+        Ok(asked) => asked,
+        Err(unread) => return Err(of_tokens(unread, line)),
+    };
+    match at_end(&mut parts) {
+        Some(()) => Ok(asked),
+        None => Err(Unread::Malformed),
+    }
 }
 
 /// A read, in a version and under a schema. `Malformed` where the line is none; `Memory` where it was refused.
@@ -160,7 +178,6 @@ pub fn read_asked<A: Allocator + Copy>(
     asked_value(alloc, version, schema, line)
 }
 
-#[tactic(auto, unfolding(crate::specs::RowLines::pair_of_line, crate::specs::RowLines::line_takes))]
 fn pair_value<A: Allocator + Copy>(
     alloc: A,
     version: Version,
@@ -168,14 +185,34 @@ fn pair_value<A: Allocator + Copy>(
     table: usize,
     line: &[u8],
 ) -> Result<(Key<A>, Row<A>), Unread>
+    requires fits { check_tables schema.now ≡ None }
     ensures exact { Gives pair_of result (pair_of_line version schema.now table line.now) }
     ensures memory { IfErr result (λ unread. unread ≡ Unread.Memory → line_takes pair_takes line.now ≡ true) }
 {
-    let mut parts = tokens(line).ok_or(Unread::Malformed)?;
-    next_word(&mut parts, "pair").ok_or(Unread::Malformed)?;
-    let key = next_key(alloc, version, schema, table, &mut parts)?;
-    let row = next_row(alloc, schema, table, &mut parts)?;
-    at_end(&mut parts).ok_or(Unread::Malformed)?;
+    let mut parts = Parts::new(line, b' ');
+    let pair = match next_pair(alloc, version, schema, table, &mut parts) {
+        Ok(pair) => pair,
+        Err(unread) => return Err(of_tokens(unread, line)),
+    };
+    match at_end(&mut parts) {
+        Some(()) => Ok(pair),
+        None => Err(Unread::Malformed),
+    }
+}
+
+fn next_pair<A: Allocator + Copy>(
+    alloc: A,
+    version: Version,
+    schema: &Schema<A>,
+    table: usize,
+    parts: &mut Parts<'_>,
+) -> Result<(Key<A>, Row<A>), Unread>
+    ensures exact { GivesNext pair_of result ((pair_field version schema.now table).read parts.old) parts.new }
+    ensures memory { IfErr result (λ unread. unread ≡ Unread.Memory → pair_takes parts.old ≡ true) }
+{
+    next_word(parts, "pair").ok_or(Unread::Malformed)?;
+    let key = next_key(alloc, version, schema, table, parts)?;
+    let row = next_row(alloc, schema, table, parts)?;
     Ok((key, row))
 }
 
@@ -247,20 +284,25 @@ fn next_write<A: Allocator + Copy>(
     }
 }
 
-#[tactic(auto, unfolding(crate::specs::RowLines::write_of_line, crate::specs::RowLines::line_takes))]
 fn write_value<A: Allocator + Copy>(
     alloc: A,
     version: Version,
     schema: &Schema<A>,
     line: &[u8],
 ) -> Result<(Object<A>, Option<Row<A>>), Unread>
+    requires fits { check_tables schema.now ≡ None }
     ensures exact { Gives write_of result (write_of_line version schema.now line.now) }
     ensures memory { IfErr result (λ unread. unread ≡ Unread.Memory → line_takes write_takes line.now ≡ true) }
 {
-    let mut parts = tokens(line).ok_or(Unread::Malformed)?;
-    let write = next_write(alloc, version, schema, &mut parts)?;
-    at_end(&mut parts).ok_or(Unread::Malformed)?;
-    Ok(write)
+    let mut parts = Parts::new(line, b' ');
+    let write = match next_write(alloc, version, schema, &mut parts) {
+        Ok(write) => write,
+        Err(unread) => return Err(of_tokens(unread, line)),
+    };
+    match at_end(&mut parts) {
+        Some(()) => Ok(write),
+        None => Err(Unread::Malformed),
+    }
 }
 
 /// A write, in a version and under a schema: `put NAME KEY ROW`, or `del NAME KEY` with no row. `Malformed` where the line is none; `Memory`
@@ -281,7 +323,6 @@ pub fn read_write<A: Allocator + Copy>(
     write_value(alloc, version, schema, line)
 }
 
-#[tactic(auto, unfolding(crate::specs::RowLines::at_of_line, crate::specs::RowLines::line_takes))]
 fn at_value<A: Allocator + Copy>(
     alloc: A,
     version: Version,
@@ -289,14 +330,34 @@ fn at_value<A: Allocator + Copy>(
     schema: &Schema<A>,
     line: &[u8],
 ) -> Result<(Object<A>, Row<A>), Unread>
+    requires fits { check_tables schema.now ≡ None }
     ensures exact { Gives at_of result (at_of_line version section schema.now line.now) }
     ensures memory { IfErr result (λ unread. unread ≡ Unread.Memory → line_takes (at_takes section) line.now ≡ true) }
 {
-    let mut parts = tokens(line).ok_or(Unread::Malformed)?;
-    next_word(&mut parts, entry_word(section)).ok_or(Unread::Malformed)?;
-    let object = next_object(alloc, version, schema, &mut parts)?;
-    let row = next_row(alloc, schema, object.table, &mut parts)?;
-    at_end(&mut parts).ok_or(Unread::Malformed)?;
+    let mut parts = Parts::new(line, b' ');
+    let entry = match next_at(alloc, version, section, schema, &mut parts) {
+        Ok(entry) => entry,
+        Err(unread) => return Err(of_tokens(unread, line)),
+    };
+    match at_end(&mut parts) {
+        Some(()) => Ok(entry),
+        None => Err(Unread::Malformed),
+    }
+}
+
+fn next_at<A: Allocator + Copy>(
+    alloc: A,
+    version: Version,
+    section: Section,
+    schema: &Schema<A>,
+    parts: &mut Parts<'_>,
+) -> Result<(Object<A>, Row<A>), Unread>
+    ensures exact { GivesNext at_of result ((at_field version section schema.now).read parts.old) parts.new }
+    ensures memory { IfErr result (λ unread. unread ≡ Unread.Memory → at_takes section parts.old ≡ true) }
+{
+    next_word(parts, entry_word(section)).ok_or(Unread::Malformed)?;
+    let object = next_object(alloc, version, schema, parts)?;
+    let row = next_row(alloc, schema, object.table, parts)?;
     Ok((object, row))
 }
 

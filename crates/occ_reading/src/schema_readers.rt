@@ -2,7 +2,8 @@
 
 ghost use Rattle.std.specs.Prelude.{◌≡◌, true, IfErr};
 ghost use Rattle.std.specs.Result.{result_err};
-ghost use Rattle.occ_types.specs.PlainData.{key_of, object_of};
+ghost use Rattle.occ_types.specs.PlainData.{key_of, object_of, table_of};
+ghost use Rattle.occ_types.specs.Schema.{has_name};
 ghost use Rattle.occ_text.specs.Escapes.{Gives, key_takes};
 ghost use Rattle.occ_text.specs.Fields.{GivesNext, before};
 ghost use Rattle.occ_text.specs.ValueFields.{next_takes};
@@ -11,9 +12,9 @@ ghost use Rattle.occ_reading.specs.SchemaReaders.{unless_fault, place_of, key_in
 use occ_text::cursors::next_token;
 use occ_text::separated_parts::Parts;
 use occ_text::texts;
-use occ_text::tokens::{Unread, name};
+use occ_text::tokens::Unread;
 use occ_text::versions::Version;
-use occ_types::{Fault, Key, Object, Row, Schema};
+use occ_types::{Fault, Key, Object, Row, Schema, TableDef};
 use std::alloc::Allocator;
 
 /// What has a fault is not read.
@@ -24,12 +25,24 @@ pub(crate) fn unless_fault(checked: Result<(), Fault>) -> Option<()>
 }
 
 /// The place of the table of this name.
-#[tactic(auto, unfolding(crate::specs::SchemaReaders::place_of))]
 fn place_of<A: Allocator>(schema: &Schema<A>, token: &[u8]) -> Option<usize>
     ensures { result ≡ place_of schema.now token.now }
 {
-    let name = name(token)?;
-    schema.place(name)
+    // a token that is the name of a table is a name
+    let tables = schema.tables();
+    for (place, table) in tables.iter().enumerate() {
+        if is_named(table, token) {
+            return Some(place);
+        }
+    }
+    None
+}
+
+/// Whether a table has this name.
+fn is_named<A: Allocator>(table: &TableDef<A>, name: &[u8]) -> bool
+    ensures { result ≡ has_name name.now (table_of table.now) }
+{
+    table.name.as_bytes() == name
 }
 
 /// A key of the table at a place, in a text of a version.

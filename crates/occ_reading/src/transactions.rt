@@ -19,7 +19,7 @@ use crate::number_lines::Head;
 use crate::row_lines::Asked;
 use crate::single_lines::{take_asked, take_head, take_pair, take_write};
 use occ_book::LogRow;
-use occ_sets::{Answer, Observation, ReadSet, WriteSet};
+use occ_sets::{Answer, Observation, RangeRows, ReadSet, WriteSet};
 use occ_text::faults::{ReadFault, read_at_line};
 use occ_text::input::Input;
 use occ_text::tokens::Unread;
@@ -86,6 +86,7 @@ fn take_read<R: Read, A: Allocator + Copy>(
         Asked::Span { question, count } => {
             let table = question.table();
             let rows = take_pairs(alloc, input, reader, version, schema, table, count)?;
+            let rows = RangeRows::shared(rows)?;
             Ok(Observation {
                 question,
                 answer: Answer::Rows(rows),

@@ -1,8 +1,9 @@
 -- A decimal is read byte by byte.
-use Rattle.std.proofs.Common.{◌≡◌, ℕ, ◌+◌, ◌-◌, ◌*◌, ◌^◌, ◌<◌, ◌≤◌, ◌⊎◌, Bool, true, false, cond, eqb, ltb, leb, ◌&&◌, ◌||◌, not, List, length, take, get_or, None, Some, inl, inr, refl, sym, ap, subst, ◌∙◌, arith}
+use Rattle.std.proofs.Common.{◌≡◌, ℕ, ◌+◌, ◌-◌, ◌*◌, ◌^◌, ◌<◌, ◌≤◌, ◌⊎◌, Bool, true, false, cond, eqb, ltb, leb, ◌&&◌, ◌||◌, not, List, length, take, get_or, None, Some, inl, inr, refl, sym, ap, subst, ◌∙◌, add-one, arith}
 use Rattle.std.specs.List.{list_all}
 use Rattle.std.specs.Char.{is_ascii_digit, digit_value}
 use Rattle.std.specs.Str.Parse.{digits_value}
+use Rattle.std.proofs.Math.Nat.{pow-le-pow_right, pow-succ'}
 use Rattle.std.proofs.lemmas.Bool.{ltb-true, lt-ltb, ltb-false, leb-true, false_from_ne_true}
 use Rattle.std.proofs.lemmas.List.{take_all}
 use Rattle.std.proofs.lemmas.List.Folds.{list_all_more, list_all_at}
@@ -61,6 +62,36 @@ pub begins_none : (token : List ℕ) → begins_decimal token ≡ false → deci
 unfolding is_decimal
 begins_none token h =
     decimal_none token (and_gap (ltb 0 (length token)) (list_all is_ascii_digit token) (not (begins_with token 48) || eqb (length token) 1) h)
+
+-- ---- at most 19 digits, whose number fits
+
+-- the bytes up to a place are digits, and their number is this, which has no more digits than they are
+abbrev pub IsShort : List ℕ → ℕ → ℕ → Type 0
+IsShort token at number = IsRead token at number × (number < 10 ^ at)
+
+times_ten : (number power digit : ℕ) → number < power → digit ≤ 9 → number * 10 + digit < 10 * power
+times_ten number power digit less small = omega arith
+
+pub short_below : (at number : ℕ) → at < 19 → number < 10 ^ at → number < 10 ^ 18
+short_below at number few less = omega (arith, pow-le-pow_right {n = 10} (omega arith) {i = at} {j = 18} (omega arith))
+
+with_fitting : (number byte : ℕ) → is_ascii_digit byte ≡ true → number < 10 ^ 18 → with_digit number byte ≡ Some (number * 10 + (byte - 48))
+with_fitting number byte digit below =
+    let nine = leb-true byte 57 (both (leb 48 byte) (leb byte 57) digit).1 in
+    rw (digit, lt-ltb (number * 10 + (byte - 48)) (2 ^ 64) (omega arith)) refl
+
+pub no_digit : (number byte : ℕ) → is_ascii_digit byte ≡ false → with_digit number byte ≡ None
+no_digit number byte none = ap (λ b. cond (b && ltb (number * 10 + (byte - 48)) (2 ^ 64)) (Some (number * 10 + (byte - 48))) None) none
+
+-- one digit more of a few is read
+pub short_more : (token : List ℕ) (at number : ℕ) → at < length token → at < 19 → is_ascii_digit (get_or token at 0) ≡ true → IsShort token at number
+    → IsShort token (at + 1) (number * 10 + (get_or token at 0 - 48))
+short_more token at number less few digit short =
+    let byte = get_or token at 0 in
+    let nine = leb-true byte 57 (both (leb 48 byte) (leb byte 57) digit).1 in
+    let below = short_below at number few short.1 in
+    let longer = number * 10 + (byte - 48) in
+    (goes_on token at number longer less (with_fitting number byte digit below) short.0, subst (λ (k : ℕ). longer < 10 ^ k) (sym (add-one at)) (subst (λ (p : ℕ). longer < p) (sym (pow-succ' 10 at)) (times_ten number (10 ^ at) (byte - 48) short.1 (omega arith))))
 
 -- a number that doesn't fit has no value
 too_large : (token : List ℕ) → 2 ^ 64 ≤ digits_value 10 token → decimal_of token ≡ None

@@ -1,7 +1,7 @@
 -- The laws of fields: what is read is spelled so and fits, what fits is read again, its words are tokens, and they are short.
-use Rattle.std.proofs.Common.{◌≡◌, ◌≢◌, ℕ, ◌+◌, ◌^◌, ◌<◌, ◌≤◌, Bool, true, false, cond, List, [], ◌∷◌, ◌++◌, length, leb, Option, Some, None, lit<, refl, sym, ap, subst, ◌∙◌, arith, append_assoc, length-append}
+use Rattle.std.proofs.Common.{◌≡◌, ◌≢◌, ℕ, ◌+◌, ◌^◌, ◌<◌, ◌≤◌, Bool, true, false, cond, eqb, List, [], ◌∷◌, ◌++◌, length, leb, Option, Some, None, lit<, refl, sym, ap, subst, ◌∙◌, arith, append_assoc, length-append}
 use Rattle.std.specs.Prelude.{option_map, option_and_then}
-use Rattle.std.specs.List.{All, join_with_byte}
+use Rattle.std.specs.List.{All, join_with_byte, slice_split}
 use Rattle.std.specs.Char.{is_ascii_graphic}
 use Rattle.std.specs.Str.{bytes_eq}
 use Rattle.std.specs.Fmt.{decimal}
@@ -292,6 +292,11 @@ field_reads {field = field} {most = most} {line = line} f is = subst (Reads (lin
   found = some_or_none (of_line field line) (λ x. (line ≡ line_of field x) × field.fits x) (λ x h. line-takes field most line x f h);
   again = λ x fits e. ap (of_line field) e ∙ line_again x f fits;
 })
+
+-- parts are tokens where a line of a field is read of them, so they need no test before
+pub untested_field : {X : Type 0} {field : Field X} {most : X → ℕ} (line : List ℕ) → IsField field most → of_line field line ≡ whole field (slice_split (λ byte. eqb byte 32) line)
+untested_field {field = field} line f =
+    words.untested (whole field) line (λ x h. let t = whole_takes (slice_split (λ byte. eqb byte 32) line) x f h in subst AreTokens (sym t.0) (f.words x t.1))
 
 pub field_is_line : {X : Type 0} {field : Field X} {most : X → ℕ} (x : X) → IsField field most → most x ≤ 8192 → field.fits x → IsLine (line_of field x)
 field_is_line {field = field} x f few fits = let s = f.short x fits in line_of_words (field.spell x) (f.words x fits) (omega arith)

@@ -1,12 +1,14 @@
 -- What the readers of operations and of steps share.
-use Rattle.std.proofs.Common.{◌≡◌, ℕ, Bool, true, false, cond, List, ◌∷◌, Option, Some, IfSome, refl, sym, ap, subst, ◌∙◌}
+use Rattle.std.proofs.Common.{◌≡◌, ◌≢◌, ℕ, ◌+◌, ◌<◌, ◌≤◌, drop, get_or, Bool, true, false, cond, eqb, ◌&&◌, List, [], ◌∷◌, length, Option, Some, IfSome, refl, sym, ap, subst, ◌∙◌}
 use Rattle.std.specs.Str.{bytes_eq}
+use Rattle.std.proofs.lemmas.Bool.{eq-eqb, ne_eqb, false_from_ne_true}
+use Rattle.std.proofs.lemmas.List.{drop_more, drop_all}
 use Rattle.std.proofs.lemmas.Slice.Eq.{bytes_eq-Decides}
 use Rattle.occ_types.specs.Key.{Key}
 use Rattle.occ_types.specs.Row.{Row}
 use Rattle.occ_text.specs.declared.versions.Version.{Version}
 use Rattle.occ_text.specs.Spelling.{key_text, end_text, row_text, IsName, KeyFits, EndFits, RowFits}
-use Rattle.occ_text.specs.Reading.{Reads, name_of}
+use Rattle.occ_text.specs.Reading.{Reads, begins_with, name_of}
 use Rattle.occ_text.specs.Escapes.{read_key, read_end, read_row}
 use Rattle.occ_text.proofs.Words.{name_reads}
 use Rattle.occ_text.proofs.Values.{key_reads, end_reads, row_reads}
@@ -37,6 +39,37 @@ behind {x = x} e f = e ∙ ap (λ (l : List (List ℕ)). x ∷ l) f
 -- a word that passes is that word
 pub word_is : (token word : List ℕ) → bytes_eq token word ≡ true → token ≡ word
 word_is token word h = (bytes_eq-Decides token word).0 h
+
+-- bytes of another length are another word
+pub other_long : (token word : List ℕ) → length token ≢ length word → false ≡ bytes_eq token word
+other_long token word other = sym (false_from_ne_true (bytes_eq token word) (λ same. other (ap length (word_is token word same))))
+
+-- what is left of bytes and of a word, from a place on where both have one more
+same_at : (token word : List ℕ) (at : ℕ) → at < length token → at < length word → bytes_eq (drop at token) (drop at word) ≡ (eqb (get_or token at 0) (get_or word at 0) && bytes_eq (drop (at + 1) token) (drop (at + 1) word))
+same_at token word at a b = λ i. bytes_eq (drop_more token at 0 a i) (drop_more word at 0 b i)
+
+-- one byte more is the same
+pub same_more : (token word : List ℕ) (at : ℕ) → at < length token → at < length word → get_or token at 0 ≡ get_or word at 0 → bytes_eq (drop at token) (drop at word) ≡ bytes_eq token word
+    → bytes_eq (drop (at + 1) token) (drop (at + 1) word) ≡ bytes_eq token word
+same_more token word at a b same so = sym (ap (λ x. x && bytes_eq (drop (at + 1) token) (drop (at + 1) word)) (eq-eqb (get_or token at 0) (get_or word at 0) same)) ∙ sym (same_at token word at a b) ∙ so
+
+-- a byte is another one
+pub same_less : (token word : List ℕ) (at : ℕ) → at < length token → at < length word → get_or token at 0 ≢ get_or word at 0 → bytes_eq (drop at token) (drop at word) ≡ bytes_eq token word
+    → false ≡ bytes_eq token word
+same_less token word at a b other so = sym (ap (λ x. x && bytes_eq (drop (at + 1) token) (drop (at + 1) word)) (ne_eqb (get_or token at 0) (get_or word at 0) other)) ∙ sym (same_at token word at a b) ∙ so
+
+-- all bytes are the same
+pub same_all : (token word : List ℕ) (at : ℕ) → length token ≤ at → length word ≤ at → bytes_eq (drop at token) (drop at word) ≡ bytes_eq token word → true ≡ bytes_eq token word
+same_all token word at a b so = (λ i. bytes_eq (sym (drop_all at token a) i) (sym (drop_all at word b) i)) ∙ so
+
+-- bytes that are a word begin as it does
+pub begins_so : (token word : List ℕ) (byte : ℕ) → (begins_with token byte && bytes_eq token (byte ∷ word)) ≡ bytes_eq token (byte ∷ word)
+begins_so [] word byte = refl
+begins_so (a ∷ token) word byte = twice (eqb a byte) (bytes_eq token word)
+  where
+    twice : (same rest : Bool) → (same && (same && rest)) ≡ (same && rest)
+    twice true rest = refl
+    twice false rest = refl
 
 -- a word is this one, and what stands behind it is read by its own form; or it is another one
 pub this_word : {X : Type 0} (P : List (List ℕ) → X → Type 0) (this word : List ℕ) (rest : List (List ℕ)) (a b : Option X) (x : X) (p : Bool) → bytes_eq word this ≡ p

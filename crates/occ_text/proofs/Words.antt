@@ -1,10 +1,11 @@
 -- Tokens and names: what is read is spelled so, and what is spelled so is read again.
 use Rattle.std.proofs.Common.{◌≡◌, ◌≢◌, ℕ, ◌<◌, Bool, true, false, cond, eqb, ltb, leb, ◌&&◌, List, [], ◌∷◌, length, get_or, Some, None, Result, Ok, Err, MatchResult, option_map, inl, inr, refl, sym, ap, subst, ◌∙◌, arith}
+use Rattle.std.specs.Prelude.{Option, option_and_then}
 use Rattle.std.specs.List.{All, AllPass, list_all, slice_split, join_with_byte}
 use Rattle.std.specs.Char.{is_ascii_graphic, is_ascii_lowercase}
 use Rattle.std.specs.Str.{IsUtf8}
 use Rattle.std.specs.Result.{result_ok}
-use Rattle.std.proofs.lemmas.Bool.{ltb-true, lt-ltb, leb-true, le-leb, ne_eqb, eq-eqb, cases_lt}
+use Rattle.std.proofs.lemmas.Bool.{ltb-true, lt-ltb, leb-true, le-leb, ne_eqb, eq-eqb, cases_lt, false≢true}
 use Rattle.std.proofs.lemmas.List.{get_or_past}
 use Rattle.std.proofs.lemmas.Str.{IsUtf8-from_ascii}
 use Rattle.std.proofs.lemmas.List.Elements.{All-weaker, All-head, All-tail, All-get_or}
@@ -66,12 +67,29 @@ tokens_takes line tokens h =
       record { some = omega arith; each = All-weaker (λ t. is_token t ≡ true) IsToken IsToken-from_test split (AllPass-from_list_all is_token split p.0) },
     )
 
+tested : (tokens : List (List ℕ)) → AreTokens tokens → list_all is_token tokens ≡ true
+tested tokens t = list_all-from_AllPass is_token tokens (All-weaker IsToken (λ token. is_token token ≡ true) test-from_IsToken tokens t.each)
+
+nothing : {X : Type 0} (o : Option X) → ((x : X) → o ≡ Some x → ⊥) → o ≡ None
+nothing (Some x) h = absurd (h x refl)
+nothing None h = refl
+
+untested_by : {X : Type 0} (read : List (List ℕ) → Option X) (parts : List (List ℕ)) (b : Bool) → list_all is_token parts ≡ b → ((x : X) → read parts ≡ Some x → AreTokens parts)
+    → option_and_then read (cond b (Some parts) None) ≡ read parts
+untested_by read parts true is tells = refl
+untested_by read parts false is tells = sym (nothing (read parts) (λ x h. false≢true (sym is ∙ tested parts (tells x h))))
+
+-- parts of which nothing is read but where they are tokens need no test before
+pub untested : {X : Type 0} (read : List (List ℕ) → Option X) (line : List ℕ) → ((x : X) → read (slice_split (λ byte. eqb byte 32) line) ≡ Some x → AreTokens (slice_split (λ byte. eqb byte 32) line))
+    → option_and_then read (tokens_of line) ≡ read (slice_split (λ byte. eqb byte 32) line)
+unfolding tokens_of
+untested read line tells = untested_by read (slice_split (λ byte. eqb byte 32) line) (list_all is_token (slice_split (λ byte. eqb byte 32) line)) refl tells
+
 pub tokens_again : (tokens : List (List ℕ)) → AreTokens tokens → tokens_of (line_text tokens) ≡ Some tokens
 unfolding tokens_of
 tokens_again tokens t =
     let same = split_joined 32 tokens t.some (All-weaker IsToken (All (λ (byte : ℕ). byte ≢ 32)) token_has_no_space tokens t.each) in
-    let test : list_all is_token tokens ≡ true = list_all-from_AllPass is_token tokens (All-weaker IsToken (λ token. is_token token ≡ true) test-from_IsToken tokens t.each) in
-    ap (λ (ts : List (List ℕ)). cond (list_all is_token ts) (Some ts) None) same ∙ ap (λ (b : Bool). cond b (Some tokens) None) test
+    ap (λ (ts : List (List ℕ)). cond (list_all is_token ts) (Some ts) None) same ∙ ap (λ (b : Bool). cond b (Some tokens) None) (tested tokens t)
 
 -- the reader of tokens is right
 pub tokens_reads : (line : List ℕ) → Reads line_text AreTokens line (tokens_of line)

@@ -1,6 +1,7 @@
 //! The reader of the lines of steps.
 
-ghost use Rattle.std.specs.Prelude.{◌≡◌, Some, IfOk, option_map};
+ghost use Rattle.std.specs.Prelude.{◌≡◌, Some, IfOk, codes, option_map};
+ghost use Rattle.std.specs.Str.{bytes_eq};
 ghost use Rattle.occ_text.specs.Escapes.{Gives};
 ghost use Rattle.occ_text.specs.StepReading.{forms, next_step, alone_of_tokens, step_of_tokens, step_of_line};
 ghost use Rattle.occ_text.specs.Fields.{GivesNext, by_word};
@@ -14,7 +15,7 @@ use crate::step_forms::{
 };
 use crate::step_words::{act_of, next_session};
 use crate::steps::Step;
-use crate::tokens::{Unread, is_word, tokens};
+use crate::tokens::{Unread, begins_with, is_word};
 use crate::versions::Version;
 use std::alloc::Allocator;
 
@@ -80,6 +81,13 @@ fn alone_of_parts<'a, A: Allocator + Copy>(
     alone_step(alloc, version, session, parts)
 }
 
+/// Whether a word is that of a run alone. Most aren't, and are told by their first byte.
+fn is_alone(word: &[u8]) -> bool
+    ensures { result ≡ bytes_eq word.now (codes "alone") }
+{
+    begins_with(word, b'a') && is_word(word, "alone")
+}
+
 /// The step of some tokens. A run alone has any number of them.
 #[tactic(auto, unfolding(crate::specs::StepReading::step_of_tokens))]
 fn step_of_parts<'a, A: Allocator + Copy>(
@@ -90,7 +98,7 @@ fn step_of_parts<'a, A: Allocator + Copy>(
     ensures { Gives step_of result (step_of_tokens version parts.entry) }
 {
     let word = next_token(&mut parts).ok_or(Unread::Malformed)?;
-    if is_word(word, "alone") {
+    if is_alone(word) {
         return alone_of_parts(alloc, version, parts);
     }
     let step = next_step(alloc, version, word, &mut parts)?;
@@ -98,7 +106,6 @@ fn step_of_parts<'a, A: Allocator + Copy>(
     Ok(step)
 }
 
-#[tactic(auto, unfolding(crate::specs::StepReading::step_of_line))]
 fn step_value<'a, A: Allocator + Copy>(
     alloc: A,
     version: Version,
@@ -106,8 +113,8 @@ fn step_value<'a, A: Allocator + Copy>(
 ) -> Result<Step<'a, A>, Unread>
     ensures { Gives step_of result (step_of_line version line.now) }
 {
-    let parts = tokens(line).ok_or(Unread::Malformed)?;
-    step_of_parts(alloc, version, parts)
+    // what is read of parts that are no tokens is nothing, so they need no test before
+    step_of_parts(alloc, version, Parts::new(line, b' '))
 }
 
 /// A step of a text of this version, from its line without the line feed. `Malformed` where the line is none; `Memory` where it was refused for a key,

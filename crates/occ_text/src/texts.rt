@@ -1,13 +1,14 @@
 //! Readers of texts, keys, cells and rows. What they read has one spelling.
 
-ghost use Rattle.std.specs.Prelude.{◌≡◌, true, Some, ℕ, List, Option, option_map, IfOk, IfErr};
+ghost use Rattle.std.specs.Prelude.{◌≡◌, ◌∷◌, true, Some, ℕ, List, Option, option_map, IfOk, IfErr};
 ghost use Rattle.occ_types.specs.Key as keys;
 ghost use Rattle.occ_types.specs.Row as rows;
 ghost use Rattle.occ_types.specs.PlainData.{part_of, key_of, end_of, cell_of};
 ghost use Rattle.occ_text.specs.Spelling.{is_plain, text_text, key_text, end_text, row_text, IsText, KeyFits, EndFits, RowFits};
-ghost use Rattle.occ_text.specs.Escapes.{Gives, hex_value, escape_of, front_of, unescaped, text_of, read_part, simple_key, pair_key, key_of_parts, read_key, is_missing, read_end, read_cell, read_row, part_takes, parts_take, key_takes};
+ghost use Rattle.occ_text.specs.Escapes.{Gives, hex_value, escape_of, front_of, unescaped, text_of, read_part, simple_key, pair_key, key_of_parts, read_key, is_missing, read_end, read_cell, read_cells, read_row, part_takes, parts_take, key_takes};
+ghost use Rattle.occ_text.specs.SeparatedParts.{parts_left};
 
-use crate::separated_parts::Parts;
+use crate::separated_parts::{Parts, cut};
 use crate::tokens::{Unread, begins_with, int, is_word, number, without_first};
 use crate::versions::Version;
 use occ_types::{Cell, Key, KeyPart, Pair, Row, Text};
@@ -194,8 +195,21 @@ fn cell_value<A: Allocator + Clone>(alloc: A, token: &[u8]) -> Result<Cell<A>, U
 fn row_value<A: Allocator + Clone>(alloc: A, token: &[u8]) -> Result<Row<A>, Unread>
     ensures { Gives (λ row. row) result (read_row token.now) }
 {
+    let (first, rest) = cut(token, b',');
+    let cell = cell_value(alloc.clone()?, first)?;
+    match rest {
+        None => Ok(Row::from_cell(cell)),
+        Some(rest) => longer_row(alloc, cell, rest),
+    }
+}
+
+/// The row of a cell and of those behind it, of which there is one at least.
+fn longer_row<A: Allocator + Clone>(alloc: A, first: Cell<A>, rest: &[u8]) -> Result<Row<A>, Unread>
+    ensures { Gives (λ row. row) result (option_map (λ more. cell_of first ∷ more) (read_cells (parts_left 44 (Some rest.now)))) }
+{
     let mut cells = Vec::new(alloc.clone()?);
-    let mut parts = Parts::new(token, b',');
+    cells.push(first)?;
+    let mut parts = Parts::new(rest, b',');
     while let Some(part) = parts.take_part() {
         cells.push(cell_value(alloc.clone()?, part)?)?;
     }

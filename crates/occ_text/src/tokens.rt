@@ -1,10 +1,10 @@
 //! Readers of single tokens. What they read has one spelling.
 
-ghost use Rattle.std.specs.Prelude.{◌≡◌, ◌≤◌, ◌^◌, FitsSigned, IfSome, Some, drop, option_map};
+ghost use Rattle.std.specs.Prelude.{◌≡◌, ◌≤◌, ◌<◌, ◌^◌, ◌*◌, ◌+◌, ◌-◌, FitsSigned, IfSome, Some, true, drop, length, option_map};
 ghost use Rattle.std.specs.Int.{w64};
 ghost use Rattle.std.specs.List.{list_all};
 ghost use Rattle.std.specs.Str.{bytes_eq};
-ghost use Rattle.std.specs.Char.{is_ascii_lowercase};
+ghost use Rattle.std.specs.Char.{is_ascii_digit, is_ascii_lowercase};
 ghost use Rattle.std.specs.Fmt.{decimal, signed_decimal};
 ghost use Rattle.occ_text.specs.declared.tokens.Unread.TheVariants.{Memory};
 ghost use Rattle.occ_text.specs.Spelling.{line_text, AreTokens, IsName};
@@ -87,10 +87,28 @@ pub(crate) fn begins_with(bytes: &[u8], byte: u8) -> bool
 }
 
 /// Whether the token is this word.
+#[inline(always)]
 pub fn is_word(token: &[u8], word: &str) -> bool
     ensures { result ≡ bytes_eq token.now word.now }
 {
-    token == word.as_bytes()
+    if token.len() != word.len() {
+        return false;
+    }
+    are_same(token, word.as_bytes())
+}
+
+// Whether bytes are those of a word, of which there are as many. A known word is compared byte by byte, without a loop.
+#[inline(always)]
+fn are_same(token: &[u8], word: &[u8]) -> bool
+    requires { length token.now ≡ length word.now }
+    ensures { result ≡ bytes_eq token.now word.now }
+{
+    for (place, byte) in word.iter().enumerate() {
+        if token[place] != *byte {
+            return false;
+        }
+    }
+    true
 }
 
 /// What stands behind the first byte.
@@ -122,12 +140,40 @@ fn with_digit(number: u64, byte: u8) -> Option<u64>
     Some(longer)
 }
 
+// A number of at most 18 digits with one more behind it, which fits 64 bits.
+fn with_short_digit(number: u64, byte: u8) -> u64
+    requires below { number < 10 ^ 18 }
+    requires digit { is_ascii_digit byte ≡ true }
+    ensures { result ≡ number * 10 + (byte - 48) }
+{
+    number * 10 + (byte - b'0') as u64
+}
+
+// The number that at most 19 bytes spell which may be a decimal by the first of them. It fits 64 bits, so no digit is tested for that.
+fn short_decimal(token: &[u8]) -> Option<u64>
+    requires begins { begins_decimal token.now ≡ true }
+    requires short { length token.now ≤ 19 }
+    ensures { result ≡ decimal_of token.now }
+{
+    let mut number: u64 = 0;
+    for byte in token {
+        if !byte.is_ascii_digit() {
+            return None;
+        }
+        number = with_short_digit(number, *byte);
+    }
+    Some(number)
+}
+
 /// The number of 64 bits that the bytes spell.
 fn decimal_value(token: &[u8]) -> Option<u64>
     ensures { result ≡ decimal_of token.now }
 {
     if !begins_decimal(token) {
         return None;
+    }
+    if token.len() <= 19 {
+        return short_decimal(token);
     }
     let mut number: u64 = 0;
     for byte in token {

@@ -1,27 +1,69 @@
 //! Writers of what a line may have. Each appends the one spelling; where memory is refused, a beginning of it may stand.
 
-ghost use Rattle.std.specs.Prelude.{◌≡◌, ◌<◌, ◌++◌, OnOk, string_bytes};
+ghost use Rattle.std.specs.Prelude.{◌≡◌, ◌<◌, ◌+◌, ◌++◌, ◌∷◌, [], OnOk, string_bytes};
 ghost use Rattle.std.specs.Fmt.{decimal, signed_decimal};
 ghost use Rattle.occ_types.specs.Key as keys;
 ghost use Rattle.occ_types.specs.PlainData.{part_of, key_of, end_of, cell_of};
 ghost use Rattle.occ_text.specs.Spelling.{hex_digit, escaped_byte, escaped, text_text, part_text, key_text, end_text, cell_text, row_text, comma};
 
 use crate::texts::is_plain;
+use itoa::Buffer;
 use occ_types::{Cell, Key, KeyPart, Pair, Row, Text};
 use std::alloc::{AllocError, Allocator};
+
+/// The digit of a number below 10.
+fn digit(number: u64) -> char
+    requires { number < 10 }
+    ensures { result ≡ 48 + number }
+{
+    char::from(b'0' + number as u8)
+}
+
+/// Appends the digit of a number below 10.
+fn write_digit<A: Allocator>(line: &mut String<A>, number: u64) -> Result<(), AllocError>
+    requires { number < 10 }
+    ensures { OnOk result (string_bytes line.new ≡ string_bytes line.old ++ ((48 + number) ∷ [])) }
+{
+    line.push(digit(number))
+}
 
 /// Appends a number.
 pub fn write_number<A: Allocator>(line: &mut String<A>, number: u64) -> Result<(), AllocError>
     ensures { OnOk result (string_bytes line.new ≡ string_bytes line.old ++ decimal number) }
 {
-    write!(line, "{number}")
+    if number < 10 {
+        return write_digit(line, number);
+    }
+    let mut digits = Buffer::new();
+    line.push_str(digits.format(number))
+}
+
+/// Appends a space and a number.
+pub fn write_next_number<A: Allocator>(line: &mut String<A>, number: u64) -> Result<(), AllocError>
+    ensures { OnOk result (string_bytes line.new ≡ string_bytes line.old ++ (32 ∷ decimal number)) }
+{
+    line.push(' ')?;
+    write_number(line, number)
+}
+
+/// Appends what stands before a number, and the number.
+pub fn write_counted<A: Allocator>(
+    line: &mut String<A>,
+    before: &str,
+    number: u64,
+) -> Result<(), AllocError>
+    ensures { OnOk result (string_bytes line.new ≡ string_bytes line.old ++ (before.now ++ decimal number)) }
+{
+    line.push_str(before)?;
+    write_number(line, number)
 }
 
 /// Appends a whole number.
 pub fn write_int<A: Allocator>(line: &mut String<A>, number: i64) -> Result<(), AllocError>
     ensures { OnOk result (string_bytes line.new ≡ string_bytes line.old ++ signed_decimal number) }
 {
-    write!(line, "{number}")
+    let mut digits = Buffer::new();
+    line.push_str(digits.format(number))
 }
 
 /// A lower-case hexadecimal digit.

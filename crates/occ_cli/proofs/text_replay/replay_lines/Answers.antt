@@ -1,7 +1,9 @@
-use Rattle.std.proofs.Common.{Ok, Err, ◌∙◌, ap}
+use Rattle.std.proofs.Common.{◌≡◌, true, Ok, Err, ◌∙◌, ap}
 use Rattle.occ_cli.proofs.Common.{err_from_is_err_and}
 use Rattle.occ_text.specs.HeaderTaking.{header_of}
-use Rattle.occ_cli.proofs.WholeReplay.{header_stopped, turns_stopped, all_closed, all_cut, no_read, wrote_for_cause}
+use Rattle.occ_text.specs.Line.{HasFailed}
+use Rattle.occ_text.specs.declared.trouble.Trouble.TheVariants as troubles
+use Rattle.occ_cli.proofs.WholeReplay.{header_stopped, turns_stopped, all_closed, all_cut, no_read, told_on, wrote_for_cause}
 use Rattle.occ_cli.proofs.text_replay.replay_lines.Goals as goal
 
 pub returns-in_err-header-clause-gives : goal.returns-in_err-header-clause-gives
@@ -13,6 +15,14 @@ returns-in_err-take_turns-clause-gives g c =
     let taken = c.in_ok-header.ensures.gives in
     turns_stopped c.from_residual-in_err-take_turns.result c.in_err-take_turns.field-0.0 c.args.quiet (header_of c.in_ok-header.header) c.in-Ok.replay _ _ _ _ _ _ _ _ c.take_turns.new.replay c.in-Ok.ensures.started (h.1 ∙ ap Err h.2)
     taken.0 taken.1 taken.2 c.in_err-take_turns.ensures.gives
+
+pub returns-in_err-take_turns-clause-unread : goal.returns-in_err-take_turns-clause-unread
+returns-in_err-take_turns-clause-unread g c =
+    told_on (λ trouble. trouble ≡ troubles.Read → HasFailed c.take_turns.new.input) c.in_err-take_turns.field-0.0 c.from_residual-in_err-take_turns.result c.from_residual-in_err-take_turns.ensures.1 c.in_err-take_turns.ensures.unread
+
+pub returns-in_err-take_turns-clause-unwritten : goal.returns-in_err-take_turns-clause-unwritten
+returns-in_err-take_turns-clause-unwritten g c =
+    told_on (λ trouble. trouble ≡ troubles.Write → c.take_turns.new.output.failed ≡ true) c.in_err-take_turns.field-0.0 c.from_residual-in_err-take_turns.result c.from_residual-in_err-take_turns.ensures.1 c.in_err-take_turns.ensures.unwritten
 
 pub returns-in_err-close-clause-gives : goal.returns-in_err-close-clause-gives
 returns-in_err-close-clause-gives g c =

@@ -1,5 +1,5 @@
 use Rattle.occ_reading.proofs.Common.{AskedOne, AskedSpan, ReadOf, failed, framed, next_fails, next_taken, object_of, question_of, rows_of}
-use Rattle.occ_reading.proofs.RowTaking.{span_taken, span_fails}
+use Rattle.occ_reading.proofs.RowTaking.{span_shared, span_fails}
 use Rattle.occ_reading.proofs.transactions.take_read.Goals as goal
 
 pub returns-in_err-object-clause-taken : goal.returns-in_err-object-clause-taken
@@ -14,11 +14,12 @@ returns-in-One-clause-taken g c = λ row reads.
     let asked = rw c.in-One.is at c.in_ok-object.ensures.taken in
     next_taken (ReadOf here reads) (AskedOne (object_of c.in-One.object) c.in-One.row) asked
 
-pub returns-in_ok-rows-in-Span-clause-taken : goal.returns-in_ok-rows-in-Span-clause-taken
-returns-in_ok-rows-in-Span-clause-taken g c = λ row reads.
+pub returns-in_ok-rows-in-Span-2-clause-taken : goal.returns-in_ok-rows-in-Span-2-clause-taken
+returns-in_ok-rows-in-Span-2-clause-taken g c = λ row reads.
     let here = framed c.args.version c.args.schema.now row in
     let asked = rw c.in-Span.is at c.in_ok-object.ensures.taken in
-    span_taken c.args.version c.args.schema.now (question_of c.in-Span.question) (rows_of c.in_ok-rows-in-Span.rows.items) here reads c.in-Span.count c.table-table.result c.table-table.ensures (next_taken (ReadOf here reads) (AskedSpan (question_of c.in-Span.question) c.in-Span.count) asked) (c.in_ok-rows-in-Span.ensures.taken row reads)
+    span_shared c.args.version c.args.schema.now (question_of c.in-Span.question) (rows_of c.in_ok-rows-in-Span.rows.items) c.in_ok-rows-in-Span-2.rows here reads c.in-Span.count c.table-table.result
+    c.in_ok-rows-in-Span-2.ensures c.table-table.ensures (next_taken (ReadOf here reads) (AskedSpan (question_of c.in-Span.question) c.in-Span.count) asked) (c.in_ok-rows-in-Span.ensures.taken row reads)
 
 pub returns-in_err-rows-in-Span-clause-taken : goal.returns-in_err-rows-in-Span-clause-taken
 returns-in_err-rows-in-Span-clause-taken g c = λ row reads.
