@@ -13,6 +13,7 @@ use occ_text::headers::{Header, Limits};
 use occ_text::step_reading::read_step;
 use occ_text::steps::Step;
 use occ_text::tokens::number;
+use occ_types::Fault;
 use std::alloc::{AllocError, Global};
 
 /// A store as the steps so far leave it, and what was met at each entry.
@@ -85,14 +86,28 @@ impl Steps {
     ) -> Result<Option<Saying>, AllocError> {
         write_answer(text, self.replay.core().schema(), answer)?;
         match answer {
-            Answer::Refused(refusal) => {
-                self.refused = self.refused.saturating_add(1);
-                let session = session_of(line);
-                Ok(Some(say_refused(alloc, number, line, session, refusal.fault)?))
+            Answer::Refused(refusal) => self.say_refusal(alloc, number, line, refusal.fault),
+            Answer::Replied(Reply::Refused(fault)) => {
+                self.say_refusal(alloc, number, line, *fault)
+            }
+            Answer::Replied(Reply::RefusedItem(refused)) => {
+                self.say_refusal(alloc, number, line, refused.fault)
             }
             Answer::Replied(reply) => self.say_reply(alloc, number, session_of(line), reply),
             _ => Ok(None),
         }
+    }
+
+    // That the step of a line is refused.
+    fn say_refusal(
+        &mut self,
+        alloc: Global,
+        number: u64,
+        line: &[u8],
+        fault: Fault,
+    ) -> Result<Option<Saying>, AllocError> {
+        self.refused = self.refused.saturating_add(1);
+        Ok(Some(say_refused(alloc, number, line, session_of(line), fault)?))
     }
 
     // What there is to be said of what the store replied to a session.
