@@ -33,7 +33,7 @@ struct Sum(i64);
 impl<N: Name, A: Allocator + Copy, R: Wait> Body<N, A, R> for Sum {
     fn run(&mut self, rt: &R, bank: &Store<N, A>, work: &mut Work<N, A>) -> Result<(), Fault> {
         self.0 = 0;
-        for (_, row) in &work.scan(rt, bank, 0, None, None)? {
+        for (_, row) in work.scan(rt, bank, 0, None, None)?.as_slice() {
             self.0 = self.0.saturating_add(row.int(0).unwrap_or(0));
         }
         Ok(())
@@ -79,7 +79,9 @@ fn run<N: Name + Send + Sync, A: Allocator + Copy + Send + Sync, R: Threads + Wa
 ) -> Result<u64, Fault>
     requires { (frame.named ≡ N.named) × (frame.ledger ≡ N.name) × (frame.parts ≡ N.parts) }
 {
-    let (bank, sessions, lanes) = Store::<N, A>::open(frame)?;
+    let Ok((bank, sessions, lanes)) = Store::<N, A>::open(frame) else {
+        return Err(Fault::Memory);
+    };
     let mut workers = Vec::new(alloc);
     for (session, lane) in sessions.into_iter().zip(lanes) {
         let mut worker = Worker::new(session, lane)?;

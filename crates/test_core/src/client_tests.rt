@@ -21,7 +21,7 @@ fn all(
 ) -> Result<String, Fault> {
     let rows = client.scan(core, 0, None, None)?;
     let mut told = String::new(alloc);
-    for (key, row) in rows.iter() {
+    for (key, row) in rows.as_slice() {
         write!(told, "{key:?} {row:?} ")?;
     }
     Ok(told)

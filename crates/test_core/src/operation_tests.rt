@@ -88,7 +88,7 @@ fn has(answer: &Answer<Global>, wanted: &[(u64, i64)]) -> bool {
     }
     for place in 0..rows.len() {
         let (key, number) = wanted[place];
-        let (found, row) = &rows[place];
+        let (found, row) = &rows.as_slice()[place];
         if *found != Key::Num(key) || number_of(row) != Some(number) {
             return false;
         }

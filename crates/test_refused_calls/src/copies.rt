@@ -2,9 +2,9 @@
 use crate::client::Client;
 use crate::values::{key, list, row};
 use occ_queue::{Item, SessionQueue};
-use occ_sets::{Answer, Observation, PrivateCopy, ReadSet};
+use occ_sets::{Answer, Observation, PrivateCopy, RangeRows, ReadSet};
 use occ_types::{Fault, Key, Object, Question, Row};
-use std::alloc::Allocator;
+use std::alloc::{AllocFailed, Allocator};
 
 impl<A: Allocator + Copy> Client<A> {
     /// A copy without a write, that begins now.
@@ -138,5 +138,13 @@ pub(crate) fn all<A: Allocator>() -> Question<A> {
 /// What a table with one row answers to that.
 pub(crate) fn rows<A: Allocator + Copy>(alloc: A, word: &str, number: i64) -> Option<Answer<A>> {
     let pair: (Key<A>, Row<A>) = (key(alloc, word)?, row(alloc, number)?);
-    Some(Answer::Rows(list(alloc, pair)?))
+    Some(Answer::Rows(shared(list(alloc, pair)?)?))
+}
+
+// Rows that several may share. They come back where there is no memory for the handle.
+fn shared<A: Allocator + Copy>(rows: Vec<(Key<A>, Row<A>), A>) -> Option<RangeRows<A>> {
+    match RangeRows::shared(rows) {
+        Ok(rows) => Some(rows),
+        Err(AllocFailed { value }) => RangeRows::shared(value).ok(),
+    }
 }

@@ -78,7 +78,7 @@ fn end_without_one<N: Name, A: Allocator + Copy, R: Wait>(
 }
 
 // What was handed back, with one lane more.
-fn with_lane<N: Name, A: Allocator>(
+fn with_lane<N: Name, A: Allocator + Copy>(
     refused: Refused<Parties<N, A>>,
     lane: Option<Lane<N, A>>,
 ) -> Result<Option<Parties<N, A>>, Fault> {
@@ -104,7 +104,7 @@ fn end_again<N: Name, A: Allocator + Copy, R: Wait>(
 }
 
 // The lane of session 1 keeps its third item and leaves the mark; that of session 2 leaves its one item.
-fn is_right<A: Allocator>(account: &Account<A>) -> bool {
+fn is_right<A: Allocator + Copy>(account: &Account<A>) -> bool {
     account.entered == 2
         && account.lines.len() == 2
         && tells(account.lines.get(0), [4, 3, 2], Some(3), 4)
@@ -113,7 +113,7 @@ fn is_right<A: Allocator>(account: &Account<A>) -> bool {
 
 // Whether a line tells that so many items were pushed, taken and entered as rows, and the numbers of the item that is kept and of the one
 // that is left.
-fn tells<A: Allocator>(
+fn tells<A: Allocator + Copy>(
     line: Option<&AccountLine<A>>,
     counts: [u64; 3],
     kept: Option<u64>,

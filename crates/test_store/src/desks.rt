@@ -33,7 +33,7 @@ pub(crate) struct Settings {
 
 /// A store with all that was opened with it.
 #[derive(Drop)]
-pub(crate) struct Desk<N: Name, A: Allocator> {
+pub(crate) struct Desk<N: Name, A: Allocator + Copy> {
     /// What is asked for memory.
     pub(crate) alloc: A,
     /// The store.
@@ -96,7 +96,9 @@ fn played_on<
     requires named { frame.named ≡ N.named }
     requires ledger { (frame.ledger ≡ N.name) × (frame.parts ≡ N.parts) }
 {
-    let (store, sessions, lanes) = Store::<N, A>::open(frame)?;
+    let Ok((store, sessions, lanes)) = Store::<N, A>::open(frame) else {
+        return Err(Fault::Memory);
+    };
     let mut desk = Desk {
         alloc,
         store,
@@ -129,7 +131,7 @@ fn deal_and_play<
 }
 
 /// The lane of a session, which was dealt out with the others.
-pub(crate) fn lane_of<N: Name, A: Allocator>(
+pub(crate) fn lane_of<N: Name, A: Allocator + Copy>(
     groups: &mut [Group<N, A>],
     session: usize,
 ) -> Result<&mut Lane<N, A>, Fault> {

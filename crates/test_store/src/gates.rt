@@ -75,13 +75,13 @@ impl<R: Clock> Gate for Together<'_, R> {
 
 /// Takes the lock at each point, and counts them. Where the lane held it, it would wait for ever.
 #[derive(Drop)]
-pub(crate) struct Looks<'a, N: Name, A: Allocator, R: Wait> {
+pub(crate) struct Looks<'a, N: Name, A: Allocator + Copy, R: Wait> {
     rt: &'a R,
     store: &'a Store<N, A>,
     passed: AtomicU64,
 }
 
-impl<'a, N: Name, A: Allocator, R: Wait> Looks<'a, N, A, R> {
+impl<'a, N: Name, A: Allocator + Copy, R: Wait> Looks<'a, N, A, R> {
     /// It takes the lock of this store.
     pub(crate) fn at(rt: &'a R, store: &'a Store<N, A>) -> Looks<'a, N, A, R> {
         Looks {
@@ -97,7 +97,7 @@ impl<'a, N: Name, A: Allocator, R: Wait> Looks<'a, N, A, R> {
     }
 }
 
-impl<N: Name, A: Allocator, R: Wait> Gate for Looks<'_, N, A, R> {
+impl<N: Name, A: Allocator + Copy, R: Wait> Gate for Looks<'_, N, A, R> {
     fn pass(&self, _point: Point, session: usize, number: u64) -> Pace {
         let _before = self.passed.fetch_add(1, Ordering::SeqCst);
         let _standing = self.store.row(self.rt, session, number);

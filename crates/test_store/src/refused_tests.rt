@@ -29,16 +29,24 @@ pub(crate) fn refuse<A: Allocator>(refusing: &Refusing<A>, place: u64) {
     refusing.follow(Plan::Once(refusing.requests().saturating_add(place)));
 }
 
-// The frame of a store, of which the request at a place is refused. Whether there was such a request. A frame that is refused hands back the
-// schema, and is made of it at the second try.
+// The frame of a store, of which the request at a place is refused. Whether there was such a request.
 fn frame_without(alloc: Global, place: u64) -> Result<bool, Fault> {
     let refusing = Refusing::new(alloc, Plan::Nothing);
-    let schema = schema(&refusing)?;
-    refuse(&refusing, place);
-    match Frame::new(&refusing, schema, 3, 2, 4) {
+    framed_twice(&refusing, &refusing, place)
+}
+
+// Whether a frame was refused, handed back the schema, and was made of it at the second try.
+fn framed_twice<A: Allocator + Copy>(
+    alloc: A,
+    refusing: &Refusing<Global>,
+    place: u64,
+) -> Result<bool, Fault> {
+    let schema = schema(alloc)?;
+    refuse(refusing, place);
+    match Frame::new(alloc, schema, 3, 2, 4) {
         Ok(_frame) => Ok(false),
         Err(refused) => {
-            let _frame = Frame::new(&refusing, refused.value, 3, 2, 4)?;
+            let _frame = Frame::new(alloc, refused.value, 3, 2, 4)?;
             Ok(refused.fault == Fault::Memory)
         }
     }
@@ -57,9 +65,18 @@ fn a_frame_is_refused_at_each_request(rt: HostRuntime) -> Result<(), Fail> {
 // The same of opening a frame, which comes back.
 fn open_without(alloc: Global, place: u64) -> Result<bool, Fault> {
     let refusing = Refusing::new(alloc, Plan::Nothing);
-    let frame = frame(&refusing, THREE)?;
-    refuse(&refusing, place);
-    opened_twice::<Brand, &Refusing<Global>>(frame)
+    opened_without(&refusing, &refusing, place)
+}
+
+// The frame of a store, of which the request at a place is refused while it is opened.
+fn opened_without<A: Allocator + Copy>(
+    alloc: A,
+    refusing: &Refusing<Global>,
+    place: u64,
+) -> Result<bool, Fault> {
+    let frame = frame(alloc, THREE)?;
+    refuse(refusing, place);
+    opened_twice::<Brand, A>(frame)
 }
 
 // Whether a frame was refused, and came back whole.
@@ -70,7 +87,9 @@ fn opened_twice<N: Name, A: Allocator + Copy>(frame: Frame<A>) -> Result<bool, F
     match Store::<N, A>::open(frame) {
         Ok(_opened) => Ok(false),
         Err(refused) => {
-            let (_store, sessions, lanes) = Store::<N, A>::open(refused.value)?;
+            let Ok((_store, sessions, lanes)) = Store::<N, A>::open(refused.value) else {
+                return Ok(false);
+            };
             Ok(refused.fault == Fault::Memory && sessions.len() == 3 && lanes.len() == 3)
         }
     }

@@ -39,7 +39,7 @@ pub(crate) fn soak<
 
 // A client's session, or a group of lanes.
 #[derive(Drop)]
-enum Party<N: Name, A: Allocator> {
+enum Party<N: Name, A: Allocator + Copy> {
     Client(Session<N, A>),
     Server(Group<N, A>),
 }
@@ -81,7 +81,7 @@ impl<A: Allocator> Load<A> {
 }
 
 // Whether a client, or a group that met no fault and whose lanes are all closed.
-fn is_over<N: Name, A: Allocator>(party: &Party<N, A>) -> bool {
+fn is_over<N: Name, A: Allocator + Copy>(party: &Party<N, A>) -> bool {
     match party {
         Party::Client(_) => true,
         Party::Server(group) => {

@@ -27,7 +27,7 @@ impl<N: Name, A: Allocator + Copy, R: Wait> Body<N, A, R> for Count {
 }
 
 // The lane of the first group.
-fn first_lane<N: Name, A: Allocator>(desk: &mut Desk<N, A>) -> Option<Lane<N, A>> {
+fn first_lane<N: Name, A: Allocator + Copy>(desk: &mut Desk<N, A>) -> Option<Lane<N, A>> {
     match desk.groups.get_mut(0) {
         Some(group) => group.lanes.pop(),
         None => None,

@@ -2,7 +2,7 @@
 
 use occ_book::{Base, BookView, LogRow, Marks, Standing, Tables};
 use occ_print::{BookFault, write_readable_book};
-use occ_sets::{Answer, ReadSet, WriteSet};
+use occ_sets::{Answer, RangeRows, ReadSet, WriteSet};
 use occ_text::headers::Limits;
 use occ_text::output::Output;
 use occ_text::versions::Version;
@@ -243,7 +243,8 @@ fn a_range_is_printed_with_its_rows(rt: HostRuntime) -> Result<(), Fail> {
         lower: Some(Key::Num(1)),
         upper: Some(Key::Num(9)),
     };
-    let reads = reading(alloc, question, Answer::Rows(pairs))?;
+    let answer = Answer::Rows(RangeRows::shared(pairs)?);
+    let reads = reading(alloc, question, answer)?;
     let mut log = Vec::new(alloc);
     log.push(finished(alloc, (0, 1, 1), reads, (3, None))?)?;
     let (bytes, ended) = printed(alloc, log.as_slice(), &[], &[], usize::MAX)?;
@@ -267,7 +268,8 @@ fn with_range(
         lower: lower.map(|key| Key::Num(key)),
         upper: upper.map(|key| Key::Num(key)),
     };
-    let reads = reading(alloc, question, Answer::Rows(Vec::new(alloc)))?;
+    let answer = Answer::Rows(RangeRows::shared(Vec::new(alloc))?);
+    let reads = reading(alloc, question, answer)?;
     let mut log = Vec::new(alloc);
     log.push(finished(alloc, (0, 1, 1), reads, (3, None))?)?;
     let base = nothing_folded(alloc)?;

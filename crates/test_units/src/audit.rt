@@ -1,9 +1,9 @@
 //! Short logs, and what the audit says of them.
 use occ_audit::audit_rows;
 use occ_book::{Base, Book, LogRow, Marks, Standing, Tables};
-use occ_sets::{Answer, ReadSet, WriteSet};
+use occ_sets::{Answer, RangeRows, ReadSet, WriteSet};
 use occ_types::{Fault, Key, Object, Question, Row};
-use std::alloc::Global;
+use std::alloc::{AllocError, Global};
 use std::test::Fail;
 
 fn object() -> Object<Global> {
@@ -120,13 +120,15 @@ fn one_row_is_audited(rt: HostRuntime) -> Result<(), Fail> {
 }
 
 // All keys of a table that isn't there.
-fn absent_table(rows: Vec<(Key<Global>, Row<Global>)>) -> (Question<Global>, Answer<Global>) {
+fn absent_table(
+    rows: Vec<(Key<Global>, Row<Global>)>,
+) -> Result<(Question<Global>, Answer<Global>), AllocError> {
     let question = Question::Span {
         table: 5,
         lower: None,
         upper: None,
     };
-    (question, Answer::Rows(rows))
+    Ok((question, Answer::Rows(RangeRows::shared(rows)?)))
 }
 
 #[test]
@@ -137,14 +139,14 @@ fn a_table_that_is_not_there_is_audited(rt: HostRuntime) -> Result<(), Fail> {
         key: Key::Num(1),
     };
     let mut log = Vec::new(alloc);
-    let read = absent_table(Vec::new(alloc));
+    let read = absent_table(Vec::new(alloc))?;
     let write = (absent(), Some(Row::from_cells(Vec::new(alloc))?));
     log.push(transaction(alloc, (0, 1), read, write, Standing::Done(1))?)?;
     // its row stands in no table
     assert!(rt; !says(alloc, log.clone()?, None)?);
     let mut rows = Vec::new(alloc);
     rows.push((Key::Num(1), Row::from_cells(Vec::new(alloc))?))?;
-    let read = absent_table(rows);
+    let read = absent_table(rows)?;
     log.push(transaction(alloc, (1, 2), read, (absent(), None), Standing::Done(2))?)?;
     // the second row read it, and deleted it
     assert!(rt; says(alloc, log, None)?);

@@ -262,7 +262,7 @@ fn changing(alloc: Global) -> Option<LogRow<Global, ()>>
 fn fold_in(base: &mut Base<Global>, rows: &[LogRow<Global, ()>]) -> Result<(), Fault>
     requires { AllFitIn 1 2 rows.now }
 {
-    if base.state().count() != 1 || base.numbers().sessions() != 2 {
+    if base.tables() != 1 || base.numbers().sessions() != 2 {
         return Err(Fault::Memory);
     }
     if base.place() > 100 || rows.len() > 100 {
@@ -314,9 +314,17 @@ fn folded_back(alloc: Global) -> Option<Base<Global>> {
     Some(base)
 }
 
+// Whether the state of a base has just these rows.
+fn has_folded(alloc: Global, base: &Base<Global>, rows: &[(u64, i64)]) -> bool {
+    match base.state() {
+        Ok(state) => has_rows(alloc, &state, rows),
+        Err(_memory) => false,
+    }
+}
+
 // Whether a base has what the three rows leave.
 fn has_three_rows(alloc: Global, base: &Base<Global>) -> bool {
-    has_rows(alloc, base.state(), &[(7, 4), (8, 5)])
+    has_folded(alloc, base, &[(7, 4), (8, 5)])
         && base.last(1) == Some(2)
         && base.last(2) == Some(1)
         && base.numbers().len() == 2
@@ -354,7 +362,7 @@ fn base_of_a_backed_up_row(rt: HostRuntime) -> Result<(), Fail> {
         assert!(rt; false, "there is memory");
         return Ok(());
     };
-    assert!(rt; has_rows(alloc, base.state(), &[]));
+    assert!(rt; has_folded(alloc, &base, &[]));
     assert!(rt; base.last(1) == None);
     assert!(rt; base.last(2) == Some(1));
     assert_eq!(rt; base.place(), 1);

@@ -8,7 +8,8 @@ ghost use Rattle.occ_model.specs.State.{State, Rows, answer};
 ghost use Rattle.occ_sets.specs.PlainSets.{rows_of};
 
 use occ_sets::{
-    Answer, Observation, PrivateCopy, ReadSet, RequestWrites, WriteSet, meets_reads, meets_writes,
+    Answer, Observation, PrivateCopy, RangeRows, ReadSet, RequestWrites, WriteSet, meets_reads,
+    meets_writes,
 };
 use occ_types::limits::{MAX_ANSWER_ROWS, MAX_QUESTIONS, MAX_WRITES};
 use occ_types::{Cell, Fault, Key, Object, Question, Row};
@@ -167,7 +168,8 @@ fn shared_reads(alloc: Global) -> Option<(usize, usize)> {
     first.share().ok()?;
     let second = first.clone().ok()?;
     let question = Question::One(object(0, 1));
-    first.note(question, Answer::Rows(Vec::new(alloc))).ok()?;
+    let answer = Answer::Rows(RangeRows::shared(Vec::new(alloc)).ok()?);
+    first.note(question, answer).ok()?;
     first.share().ok()?;
     let seen: Observation<Global> = first.observations().first()?.clone().ok()?;
     first.note(seen.question, seen.answer).ok()?;
@@ -219,6 +221,7 @@ fn answered(
 {
     let none = PrivateCopy::new(alloc, 1, 0);
     let question = range();
+    let rows = RangeRows::shared(rows).ok()?;
     let Ok(given) = none.overlay(&question, Answer::Rows(rows)) else {
         return None;
     };
@@ -228,7 +231,10 @@ fn answered(
             if seen.len() > MAX_ANSWER_ROWS {
                 return None;
             }
-            Some(seen)
+            let Ok(copied) = seen.to_vec() else {
+                return None;
+            };
+            Some(copied)
         }
     }
 }
@@ -238,7 +244,7 @@ fn laid(
     alloc: Global,
     copy: &PrivateCopy<Global>,
     numbers: &[(u64, i64)],
-) -> Option<Vec<(Key<Global>, Row<Global>), Global>> {
+) -> Option<RangeRows<Global>> {
     let question = range();
     let Ok(prepared) = copy.prepare(&question) else {
         return None;
@@ -273,7 +279,8 @@ fn sees(
     }
     for place in 0..seen.len() {
         let (key, number) = wanted[place];
-        if seen[place].0 != Key::Num(key) || seen[place].1 != row(alloc, number)? {
+        let (found, laid) = &seen.as_slice()[place];
+        if *found != Key::Num(key) || *laid != row(alloc, number)? {
             return Some(false);
         }
     }
