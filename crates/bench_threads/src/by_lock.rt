@@ -1,8 +1,9 @@
 //! A load on an ordered map under one lock.
 use crate::budgets::Budget;
-use crate::outcomes::{Done, Told};
+use crate::crews::{Member, told};
+use crate::outcomes::{Part, Told};
 use crate::tasks::Task;
-use bench_loads::{Bare, Dice, Shape};
+use bench_loads::Bare;
 use occ_types::Fault;
 use std::alloc::Allocator;
 use std::sync::{Mutex, Wait};
@@ -12,125 +13,94 @@ use std::time::Clock;
 /// The map.
 type Map<A> = Mutex<Bare<A>>;
 
-/// A thread that takes the lock for each transaction, or for all that it makes at a time.
+/// A thread that takes the lock for each transaction, or keeps it for all that it makes at a time.
 #[derive(Clone, Copy)]
 struct Locker {
-    shape: Shape,
     keeps: bool,
-    dice: Dice,
-    done: Done,
 }
 
 impl Locker {
-    /// Does the reads and writes of a transaction.
-    fn turn<A: Allocator + Copy>(&mut self, map: &mut Bare<A>) -> bool {
-        let first = self.shape.first(&mut self.dice);
-        match map.turn(&self.shape, first) {
-            Ok(_sum) => {
-                self.done.committed = self.done.committed.saturating_add(1);
-                true
-            }
-            Err(error) => {
-                self.done.fault = Some(error.into());
-                false
-            }
-        }
-    }
-
-    /// Makes so many transactions in one holding of the lock.
-    fn hold<A: Allocator + Copy, R: Wait>(&mut self, rt: &R, map: &Map<A>, many: u64) -> bool {
-        let mut guard = map.lock(rt);
-        for _ in 0..many {
-            if !self.turn(&mut guard) {
-                return false;
-            }
-        }
-        true
-    }
-
-    /// Makes so many transactions.
-    fn make<A: Allocator + Copy, R: Wait>(&mut self, rt: &R, map: &Map<A>, many: u64) -> bool {
-        if self.keeps {
-            return self.hold(rt, map, many);
-        }
-        for _ in 0..many {
-            if !self.hold(rt, map, 1) {
-                return false;
-            }
-        }
-        true
-    }
-
-    /// Makes transactions until the budget is spent, or one of them meets a fault.
-    fn work<A: Allocator + Copy, R: Wait + Clock>(
-        &mut self,
+    /// Makes the next transactions of its part, so many.
+    fn play<A: Allocator + Copy, R: Wait>(
+        self,
         rt: &R,
         map: &Map<A>,
-        budget: &Budget,
-    ) {
-        for _ in rt.forever() {
-            let Some(many) = budget.take(rt) else {
-                return;
-            };
-            if !self.make(rt, map, many) {
-                return;
-            }
+        part: &mut Part,
+        many: u64,
+    ) -> Result<(), Fault> {
+        if self.keeps {
+            return hold(rt, map, part, many);
         }
+        for _ in 0..many {
+            hold(rt, map, part, 1)?;
+        }
+        Ok(())
     }
 }
 
-/// Does a task on a map under one lock, which a thread takes for each transaction, or keeps for all that it makes at a time.
+/// Makes so many transactions in one holding of the lock.
+fn hold<A: Allocator + Copy, R: Wait>(
+    rt: &R,
+    map: &Map<A>,
+    part: &mut Part,
+    many: u64,
+) -> Result<(), Fault> {
+    let mut rows = map.lock(rt);
+    for _ in 0..many {
+        let turn = part.next();
+        let _sum = rows.turn(&turn.shape, turn.first)?;
+        part.commit(0);
+    }
+    Ok(())
+}
+
+/// Does a task on a map under one lock.
 pub(crate) fn run<A: Allocator + Copy + Send + Sync, R: Threads + Wait + Clock + Sync>(
     rt: &R,
     alloc: A,
     task: Task,
 ) -> Result<Told, Fault> {
-    let mut lockers = lockers(alloc, task)?;
-    let map = Mutex::new(Bare::fill(alloc, &task.load.shape)?);
-    Ok(play(rt, &map, &mut lockers, task))
-}
-
-/// Does it by these threads on a map, and tells what came of it.
-fn play<A: Allocator + Copy + Send + Sync, R: Threads + Wait + Clock + Sync>(
-    rt: &R,
-    map: &Map<A>,
-    lockers: &mut [Locker],
-    task: Task,
-) -> Told {
-    let budget = Budget::begin(rt, task.until);
-    work_at_once(rt, map, lockers, &budget);
-    let mut told = Told::new(task.load.shape, budget.micros(rt));
-    for locker in lockers.iter() {
-        told.add(locker.done);
+    let mut crew = Vec::new(alloc);
+    for place in 0..task.threads {
+        let keeps = task.way.leased;
+        crew.push(Member::new(Locker { keeps }, task, place))?;
     }
+    let map = Mutex::new(Bare::fill(alloc, &task.load.shape)?);
+    let budget = Budget::begin(rt, task.until);
+    work_at_once(rt, &map, &mut crew, &budget);
+    let mut told = told(rt, &crew, task, &budget);
     told.sum = map.lock(rt).sum();
-    told
+    Ok(told)
 }
 
-/// All of them at once, each in a thread of its own.
+/// Has each member work in a thread of its own.
 fn work_at_once<A: Allocator + Copy + Send + Sync, R: Threads + Wait + Clock + Sync>(
     rt: &R,
     map: &Map<A>,
-    lockers: &mut [Locker],
+    crew: &mut [Member<Locker>],
     budget: &Budget,
 ) {
     thread::scope(thread::scope_env(), rt, |scope| {
-        for locker in lockers.iter_mut() {
-            let _ = scope.spawn(move || locker.work(rt, map, budget));
+        for member in crew.iter_mut() {
+            let _ = scope.spawn(move || work(rt, map, member, budget));
         }
     });
 }
 
-/// One for each thread.
-fn lockers<A: Allocator + Copy>(alloc: A, task: Task) -> Result<Vec<Locker, A>, Fault> {
-    let mut lockers = Vec::new(alloc);
-    for thread in 0..task.threads {
-        lockers.push(Locker {
-            shape: task.load.shape,
-            keeps: task.way.keeps(),
-            dice: Dice::of(thread as u64),
-            done: Done::nothing(),
-        })?;
+/// Makes transactions until the budget is spent, or one of them meets a fault.
+fn work<A: Allocator + Copy, R: Wait + Clock>(
+    rt: &R,
+    map: &Map<A>,
+    member: &mut Member<Locker>,
+    budget: &Budget,
+) {
+    for _ in rt.forever() {
+        let Some(many) = budget.take(rt) else {
+            return;
+        };
+        if let Err(fault) = member.player.play(rt, map, &mut member.part, many) {
+            member.part.fail(fault);
+            return;
+        }
     }
-    Ok(lockers)
 }

@@ -1,6 +1,7 @@
-//! What came of a load.
+//! What comes of a load.
 use crate::budgets::Until;
-use bench_loads::{Shape, amount};
+use crate::turns::Turn;
+use bench_loads::{Dice, Shape, amount};
 use occ_types::Fault;
 
 /// What a thread has done.
@@ -8,37 +9,25 @@ use occ_types::Fault;
 pub(crate) struct Done {
     /// How many transactions committed.
     pub(crate) committed: u64,
-    /// How often a transaction was tried.
-    pub(crate) tries: u64,
+    /// How many tries of them were backed up.
+    pub(crate) backed_up: u64,
     /// The fault that ended its work.
     pub(crate) fault: Option<Fault>,
 }
 
-impl Done {
-    /// Nothing.
-    pub(crate) fn nothing() -> Done {
-        Done {
-            committed: 0,
-            tries: 0,
-            fault: None,
-        }
-    }
-
-    /// What it and another have done together.
-    pub(crate) fn and(self, other: Done) -> Done {
-        Done {
-            committed: self.committed.saturating_add(other.committed),
-            tries: self.tries.saturating_add(other.tries),
-            fault: self.fault.or(other.fault),
-        }
-    }
+/// The part of one thread in a load: which transactions it makes, and what it has done.
+#[derive(Clone, Copy)]
+pub(crate) struct Part {
+    shape: Shape,
+    dice: Dice,
+    done: Done,
 }
 
 /// What came of a load.
 #[derive(Clone, Copy)]
 pub(crate) struct Told {
     /// What its transactions do.
-    pub(crate) shape: Shape,
+    shape: Shape,
     /// What all threads did together.
     pub(crate) all: Done,
     /// How many transactions committed of the thread that made the fewest.
@@ -49,12 +38,65 @@ pub(crate) struct Told {
     pub(crate) sum: i64,
 }
 
+impl Done {
+    /// Nothing.
+    const NOTHING: Done = Done {
+        committed: 0,
+        backed_up: 0,
+        fault: None,
+    };
+
+    /// What it and another have done together.
+    fn and(self, other: Done) -> Done {
+        Done {
+            committed: self.committed.saturating_add(other.committed),
+            backed_up: self.backed_up.saturating_add(other.backed_up),
+            fault: self.fault.or(other.fault),
+        }
+    }
+}
+
+impl Part {
+    /// That of the thread with this place, which has done nothing yet.
+    pub(crate) fn new(shape: Shape, place: u64) -> Part {
+        Part {
+            shape,
+            dice: Dice::of(place),
+            done: Done::NOTHING,
+        }
+    }
+
+    /// Its next transaction.
+    pub(crate) fn next(&mut self) -> Turn {
+        Turn::new(self.shape, self.shape.first(&mut self.dice))
+    }
+
+    /// A transaction committed, of which so many tries were backed up.
+    pub(crate) fn commit(&mut self, backed_up: u64) {
+        self.done = self.done.and(Done {
+            committed: 1,
+            backed_up,
+            fault: None,
+        });
+    }
+
+    /// A fault ended its work.
+    pub(crate) fn fail(&mut self, fault: Fault) {
+        self.done.fault = Some(fault);
+    }
+
+    /// What it has done.
+    pub(crate) fn done(&self) -> Done {
+        self.done
+    }
+}
+
 impl Told {
     /// A load of no threads, which took so many microseconds.
     pub(crate) fn new(shape: Shape, micros: u64) -> Told {
         Told {
             shape,
-            all: Done::nothing(),
+            all: Done::NOTHING,
             least: u64::MAX,
             micros,
             sum: 0,

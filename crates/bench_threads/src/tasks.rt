@@ -5,26 +5,36 @@ use occ_types::limits::MAX_SESSIONS;
 
 /// How many rows the accounts have.
 const ACCOUNTS: u64 = 1_000;
+/// How many transactions a short load has, with one checkpoint where it has any.
+const SHORT: u64 = 12_000;
+/// How many rows it has at most.
+const SHORT_ROWS: u64 = 10_000;
+/// How many threads do it.
+const SHORT_THREADS: usize = 4;
+
+/// By what transactions are made.
+#[derive(Clone, Copy, PartialEq, Eq)]
+pub(crate) enum By {
+    /// A session and its lane: each enters, is decided, writes and finishes, in an event for each.
+    Steps,
+    /// A session and its lane, which ends each in one event while no other row is active.
+    Serial,
+    /// A session and its lane: each is operations that run alone.
+    Alone,
+    /// A worker, which makes each in a lease of its own where there is no other lease.
+    Worker,
+    /// A map under one lock, which is taken for each.
+    Map,
+}
 
 /// How transactions are made.
 #[derive(Clone, Copy)]
-pub(crate) enum Way {
-    /// By workers of a store, each transaction in a lease of its own.
-    Worker,
-    /// As `Worker`, 16 transactions in a lease.
-    Leased,
-    /// As `Worker`, by lanes that end a transaction in one event.
-    Serial,
-    /// As `Serial`, 16 transactions in a lease.
-    LeasedSerial,
-    /// As `LeasedSerial`, with a checkpoint every 10,000 transactions.
-    Folded,
-    /// By workers of a store, as operations that run alone.
-    Alone,
-    /// On a map under one lock, which is taken for each transaction.
-    Mutex,
-    /// On a map under one lock, which is kept for 16 transactions.
-    Held,
+pub(crate) struct Way {
+    pub(crate) by: By,
+    /// Whether 16 of them are made in one lease, or in one holding of the map's lock.
+    pub(crate) leased: bool,
+    /// Whether the log is folded after each 10,000 of them.
+    pub(crate) folded: bool,
 }
 
 /// A load with its name.
@@ -52,53 +62,51 @@ pub(crate) enum Asked {
     Load(Task),
 }
 
-impl Way {
+impl By {
     /// All of them.
-    pub(crate) const ALL: [Way; 8] = [
-        Way::Worker,
-        Way::Leased,
-        Way::Serial,
-        Way::LeasedSerial,
-        Way::Folded,
-        Way::Alone,
-        Way::Mutex,
-        Way::Held,
-    ];
+    pub(crate) const ALL: [By; 5] = [By::Steps, By::Serial, By::Alone, By::Worker, By::Map];
 
     /// The word that names it.
     pub(crate) fn name(self) -> &'static str {
         match self {
-            Way::Worker => "worker",
-            Way::Leased => "leased",
-            Way::Serial => "serial",
-            Way::LeasedSerial => "leased-serial",
-            Way::Folded => "folded",
-            Way::Alone => "alone",
-            Way::Mutex => "mutex",
-            Way::Held => "held",
+            By::Steps => "steps",
+            By::Serial => "serial",
+            By::Alone => "alone",
+            By::Worker => "worker",
+            By::Map => "map",
         }
     }
+}
 
-    /// Whether 16 transactions are made in one lease, or in one holding of the lock.
-    pub(crate) fn keeps(self) -> bool {
-        matches!(
-            self,
-            Way::Leased | Way::LeasedSerial | Way::Folded | Way::Held
-        )
+impl Way {
+    /// All choices of leases and checkpoints.
+    pub(crate) const CHOICES: [(bool, bool); 4] = [
+        (false, false),
+        (true, false),
+        (false, true),
+        (true, true),
+    ];
+
+    /// Whether there is such a way: a map has no log to be folded.
+    pub(crate) fn is_possible(self) -> bool {
+        !(self.folded && self.by == By::Map)
     }
 
-    /// Whether lanes end a transaction in one event.
-    pub(crate) fn is_serial(self) -> bool {
-        matches!(self, Way::Serial | Way::LeasedSerial | Way::Folded)
-    }
-
-    /// Whether the log is folded every 10,000 transactions.
-    pub(crate) fn folds(self) -> bool {
-        matches!(self, Way::Folded)
-    }
-
+    /// The way that a word names: by what transactions are made, then `-leased`, then `-folded`.
     fn named(word: &str) -> Option<Way> {
-        Way::ALL.into_iter().find(|way| way.name() == word)
+        let (word, folded) = without(word, "-folded");
+        let (word, leased) = without(word, "-leased");
+        let by = By::ALL.into_iter().find(|by| by.name() == word)?;
+        let way = Way { by, leased, folded };
+        if way.is_possible() { Some(way) } else { None }
+    }
+}
+
+/// A word without an ending, and whether it had that.
+fn without<'w>(word: &'w str, ending: &str) -> (&'w str, bool) {
+    match word.strip_suffix(ending) {
+        Some(rest) => (rest, true),
+        None => (word, false),
     }
 }
 
@@ -123,7 +131,7 @@ impl Named {
     }
 
     /// The same with at most so many rows.
-    pub(crate) fn with_rows(self, most: u64) -> Named {
+    fn with_rows(self, most: u64) -> Named {
         let Named { name, shape } = self;
         let rows = shape.rows.min(most);
         Named {
@@ -143,6 +151,16 @@ impl Named {
 }
 
 impl Task {
+    /// A short load by a way.
+    pub(crate) fn short(load: Named, way: Way) -> Task {
+        Task {
+            load: load.with_rows(SHORT_ROWS),
+            way,
+            threads: SHORT_THREADS,
+            until: Until::Count(SHORT),
+        }
+    }
+
     /// The task that four words tell.
     fn told(load: &str, way: &str, threads: &str, until: &str) -> Option<Task> {
         Some(Task {

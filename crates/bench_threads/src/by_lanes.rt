@@ -1,0 +1,80 @@
+//! Transactions of a session and its lane, which one thread serves by hand.
+use crate::tasks::By;
+use crate::turns::{Draft, Turn};
+use bench_loads::operations;
+use occ_store::{AlwaysGo, Lane, Name, Served, Session, Store, Worker};
+use occ_types::Fault;
+use std::alloc::Allocator;
+use std::sync::Wait;
+use std::thread;
+
+/// A session and its lane.
+#[derive(Drop)]
+pub(crate) struct Client<N: Name, A: Allocator + Copy> {
+    alloc: A,
+    session: Session<N, A>,
+    lane: Lane<N, A>,
+    alone: bool,
+}
+
+impl<N: Name, A: Allocator + Copy> Client<N, A> {
+    /// Those of a worker, for transactions that are made by this.
+    pub(crate) fn new(alloc: A, worker: Worker<N, A>, by: By) -> Client<N, A> {
+        let (session, mut lane) = worker.into_parts();
+        lane.set_serial(by == By::Serial);
+        Client {
+            alloc,
+            session,
+            lane,
+            alone: by == By::Alone,
+        }
+    }
+
+    /// Tries a transaction. Its transaction number; none where it was backed up.
+    pub(crate) fn transact<R: Wait>(
+        &mut self,
+        rt: &R,
+        store: &Store<N, A>,
+        turn: &mut Turn,
+    ) -> Result<Option<u64>, Fault> {
+        let before = self.session.poll().tn;
+        if self.alone {
+            self.hand_in_alone(rt, turn)?;
+        } else {
+            self.hand_in(rt, store, turn)?;
+        }
+        self.serve(rt, store)?;
+        let tn = self.session.poll().tn;
+        Ok(if tn > before { Some(tn) } else { None })
+    }
+
+    /// Begins a transaction, reads and writes in it, and hands it in.
+    fn hand_in<R: Wait>(
+        &mut self,
+        rt: &R,
+        store: &Store<N, A>,
+        turn: &mut Turn,
+    ) -> Result<u64, Fault> {
+        let _begun = self.session.begin()?;
+        turn.run_in(rt, store, &mut Draft::Session(&mut self.session))?;
+        self.session.submit(rt)
+    }
+
+    /// Hands in a transaction as operations that run alone.
+    fn hand_in_alone<R: Wait>(&mut self, rt: &R, turn: &Turn) -> Result<u64, Fault> {
+        let operations = operations(self.alloc, &turn.shape, turn.first)?;
+        Ok(self.session.alone(rt, operations)?)
+    }
+
+    /// Serves the lane until nothing waits in it.
+    fn serve<R: Wait>(&mut self, rt: &R, store: &Store<N, A>) -> Result<(), Fault> {
+        for _ in rt.forever() {
+            match self.lane.serve_one(rt, store, &AlwaysGo)? {
+                Served::Idle | Served::LaneClosed => return Ok(()),
+                Served::Busy => thread::yield_now(),
+                Served::Settled(_) | Served::Stopped(_) => {}
+            }
+        }
+        unreachable!()
+    }
+}

@@ -1,0 +1,214 @@
+//! A load on a store: its rows at first, who makes its transactions, and its sum at the end.
+ghost use Rattle.std.specs.Prelude.{◌≡◌};
+
+use crate::budgets::Budget;
+use crate::by_lanes::Client;
+use crate::crews::{Member, told};
+use crate::hands::{Hand, Maker};
+use crate::outcomes::Told;
+use crate::tasks::{By, Task, Way};
+use bench_loads::{PUTS, TABLE, puts, schema};
+use occ_store::{Frame, Lane, Name, Session, Store, Worker};
+use occ_types::{Fault, Key, Row};
+use std::alloc::Allocator;
+use std::collections::BTreeMap;
+use std::marker::Brand;
+use std::sync::Wait;
+use std::thread::{self, Threads};
+use std::time::Clock;
+
+/// How many items a session's queue holds.
+const ROOM: usize = 4;
+/// How many write sets are kept for testing.
+const KEPT: usize = 16;
+
+/// Does a task on a store with so many sessions as there are threads.
+pub(crate) fn open<A: Allocator + Copy + Send + Sync, R: Threads + Wait + Clock + Sync>(
+    rt: &R,
+    alloc: A,
+    task: Task,
+) -> Result<Told, Fault> {
+    let frame = Frame::new(alloc, schema(alloc)?, task.threads, ROOM, KEPT)?;
+    run::<Brand, A, R>(rt, alloc, frame, task)
+}
+
+/// Does a task on the store of a frame.
+fn run<N: Name + Send + Sync, A: Allocator + Copy + Send + Sync, R: Threads + Wait + Clock + Sync>(
+    rt: &R,
+    alloc: A,
+    frame: Frame<A>,
+    task: Task,
+) -> Result<Told, Fault>
+    requires { (frame.named ≡ N.named) × (frame.ledger ≡ N.name) × (frame.parts ≡ N.parts) }
+{
+    let Ok((store, sessions, lanes)) = Store::<N, A>::open(frame) else {
+        return Err(Fault::Memory);
+    };
+    play(rt, alloc, &store, sessions, lanes, task)
+}
+
+/// Does a task on a store, by a thread for each session.
+fn play<N: Name + Send + Sync, A: Allocator + Copy + Send + Sync, R: Threads + Wait + Clock + Sync>(
+    rt: &R,
+    alloc: A,
+    store: &Store<N, A>,
+    sessions: Vec<Session<N, A>, A>,
+    lanes: Vec<Lane<N, A>, A>,
+    task: Task,
+) -> Result<Told, Fault> {
+    let mut workers = hired(alloc, sessions, lanes)?;
+    if let Some(worker) = workers.first_mut() {
+        fill(rt, alloc, store, worker, task.load.shape.rows)?;
+    }
+    let mut told = if task.way.by == By::Worker {
+        play_by_workers(rt, alloc, store, workers, task)?
+    } else {
+        play_by_clients(rt, alloc, store, workers, task)?
+    };
+    told.sum = total(rt, store);
+    Ok(told)
+}
+
+/// Does a task by workers; the sum of the rows is left out.
+fn play_by_workers<
+    N: Name + Send + Sync,
+    A: Allocator + Copy + Send + Sync,
+    R: Threads + Wait + Clock + Sync,
+>(
+    rt: &R,
+    alloc: A,
+    store: &Store<N, A>,
+    workers: Vec<Worker<N, A>, A>,
+    task: Task,
+) -> Result<Told, Fault> {
+    let mut crew = Vec::new(alloc);
+    for worker in workers {
+        let place = crew.len();
+        crew.push(Member::new(worker, task, place))?;
+    }
+    let budget = Budget::begin(rt, task.until);
+    workers_at_once(rt, store, &mut crew, task.way, &budget);
+    Ok(told(rt, &crew, task, &budget))
+}
+
+/// Does a task by the sessions and lanes of workers; the sum of the rows is left out.
+fn play_by_clients<
+    N: Name + Send + Sync,
+    A: Allocator + Copy + Send + Sync,
+    R: Threads + Wait + Clock + Sync,
+>(
+    rt: &R,
+    alloc: A,
+    store: &Store<N, A>,
+    workers: Vec<Worker<N, A>, A>,
+    task: Task,
+) -> Result<Told, Fault> {
+    let mut crew = Vec::new(alloc);
+    for worker in workers {
+        let place = crew.len();
+        let client = Client::new(alloc, worker, task.way.by);
+        crew.push(Member::new(client, task, place))?;
+    }
+    let budget = Budget::begin(rt, task.until);
+    clients_at_once(rt, store, &mut crew, task.way, &budget);
+    Ok(told(rt, &crew, task, &budget))
+}
+
+/// A worker of each session and its lane.
+fn hired<N: Name, A: Allocator + Copy>(
+    alloc: A,
+    sessions: Vec<Session<N, A>, A>,
+    lanes: Vec<Lane<N, A>, A>,
+) -> Result<Vec<Worker<N, A>, A>, Fault> {
+    let mut workers = Vec::new(alloc);
+    for (session, lane) in sessions.into_iter().zip(lanes) {
+        let worker = Worker::new(session, lane)?;
+        workers.push(worker)?;
+    }
+    Ok(workers)
+}
+
+/// Puts so many rows of 0, and folds them.
+fn fill<N: Name, A: Allocator + Copy, R: Wait>(
+    rt: &R,
+    alloc: A,
+    store: &Store<N, A>,
+    worker: &mut Worker<N, A>,
+    rows: u64,
+) -> Result<(), Fault> {
+    for part in 0..rows.div_ceil(PUTS) {
+        let first = part.saturating_mul(PUTS);
+        let puts = puts(alloc, first, rows.min(first.saturating_add(PUTS)))?;
+        let _tn = worker.run(rt, store, 0, &puts)?;
+    }
+    let _folded = store.checkpoint(rt)?;
+    Ok(())
+}
+
+/// Has each worker work in a thread of its own.
+fn workers_at_once<
+    N: Name + Send + Sync,
+    A: Allocator + Copy + Send + Sync,
+    R: Threads + Wait + Clock + Sync,
+>(rt: &R, store: &Store<N, A>, crew: &mut [Member<Worker<N, A>>], way: Way, budget: &Budget) {
+    thread::scope(thread::scope_env(), rt, |scope| {
+        for member in crew.iter_mut() {
+            let _ = scope.spawn(move || worker_works(rt, store, member, way, budget));
+        }
+    });
+}
+
+/// Has a worker make its part.
+fn worker_works<N: Name, A: Allocator + Copy, R: Wait + Clock>(
+    rt: &R,
+    store: &Store<N, A>,
+    member: &mut Member<Worker<N, A>>,
+    way: Way,
+    budget: &Budget,
+) {
+    let mut hand = Hand::new(Maker::Worker(&mut member.player), way);
+    hand.work(rt, store, &mut member.part, budget);
+}
+
+/// Has each client work in a thread of its own.
+fn clients_at_once<
+    N: Name + Send + Sync,
+    A: Allocator + Copy + Send + Sync,
+    R: Threads + Wait + Clock + Sync,
+>(rt: &R, store: &Store<N, A>, crew: &mut [Member<Client<N, A>>], way: Way, budget: &Budget) {
+    thread::scope(thread::scope_env(), rt, |scope| {
+        for member in crew.iter_mut() {
+            let _ = scope.spawn(move || client_works(rt, store, member, way, budget));
+        }
+    });
+}
+
+/// Has a client make its part.
+fn client_works<N: Name, A: Allocator + Copy, R: Wait + Clock>(
+    rt: &R,
+    store: &Store<N, A>,
+    member: &mut Member<Client<N, A>>,
+    way: Way,
+    budget: &Budget,
+) {
+    let mut hand = Hand::new(Maker::Client(&mut member.player), way);
+    hand.work(rt, store, &mut member.part, budget);
+}
+
+/// The sum of all rows.
+fn total<N: Name, A: Allocator + Copy, R: Wait>(rt: &R, store: &Store<N, A>) -> i64 {
+    let shared = store.lock(rt);
+    match shared.core().table().table(TABLE) {
+        Some(rows) => sum(rows),
+        None => 0,
+    }
+}
+
+/// The sum of the numbers in some rows.
+fn sum<A: Allocator>(rows: &BTreeMap<Key<A>, Row<A>, A>) -> i64 {
+    let mut sum = 0i64;
+    for (_, row) in rows {
+        sum = sum.wrapping_add(row.int(0).unwrap_or(0));
+    }
+    sum
+}
