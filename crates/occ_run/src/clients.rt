@@ -20,14 +20,14 @@ use std::sync::Wait;
 
 /// The client of a session. Once it has closed its session, that handed in what its transactions ask for, whichever thread had it.
 #[derive(Drop)]
-pub(crate) struct Client<N: Name, L: Load, A: Allocator> {
+pub(crate) struct Client<N: Name, L: Load, A: Allocator + Copy> {
     session: Session<N, A>,
     refused: u64,
     end: End,
     load: PhantomData<L>,
 }
 
-impl<N: Name, L: Load, A: Allocator> Model for Client<N, L, A> {
+impl<N: Name, L: Load, A: Allocator + Copy> Model for Client<N, L, A> {
     ghost use Rattle.occ_run.specs.Clients.{ClientView, EndsAs};
 
     ghost Value = { ClientView };

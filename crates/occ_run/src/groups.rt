@@ -16,7 +16,7 @@ const LONGEST_SLEEP: u64 = 200;
 
 /// Lanes that one thread serves in turn, and the fault at which it left them.
 #[derive(Drop)]
-pub(crate) struct Group<N: Name, A: Allocator> {
+pub(crate) struct Group<N: Name, A: Allocator + Copy> {
     lanes: Vec<Lane<N, A>, A>,
     fault: Option<Fault>,
 }

@@ -29,7 +29,7 @@ impl Load for Brand {
 
 /// What all clients of a run have at hand.
 #[derive(Drop)]
-pub(crate) struct Job<N: Name, L: Load, A: Allocator> {
+pub(crate) struct Job<N: Name, L: Load, A: Allocator + Copy> {
     pub(crate) alloc: A,
     pub(crate) store: Store<N, A>,
     pub(crate) round: Round,
@@ -42,7 +42,7 @@ pub(crate) struct Job<N: Name, L: Load, A: Allocator> {
     ghost own_retries: { retries ≡ L.retries },
 }
 
-impl<N: Name, L: Load, A: Allocator> Job<N, L, A> {
+impl<N: Name, L: Load, A: Allocator + Copy> Job<N, L, A> {
     /// What the clients of a run of this workload have at hand.
     pub(crate) fn new(
         alloc: A,
