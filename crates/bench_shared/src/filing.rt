@@ -31,9 +31,19 @@ pub(crate) fn counted<R: Wait>(rt: &R, alloc: Global) -> Result<Held, Fault> {
 // The bytes that a store holds after so many transfers, and after their rows were folded.
 fn bytes<R: Wait>(rt: &R, alloc: Global, files: bool) -> Result<(u64, u64), Fault> {
     let lent = Refusing::new(alloc, Plan::Nothing);
-    let mut filed = store(&lent)?;
+    bytes_out(rt, &lent, &lent, files)
+}
+
+// The same as bytes that `lent` has handed out, where the store is over it.
+fn bytes_out<A: Allocator + Copy, R: Wait>(
+    rt: &R,
+    alloc: A,
+    lent: &Refusing<Global>,
+    files: bool,
+) -> Result<(u64, u64), Fault> {
+    let mut filed = store(alloc)?;
     for number in 1..=TRANSFERS {
-        transfer(rt, &lent, &mut filed, number, files)?;
+        transfer(rt, alloc, &mut filed, number, files)?;
     }
     let standing = lent.bytes_out();
     let _folded = filed.checkpoint()?;
