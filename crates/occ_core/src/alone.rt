@@ -1,5 +1,5 @@
 //! Lists of operations that run alone, in one step.
-ghost use Rattle.std.specs.Prelude.{◌≡◌, length, IfOk, IfErr, IsOkUnless};
+ghost use Rattle.std.specs.Prelude.{◌≡◌, length, IfOk, IfErr, OnOk, IsOkUnless};
 ghost use Rattle.std.specs.Result.{result_err};
 ghost use Rattle.occ_types.specs.declared.fault.Fault.TheVariants.{Memory};
 ghost use Rattle.occ_model.specs.Event.{RunAlone, Alone};
@@ -18,7 +18,7 @@ use crate::core_state::Core;
 use crate::entering::check_turn_to_close;
 use crate::entry_checks::{check_log, check_numbers, check_spare};
 use crate::outcomes::Outcome;
-use crate::performed::{Performed, perform_all};
+use crate::performed::Performed;
 use crate::serial::check_quiet;
 use occ_book::Marks;
 use occ_log::{Log, ReadPhases, Sessions, Transaction};
@@ -89,25 +89,26 @@ impl<A: Allocator + Copy> Core<A> {
     {
         self.law();
         self.check_alone(session, number, operations)?;
-        let done = self.performed(operations)?;
+        let mut done = Performed::nothing_yet(self.alloc);
+        self.perform(operations, &mut done)?;
         let transaction = Transaction {
             session,
             number,
             start: self.tnc(),
         };
-        let tn = self.commit_at_once(transaction, done.reads, &done.writes)?;
+        let tn = self.commit_at_once(transaction, done.reads, done.writes)?;
         Ok((tn, done.answers))
     }
 
-    // What a list of operations does, of which nothing stands in the tables yet. What it read and wrote is shared from now on.
-    fn performed(&self, operations: &[Op<A>]) -> Result<Performed<A>, Fault>
-        ensures performed { IfOk result (λ done. progress_of done ≡ perform_all self.now.world.table (ops_of operations.now) nothing_yet) }
+    // Performs a list of operations, of which nothing stands in the tables yet. What it read and wrote is shared from now on.
+    fn perform(&self, operations: &[Op<A>], done: &mut Performed<A>) -> Result<(), Fault>
+        requires first { progress_of done.old ≡ nothing_yet }
+        ensures performed { OnOk result (progress_of done.new ≡ perform_all self.now.world.table (ops_of operations.now) nothing_yet) }
         ensures memory { IsOkUnless result Memory }
     {
-        let mut done = perform_all(self.alloc, &self.tables, operations)?;
+        done.perform_each(&self.tables, operations)?;
         done.reads.share()?;
-        done.writes.share()?;
-        Ok(done)
+        done.writes.share()
     }
 }
 

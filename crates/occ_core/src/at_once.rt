@@ -25,20 +25,19 @@ impl<A: Allocator + Copy> Core<A> {
         &mut self,
         transaction: Transaction,
         reads: ReadSet<A>,
-        writes: &WriteSet<A>,
+        writes: WriteSet<A>,
     ) -> Result<u64, Fault>
-        requires lawful { IsLawful (committed self.old.world transaction.session transaction.number transaction.start reads writes.now) }
+        requires lawful { IsLawful (committed self.old.world transaction.session transaction.number transaction.start reads writes) }
         requires room { MayEnd self.old.world transaction.session transaction.number }
-        requires placed { ArePlaced (length self.old.world.settings.schema) writes.now }
+        requires placed { ArePlaced (length self.old.world.settings.schema) writes }
         ensures number { IfOk result (λ number. number ≡ self.old.world.counter + 1) }
-        ensures ok { OnOk result (self.new.world ≡ committed self.old.world transaction.session transaction.number transaction.start reads writes.now) }
+        ensures ok { OnOk result (self.new.world ≡ committed self.old.world transaction.session transaction.number transaction.start reads writes) }
         ensures err { OnErr result (self.new ≡ self.old) }
         ensures memory { IsOkUnless result Memory }
     {
         let shared = writes.clone()?;
-        let kept = writes.clone()?;
-        let row = self.row_at_once(transaction, reads, kept, Standing::Done(self.counter + 1));
-        take_room(&mut self.log, &mut self.tables, transaction.session, writes)?;
+        let row = self.row_at_once(transaction, reads, writes, Standing::Done(self.counter + 1));
+        take_room(&mut self.log, &mut self.tables, row.session, &row.writes)?;
         self.phases.discard(transaction.session, transaction.number);
         self.counter += 1;
         settle(&mut self.log, &mut self.sessions, row);

@@ -39,15 +39,13 @@ pub fn perform_all<A: Allocator + Copy>(
     ensures memory { IsOkUnless result Memory }
 {
     let mut done = Performed::nothing_yet(alloc);
-    for operation in operations {
-        done.perform(tables, operation)?;
-    }
+    done.perform_each(tables, operations)?;
     Ok(done)
 }
 
 impl<A: Allocator + Copy> Performed<A> {
     // No operation is performed yet. It takes no memory.
-    fn nothing_yet(alloc: A) -> Performed<A>
+    pub(crate) fn nothing_yet(alloc: A) -> Performed<A>
         ensures { progress_of result ≡ nothing_yet }
     {
         Performed {
@@ -55,6 +53,21 @@ impl<A: Allocator + Copy> Performed<A> {
             writes: WriteSet::new(alloc),
             answers: Vec::new(alloc),
         }
+    }
+
+    // Performs operations in their order.
+    pub(crate) fn perform_each(
+        &mut self,
+        tables: &Tables<A>,
+        operations: &[Op<A>],
+    ) -> Result<(), Fault>
+        ensures performed { OnOk result (progress_of self.new ≡ perform_all tables.now.state (ops_of operations.now) (progress_of self.old)) }
+        ensures memory { IsOkUnless result Memory }
+    {
+        for operation in operations {
+            self.perform(tables, operation)?;
+        }
+        Ok(())
     }
 
     // Performs one operation more.

@@ -94,7 +94,8 @@ impl<A: Allocator + Copy> Core<A> {
         let reads = self.shared_reads(transaction)?;
         match self.tested(transaction, &reads) {
             Verdict::Commit => {
-                let tn = self.commit_at_once(transaction, reads, writes)?;
+                let kept = writes.clone()?;
+                let tn = self.commit_at_once(transaction, reads, kept)?;
                 Ok(Outcome::Committed { tn })
             }
             Verdict::BackUp(cause) => {

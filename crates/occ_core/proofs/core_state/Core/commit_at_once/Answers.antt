@@ -1,6 +1,6 @@
 use Rattle.std.proofs.Common.{ap, sym, subst, ◌∙◌, ◌+◌, ◌∷◌, [], ◌++◌, length}
-use Rattle.occ_model.specs.Log.{Done}
-use Rattle.occ_model.specs.Step.{entering}
+use Rattle.occ_model.specs.Log.{LogRow}
+use Rattle.occ_model.specs.State.{apply}
 use Rattle.occ_core.specs.Core.{parts_of}
 use Rattle.occ_core.specs.CoreParts.{AreSound, world_of}
 use Rattle.occ_book.specs.Undo.{ArePlaced}
@@ -13,8 +13,9 @@ use Rattle.occ_core.proofs.core_state.Core.commit_at_once.Goals as goal
 
 pub take_room-requires-clause-placed : goal.take_room-requires-clause-placed
 take_room-requires-clause-placed g c =
-    placed_all c.self.inside.tables.tables (length c.self.inside.schema) c.args.writes.now c.self.invariant.tables_match
-    (subst (λ w. ArePlaced (length w.settings.schema) c.args.writes.now) (sym (ap (λ s. s.world) c.self.view_is)) c.requires.placed)
+    subst (ArePlaced c.self.inside.tables.tables) (sym (ap (λ (r : LogRow). r.writes) c.row_at_once-row.ensures))
+    (placed_all c.self.inside.tables.tables (length c.self.inside.schema) c.args.writes c.self.invariant.tables_match
+    (subst (λ w. ArePlaced (length w.settings.schema) c.args.writes) (sym (ap (λ s. s.world) c.self.view_is)) c.requires.placed))
 
 pub invariant_of-self : goal.invariant_of-self
 invariant_of-self g c =
@@ -39,12 +40,12 @@ invariant_of-self-2 g c =
     let parts = parts_of c.self.inside in
     let seen = ap (λ s. s.world) c.self.view_is in
     let t = c.args.transaction in
-    let row = c.row_at_once-row.ensures ∙ ap (λ ws. entering c.args.self.now.world t.session t.number t.start c.args.reads ws (Done (c.self.inside.counter + 1))) c.in_ok-kept.ensures.cases in
+    let row = c.row_at_once-row.ensures in
     let slots = session_passed c.self.inside.sessions c.settle.new.sessions (log_row_of c.row_at_once-row.result) _ row c.settle.ensures.passed in
     let done = c.in_ok-take_room.ensures.ok in
-    let whole = commit_whole parts c.args.self.now.world seen c.self.invariant.sound t.session t.number t.start c.args.reads c.args.writes.now c.requires.room c.requires.lawful
+    let whole = commit_whole parts c.args.self.now.world seen c.self.invariant.sound t.session t.number t.start c.args.reads c.args.writes c.requires.room c.requires.lawful
     (log_row_of c.row_at_once-row.result) row c.settle.new.log.rows (c.settle.ensures.rows ∙ ap (λ log. log ++ log_row_of c.row_at_once-row.result ∷ []) c.in_ok-take_room.ensures.rows)
-    c.take_room.new.tables.state (ap (λ t. t.state) done) c.discard.new.self c.discard.ensures c.settle.new.sessions slots
+    c.take_room.new.tables.state (ap (λ t. t.state) done ∙ ap (apply c.self.inside.tables.state) (ap (λ (r : LogRow). r.writes) row)) c.discard.new.self c.discard.ensures c.settle.new.sessions slots
     c.advance.new.self (c.advance.ensures ∙ ap (advanced c.self.inside.window) c.in_ok-shared.ensures.cases) in
     record {
       sound = whole.1;
@@ -60,10 +61,10 @@ returns-clause-ok g c =
     let parts = parts_of c.self.inside in
     let seen = ap (λ s. s.world) c.self.view_is in
     let t = c.args.transaction in
-    let row = c.row_at_once-row.ensures ∙ ap (λ ws. entering c.args.self.now.world t.session t.number t.start c.args.reads ws (Done (c.self.inside.counter + 1))) c.in_ok-kept.ensures.cases in
+    let row = c.row_at_once-row.ensures in
     let slots = session_passed c.self.inside.sessions c.settle.new.sessions (log_row_of c.row_at_once-row.result) _ row c.settle.ensures.passed in
-    let whole = commit_whole parts c.args.self.now.world seen c.self.invariant.sound t.session t.number t.start c.args.reads c.args.writes.now c.requires.room c.requires.lawful
+    let whole = commit_whole parts c.args.self.now.world seen c.self.invariant.sound t.session t.number t.start c.args.reads c.args.writes c.requires.room c.requires.lawful
     (log_row_of c.row_at_once-row.result) row c.settle.new.log.rows (c.settle.ensures.rows ∙ ap (λ log. log ++ log_row_of c.row_at_once-row.result ∷ []) c.in_ok-take_room.ensures.rows)
-    c.take_room.new.tables.state (ap (λ t. t.state) c.in_ok-take_room.ensures.ok) c.discard.new.self c.discard.ensures c.settle.new.sessions slots
+    c.take_room.new.tables.state (ap (λ t. t.state) c.in_ok-take_room.ensures.ok ∙ ap (apply c.self.inside.tables.state) (ap (λ (r : LogRow). r.writes) row)) c.discard.new.self c.discard.ensures c.settle.new.sessions slots
     c.advance.new.self (c.advance.ensures ∙ ap (advanced c.self.inside.window) c.in_ok-shared.ensures.cases) in
     whole.0

@@ -16,16 +16,16 @@ returns-in_err-check_alone g c =
 
 pub commit_at_once-requires-clause-lawful : goal.commit_at_once-requires-clause-lawful
 commit_at_once-requires-clause-lawful g c =
-    alone_lawful c.args.self.now.world c.args.session c.args.number (ops_of c.args.operations.now) (sym c.in_ok-check_alone.ensures) c.tnc.result c.tnc.ensures (progress_of c.in_ok-done.done) c.in_ok-done.ensures.performed (record { invariant = c.law.ensures.invariant; content = c.law.ensures.content })
+    alone_lawful c.args.self.now.world c.args.session c.args.number (ops_of c.args.operations.now) (sym c.in_ok-check_alone.ensures) c.tnc.result c.tnc.ensures (progress_of c.perform.new.done) c.in_ok-perform.ensures.performed (record { invariant = c.law.ensures.invariant; content = c.law.ensures.content })
 
 pub commit_at_once-requires-clause-room : goal.commit_at_once-requires-clause-room
 commit_at_once-requires-clause-room g c = alone_room c.args.self.now.world c.args.session c.args.number (ops_of c.args.operations.now) (sym c.in_ok-check_alone.ensures)
 
 pub commit_at_once-requires-clause-placed : goal.commit_at_once-requires-clause-placed
 commit_at_once-requires-clause-placed g c =
-    alone_placed c.args.self.now.world c.args.session c.args.number (ops_of c.args.operations.now) (sym c.in_ok-check_alone.ensures) c.in_ok-done.done.writes (ap (λ (p : Progress). p.writes) c.in_ok-done.ensures.performed)
+    alone_placed c.args.self.now.world c.args.session c.args.number (ops_of c.args.operations.now) (sym c.in_ok-check_alone.ensures) c.perform.new.done.writes (ap (λ (p : Progress). p.writes) c.in_ok-perform.ensures.performed)
 
 pub returns : goal.returns
 returns g c =
-    alone_returns c.args.self.now.world c.args.session c.args.number (ops_of c.args.operations.now) (sym c.in_ok-check_alone.ensures) c.tnc.result c.tnc.ensures (progress_of c.in_ok-done.done) c.in_ok-done.ensures.performed
+    alone_returns c.args.self.now.world c.args.session c.args.number (ops_of c.args.operations.now) (sym c.in_ok-check_alone.ensures) c.tnc.result c.tnc.ensures (progress_of c.perform.new.done) c.in_ok-perform.ensures.performed
     c.in_ok-tn.tn c.in_ok-tn.ensures.number c.commit_at_once.new.self.world c.in_ok-tn.ensures.ok
