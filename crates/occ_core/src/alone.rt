@@ -106,6 +106,7 @@ impl<A: Allocator + Copy> Core<A> {
         ensures performed { OnOk result (progress_of done.new ≡ perform_all self.now.world.table (ops_of operations.now) nothing_yet) }
         ensures memory { IsOkUnless result Memory }
     {
+        done.take_room(self.alloc, operations)?;
         done.perform_each(&self.tables, operations)?;
         done.reads.share()?;
         done.writes.share()

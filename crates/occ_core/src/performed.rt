@@ -15,6 +15,11 @@ use occ_sets::{Answer, Op, ReadSet, WriteSet};
 use occ_types::{Fault, Key, Object, Row};
 use std::alloc::Allocator;
 
+/// A list of so few operations takes its room as it goes.
+const FEW_OPERATIONS: usize = 2;
+/// Room is taken beforehand for so many reads at most, since a list may ask for many rows that it has written, which aren't read.
+const MANY_READS: usize = 16;
+
 /// What a list of operations read, wrote and answered. Nothing of it stands in the tables yet.
 #[derive(Drop)]
 #[derive_where(Debug)]
@@ -53,6 +58,23 @@ impl<A: Allocator + Copy> Performed<A> {
             writes: WriteSet::new(alloc),
             answers: Vec::new(alloc),
         }
+    }
+
+    // Takes room for what the questions of a list are answered, and for the first of its reads. Nothing is performed.
+    pub(crate) fn take_room(&mut self, alloc: A, operations: &[Op<A>]) -> Result<(), Fault>
+        requires first { progress_of self.old ≡ nothing_yet }
+        ensures same { OnOk result (progress_of self.new ≡ nothing_yet) }
+        ensures memory { IsOkUnless result Memory }
+    {
+        if operations.len() <= FEW_OPERATIONS {
+            return Ok(());
+        }
+        let (reads, answers) = count_questions(operations);
+        if reads > 0 {
+            self.reads = ReadSet::with_capacity(alloc, reads.min(MANY_READS))?;
+        }
+        self.answers.reserve_exact(answers)?;
+        Ok(())
     }
 
     // Performs operations in their order.
@@ -156,4 +178,20 @@ impl<A: Allocator + Copy> Performed<A> {
         self.writes.insert(table, key.clone()?, Some(row))?;
         Ok(())
     }
+}
+
+// How many operations ask for something, and how many answer it. Room alone depends on it.
+fn count_questions<A: Allocator>(operations: &[Op<A>]) -> (usize, usize) {
+    let (mut reads, mut answers) = (0usize, 0usize);
+    for operation in operations {
+        match operation {
+            Op::Get { .. } | Op::Scan { .. } => {
+                reads = reads.saturating_add(1);
+                answers = answers.saturating_add(1);
+            }
+            Op::Add { .. } => reads = reads.saturating_add(1),
+            Op::Put { .. } | Op::Delete { .. } => {}
+        }
+    }
+    (reads, answers)
 }

@@ -1,4 +1,4 @@
-use Rattle.std.proofs.Common.{ap, sym, subst, ◌∙◌, ◌+◌, ◌∷◌, [], ◌++◌, length}
+use Rattle.std.proofs.Common.{ap, sym, subst, ◌∙◌, ◌∷◌, [], ◌++◌, length}
 use Rattle.occ_model.specs.Log.{LogRow}
 use Rattle.occ_model.specs.State.{apply}
 use Rattle.occ_core.specs.Core.{parts_of}
