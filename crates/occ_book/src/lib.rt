@@ -4,6 +4,7 @@
 mod base;
 mod books;
 mod folded_writes;
+mod kept_rows;
 mod lasts;
 mod maps;
 mod marks;

@@ -4,15 +4,14 @@ ghost use Rattle.std.specs.Option.{option_copied};
 ghost use Rattle.occ_types.specs.declared.fault.Fault.TheVariants.{Memory};
 ghost use Rattle.occ_types.specs.PlainData.{object_of};
 ghost use Rattle.occ_model.specs.State.{State, Write, put, apply};
+ghost use Rattle.occ_book.specs.Kept.{all_kept};
 ghost use Rattle.occ_book.specs.Undo.{ArePlaced, if_put, puts, if_deletion, deletions, Replaced, KeepsReplaced, kept_writes};
 
+use crate::kept_rows::KeptRows;
 use crate::tables::Tables;
 use occ_sets::WriteSet;
 use occ_types::{Fault, Object, Row};
 use std::alloc::Allocator;
-
-// An object with the row that stood there, or with none.
-type Kept<'w, A> = (&'w Object<A>, Option<Row<A>>);
 
 impl<A: Allocator + Copy> Tables<A> {
     /// Does all writes of a set, as if one after another in their order, or none of them. The tables of the set have to be there.
@@ -25,7 +24,7 @@ impl<A: Allocator + Copy> Tables<A> {
         ensures memory { IsOkUnless result Memory }
         ensures deletes { puts writes.now ≡ [] → IsOk result }
     {
-        let mut kept = Vec::new(self.allocator());
+        let mut kept = KeptRows::new(self.allocator());
         if let Err(fault) = self.put_rows(writes, &mut kept) {
             self.take_back(kept);
             return Err(fault);
@@ -41,11 +40,11 @@ impl<A: Allocator + Copy> Tables<A> {
     fn put_rows<'w>(
         &mut self,
         writes: &'w WriteSet<A>,
-        kept: &mut Vec<Kept<'w, A>, A>,
+        kept: &mut KeptRows<'w, A>,
     ) -> Result<(), Fault>
         requires { ArePlaced self.old.tables writes.now }
         ensures tables { self.new.tables ≡ self.old.tables }
-        ensures replaced { KeepsReplaced (kept_writes kept.old.items) self.old.state (kept_writes kept.new.items) self.new.state }
+        ensures replaced { KeepsReplaced (kept_writes (all_kept kept.old)) self.old.state (kept_writes (all_kept kept.new)) self.new.state }
         ensures ok { OnOk result (self.new.state ≡ apply self.old.state (puts writes.now)) }
         ensures memory { IsOkUnless result Memory }
         ensures deletes { puts writes.now ≡ [] → IsOk result }
@@ -61,11 +60,11 @@ impl<A: Allocator + Copy> Tables<A> {
         &mut self,
         writes: &'w WriteSet<A>,
         place: usize,
-        kept: &mut Vec<Kept<'w, A>, A>,
+        kept: &mut KeptRows<'w, A>,
     ) -> Result<(), Fault>
         requires { ArePlaced self.old.tables writes.now }
         ensures tables { self.new.tables ≡ self.old.tables }
-        ensures replaced { KeepsReplaced (kept_writes kept.old.items) self.old.state (kept_writes kept.new.items) self.new.state }
+        ensures replaced { KeepsReplaced (kept_writes (all_kept kept.old)) self.old.state (kept_writes (all_kept kept.new)) self.new.state }
         ensures ok { OnOk result (apply self.new.state (puts (drop (place + 1) writes.now)) ≡ apply self.old.state (puts (drop place writes.now))) }
         ensures memory { IsOkUnless result Memory }
         ensures deletes { puts (drop place writes.now) ≡ [] → IsOk result }
@@ -81,11 +80,11 @@ impl<A: Allocator + Copy> Tables<A> {
         &mut self,
         object: &'w Object<A>,
         row: Option<&Row<A>>,
-        kept: &mut Vec<Kept<'w, A>, A>,
+        kept: &mut KeptRows<'w, A>,
     ) -> Result<(), Fault>
         requires { object.now.table < self.old.tables }
         ensures tables { self.new.tables ≡ self.old.tables }
-        ensures replaced { KeepsReplaced (kept_writes kept.old.items) self.old.state (kept_writes kept.new.items) self.new.state }
+        ensures replaced { KeepsReplaced (kept_writes (all_kept kept.old)) self.old.state (kept_writes (all_kept kept.new)) self.new.state }
         ensures ok { OnOk result ((others : List Write) → apply self.new.state others ≡ apply self.old.state (if_put (object_of object.now) (option_copied row.entry) others)) }
         ensures memory { IsOkUnless result Memory }
         ensures deletes { option_copied row.entry ≡ None → IsOk result }
@@ -101,25 +100,25 @@ impl<A: Allocator + Copy> Tables<A> {
         &mut self,
         object: &'w Object<A>,
         row: &Row<A>,
-        kept: &mut Vec<Kept<'w, A>, A>,
+        kept: &mut KeptRows<'w, A>,
     ) -> Result<(), Fault>
         requires { object.now.table < self.old.tables }
         ensures tables { self.new.tables ≡ self.old.tables }
-        ensures replaced { KeepsReplaced (kept_writes kept.old.items) self.old.state (kept_writes kept.new.items) self.new.state }
+        ensures replaced { KeepsReplaced (kept_writes (all_kept kept.old)) self.old.state (kept_writes (all_kept kept.new)) self.new.state }
         ensures ok { OnOk result (self.new.state ≡ put self.old.state (object_of object.now, Some row.now)) }
         ensures memory { IsOkUnless result Memory }
     {
         let copy = row.clone()?;
-        kept.reserve(1)?;
+        kept.reserve()?;
         let was = self.exchange(object.table, &object.key, copy)?;
         kept.push_reserved((object, was));
         Ok(())
     }
 
     // Brings back what was kept, the latest first. It takes no memory.
-    fn take_back(&mut self, mut kept: Vec<Kept<'_, A>, A>)
+    fn take_back(&mut self, mut kept: KeptRows<'_, A>)
         ensures tables { self.new.tables ≡ self.old.tables }
-        ensures back { (start : State) → Replaced start (kept_writes kept.entry.items) self.old.state → self.new.state ≡ start }
+        ensures back { (start : State) → Replaced start (kept_writes (all_kept kept.entry)) self.old.state → self.new.state ≡ start }
     {
         while let Some((object, row)) = kept.pop() {
             self.set_back(object.table, &object.key, row);

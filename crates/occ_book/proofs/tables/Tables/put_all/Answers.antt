@@ -6,7 +6,7 @@ use Rattle.occ_book.proofs.tables.Tables.put_all.Goals as goal
 pub returns-in-Err-clause-err : goal.returns-in-Err-clause-err
 returns-in-Err-clause-err g c =
     let old = c.args.self.now.state in
-    let nothing = subst (λ es. Replaced old (kept_writes es) old) (sym c.new-kept.ensures.items) refl in
+    let nothing = subst (λ es. Replaced old (kept_writes es) old) (sym c.new-kept.ensures) refl in
     let tables = c.take_back.ensures.tables ∙ c.in-Err.ensures.tables in
     let back = c.take_back.ensures.back old (c.in-Err.ensures.replaced old nothing) in
     λ i. record { tables = tables i; state = back i }
