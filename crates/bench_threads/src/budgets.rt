@@ -2,9 +2,6 @@
 use std::sync::atomic::{AtomicU64, Ordering};
 use std::time::{Clock, Instant};
 
-/// How many transactions a thread takes from the budget at a time, which are as many as it makes in a lease.
-const BATCH: u64 = 16;
-
 /// When a load is over.
 #[derive(Clone, Copy)]
 pub(crate) enum Until {
@@ -67,15 +64,15 @@ impl Budget {
         }
     }
 
-    /// Takes the next transactions, and tells how many; none where nothing is left.
-    pub(crate) fn take<R: Clock>(&self, rt: &R) -> Option<u64> {
+    /// Takes the next transactions, at most so many, and tells how many; none where nothing is left.
+    pub(crate) fn take<R: Clock>(&self, rt: &R, most: u64) -> Option<u64> {
         if self.is_late(rt) {
             return None;
         }
-        let before = self.taken.fetch_add(BATCH, Ordering::SeqCst);
+        let before = self.taken.fetch_add(most, Ordering::SeqCst);
         let many = match self.until {
-            Until::Count(count) => count.saturating_sub(before).min(BATCH),
-            Until::Seconds(_) => BATCH,
+            Until::Count(count) => count.saturating_sub(before).min(most),
+            Until::Seconds(_) => most,
         };
         if many == 0 { None } else { Some(many) }
     }

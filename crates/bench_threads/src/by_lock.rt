@@ -17,6 +17,7 @@ type Map<A> = Mutex<Bare<A>>;
 #[derive(Clone, Copy)]
 struct Locker {
     keeps: bool,
+    at_a_time: u64,
 }
 
 impl Locker {
@@ -62,8 +63,11 @@ pub(crate) fn run<A: Allocator + Copy + Send + Sync, R: Threads + Wait + Clock +
 ) -> Result<Told, Fault> {
     let mut crew = Vec::new(alloc);
     for place in 0..task.threads {
-        let keeps = task.way.leased;
-        crew.push(Member::new(Locker { keeps }, task, place))?;
+        let locker = Locker {
+            keeps: task.way.leased,
+            at_a_time: task.way.at_a_time,
+        };
+        crew.push(Member::new(locker, task, place))?;
     }
     let map = Mutex::new(Bare::fill(alloc, &task.load.shape)?);
     let budget = Budget::begin(rt, task.until);
@@ -95,7 +99,7 @@ fn work<A: Allocator + Copy, R: Wait + Clock>(
     budget: &Budget,
 ) {
     for _ in rt.forever() {
-        let Some(many) = budget.take(rt) else {
+        let Some(many) = budget.take(rt, member.player.at_a_time) else {
             return;
         };
         if let Err(fault) = member.player.play(rt, map, &mut member.part, many) {

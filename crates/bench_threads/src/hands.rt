@@ -27,6 +27,7 @@ pub(crate) enum Maker<'a, N: Name, A: Allocator + Copy> {
 pub(crate) struct Hand<'a, N: Name, A: Allocator + Copy> {
     maker: Maker<'a, N, A>,
     leased: bool,
+    at_a_time: u64,
     folds: Folds,
 }
 
@@ -57,6 +58,7 @@ impl<'a, N: Name, A: Allocator + Copy> Hand<'a, N, A> {
         Hand {
             maker,
             leased: way.leased,
+            at_a_time: way.at_a_time,
             folds: Folds::new(way.folded),
         }
     }
@@ -110,7 +112,7 @@ impl<'a, N: Name, A: Allocator + Copy> Hand<'a, N, A> {
         budget: &Budget,
     ) {
         for _ in rt.forever() {
-            let Some(many) = budget.take(rt) else {
+            let Some(many) = budget.take(rt, self.at_a_time) else {
                 return;
             };
             if let Err(fault) = self.play(rt, store, part, many) {

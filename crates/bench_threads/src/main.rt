@@ -3,8 +3,8 @@
 //! `bench_threads LOAD WAY THREADS END` does a load by so many threads and prints what came of it. The load is `accounts`, which is a
 //! transfer over 1,000 rows, or one of those of `bench_costs`. The way is `steps`, `serial`, `alone` (by a session and its lane: in single
 //! events, ended in one event, as operations that run alone), `worker` or `map`. Behind it may stand `-leased` (16 transactions in one
-//! lease, or in one holding of the map's lock) and then `-folded` (a checkpoint every 10,000 transactions). The end is a number of
-//! transactions, or of seconds, as `60s`.
+//! lease, or in one holding of the map's lock; with `-leased-64` so many) and then `-folded` (a checkpoint every 10,000 transactions).
+//! The end is a number of transactions, or of seconds, as `60s`.
 //!
 //! With no words it does a short load of each, and prints whether all is right.
 #![tactic(auto)]
@@ -102,8 +102,12 @@ fn tell<R: Runtime + Threads + Wait + Sync>(
 fn tell_name<R: Runtime>(rt: &R, task: Task) -> io::Result<()> {
     let (load, by, threads) = (task.load.name, task.way.by.name(), task.threads);
     let leased = if task.way.leased { "-leased" } else { "" };
+    print!(rt; "{load} by {by}{leased}")?;
+    if task.way.is_unusual() {
+        print!(rt; "-{}", task.way.at_a_time)?;
+    }
     let folded = if task.way.folded { "-folded" } else { "" };
-    print!(rt; "{load} by {by}{leased}{folded}, {threads} threads: ")
+    print!(rt; "{folded}, {threads} threads: ")
 }
 
 fn tell_measured<R: Runtime>(rt: &R, told: Told) -> io::Result<()> {
@@ -139,11 +143,7 @@ fn check_all<R: Runtime + Threads + Wait + Sync>(rt: &R, alloc: Global) -> io::R
         }
     }
     for load in Load::ALL {
-        let way = Way {
-            by: By::Worker,
-            leased: true,
-            folded: true,
-        };
+        let way = Way::usual(By::Worker, true, true);
         if !tell(rt, alloc, Task::short(Named::of(load), way), false)? {
             return Ok(false);
         }
@@ -154,7 +154,7 @@ fn check_all<R: Runtime + Threads + Wait + Sync>(rt: &R, alloc: Global) -> io::R
 /// A short load by this, with each choice of leases and checkpoints. Whether all are right.
 fn check_by<R: Runtime + Threads + Wait + Sync>(rt: &R, alloc: Global, by: By) -> io::Result<bool> {
     for (leased, folded) in Way::CHOICES {
-        let way = Way { by, leased, folded };
+        let way = Way::usual(by, leased, folded);
         if way.is_possible() && !tell(rt, alloc, Task::short(Named::accounts(), way), false)? {
             return Ok(false);
         }

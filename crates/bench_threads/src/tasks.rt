@@ -12,6 +12,11 @@ const SHORT_ROWS: u64 = 10_000;
 /// How many threads do it.
 const SHORT_THREADS: usize = 4;
 
+/// How many transactions a thread makes at a time, in a lease or not, where nothing else is said.
+const AT_A_TIME: u64 = 16;
+/// How many it makes at most.
+const MOST_AT_A_TIME: u64 = 1_000;
+
 /// By what transactions are made.
 #[derive(Clone, Copy, PartialEq, Eq)]
 pub(crate) enum By {
@@ -31,8 +36,10 @@ pub(crate) enum By {
 #[derive(Clone, Copy)]
 pub(crate) struct Way {
     pub(crate) by: By,
-    /// Whether 16 of them are made in one lease, or in one holding of the map's lock.
+    /// Whether those that a thread makes at a time are made in one lease, or in one holding of the map's lock.
     pub(crate) leased: bool,
+    /// How many that are.
+    pub(crate) at_a_time: u64,
     /// Whether the log is folded after each 10,000 of them.
     pub(crate) folded: bool,
 }
@@ -92,13 +99,47 @@ impl Way {
         !(self.folded && self.by == By::Map)
     }
 
-    /// The way that a word names: by what transactions are made, then `-leased`, then `-folded`.
+    /// The way with one of these choices, where a thread makes as many at a time as it does if nothing else is said.
+    pub(crate) fn usual(by: By, leased: bool, folded: bool) -> Way {
+        Way {
+            by,
+            leased,
+            at_a_time: AT_A_TIME,
+            folded,
+        }
+    }
+
+    /// Whether a thread makes another number of them at a time.
+    pub(crate) fn is_unusual(self) -> bool {
+        self.at_a_time != AT_A_TIME
+    }
+
+    /// The way that a word names: by what transactions are made, then `-leased`, or `-leased-64` where it is for so many, then `-folded`.
     fn named(word: &str) -> Option<Way> {
         let (word, folded) = without(word, "-folded");
-        let (word, leased) = without(word, "-leased");
+        let (word, leased, at_a_time) = match word.split_once("-leased") {
+            Some((word, many)) => (word, true, many_told(many)?),
+            None => (word, false, AT_A_TIME),
+        };
         let by = By::ALL.into_iter().find(|by| by.name() == word)?;
-        let way = Way { by, leased, folded };
+        let way = Way {
+            by,
+            leased,
+            at_a_time,
+            folded,
+        };
         if way.is_possible() { Some(way) } else { None }
+    }
+}
+
+/// How many transactions the end of a word tells, as `-64`; as many as always where it tells nothing.
+fn many_told(end: &str) -> Option<u64> {
+    if end.is_empty() {
+        return Some(AT_A_TIME);
+    }
+    match end.strip_prefix('-')?.parse::<u64>() {
+        Ok(many) if (1..=MOST_AT_A_TIME).contains(&many) => Some(many),
+        _ => None,
     }
 }
 
