@@ -4,7 +4,7 @@ use Rattle.occ_audit.proofs.Common.{decided, lookup, FinMap, find, get-entries, 
 use Rattle.std.specs.FinMap as finite
 use Rattle.std.specs.BTreeMap.{get}
 use Rattle.occ_book.specs.Marks.{mark_at, marks_listed}
-use Rattle.occ_book.specs.declared.rows.LogRow as code_row
+use Rattle.occ_sets.specs.declared.log_rows.LogRow as code_row
 
 abbrev pub places : List LogRow → List ℕ
 places log = map (λ row. row.place) log

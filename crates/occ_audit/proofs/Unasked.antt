@@ -1,10 +1,10 @@
 -- What is held of an open row makes no difference to the claim on a log.
 use Rattle.std.proofs.Common.{◌≡◌, true, ℕ, Bool, cond, List, [], ◌∷◌, length, refl, sym, ap, subst, ◌∙◌, ◌+◌, map, Decides, ◌==◌, nat_cmp}
 use Rattle.occ_audit.proofs.Common.{AreAnswers, FinMap, State, Write, apply, Case, Base, Audited, Explained, Counts, numbers, is_committed, remaining, rest, after, serial, settled, last_folded, unasked}
-use Rattle.occ_book.specs.Rows.{standing_of, log_row_of, log_of}
-use Rattle.occ_book.specs.declared.rows.Standing as code_standing
-use Rattle.occ_book.specs.declared.rows.Standing.TheVariants as standings
-use Rattle.occ_book.specs.declared.rows.LogRow as code_row
+use Rattle.occ_sets.specs.LogRows.{standing_of, log_row_of, log_of}
+use Rattle.occ_sets.specs.declared.log_rows.Standing as code_standing
+use Rattle.occ_sets.specs.declared.log_rows.Standing.TheVariants as standings
+use Rattle.occ_sets.specs.declared.log_rows.LogRow as code_row
 use Rattle.occ_audit.specs.Rows as rows
 use Rattle.occ_audit.proofs.Orders.{numbers-cons, places}
 

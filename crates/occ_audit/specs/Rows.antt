@@ -1,9 +1,9 @@
 -- The plain rows as the audit sees them: what is held of an open row is not asked for.
 use Rattle.std.specs.Prelude.{ℕ, List, [], map}
 use Rattle.occ_model.specs.Log.{Case, LogRow, Standing}
-use Rattle.occ_book.specs.Rows as books
-use Rattle.occ_book.specs.declared.rows.Standing as code_standing
-use Rattle.occ_book.specs.declared.rows.LogRow as code_row
+use Rattle.occ_sets.specs.LogRows as books
+use Rattle.occ_sets.specs.declared.log_rows.Standing as code_standing
+use Rattle.occ_sets.specs.declared.log_rows.LogRow as code_row
 
 -- a case of nothing
 abbrev pub no_case : Case

@@ -3,7 +3,7 @@ ghost use Rattle.std.specs.Prelude.{◌≡◌, ℕ, IfOk, IfErr};
 ghost use Rattle.std.specs.Bool.{Decides};
 ghost use Rattle.occ_types.specs.declared.fault.Fault.TheVariants.{Memory};
 ghost use Rattle.occ_model.specs.Log.{Audited, Case, Explained, InOrder, serial, settled};
-ghost use Rattle.occ_book.specs.Rows as books;
+ghost use Rattle.occ_sets.specs.LogRows as books;
 ghost use Rattle.occ_audit.specs.Rows.{log_of};
 
 use crate::order::{are_closed, are_placed, last_numbers};

@@ -32,7 +32,8 @@ pub use Rattle.occ_types.specs.PlainData.{end_of, key_of, object_of, question_of
 pub use Rattle.occ_types.proofs.Asked.{asks-One, asks-Span, object_tied}
 pub use Rattle.occ_types.proofs.Walks.{drop_at}
 pub use Rattle.occ_sets.specs.PlainSets.{answer_of, observations_of, rows_of}
-pub use Rattle.occ_sets.specs.Sets.{WritesOnce, objects}
+pub use Rattle.occ_sets.specs.LogRows.{IsRowCopy, IsStandingCopy, log_of, log_row_of, standing_of}
+pub use Rattle.occ_sets.specs.Sets.{ArePlaced, WritesOnce, objects}
 pub use Rattle.occ_sets.proofs.Agreement.{answer_of_entries, drop-slice_get}
 pub use Rattle.occ_model.specs.State.{Answer, Found, Rows, State, Write, answer_size, apply, meets_question, target}
 unfoldable pub use Rattle.occ_model.specs.State.{answer, put}
@@ -44,9 +45,8 @@ pub use Rattle.occ_model.proofs.Tests.{clash, decided, not_false}
 pub use Rattle.occ_model.proofs.RangeAnswers.{answers_range}
 pub use Rattle.occ_book.specs.Content.{Content, IsPut, content_of, entries_within, is_backward, is_within, lower_bound, placed, placed_from, seen, upper_bound}
 unfoldable pub use Rattle.occ_book.specs.Content.{state_of}
-pub use Rattle.occ_book.specs.Undo.{ArePlaced, KeepsReplaced, Replaced, deletions, if_deletion, if_put, kept_write, kept_writes, puts}
+pub use Rattle.occ_book.specs.Undo.{KeepsReplaced, Replaced, deletions, if_deletion, if_put, kept_write, kept_writes, puts}
 pub use Rattle.occ_book.specs.LastWrites.{writes_in}
 pub use Rattle.occ_book.specs.Base.{AllFitIn, BaseContent, base_content, commits, committed_writes, numbered, written}
 pub use Rattle.occ_book.specs.Marks.{Marked, mark_at, marked_of, marks_from, marks_listed}
 unfoldable pub use Rattle.occ_book.specs.Marks.{marks_of}
-pub use Rattle.occ_book.specs.Rows.{IsRowCopy, IsStandingCopy, log_of, log_row_of, standing_of}

@@ -3,9 +3,9 @@ use Rattle.std.proofs.Common.{◌≡◌, ℕ, ◌+◌, cond, List, [], ◌∷◌
 use Rattle.occ_book.proofs.Common.{length-map, FinMap, State, apply, Case, is_committed, after, serial, BaseContent, base_content, commits, committed_writes, written, numbered, Content, Marked, standing_of, log_row_of, log_of}
 use Rattle.std.specs.FinMap as finite
 use Rattle.occ_model.specs.Step.{folded, folded_numbers}
-use Rattle.occ_book.specs.declared.rows.Standing as code_standing
-use Rattle.occ_book.specs.declared.rows.Standing.TheVariants as standings
-use Rattle.occ_book.specs.declared.rows.LogRow as code_row
+use Rattle.occ_sets.specs.declared.log_rows.Standing as code_standing
+use Rattle.occ_sets.specs.declared.log_rows.Standing.TheVariants as standings
+use Rattle.occ_sets.specs.declared.log_rows.LogRow as code_row
 
 -- whatever is held of open rows
 module _ {Z O : Type 0} (opened : O → ℕ × Case) where

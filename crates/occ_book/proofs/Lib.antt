@@ -6,7 +6,6 @@ pub mod Folding
 pub mod LastNotes
 pub mod MarkViews
 pub mod Parted
-pub mod RowCopies
 pub mod Sizes
 pub mod Undoing
 pub mod Views

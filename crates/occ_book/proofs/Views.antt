@@ -7,15 +7,6 @@ use Rattle.std.specs.FinMap as finite
 use Rattle.occ_types.specs.declared.keys.Key as code_key
 use Rattle.occ_book.proofs.TableEntries.{row_at, code_of, answer-within, answer-nowhere, backward-key}
 
--- what a look-up by place answers is the element there
-item-at : {X : Type 0} (xs : List X) (i : ℕ) (r : Option (Bor X)) → IsItemAt xs i r → slice_get xs i ≡ option_copied r
-item-at xs i None h = slice_get_past xs i h.3
-item-at xs i (Some x) h = slice_get_read xs (length xs) i x.now refl h.3.0 h.1
-
--- the same, of a list that is read from a vector
-pub table-at : {X : Type 0} (maps xs : List X) (i : ℕ) (r o : Option (Bor X)) → xs ≡ maps → IsItemAt xs i r → r ≡ o → slice_get maps i ≡ option_copied o
-table-at maps xs i r o same is found = ap (λ l. slice_get l i) (sym same) ∙ item-at xs i r is ∙ ap option_copied found
-
 -- what stands at a place after a write at another one or at its own
 pub slice_get-slice_set : {X : Type 0} (maps : List X) (t u : ℕ) (n : X) → t < length maps → slice_get (slice_set maps t n) u ≡ cond (nat_eq u t) (Some n) (slice_get maps u)
 slice_get-slice_set [] t u n h = absurd (omega arith)

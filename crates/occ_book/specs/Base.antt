@@ -10,10 +10,10 @@ use Rattle.occ_model.specs.Content.{IsSession}
 use Rattle.occ_model.specs.Log.{Base}
 use Rattle.occ_book.specs.Content.{Content, state_code}
 use Rattle.occ_book.specs.Marks.{Marked}
-use Rattle.occ_book.specs.Undo.{ArePlaced}
-use Rattle.occ_book.specs.declared.rows.Standing as code_standing
-use Rattle.occ_book.specs.declared.rows.Standing.TheVariants as standings
-use Rattle.occ_book.specs.declared.rows.LogRow as code_row
+use Rattle.occ_sets.specs.Sets.{ArePlaced}
+use Rattle.occ_sets.specs.declared.log_rows.Standing as code_standing
+use Rattle.occ_sets.specs.declared.log_rows.Standing.TheVariants as standings
+use Rattle.occ_sets.specs.declared.log_rows.LogRow as code_row
 
 -- how many tables and sessions a base has room for, and what was folded into it
 pub record BaseContent : Type 0 where

@@ -4,5 +4,4 @@ pub mod Folded
 pub mod Kept
 pub mod LastWrites
 pub mod Marks
-pub mod Rows
 pub mod Undo

@@ -8,11 +8,6 @@ use Rattle.occ_types.specs.Row.{Row}
 use Rattle.occ_types.specs.PlainData.{object_of}
 use Rattle.occ_model.specs.State.{State, Write, put}
 
--- each write is of one of so many tables
-abbrev pub ArePlaced : ℕ → List Write → Type 0
-ArePlaced tables [] = Unit {0}
-ArePlaced tables (write ∷ writes) = (write.0.0 < tables) × ArePlaced tables writes
-
 -- a write that puts a row stands before others, and a deletion is left out
 abbrev pub if_put : Object → Option Row → List Write → List Write
 if_put object None others = others

@@ -8,13 +8,13 @@ ghost use Rattle.occ_model.specs.State.{apply};
 ghost use Rattle.occ_model.specs.Step.{folded};
 ghost use Rattle.occ_model.specs.World.{empty_base};
 ghost use Rattle.occ_book.specs.Base.{AllFitIn, base_content, numbered};
-ghost use Rattle.occ_book.specs.Rows.{log_of};
-ghost use Rattle.occ_book.specs.Undo.{ArePlaced};
+ghost use Rattle.occ_sets.specs.LogRows.{log_of};
+ghost use Rattle.occ_sets.specs.Sets.{ArePlaced};
 
 use crate::folded_writes::FoldedWrites;
 use crate::marks::Marks;
-use crate::rows::LogRow;
 use crate::tables::Tables;
+use occ_sets::LogRow;
 use occ_types::Fault;
 use std::alloc::{AllocError, Allocator};
 use std::marker::Model;
@@ -38,7 +38,7 @@ impl<A: Allocator> Model for Base<A> {
     ghost coded = { base_content_code };
 
     ghost use Rattle.occ_book.specs.Base.{base_content, written_over};
-    ghost use Rattle.occ_book.specs.Undo.{ArePlaced};
+    ghost use Rattle.occ_sets.specs.Sets.{ArePlaced};
 
     ghost view = { λ b. base_content (written_over b.origin b.since) b.numbers b.next };
 

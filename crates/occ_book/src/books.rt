@@ -3,8 +3,8 @@ ghost use Rattle.std.specs.Prelude.{◌≡◌};
 
 use crate::base::Base;
 use crate::marks::Marks;
-use crate::rows::LogRow;
 use crate::tables::Tables;
+use occ_sets::LogRow;
 use std::alloc::Allocator;
 
 /// What a store had at one moment, owned: it stays as it is while the store goes on. `O` is what is held of a row that is not decided.

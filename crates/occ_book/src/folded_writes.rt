@@ -12,12 +12,11 @@ ghost use Rattle.occ_model.specs.State.{State, apply, put};
 ghost use Rattle.occ_sets.specs.PlainSets.{writes_of};
 ghost use Rattle.occ_book.specs.Base.{AllFitIn, committed_writes, written};
 ghost use Rattle.occ_book.specs.Folded.{objects_of, due_writes, AreThere};
-ghost use Rattle.occ_book.specs.Undo.{ArePlaced};
+ghost use Rattle.occ_sets.specs.Sets.{ArePlaced};
 
-use crate::rows::{LogRow, Standing};
 use crate::tables::Tables;
 use indexmap::IndexMap;
-use occ_sets::WriteSet;
+use occ_sets::{LogRow, Standing, WriteSet};
 use occ_types::{Fault, Object, Row};
 use std::alloc::{AllocError, Allocator};
 use std::hash::{BuildHasherDefault, FoldHasher};

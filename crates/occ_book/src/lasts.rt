@@ -2,7 +2,7 @@
 ghost use Rattle.std.specs.Prelude.{◌≡◌, ℕ, drop, OnOk};
 ghost use Rattle.occ_model.specs.State.{State, apply};
 ghost use Rattle.occ_book.specs.LastWrites.{writes_in};
-ghost use Rattle.occ_book.specs.Undo.{ArePlaced};
+ghost use Rattle.occ_sets.specs.Sets.{ArePlaced};
 
 use occ_sets::WriteSet;
 use occ_types::{Object, Row};

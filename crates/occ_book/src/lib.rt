@@ -8,7 +8,6 @@ mod kept_rows;
 mod lasts;
 mod maps;
 mod marks;
-mod rows;
 mod tables;
 mod writes;
 
@@ -17,5 +16,5 @@ pub use books::{Book, BookView};
 pub use folded_writes::FoldedWrites;
 pub use lasts::{LastWrites, note_writes};
 pub use marks::Marks;
-pub use rows::{LogRow, Standing};
+pub use occ_sets::{LogRow, Standing};
 pub use tables::Tables;

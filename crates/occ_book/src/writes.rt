@@ -5,7 +5,8 @@ ghost use Rattle.occ_types.specs.declared.fault.Fault.TheVariants.{Memory};
 ghost use Rattle.occ_types.specs.PlainData.{object_of};
 ghost use Rattle.occ_model.specs.State.{State, Write, put, apply};
 ghost use Rattle.occ_book.specs.Kept.{all_kept};
-ghost use Rattle.occ_book.specs.Undo.{ArePlaced, if_put, puts, if_deletion, deletions, Replaced, KeepsReplaced, kept_writes};
+ghost use Rattle.occ_sets.specs.Sets.{ArePlaced};
+ghost use Rattle.occ_book.specs.Undo.{if_put, puts, if_deletion, deletions, Replaced, KeepsReplaced, kept_writes};
 
 use crate::kept_rows::KeptRows;
 use crate::tables::Tables;

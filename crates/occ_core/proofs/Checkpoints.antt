@@ -20,8 +20,8 @@ use Rattle.occ_model.proofs.Folds.{AreFoldable, part_foldable, part_rest}
 use Rattle.occ_model.proofs.InSchema.{keeps_lawful}
 use Rattle.occ_model.proofs.Tests as tests
 use Rattle.occ_book.specs.Base.{AllFitIn}
-use Rattle.occ_book.specs.Undo.{ArePlaced}
-use Rattle.occ_book.specs.declared.rows.LogRow as code_row
+use Rattle.occ_sets.specs.Sets.{ArePlaced}
+use Rattle.occ_sets.specs.declared.log_rows.LogRow as code_row
 use Rattle.occ_log.specs.Rows.{log_of, log_row_of}
 use Rattle.occ_log.specs.SessionStates.{Hold, IsHeldAt}
 use Rattle.occ_log.proofs.Opponents.{some_finished, any-finished}

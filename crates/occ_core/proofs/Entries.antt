@@ -24,7 +24,7 @@ use Rattle.occ_log.specs.Phases.{reads_of}
 use Rattle.occ_core.specs.Reads.{session_fault, closed_fault, start_fault}
 use Rattle.occ_core.specs.EntryFaults.{due_fault, busy_fault, spare_fault, turn_to_enter, write_fault, log_fault, counter_fault, room_to_enter}
 use Rattle.occ_log.specs.SessionStates.{Slot, Hold, last_of, active_from, HoldsArePlaced}
-use Rattle.occ_book.specs.Undo.{ArePlaced}
+use Rattle.occ_sets.specs.Sets.{ArePlaced}
 use Rattle.occ_core.specs.CoreParts.{Parts, world_of, low_of, found_at, AreSound}
 use Rattle.occ_core.proofs.Placed.{finds_standing, row_found}
 use Rattle.occ_core.proofs.Calls.{held_world}

@@ -17,7 +17,7 @@ use Rattle.occ_model.specs.Step.{Step, refused, starved}
 use Rattle.occ_model.proofs.Logs.{standing_at}
 use Rattle.occ_core.specs.Replies.{replied, wrote, written_in}
 use Rattle.occ_log.specs.SessionStates.{Slot, Hold, row_under_way, last_of, written_at, writes_done, finish_fault, HoldsArePlaced}
-use Rattle.occ_book.specs.Undo.{ArePlaced}
+use Rattle.occ_sets.specs.Sets.{ArePlaced}
 use Rattle.occ_log.specs.Window.{Window, advanced}
 use Rattle.occ_core.specs.CoreParts.{Parts, world_of, row_placed, found_at, AreSound}
 use Rattle.occ_core.specs.Folding.{under_way_fault}

@@ -30,7 +30,7 @@ use Rattle.occ_core.specs.EntryFaults.{spare_fault, turn_to_close, log_fault, co
 use Rattle.occ_core.specs.CoreParts.{Parts, world_of, found_at, AreSound}
 use Rattle.occ_core.specs.RunningAlone.{read_open_fault, count_fault, turn_to_run, room_to_run}
 use Rattle.occ_log.specs.SessionStates.{active_from}
-use Rattle.occ_book.specs.Undo.{ArePlaced}
+use Rattle.occ_sets.specs.Sets.{ArePlaced}
 use Rattle.occ_core.proofs.Closing.{close_refusal}
 use Rattle.occ_core.proofs.Entries.{nest, nest_last, counter_is}
 use Rattle.occ_log.proofs.Places.{slice_get-below}

@@ -8,7 +8,7 @@ use Rattle.occ_book.specs.Base.{BaseContent}
 use Rattle.occ_core.specs.Core.{IsBaseOf}
 use Rattle.occ_core.specs.CoreParts.{Parts}
 use Rattle.occ_log.specs.SessionStates.{Slot, HoldsArePlaced}
-use Rattle.occ_book.specs.Undo.{ArePlaced}
+use Rattle.occ_sets.specs.Sets.{ArePlaced}
 use Rattle.occ_log.proofs.Changes.{placed-free}
 use Rattle.occ_log.proofs.Places.{length-set}
 

@@ -5,7 +5,7 @@ use Rattle.occ_model.specs.Content.{IsSession}
 use Rattle.occ_model.specs.Log.{LogRow, Standing, Open, Writing, Done, Back, is_open}
 use Rattle.occ_model.specs.Validity.{verdict}
 use Rattle.occ_model.specs.declared.verdict.Verdict.{Verdict}
-use Rattle.occ_book.specs.Undo.{ArePlaced}
+use Rattle.occ_sets.specs.Sets.{ArePlaced}
 use Rattle.occ_log.specs.SessionStates.{Slot, row_under_way, back_fault}
 use Rattle.occ_types.specs.declared.fault.Fault.{Fault}
 use Rattle.occ_types.specs.declared.fault.Fault.TheVariants.{AlreadyDecided}

@@ -7,7 +7,7 @@ ghost use Rattle.occ_model.specs.Step.{entering};
 ghost use Rattle.occ_core.specs.AtOnce.{committed, backed, MayEnd};
 ghost use Rattle.occ_log.specs.Logs.{HasRoom};
 ghost use Rattle.occ_log.specs.Rows.{log_row_of, standing_of};
-ghost use Rattle.occ_book.specs.Undo.{ArePlaced};
+ghost use Rattle.occ_sets.specs.Sets.{ArePlaced};
 
 use crate::core_state::Core;
 use occ_book::{LogRow, Standing, Tables};

@@ -7,7 +7,7 @@ use Rattle.occ_model.proofs.Orders.{Counts-push, numbers-append, places-append, 
 use Rattle.occ_model.specs.Log.{InOrder}
 use Rattle.occ_audit.proofs.Common.{AreLast, AreNumbered, ArePlaced, Base, Counts, FinMap, LogRow, get, last_folded, last_of, log_of, log_row_of, lookup, numbers, unsigned_Decides}
 use Rattle.occ_audit.proofs.Orders.{IsNoted, closed-alike, noted, numbers-cons}
-use Rattle.occ_book.specs.declared.rows.LogRow as code_row
+use Rattle.occ_sets.specs.declared.log_rows.LogRow as code_row
 use Rattle.occ_findings.specs.declared.findings.Disorder.{Disorder}
 use Rattle.occ_findings.specs.declared.findings.Disorder.TheVariants as disorders
 use Rattle.occ_findings.specs.Counting.{IsRowDisorder, MarksGive, RowGives}

@@ -3,7 +3,7 @@ use Rattle.std.proofs.Common.{◌≡◌, ◌≢◌, ℕ, zero, suc, ◌+◌, ◌
 use Rattle.occ_model.proofs.Logs.{serial-append}
 use Rattle.occ_model.specs.State.{Observation}
 use Rattle.occ_audit.proofs.Common.{AreAnswers, Answer, Explained, answer_of, LogRow, State, after, answer, is_committed, log_of, log_row_of, observations_of, serial}
-use Rattle.occ_book.specs.declared.rows.LogRow as code_row
+use Rattle.occ_sets.specs.declared.log_rows.LogRow as code_row
 use Rattle.occ_sets.specs.PlainSets.{observation_of}
 use Rattle.occ_sets.specs.declared.reads.Observation as code_observation
 use Rattle.occ_findings.specs.Findings.{IsWrongRead}

@@ -6,7 +6,7 @@ ghost use Rattle.occ_types.specs.PlainData.{object_of};
 ghost use Rattle.occ_types.specs.declared.fault.Fault.TheVariants.{Memory};
 ghost use Rattle.occ_model.specs.State.{apply};
 ghost use Rattle.occ_model.specs.Log.{Audited, Case, settled};
-ghost use Rattle.occ_book.specs.Rows as books;
+ghost use Rattle.occ_sets.specs.LogRows as books;
 ghost use Rattle.occ_book.specs.LastWrites.{writes_in};
 ghost use Rattle.occ_audit.specs.Rows.{log_of};
 ghost use Rattle.occ_findings.specs.Differences.{spot_of};

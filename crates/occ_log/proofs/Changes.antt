@@ -4,9 +4,9 @@ use Rattle.occ_log.proofs.Common.{ArePlaced, Case, Hold, HoldsArePlaced, LogRow,
 use Rattle.std.specs.Borrow.{Bor}
 use Rattle.std.specs.Slice.{IsItemAt}
 use Rattle.std.proofs.lemmas.List as lists
-use Rattle.occ_book.specs.declared.rows.Standing as code_standing
-use Rattle.occ_book.specs.declared.rows.Standing.TheVariants as standings
-use Rattle.occ_book.specs.declared.rows.LogRow as code_row
+use Rattle.occ_sets.specs.declared.log_rows.Standing as code_standing
+use Rattle.occ_sets.specs.declared.log_rows.Standing.TheVariants as standings
+use Rattle.occ_sets.specs.declared.log_rows.LogRow as code_row
 use Rattle.occ_log.specs.declared.sessions.SessionState as code_session
 use Rattle.occ_log.proofs.Places.{slice_get-other}
 

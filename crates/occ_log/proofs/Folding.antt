@@ -3,7 +3,7 @@ use Rattle.std.proofs.Common.{◌≡◌, ℕ, zero, suc, ◌+◌, ◌-◌, ◌�
 use Rattle.occ_log.proofs.Common.{AreListed, Case, Counts, Counts-push, HaveNoGap, Listed, LogRow, append-nil, decided, filter-append, foldable_part, is_open, leb-false, leb-true, length-map, list_any, listed_at, log_of, log_row_of, map-append, places_of, prefix_len, rows_of, standing_of, unlisted}
 use Rattle.std.proofs.Math.Seq.{drop-nil}
 use Rattle.occ_model.specs.Refusal.{foldable}
-use Rattle.occ_book.specs.declared.rows.LogRow as code_row
+use Rattle.occ_sets.specs.declared.log_rows.LogRow as code_row
 use Rattle.occ_log.proofs.Listed.{either}
 use Rattle.occ_log.proofs.Places.{of_cond, set-unseen}
 

@@ -1,6 +1,6 @@
 -- What clauses see of the log that a core keeps, and how its rows are found.
 use Rattle.std.specs.Prelude.{◌≡◌, ℕ, ◌-◌, Bool, true, false, ◌&&◌, ◌==◌, nat_lt, List, [], map, filter, length, Option, None, if◌then◌else◌, slice_get, get_or, Vec}
-use Rattle.occ_book.specs.declared.rows.LogRow as code_row
+use Rattle.occ_sets.specs.declared.log_rows.LogRow as code_row
 use Rattle.occ_model.specs.Log.{Case, LogRow, Counts, numbers}
 use Rattle.occ_log.specs.Listing.{Listed, listed_at, has_room}
 use Rattle.occ_log.specs.Rows.{log_of}

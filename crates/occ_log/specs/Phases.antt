@@ -9,7 +9,7 @@ use Rattle.occ_types.specs.Question.{Question, One, Span}
 use Rattle.occ_types.specs.Row.{Row}
 use Rattle.occ_model.specs.State.{Answer, Found, Rows, Observation}
 use Rattle.occ_model.specs.World.{ReadPhase, phase_cmp}
-use Rattle.occ_book.specs.Content.{key_code, cell_code}
+use Rattle.occ_types.specs.Codes.{key_code, cell_code}
 use Rattle.occ_log.specs.declared.phases.Phase as code_phase
 
 abbrev question_parts : Question → (ℕ × Key) ⊎ (ℕ × (Option Key × Option Key))

@@ -2,9 +2,9 @@
 use Rattle.std.specs.Prelude.{ℕ, List, map}
 use Rattle.std.specs.Option.{option_map}
 use Rattle.occ_model.specs.Log.{Case, LogRow, Standing}
-use Rattle.occ_book.specs.Rows as books
-use Rattle.occ_book.specs.declared.rows.Standing as code_standing
-use Rattle.occ_book.specs.declared.rows.LogRow as code_row
+use Rattle.occ_sets.specs.LogRows as books
+use Rattle.occ_sets.specs.declared.log_rows.Standing as code_standing
+use Rattle.occ_sets.specs.declared.log_rows.LogRow as code_row
 use Rattle.occ_log.specs.SessionStates.{Slot, Hold}
 use Rattle.occ_log.specs.declared.sessions.Held as code_held
 use Rattle.occ_log.specs.declared.sessions.SessionState as code_session

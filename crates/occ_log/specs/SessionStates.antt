@@ -9,7 +9,7 @@ use Rattle.occ_types.specs.declared.fault.Fault.TheVariants.{NoSession, NothingE
 use Rattle.occ_model.specs.State.{Write}
 use Rattle.occ_model.specs.Log.{LogRow, Standing, Open, Writing, Done, Back, is_active}
 use Rattle.occ_model.specs.World.{latest}
-use Rattle.occ_book.specs.Undo.{ArePlaced}
+use Rattle.occ_sets.specs.Sets.{ArePlaced}
 
 -- the row of a session that is under way: its place in the log, and its writes once more, for the window
 pub record Hold : Type 0 where

@@ -13,8 +13,8 @@ ghost use Rattle.occ_model.specs.Refusal.{foldable};
 ghost use Rattle.occ_model.specs.Step.{foldable_part};
 
 use crate::listing::Listing;
-use occ_book::{LogRow, Standing};
 use occ_case::OpenCase;
+use occ_sets::{LogRow, Standing};
 use occ_types::Object;
 use std::alloc::{AllocError, Allocator};
 use std::marker::Model;

@@ -12,7 +12,7 @@ use Rattle.occ_types.specs.Schema.{Schema}
 use Rattle.occ_model.specs.State.{State, Write, Answer, Found, Rows, Observation}
 use Rattle.occ_model.specs.Log.{Case, LogRow, Base, Standing, Open, Writing, Done, Back}
 use Rattle.occ_model.specs.declared.verdict.Cause.TheVariants.{Conflict, TooOld}
-use Rattle.occ_book.specs.Rows.{log_of}
+use Rattle.occ_sets.specs.LogRows.{log_of}
 use Rattle.occ_book.specs.declared.books.BookView as code_view
 use Rattle.occ_text.specs.Spelling.{line_text, key_text, end_text, row_text}
 use Rattle.occ_text.specs.declared.headers.Limits.{Limits}

@@ -4,7 +4,7 @@ ghost use Rattle.std.specs.Prelude.{◌≡◌, ◌≢◌, ℕ, true, IfErr, IfSo
 ghost use Rattle.std.specs.List.{list_all};
 ghost use Rattle.occ_types.specs.PlainData.{question_of, tables_of};
 ghost use Rattle.occ_model.specs.Log.{Case};
-ghost use Rattle.occ_book.specs.Rows.{log_of};
+ghost use Rattle.occ_sets.specs.LogRows.{log_of};
 ghost use Rattle.occ_text.specs.declared.versions.Version.TheVariants as versions;
 ghost use Rattle.occ_print.specs.declared.ends.BookFault.TheVariants as book_faults;
 ghost use Rattle.occ_print.specs.Books.{book_of};

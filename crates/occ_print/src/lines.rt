@@ -8,7 +8,7 @@ ghost use Rattle.std.specs.Option.{option_copied};
 ghost use Rattle.occ_types.specs.PlainData.{key_of, object_of, question_of, table_of};
 ghost use Rattle.occ_sets.specs.PlainSets.{answer_of, observation_of};
 ghost use Rattle.occ_model.specs.Log.{Case};
-ghost use Rattle.occ_book.specs.Rows.{log_row_of, standing_of};
+ghost use Rattle.occ_sets.specs.LogRows.{log_row_of, standing_of};
 ghost use Rattle.occ_text.specs.Headers.{version_text, count_text, table_text, kind_word, key_kind_word};
 ghost use Rattle.occ_print.specs.Books.{table_name, question_text, answer_text, read_line, pair_line, write_line, row_line, standing_text, number_line, entry_line, base_line, counter_line, audit_line};
 

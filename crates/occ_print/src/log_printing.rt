@@ -6,7 +6,7 @@ ghost use Rattle.std.specs.Option.{option_copied, option_to_list};
 ghost use Rattle.occ_types.specs.PlainData.{key_of, object_of};
 ghost use Rattle.occ_sets.specs.PlainSets.{rows_of, answer_of, observation_of, observations_of};
 ghost use Rattle.occ_model.specs.Log.{Case};
-ghost use Rattle.occ_book.specs.Rows.{log_row_of, log_of};
+ghost use Rattle.occ_sets.specs.LogRows.{log_row_of, log_of};
 ghost use Rattle.occ_text.specs.Line.{lines_text};
 ghost use Rattle.occ_text.specs.Printing.{PrintGives};
 ghost use Rattle.occ_text.specs.declared.faults.WriteFault.TheVariants as write_faults;

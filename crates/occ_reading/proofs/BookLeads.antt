@@ -4,7 +4,7 @@ use Rattle.occ_reading.proofs.Common.{AllByRecursion, AskedOne, AskedSpan, AtFit
 use Rattle.std.proofs.lemmas.Cmp.{ranked}
 use Rattle.occ_print.specs.declared.sections.Section.TheVariants as sections
 use Rattle.occ_reading.specs.declared.number_lines.Began.TheVariants as begun
-use Rattle.occ_book.specs.declared.rows.Standing.TheVariants as stands
+use Rattle.occ_sets.specs.declared.log_rows.Standing.TheVariants as stands
 use Rattle.occ_reading.specs.Places as places
 use Rattle.occ_reading.proofs.Rising.{first, less, second}
 use Rattle.occ_reading.proofs.PartPlaces.{limits_lead}

@@ -1,7 +1,7 @@
 -- The lines of numbers are fields: what is read is spelled so, what is spelled so is read again, and they are lines.
 use Rattle.std.proofs.Common.{◌≡◌, ◌+◌, ℕ, zero, suc, ◌^◌, ◌-◌, ◌==◌, ◌<◌, ◌≤◌, not, true, List, ◌∷◌, length, Option, Some, None, lit<, refl, sym, ap, ◌∙◌, arith, []}
 use Rattle.occ_reading.proofs.Common.{BaseHead, BaseHeadFits, Began, BeganFits, Conflict, CountsFit, HeadFits, IfSome, IsField, IsLine, IsSession, IsToken, IsToken-from_test, MarkFits, Reads, Section, Stand, StandFits, TooOld, Within, after_word, alone_spelled, alone_takes, base_head_line, base_of_line, base_text, began_of_line, began_text, began_unless, behind_spelled, behind_takes, both_fields, codes, count_field, count_of_line, count_reads, count_text, counts_line, field_is_line, field_reads, fitting_field, head_from, head_line, head_parts, is_token, mark_line, ne_eqb, next_session, next_stand, number, number64, number_field, number_word, one_and_other, option_map, session, shaped_field, stand, stand_tokens, tested_field, within, words_field}
-use Rattle.occ_book.specs.declared.rows.Standing.TheVariants.{Open, Writing, Done, Back}
+use Rattle.occ_sets.specs.declared.log_rows.Standing.TheVariants.{Open, Writing, Done, Back}
 use Rattle.occ_text.proofs.Fields.{IsSpelled}
 use Rattle.occ_print.specs.declared.sections.Section.TheVariants as sections
 use Rattle.occ_reading.specs.declared.number_lines.Began.TheVariants as begun

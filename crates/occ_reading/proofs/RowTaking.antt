@@ -2,7 +2,7 @@
 use Rattle.std.proofs.Common.{◌≡◌, ℕ, ◌≤◌, ◌^◌, ◌-◌, Bool, true, false, cond, List, ◌∷◌, ◌++◌, map, length, Option, Some, None, refl, sym, ap, subst, ◌∙◌, arith, length-append, []}
 use Rattle.occ_reading.proofs.Common.{AllByRecursion, AllFit, AskedFits, AskedSpan, Conflict, FailsFrom, Head, HeadFits, InRow, IsAbove, IsDistinctWrites, IsRowOf, IsSession, Key, LogRow, LogRowFits, Object, Observation, One, PairFits, Position, Question, ReadFault, ReadFits, ReadOf, RisesFrom, Row, Rows, Schema, Span, Stand, StandFits, Standing, StandingFits, StandsSo, TooOld, Took, Version, Write, WriteFits, asked_text, codes, decimal, eq_by_cmp, fails, flat_map, frame_of, head_text, in_row, is_some, last_key, line_text, object_cmp, own, pair_line, pairs_to_come, question_text, read_lines, reads_to_come, row_line, row_lines, rows_to_come, set, spelled, stand_tokens, standing_text, table_asked, write_line, writes_to_come, ◌and◌}
 use Rattle.occ_model.proofs.OwnWrites.{sets_own}
-use Rattle.occ_book.specs.declared.rows.Standing.TheVariants as stands
+use Rattle.occ_sets.specs.declared.log_rows.Standing.TheVariants as stands
 use Rattle.occ_reading.specs.Places as places
 
 -- ---- writes

@@ -7,8 +7,8 @@ use Rattle.occ_text.specs.Headers.{count_text, Within}
 use Rattle.occ_text.specs.HeaderReading.{count_of_line}
 use Rattle.occ_print.specs.Books.{number_word, number_line, base_line, counter_line}
 use Rattle.occ_print.specs.declared.sections.Section.{Section}
-use Rattle.occ_book.specs.declared.rows.Standing as code_standing
-use Rattle.occ_book.specs.declared.rows.Standing.TheVariants.{Open, Writing, Done, Back}
+use Rattle.occ_sets.specs.declared.log_rows.Standing as code_standing
+use Rattle.occ_sets.specs.declared.log_rows.Standing.TheVariants.{Open, Writing, Done, Back}
 use Rattle.occ_reading.specs.declared.number_lines.Head.{Head}
 use Rattle.occ_reading.specs.declared.number_lines.Mark.{Mark}
 use Rattle.occ_reading.specs.declared.number_lines.Counts.{Counts}

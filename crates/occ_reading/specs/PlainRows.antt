@@ -1,8 +1,8 @@
 -- The plain rows of a log that was read from a text, which tells nothing of the case of an open row.
 use Rattle.std.specs.Prelude.{ℕ, List, [], map}
 use Rattle.occ_model.specs.Log.{Case, LogRow}
-use Rattle.occ_book.specs.Rows as books
-use Rattle.occ_book.specs.declared.rows.LogRow as code_row
+use Rattle.occ_sets.specs.LogRows as books
+use Rattle.occ_sets.specs.declared.log_rows.LogRow as code_row
 
 -- an open row is seen with a case of nothing
 abbrev pub without_case : Unit {0} → ℕ × Case

@@ -13,7 +13,7 @@ use Rattle.occ_model.specs.State.{Observation, Write, Found, Rows}
 use Rattle.occ_model.specs.RangeLaws.{IsDistinctWrites}
 use Rattle.occ_print.specs.Books.{base_line, base_lines, row_count}
 use Rattle.occ_model.specs.Log.{Case, LogRow, Base, Standing, Open, Writing, Done, Back}
-use Rattle.occ_book.specs.declared.rows.Standing.TheVariants as stands
+use Rattle.occ_sets.specs.declared.log_rows.Standing.TheVariants as stands
 use Rattle.occ_text.specs.declared.versions.Version.{Version}
 use Rattle.occ_text.specs.Headers.{table_text, count_text}
 use Rattle.occ_text.specs.HeaderTaking.{TablesSoFar}

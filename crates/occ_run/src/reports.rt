@@ -4,7 +4,7 @@ ghost use Rattle.std.specs.Prelude.{◌≡◌, ℕ, ◌+◌, ◌<◌, ◌≤◌,
 ghost use Rattle.std.specs.List.{flat_map};
 ghost use Rattle.occ_model.specs.Log.{Audited, Case};
 ghost use Rattle.occ_log.specs.Rows.{log_of as log_seen};
-ghost use Rattle.occ_book.specs.Rows.{log_row_of, log_of};
+ghost use Rattle.occ_sets.specs.LogRows.{log_row_of, log_of};
 ghost use Rattle.occ_text.specs.Line.{lines_text};
 ghost use Rattle.occ_text.specs.Printing.{Pushed, PushedFront, PrintGives};
 ghost use Rattle.occ_text.specs.declared.faults.WriteFault.TheVariants as write_faults;

@@ -2,7 +2,7 @@
 
 ghost use Rattle.std.specs.Prelude.{◌≡◌, ℕ, ◌++◌, OnOk, string_bytes};
 ghost use Rattle.occ_model.specs.Log.{Case};
-ghost use Rattle.occ_book.specs.Rows.{log_row_of, standing_of};
+ghost use Rattle.occ_sets.specs.LogRows.{log_row_of, standing_of};
 ghost use Rattle.occ_print.specs.Books.{standing_text};
 ghost use Rattle.occ_run.specs.Reports.{session_line, standing_line, mark_line};
 

@@ -2,6 +2,7 @@ pub mod Agreement
 pub mod Checks
 pub mod WriteEntries
 pub mod Leading
+pub mod LookUps
 pub mod Meetings
 pub mod Merging
 pub mod Observations

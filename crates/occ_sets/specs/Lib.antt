@@ -1,4 +1,5 @@
 pub mod InOrder
+pub mod LogRows
 pub mod Merging
 pub mod Operations
 pub mod Overlays

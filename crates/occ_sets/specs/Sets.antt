@@ -1,5 +1,5 @@
 -- What the sets of a transaction keep, and when they are full.
-use Rattle.std.specs.Prelude.{ℕ, ◌≤◌, Bool, ◌&&◌, not, nat_le, List, Option, map, length, is_some}
+use Rattle.std.specs.Prelude.{ℕ, ◌<◌, ◌≤◌, Bool, ◌&&◌, not, nat_le, List, [], ◌∷◌, Option, map, length, is_some}
 use Rattle.std.specs.List.{IsDistinct, position}
 use Rattle.std.specs.Ordering.{eq_by_cmp}
 use Rattle.occ_types.specs.declared.limits.TheConstants.{MAX_WRITES, MAX_QUESTIONS}
@@ -10,6 +10,11 @@ use Rattle.occ_model.specs.Overlay.{own}
 -- the objects that are written
 abbrev pub objects : List Write → List Object
 objects = map (λ write. write.0)
+
+-- each write is of one of so many tables
+abbrev pub ArePlaced : ℕ → List Write → Type 0
+ArePlaced tables [] = Unit {0}
+ArePlaced tables (write ∷ writes) = (write.0.0 < tables) × ArePlaced tables writes
 
 -- no object is written twice
 abbrev pub WritesOnce : List Write → Type 0

@@ -1,10 +1,11 @@
-//! What a transaction writes and reads: its write set, its read set, and the tests whether these meet.
+//! What a transaction writes and reads: its write set, its read set, the tests whether these meet, and its row in the log.
 #![tactic(auto)]
 
 mod appending;
 mod copies;
 mod few_writes;
 mod inserting;
+mod log_rows;
 mod many_writes;
 mod meets;
 mod operations;
@@ -19,6 +20,7 @@ mod write_set_iter;
 mod writes;
 
 pub use copies::PrivateCopy;
+pub use log_rows::{LogRow, Standing};
 pub use meets::{meets_reads, meets_writes};
 pub use operations::{Op, check_operations};
 pub use own_writes::Write;

@@ -13,8 +13,8 @@ use Rattle.occ_board.specs.declared.words.Words.{Words}
 use Rattle.occ_board.specs.Words.{HasSession, last_of, counted, settled}
 use Rattle.occ_board.specs.Rule.{Posted}
 use Rattle.occ_published.specs.Published.{Published, NumbersFit}
-use Rattle.occ_book.specs.declared.rows.Standing as code_standing
-use Rattle.occ_book.specs.declared.rows.Standing.TheVariants as standings
+use Rattle.occ_sets.specs.declared.log_rows.Standing as code_standing
+use Rattle.occ_sets.specs.declared.log_rows.Standing.TheVariants as standings
 use Rattle.occ_filed.specs.Filed.{Filed, Moves, Enters}
 use Rattle.occ_store.specs.Names.{Named}
 

@@ -1,3 +1,4 @@
+pub mod Codes
 pub mod Key
 pub mod KeyPart
 pub mod Object

@@ -2,7 +2,7 @@
 ghost use Rattle.std.specs.Prelude.{IfSome};
 ghost use Rattle.occ_model.specs.Content.{IsSession};
 ghost use Rattle.occ_book.specs.Base.{FitsIn, AllFitIn};
-ghost use Rattle.occ_book.specs.Undo.{ArePlaced};
+ghost use Rattle.occ_sets.specs.Sets.{ArePlaced};
 
 use occ_book::{Base, Book, LogRow, Marks, Standing, Tables};
 use occ_case::Cause;

@@ -2,7 +2,7 @@ use Rattle.std.proofs.lemmas.Iterator.{YieldsList-from_slice}
 use Rattle.std.proofs.lemmas.Iterator.Search.{all_from_yields_List}
 use Rattle.std.proofs.lemmas.List.Folds.{list_all-map}
 use Rattle.std.proofs.Common.{◌∙◌, sym, rules, tests}
-use Rattle.occ_book.specs.Rows.{log_row_of}
+use Rattle.occ_sets.specs.LogRows.{log_row_of}
 use Rattle.occ_print.specs.Ends.{reads_have_ends}
 use Rattle.occ_print.proofs.ends.ranges_have_ends.Goals as goal
 

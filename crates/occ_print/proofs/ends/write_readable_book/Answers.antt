@@ -1,5 +1,5 @@
 use Rattle.std.proofs.Common.{◌∙◌, ap, sym, refl}
-use Rattle.occ_book.specs.Rows.{log_of}
+use Rattle.occ_sets.specs.LogRows.{log_of}
 use Rattle.occ_print.specs.Books.{book_of}
 use Rattle.occ_print.specs.Ends.{unworded}
 use Rattle.occ_print.proofs.Readable.{begun_book, refused_book}

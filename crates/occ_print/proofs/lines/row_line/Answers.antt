@@ -3,7 +3,7 @@ use Rattle.std.specs.Prelude.{string_bytes}
 use Rattle.std.specs.Fmt.{decimal}
 use Rattle.std.proofs.lemmas.Result.{on_ok_weaker}
 use Rattle.occ_text.specs.Spelling.{line_text}
-use Rattle.occ_book.specs.Rows.{standing_of}
+use Rattle.occ_sets.specs.LogRows.{standing_of}
 use Rattle.occ_print.specs.Books.{standing_text}
 use Rattle.occ_print.proofs.lines.row_line.Goals as goal
 

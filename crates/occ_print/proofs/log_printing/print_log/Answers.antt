@@ -1,7 +1,7 @@
 use Rattle.std.proofs.Common.{ap, sym, length, codes}
 use Rattle.std.proofs.lemmas.List.{length-map}
 use Rattle.std.specs.List.{flat_map}
-use Rattle.occ_book.specs.Rows.{log_row_of, log_of}
+use Rattle.occ_sets.specs.LogRows.{log_row_of, log_of}
 use Rattle.occ_print.specs.Books.{row_lines}
 use Rattle.occ_text.specs.Headers.{count_text}
 use Rattle.occ_print.proofs.Printing.{failed, front_line, line_then}

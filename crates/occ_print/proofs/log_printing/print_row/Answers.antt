@@ -1,6 +1,6 @@
 use Rattle.std.proofs.Common.{◌++◌, ap, map, Ok}
 use Rattle.std.specs.List.{flat_map}
-use Rattle.occ_book.specs.Rows.{log_row_of}
+use Rattle.occ_sets.specs.LogRows.{log_row_of}
 use Rattle.occ_print.specs.Books.{row_line, read_lines, write_line}
 use Rattle.occ_print.proofs.Printing.{failed, printed_nothing, front_line, front_before, front_same, line_then, lines_then, lines_same}
 use Rattle.occ_print.proofs.log_printing.print_row.Goals as goal

@@ -1,6 +1,6 @@
 use Rattle.std.proofs.Common.{List, subst}
 use Rattle.occ_reading.proofs.Common.{Audited, BaseContent, Content, Decides, Marked, log_of, without_case}
-use Rattle.occ_book.specs.declared.rows.LogRow.{LogRow}
+use Rattle.occ_sets.specs.declared.log_rows.LogRow.{LogRow}
 use Rattle.occ_reading.proofs.audits.judge.Goals as goal
 
 pub returns-in-Ok-clause-ok : goal.returns-in-Ok-clause-ok

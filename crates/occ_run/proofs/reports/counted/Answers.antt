@@ -1,4 +1,4 @@
-use Rattle.occ_book.specs.Rows.{log_row_of}
+use Rattle.occ_sets.specs.LogRows.{log_row_of}
 use Rattle.occ_run.proofs.Reporting.{one_counted, none_counted}
 use Rattle.occ_run.proofs.reports.counted.Goals as goal
 

@@ -1,6 +1,6 @@
 use Rattle.std.proofs.Common.{ap, length, ◌∙◌, arith}
 use Rattle.std.proofs.lemmas.List.{take_all}
-use Rattle.occ_book.specs.Rows.{log_row_of, log_of}
+use Rattle.occ_sets.specs.LogRows.{log_row_of, log_of}
 use Rattle.occ_run.specs.Reports.{rows_of}
 use Rattle.occ_run.proofs.Reporting.{rows_more}
 use Rattle.occ_run.proofs.reports.rows_of.Goals as goal

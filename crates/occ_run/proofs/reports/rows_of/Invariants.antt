@@ -1,6 +1,6 @@
 use Rattle.std.proofs.Common.{◌≡◌, ℕ, ◌≤◌, length, take}
 use Rattle.occ_model.specs.Log.{Case}
-use Rattle.occ_book.specs.Rows.{log_of}
+use Rattle.occ_sets.specs.LogRows.{log_of}
 use Rattle.occ_run.specs.Reports.{rows_of}
 use Rattle.occ_run.proofs.reports.rows_of.Given as goal
 

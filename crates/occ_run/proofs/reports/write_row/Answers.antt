@@ -1,4 +1,4 @@
-use Rattle.occ_book.specs.Rows.{log_row_of}
+use Rattle.occ_sets.specs.LogRows.{log_row_of}
 use Rattle.occ_print.proofs.Printing.{printed_nothing}
 use Rattle.occ_run.proofs.Reporting.{row_skipped, row_printed}
 use Rattle.occ_run.proofs.reports.write_row.Goals as goal

@@ -1,7 +1,7 @@
 use Rattle.std.proofs.Common.{◌≡◌, Ok, take, ap, arith}
 use Rattle.std.proofs.lemmas.List.{take_all}
 use Rattle.std.specs.List.{flat_map}
-use Rattle.occ_book.specs.Rows.{log_row_of, log_of}
+use Rattle.occ_sets.specs.LogRows.{log_row_of, log_of}
 use Rattle.occ_text.specs.declared.faults.WriteFault.TheVariants as write_faults
 use Rattle.occ_text.proofs.Causes.{caused}
 use Rattle.occ_print.proofs.Printing.{failed, loop_more, loop_front, lines_same}

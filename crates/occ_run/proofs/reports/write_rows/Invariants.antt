@@ -1,7 +1,7 @@
 use Rattle.std.proofs.Common.{ℕ, take}
 use Rattle.std.specs.List.{flat_map}
 use Rattle.occ_model.specs.Log.{Case}
-use Rattle.occ_book.specs.Rows.{log_of}
+use Rattle.occ_sets.specs.LogRows.{log_of}
 use Rattle.occ_text.specs.Line.{lines_text}
 use Rattle.occ_text.specs.Printing.{Pushed}
 use Rattle.occ_run.specs.Reports.{row_lines}

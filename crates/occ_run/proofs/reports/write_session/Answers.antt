@@ -1,7 +1,7 @@
 use Rattle.std.proofs.Common.{◌++◌, ℕ, ap, ◌∙◌}
 use Rattle.std.specs.FinMap.{get}
 use Rattle.std.specs.List.{flat_map}
-use Rattle.occ_book.specs.Rows.{log_of}
+use Rattle.occ_sets.specs.LogRows.{log_of}
 use Rattle.occ_print.proofs.Printing.{failed, printed_nothing, front_line, front_before, line_then, lines_then, lines_same}
 use Rattle.occ_run.specs.Reports.{session_line, row_lines, mark_lines}
 use Rattle.occ_run.proofs.reports.write_session.Goals as goal

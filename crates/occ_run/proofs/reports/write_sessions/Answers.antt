@@ -1,7 +1,7 @@
 use Rattle.std.proofs.Common.{◌≡◌, ◌+◌, ℕ, Ok, take, ap, sym, arith}
 use Rattle.std.proofs.lemmas.List.{take_all}
 use Rattle.std.proofs.lemmas.Grind.{get_or_default_zero}
-use Rattle.occ_book.specs.Rows.{log_of}
+use Rattle.occ_sets.specs.LogRows.{log_of}
 use Rattle.occ_print.proofs.Printing.{failed, lines_same}
 use Rattle.occ_run.specs.Reports.{sessions_lines}
 use Rattle.occ_run.proofs.Reporting.{session_more, session_front}

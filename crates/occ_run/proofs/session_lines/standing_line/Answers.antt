@@ -2,7 +2,7 @@ use Rattle.std.proofs.Common.{append_assoc, ◌≡◌, List, ℕ, ◌∷◌, ◌
 use Rattle.std.specs.Prelude.{string_bytes}
 use Rattle.std.specs.Fmt.{decimal}
 use Rattle.std.proofs.lemmas.Result.{on_ok_weaker}
-use Rattle.occ_book.specs.Rows.{standing_of}
+use Rattle.occ_sets.specs.LogRows.{standing_of}
 use Rattle.occ_print.specs.Books.{standing_text}
 use Rattle.occ_run.proofs.session_lines.standing_line.Goals as goal
 

@@ -1,4 +1,4 @@
-use Rattle.occ_book.specs.Undo.{ArePlaced}
+use Rattle.occ_sets.specs.Sets.{ArePlaced}
 use Rattle.test_units.proofs.book.writes.Given as goal
 
 -- the writes so far are of the first table

@@ -1,6 +1,6 @@
 use Rattle.std.proofs.Common.{Some, None, arith}
 use Rattle.occ_book.proofs.MarkViews.{mark-found, mark-none}
-use Rattle.occ_book.proofs.Views.{table-at}
+use Rattle.occ_sets.proofs.LookUps.{table-at}
 use Rattle.occ_book.proofs.marks.Marks.get.Goals as goal
 
 pub returns-then-session-eq0 : goal.returns-then-session-eq0

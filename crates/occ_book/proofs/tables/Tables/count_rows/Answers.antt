@@ -1,6 +1,7 @@
 use Rattle.std.proofs.Common.{sym, ap, ◌∙◌, option_copied}
 use Rattle.occ_book.proofs.Common.{end_of, answer_size}
-use Rattle.occ_book.proofs.Views.{table-at, size-found, answer-missing}
+use Rattle.occ_sets.proofs.LookUps.{table-at}
+use Rattle.occ_book.proofs.Views.{size-found, answer-missing}
 use Rattle.occ_book.proofs.tables.Tables.count_rows.Goals as goal
 
 pub returns-in-Some : goal.returns-in-Some

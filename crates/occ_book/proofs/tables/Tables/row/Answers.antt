@@ -1,6 +1,7 @@
 use Rattle.std.proofs.Common.{◌∙◌, Some, None}
 use Rattle.occ_book.proofs.Common.{key_of}
-use Rattle.occ_book.proofs.Views.{table-at, row-found}
+use Rattle.occ_sets.proofs.LookUps.{table-at}
+use Rattle.occ_book.proofs.Views.{row-found}
 use Rattle.occ_book.proofs.tables.Tables.row.Goals as goal
 
 pub returns-in-Some : goal.returns-in-Some

@@ -1,6 +1,7 @@
 use Rattle.std.proofs.Common.{sym, ap, ◌∙◌, map, option_copied}
 use Rattle.occ_book.proofs.Common.{IfOk-weaker, end_of, Rows, seen}
-use Rattle.occ_book.proofs.Views.{table-at, answer-found, answer-missing}
+use Rattle.occ_sets.proofs.LookUps.{table-at}
+use Rattle.occ_book.proofs.Views.{answer-found, answer-missing}
 use Rattle.occ_book.proofs.tables.Tables.rows.Goals as goal
 
 pub returns-in-Some-clause-answered : goal.returns-in-Some-clause-answered

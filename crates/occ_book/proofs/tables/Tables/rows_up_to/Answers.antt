@@ -1,7 +1,8 @@
 use Rattle.std.proofs.Common.{Some, [], sym, ap, ◌∙◌, map, option_copied, arith}
 use Rattle.occ_book.proofs.Common.{IfOk-weaker, end_of, Rows, seen}
 use Rattle.occ_book.specs.Content.{IsAllUpTo}
-use Rattle.occ_book.proofs.Views.{table-at, answer-found, answer-missing, up_to_answers}
+use Rattle.occ_sets.proofs.LookUps.{table-at}
+use Rattle.occ_book.proofs.Views.{answer-found, answer-missing, up_to_answers}
 use Rattle.occ_book.proofs.tables.Tables.rows_up_to.Goals as goal
 
 pub returns-in-Some-clause-answered : goal.returns-in-Some-clause-answered

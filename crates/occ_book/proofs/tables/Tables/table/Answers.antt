@@ -1,6 +1,7 @@
 use Rattle.std.proofs.Common.{sym, ap, ◌∙◌, None, map}
 use Rattle.occ_book.proofs.Common.{Rows, seen}
-use Rattle.occ_book.proofs.Views.{table-at, answer-found}
+use Rattle.occ_sets.proofs.LookUps.{table-at}
+use Rattle.occ_book.proofs.Views.{answer-found}
 use Rattle.occ_book.proofs.tables.Tables.table.Goals as goal
 use Rattle.occ_book.proofs.TableEntries.{all_within}
 

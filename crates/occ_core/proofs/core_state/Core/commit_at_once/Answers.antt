@@ -3,7 +3,7 @@ use Rattle.occ_model.specs.Log.{LogRow}
 use Rattle.occ_model.specs.State.{apply}
 use Rattle.occ_core.specs.Core.{parts_of}
 use Rattle.occ_core.specs.CoreParts.{AreSound, world_of}
-use Rattle.occ_book.specs.Undo.{ArePlaced}
+use Rattle.occ_sets.specs.Sets.{ArePlaced}
 use Rattle.occ_log.specs.Rows.{log_row_of}
 use Rattle.occ_log.specs.SessionStates.{HoldsArePlaced}
 use Rattle.occ_log.specs.Window.{advanced}

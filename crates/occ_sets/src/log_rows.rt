@@ -1,8 +1,9 @@
 //! Rows of the decision log.
-ghost use Rattle.occ_book.specs.Rows.{IsStandingCopy, IsRowCopy};
+ghost use Rattle.occ_sets.specs.LogRows.{IsStandingCopy, IsRowCopy};
 
+use crate::reads::ReadSet;
+use crate::writes::WriteSet;
 use occ_model::Cause;
-use occ_sets::{ReadSet, WriteSet};
 use std::alloc::{AllocError, Allocator};
 
 /// How far a transaction has come since its entry (Kung and Robinson, section 5). `O` is what is held of one that is not decided: a core holds its case, and a book that was read from a text nothing.

@@ -1,9 +1,9 @@
 -- What clauses see of the log's rows: the plain rows of the model, where it is known how what is held of an open row is seen.
 use Rattle.std.specs.Prelude.{◌≡◌, ℕ, List, map}
 use Rattle.occ_model.specs.Log.{Case, LogRow, Standing, Open, Writing, Done, Back}
-use Rattle.occ_book.specs.declared.rows.Standing as code_standing
-use Rattle.occ_book.specs.declared.rows.Standing.TheVariants as standings
-use Rattle.occ_book.specs.declared.rows.LogRow as code_row
+use Rattle.occ_sets.specs.declared.log_rows.Standing as code_standing
+use Rattle.occ_sets.specs.declared.log_rows.Standing.TheVariants as standings
+use Rattle.occ_sets.specs.declared.log_rows.LogRow as code_row
 
 module _ {O : Type 0} where
   -- the plain standing
