@@ -9,7 +9,7 @@ use Rattle.occ_model.specs.State.{Write}
 use Rattle.occ_model.specs.World.{World, has_session}
 use Rattle.occ_model.specs.Event.{Item, Request, Alone, Close, Reply, Refused, Closed, Finished, EndedBack}
 use Rattle.occ_sets.specs.Sets.{Copied}
-use Rattle.occ_core.specs.Replies.{replied, replied_back}
+use Rattle.occ_model.specs.Replies.{replied, replied_back}
 use Rattle.occ_core.specs.declared.outcomes.Outcome as code_outcome
 use Rattle.occ_core.specs.declared.outcomes.Outcome.TheVariants as outcomes
 use Rattle.occ_client.specs.Ends.{Ends, WritesOut, is_refusal}

@@ -7,7 +7,7 @@ use Rattle.occ_types.specs.Row.{Row}
 use Rattle.occ_model.specs.State.{Found, Rows}
 use Rattle.occ_model.specs.Event.{Reply, Answered, Forgotten}
 use Rattle.occ_sets.specs.PlainSets.{rows_of}
-use Rattle.occ_core.specs.Replies.{replied}
+use Rattle.occ_model.specs.Replies.{replied}
 
 -- what a read of one key replies
 abbrev pub reading : Result (Option Row) Fault → Reply

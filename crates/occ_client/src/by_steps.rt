@@ -5,7 +5,7 @@ ghost use Rattle.occ_model.specs.Event.{Enter, Request, Entered, Decide, Decided
 ghost use Rattle.occ_model.specs.Refusal.{refusal};
 ghost use Rattle.occ_model.specs.Step.{Step};
 ghost use Rattle.occ_model.specs.declared.verdict.Verdict.{Verdict as PlainVerdict};
-ghost use Rattle.occ_core.specs.Replies.{replied, replied_back};
+ghost use Rattle.occ_model.specs.Replies.{replied, replied_back};
 ghost use Rattle.occ_client.specs.Clients.{handed_reply, stopped_in};
 ghost use Rattle.occ_client.specs.Ends.{EndsBySteps, Follows, WritesNext, WritesOut};
 

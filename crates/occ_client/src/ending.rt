@@ -3,7 +3,8 @@ ghost use Rattle.std.specs.Prelude.{◌≡◌, IfErr};
 ghost use Rattle.occ_model.specs.Event.{SerialEnd, Enter, Request, Close};
 ghost use Rattle.occ_model.specs.Step.{Step};
 ghost use Rattle.occ_queue.specs.Items.{item_of};
-ghost use Rattle.occ_core.specs.Replies.{outcome_of, replied_back};
+ghost use Rattle.occ_model.specs.Replies.{replied_back};
+ghost use Rattle.occ_core.specs.Replies.{outcome_of};
 ghost use Rattle.occ_client.specs.Clients.{IsEnd, IsRequest, closing, end_reply, ending_back, writes_in, handed_reply, stopped_in};
 ghost use Rattle.occ_client.specs.Ends.{Ends};
 

@@ -13,7 +13,7 @@ use Rattle.occ_model.specs.Refusal.{refusal}
 use Rattle.occ_model.specs.Step.{Step, refused, decided}
 use Rattle.occ_model.specs.declared.verdict.Verdict.{Verdict}
 use Rattle.occ_model.proofs.Tests as tests
-use Rattle.occ_core.specs.Replies.{replied}
+use Rattle.occ_model.specs.Replies.{replied}
 use Rattle.occ_log.specs.SessionStates.{Slot, Hold, IsHeldAt, row_under_way, last_of, back_fault}
 use Rattle.occ_core.specs.CoreParts.{Parts, world_of, found_at, HasRow, AreSound}
 use Rattle.occ_core.specs.Folding.{under_way_fault, back_fault_of, verdict_on}

@@ -15,7 +15,8 @@ use Rattle.occ_model.specs.Refusal as refusals
 use Rattle.occ_model.specs.Refusal.{refusal, takes_memory, puts_next}
 use Rattle.occ_model.specs.Step.{Step, refused, starved}
 use Rattle.occ_model.proofs.Logs.{standing_at}
-use Rattle.occ_core.specs.Replies.{replied, wrote, written_in}
+use Rattle.occ_model.specs.Replies.{replied}
+use Rattle.occ_core.specs.Replies.{wrote, written_in}
 use Rattle.occ_log.specs.SessionStates.{Slot, Hold, row_under_way, last_of, written_at, writes_done, finish_fault, HoldsArePlaced}
 use Rattle.occ_sets.specs.Sets.{ArePlaced}
 use Rattle.occ_log.specs.Window.{Window, advanced}

@@ -27,7 +27,7 @@ use Rattle.occ_sets.specs.PlainSets.{rows_of}
 use Rattle.occ_book.specs.Content.{AnswersUpTo}
 use Rattle.occ_log.specs.Phases.{reads_of}
 use Rattle.occ_core.specs.Reads.{session_fault, closed_fault, number_fault, start_fault, turn_to_read, size_fault, room_to_read, noted}
-use Rattle.occ_core.specs.Replies.{replied}
+use Rattle.occ_model.specs.Replies.{replied}
 use Rattle.occ_log.specs.SessionStates.{last_of}
 use Rattle.occ_core.specs.Core.{parts_of, IsCore, IsRefusal}
 use Rattle.occ_core.specs.CoreParts.{Parts, world_of, AreSound}

@@ -6,7 +6,7 @@ use Rattle.occ_model.specs.World.{World}
 use Rattle.occ_model.specs.Event.{Event, Reply, Item, Refused}
 use Rattle.occ_model.specs.Step.{Step, Run}
 use Rattle.occ_core.specs.Core.{Seen, Transition}
-use Rattle.occ_core.specs.Replies.{replied}
+use Rattle.occ_model.specs.Replies.{replied}
 use Rattle.occ_core.specs.Runs.{event_of, reply_of, handed_in, handed_back, owed, IsPutOff, Answers, Runs}
 use Rattle.occ_core.specs.declared.steps.Step as code_step
 use Rattle.occ_core.specs.declared.steps.Step.TheVariants as steps

@@ -7,7 +7,8 @@ use Rattle.occ_model.specs.Log.{remaining, rest}
 use Rattle.occ_model.specs.World.{World}
 use Rattle.occ_model.specs.Event.{Reply, WriteOne, Refused, Wrote, NoMore}
 use Rattle.occ_model.specs.Step.{Step, refused, starved, taken}
-use Rattle.occ_core.specs.Replies.{replied, wrote, written_in, first_object, next_object}
+use Rattle.occ_model.specs.Replies.{replied}
+use Rattle.occ_core.specs.Replies.{wrote, written_in, first_object, next_object}
 use Rattle.occ_core.specs.declared.writing.SingleWrite.{SingleWrite}
 use Rattle.occ_core.specs.declared.writing.SingleWrite.TheVariants as writes
 use Rattle.occ_core.proofs.Nexts.{first_dropped}

@@ -1,12 +1,10 @@
 -- What the calls of a core reply, as replies of the model.
-use Rattle.std.specs.Prelude.{◌≡◌, ◌<◌, ⊤, ℕ, List, [], ◌∷◌, map, length, Option, None, Some, Result, Ok, Err, Vec}
-use Rattle.occ_types.specs.declared.fault.Fault.{Fault}
-use Rattle.occ_types.specs.declared.fault.Refused as refused
+use Rattle.std.specs.Prelude.{◌≡◌, ◌<◌, ⊤, ℕ, List, [], ◌∷◌, map, length, Option, None, Some, Vec}
 use Rattle.occ_types.specs.Object.{Object}
 use Rattle.occ_model.specs.State.{Write}
 use Rattle.occ_model.specs.Log.{LogRow, Writing, rest}
 use Rattle.occ_model.specs.World.{World, latest}
-use Rattle.occ_model.specs.Event.{Item, Request, Alone, Close, Reply, Refused, Entered, Closed, Wrote, NoMore, Finished, EndedBack, RanAlone}
+use Rattle.occ_model.specs.Event.{Item, Request, Alone, Close, Reply, Entered, Closed, Wrote, NoMore, Finished, EndedBack, RanAlone}
 use Rattle.occ_sets.specs.PlainSets.{answer_of}
 use Rattle.occ_sets.specs.declared.reads.Answer as code_answer
 use Rattle.occ_log.specs.SessionStates.{written_at}
@@ -15,16 +13,6 @@ use Rattle.occ_core.specs.declared.outcomes.Outcome as code_outcome
 use Rattle.occ_core.specs.declared.outcomes.Outcome.TheVariants as outcomes
 use Rattle.occ_core.specs.declared.writing.SingleWrite.{SingleWrite}
 use Rattle.occ_core.specs.declared.writing.SingleWrite.TheVariants as writes
-
--- a call replies by what it answers, or that it was refused
-abbrev pub replied : {X : Type 0} → (X → Reply) → Result X Fault → Reply
-replied answer (Ok x) = answer x
-replied answer (Err fault) = Refused fault
-
--- and so where it hands back what is refused
-abbrev pub replied_back : {X Y : Type 0} → (X → Reply) → Result X (refused.Refused Y) → Reply
-replied_back answer (Ok x) = answer x
-replied_back answer (Err refusal) = Refused refusal.fault
 
 module _ {Z : Type 0} where
   -- what a run alone replies

@@ -9,7 +9,8 @@ ghost use Rattle.occ_sets.specs.Operations.{ops_of};
 ghost use Rattle.occ_core.specs.Performed.{progress_of};
 ghost use Rattle.occ_core.specs.Core.{Transition};
 ghost use Rattle.occ_log.specs.Logs.{row_at};
-ghost use Rattle.occ_core.specs.Replies.{replied, replied_back, ran, outcome_of, IsRunAlone};
+ghost use Rattle.occ_model.specs.Replies.{replied, replied_back};
+ghost use Rattle.occ_core.specs.Replies.{ran, outcome_of, IsRunAlone};
 ghost use Rattle.occ_core.specs.RunningAlone.{read_open_fault, count_fault, turn_to_run, room_to_run};
 ghost use Rattle.occ_queue.specs.Items.{item_of};
 

@@ -6,7 +6,7 @@ ghost use Rattle.occ_model.specs.Step.{folded, foldable_part};
 ghost use Rattle.occ_model.specs.World.{low};
 ghost use Rattle.occ_core.specs.Core.{Transition};
 ghost use Rattle.occ_core.specs.Folding.{AllFit};
-ghost use Rattle.occ_core.specs.Replies.{replied};
+ghost use Rattle.occ_model.specs.Replies.{replied};
 
 use crate::actives::has_open;
 use crate::core_state::Core;

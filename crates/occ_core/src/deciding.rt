@@ -9,7 +9,7 @@ ghost use Rattle.occ_log.specs.Rows.{log_row_of, standing_of};
 ghost use Rattle.occ_core.specs.Core.{Transition};
 ghost use Rattle.occ_core.specs.Folding.{under_way_fault, verdict_on};
 ghost use Rattle.occ_core.specs.OpenCases.{open_case, IsRight};
-ghost use Rattle.occ_core.specs.Replies.{replied};
+ghost use Rattle.occ_model.specs.Replies.{replied};
 
 use crate::core_state::Core;
 use occ_book::{LogRow, Standing};

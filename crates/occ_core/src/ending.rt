@@ -6,7 +6,7 @@ ghost use Rattle.occ_log.specs.SessionStates.{back_fault, finish_fault};
 ghost use Rattle.occ_log.specs.Rows.{standing_of};
 ghost use Rattle.occ_core.specs.Core.{Transition};
 ghost use Rattle.occ_core.specs.Folding.{back_fault_of};
-ghost use Rattle.occ_core.specs.Replies.{replied};
+ghost use Rattle.occ_model.specs.Replies.{replied};
 
 use crate::core_state::Core;
 use crate::deciding::{row_under_way, under_way};

@@ -10,7 +10,8 @@ ghost use Rattle.occ_model.specs.Refusal.{refusal};
 ghost use Rattle.occ_model.specs.Step.{IsCaseOf, entering as entering_row};
 ghost use Rattle.occ_log.specs.Rows.{log_row_of};
 ghost use Rattle.occ_core.specs.Core.{Transition};
-ghost use Rattle.occ_core.specs.Replies.{replied, replied_back, outcome_of, CanEnter};
+ghost use Rattle.occ_model.specs.Replies.{replied, replied_back};
+ghost use Rattle.occ_core.specs.Replies.{outcome_of, CanEnter};
 ghost use Rattle.occ_queue.specs.Items.{item_of};
 
 use crate::actives::active_writes;

@@ -12,7 +12,7 @@ ghost use Rattle.occ_sets.specs.PlainSets.{observation_of, rows_of};
 ghost use Rattle.occ_core.specs.Reads.{room_to_read, noted};
 ghost use Rattle.occ_types.specs.declared.fault.Fault.TheVariants.{Memory};
 ghost use Rattle.occ_core.specs.Core.{Transition, IsRefusal};
-ghost use Rattle.occ_core.specs.Replies.{replied};
+ghost use Rattle.occ_model.specs.Replies.{replied};
 
 use crate::asking::{copied, span};
 use crate::core_state::Core;

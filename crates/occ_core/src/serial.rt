@@ -10,7 +10,8 @@ ghost use Rattle.occ_model.specs.Step.{validity_of};
 ghost use Rattle.occ_model.specs.Validity.{verdict};
 ghost use Rattle.occ_core.specs.AtOnce.{quiet_fault, turn_to_end};
 ghost use Rattle.occ_core.specs.Core.{Transition};
-ghost use Rattle.occ_core.specs.Replies.{replied, replied_back, outcome_of, CanEnd};
+ghost use Rattle.occ_model.specs.Replies.{replied, replied_back};
+ghost use Rattle.occ_core.specs.Replies.{outcome_of, CanEnd};
 ghost use Rattle.occ_log.specs.Logs.{row_at};
 ghost use Rattle.occ_queue.specs.Items.{item_of};
 

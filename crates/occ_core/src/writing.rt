@@ -6,7 +6,8 @@ ghost use Rattle.occ_model.specs.Refusal.{refusal};
 ghost use Rattle.occ_log.specs.SessionStates.{writes_done};
 ghost use Rattle.occ_log.specs.Rows.{standing_of};
 ghost use Rattle.occ_core.specs.Core.{Transition};
-ghost use Rattle.occ_core.specs.Replies.{replied, wrote, written_in, next_object, IsNextWrite};
+ghost use Rattle.occ_model.specs.Replies.{replied};
+ghost use Rattle.occ_core.specs.Replies.{wrote, written_in, next_object, IsNextWrite};
 ghost use Rattle.occ_core.specs.declared.writing.SingleWrite.TheVariants.{Wrote};
 
 use crate::core_state::Core;

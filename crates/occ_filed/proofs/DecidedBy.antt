@@ -9,7 +9,7 @@ use Rattle.occ_model.specs.Refusal.{refusal}
 use Rattle.occ_model.specs.Step.{Step, refused, starved, taken}
 use Rattle.occ_model.specs.declared.verdict.Verdict.{Verdict}
 use Rattle.occ_core.specs.OpenCases.{case_of, open_case}
-use Rattle.occ_core.specs.Replies.{replied}
+use Rattle.occ_model.specs.Replies.{replied}
 use Rattle.occ_filed.specs.Filed.{Filed, token_of, has_index, Moves, DecidesBy}
 
 -- by what refuses the decision, and whether the index is the row's own

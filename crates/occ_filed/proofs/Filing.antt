@@ -8,7 +8,7 @@ use Rattle.occ_model.specs.Event.{Item, Event, Enter, Decide, Decided, Reply}
 use Rattle.occ_model.specs.Step.{Step}
 use Rattle.occ_model.specs.declared.verdict.Verdict.{Verdict}
 use Rattle.occ_core.specs.OpenCases.{open_case}
-use Rattle.occ_core.specs.Replies.{replied}
+use Rattle.occ_model.specs.Replies.{replied}
 use Rattle.occ_filed.specs.Filed.{Filed, Tokens, Moves, Enters, DecidesBy, kept_after, token_of, has_index}
 use Rattle.occ_filed.proofs.Tied.{kept_after_none}
 use Rattle.occ_filed.proofs.DecidedBy.{decided}

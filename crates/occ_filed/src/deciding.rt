@@ -5,7 +5,7 @@ ghost use Rattle.occ_model.specs.Event.{Decide, Decided};
 ghost use Rattle.occ_model.specs.Refusal.{refusal};
 ghost use Rattle.occ_model.specs.Validity.{verdict};
 ghost use Rattle.occ_core.specs.OpenCases.{open_case, IsRight};
-ghost use Rattle.occ_core.specs.Replies.{replied};
+ghost use Rattle.occ_model.specs.Replies.{replied};
 ghost use Rattle.occ_filed.specs.Filed.{Moves, DecidesBy, token_of, has_index};
 
 use crate::filed_core::FiledCore;

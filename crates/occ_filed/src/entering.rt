@@ -3,7 +3,8 @@ ghost use Rattle.std.specs.Prelude.{◌≡◌, ℕ, Option, None, Some, Ok, IfOk
 ghost use Rattle.boxcar.specs.Table.{Where, Shows};
 ghost use Rattle.occ_model.specs.Log.{Case as PlainCase};
 ghost use Rattle.occ_core.specs.OpenCases.{open_case};
-ghost use Rattle.occ_core.specs.Replies.{replied_back, outcome_of, CanEnter};
+ghost use Rattle.occ_model.specs.Replies.{replied_back};
+ghost use Rattle.occ_core.specs.Replies.{outcome_of, CanEnter};
 ghost use Rattle.occ_queue.specs.Items.{item_of};
 ghost use Rattle.occ_filed.specs.Filed.{Enters, index_after, kept_after};
 

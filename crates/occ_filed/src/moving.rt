@@ -8,7 +8,8 @@ ghost use Rattle.occ_model.specs.State.{Found, Rows};
 ghost use Rattle.occ_sets.specs.Operations.{ops_of};
 ghost use Rattle.occ_sets.specs.PlainSets.{rows_of};
 ghost use Rattle.occ_queue.specs.Items.{item_of};
-ghost use Rattle.occ_core.specs.Replies.{replied, replied_back, outcome_of, ran, wrote, written_in, IsNextWrite, CanEnd};
+ghost use Rattle.occ_model.specs.Replies.{replied, replied_back};
+ghost use Rattle.occ_core.specs.Replies.{outcome_of, ran, wrote, written_in, IsNextWrite, CanEnd};
 ghost use Rattle.occ_core.specs.declared.writing.SingleWrite.TheVariants.{Wrote};
 ghost use Rattle.occ_filed.specs.Filed.{Moves};
 

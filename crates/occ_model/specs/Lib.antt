@@ -5,6 +5,7 @@ pub mod Validity
 pub mod Operations
 pub mod World
 pub mod Event
+pub mod Replies
 pub mod Refusal
 pub mod Step
 pub mod Invariant

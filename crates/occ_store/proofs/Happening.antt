@@ -8,7 +8,8 @@ use Rattle.occ_model.specs.World.{World}
 use Rattle.occ_model.specs.Event.{Item, Event, BackUp, Reply, Wrote, NoMore}
 use Rattle.occ_model.specs.declared.verdict.Cause.{Cause}
 use Rattle.occ_board.specs.declared.words.Words.{Words}
-use Rattle.occ_core.specs.Replies.{replied, wrote, written_in}
+use Rattle.occ_model.specs.Replies.{replied}
+use Rattle.occ_core.specs.Replies.{wrote, written_in}
 use Rattle.occ_core.specs.declared.writing.SingleWrite.{SingleWrite}
 use Rattle.occ_core.specs.declared.writing.SingleWrite.TheVariants as writes
 use Rattle.occ_filed.specs.Filed.{Filed, Moves, Enters}

@@ -15,7 +15,8 @@ use Rattle.occ_model.proofs.InSchema.{same_settings}
 use Rattle.occ_board.specs.declared.words.Words.{Words}
 use Rattle.occ_board.specs.Rule.{Posted}
 use Rattle.occ_sets.specs.PlainSets.{answer_of}
-use Rattle.occ_core.specs.Replies.{replied, outcome_of}
+use Rattle.occ_model.specs.Replies.{replied}
+use Rattle.occ_core.specs.Replies.{outcome_of}
 use Rattle.occ_core.specs.declared.outcomes.Outcome as code_outcome
 use Rattle.occ_core.specs.declared.outcomes.Outcome.TheVariants as outcomes
 use Rattle.occ_filed.specs.Filed.{Filed, Moves, DecidesBy, token_of, has_index}

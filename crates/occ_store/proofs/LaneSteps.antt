@@ -9,7 +9,8 @@ use Rattle.occ_model.specs.World.{World}
 use Rattle.occ_model.specs.Event.{Item, WriteOne, Finish, SerialEnd, Reply, Wrote, NoMore}
 use Rattle.occ_model.specs.declared.verdict.Verdict.TheVariants as verdicts
 use Rattle.occ_model.specs.declared.verdict.Cause.{Cause}
-use Rattle.occ_core.specs.Replies.{outcome_of, replied, wrote, written_in, next_object}
+use Rattle.occ_model.specs.Replies.{replied}
+use Rattle.occ_core.specs.Replies.{outcome_of, wrote, written_in, next_object}
 use Rattle.occ_core.specs.declared.writing.SingleWrite.{SingleWrite}
 use Rattle.occ_core.specs.declared.writing.SingleWrite.TheVariants as writes
 use Rattle.occ_core.specs.declared.outcomes.Outcome as code_outcome

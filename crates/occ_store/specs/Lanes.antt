@@ -10,7 +10,8 @@ use Rattle.occ_model.specs.Event.{Item, Request, Alone, Close, Event, Enter, Dec
 use Rattle.occ_model.specs.Event as events
 use Rattle.occ_model.specs.declared.verdict.Verdict.{Verdict}
 use Rattle.occ_model.specs.declared.verdict.Verdict.TheVariants as verdicts
-use Rattle.occ_core.specs.Replies.{replied, next_object}
+use Rattle.occ_model.specs.Replies.{replied}
+use Rattle.occ_core.specs.Replies.{next_object}
 use Rattle.occ_queue.specs.Items.{item_of, number_of, is_mark}
 use Rattle.occ_queue.specs.Lanes.{Known}
 use Rattle.occ_filed.specs.Filed.{DecidesBy, token_of}

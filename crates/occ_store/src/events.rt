@@ -9,7 +9,8 @@ ghost use Rattle.occ_model.specs.Event.{Read, Answered, Forget, Forgotten, Decid
 ghost use Rattle.occ_model.specs.State.{Found, Rows};
 ghost use Rattle.occ_sets.specs.PlainSets.{rows_of};
 ghost use Rattle.occ_queue.specs.Items.{item_of};
-ghost use Rattle.occ_core.specs.Replies.{replied, replied_back, outcome_of, wrote, CanEnter, CanEnd};
+ghost use Rattle.occ_model.specs.Replies.{replied, replied_back};
+ghost use Rattle.occ_core.specs.Replies.{outcome_of, wrote, CanEnter, CanEnd};
 ghost use Rattle.occ_filed.specs.Filed.{DecidesBy};
 ghost use Rattle.occ_store.specs.Locked.{world_of, Happens, EntersAs, BacksUp, rows_entered};
 
