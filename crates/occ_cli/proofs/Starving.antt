@@ -2,8 +2,8 @@
 use Rattle.std.proofs.Common.{◌≡◌, ℕ, List, Option, Some, None, Result, Ok, Err, refl, sym, ap, subst, ◌∙◌, arith, Bool, true, false, is_some, IsSomeAnd, IsOkAnd, nat_lt, length, slice_set, ◌-◌, MatchOption, [], ◌∷◌}
 use Rattle.occ_cli.proofs.Common.{lt-ltb, Question, One, Row, Schema, Fault, LogRow, rest, own, Write, World, latest, Event, Item, Reply, Operation, takes_memory, puts_next, has_writes_left, Step, starved, taken, Copied, Replayed, Client, Given, Wants, WantsGet, CopyWantsGet, WantsScan, Starved, Plays, ByBoth, Enters, StarvesItem, HandsIn, handed_in, operations_named, Abandons, Begins, Submits, Closes, Writes, Gets, Scans, Tells, next_item, still_waiting, kept_after, client_of, object_named, place_named, span_named, next_number, submitted, mark_of, check_key, check_question, unless, write_fault, written}
 use Rattle.occ_types.specs.Object.{Object}
-use Rattle.occ_client.specs.Transactions.{Unless}
-use Rattle.occ_client.specs.Transactions as transactions
+use Rattle.occ_open.specs.Transactions.{Unless}
+use Rattle.occ_open.specs.Transactions as transactions
 use Rattle.occ_types.specs.declared.fault.Fault.TheVariants as faults
 use Rattle.occ_model.specs.State as states
 use Rattle.occ_model.specs.Event as events

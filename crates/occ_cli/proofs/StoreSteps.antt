@@ -2,8 +2,8 @@
 use Rattle.std.proofs.Common.{◌≡◌, ℕ, ◌-◌, List, [], Option, Some, None, Result, Ok, Err, refl, sym, ◌∙◌, ap, subst, inl, inr, slice_set, MatchOption}
 use Rattle.occ_cli.proofs.Common.{Fault, Write, Event, Item, Reply, Step, Question, One, Row, own, Copied, AtMostOneStep, Plays, Begins, Abandons, Submits, Closes, HandsIn, operations_named, Writes, Gets, Scans, next_item, still_waiting, kept_after, object_named, place_named, Client, Replayed, Given, client_of, span_named, Tells, ByClient, ByBoth, ByAsking, Enters, check_key, check_question, overlaid}
 use Rattle.occ_types.specs.Object.{Object}
-use Rattle.occ_client.specs.Transactions.{Unless}
-use Rattle.occ_client.specs.Transactions as transactions
+use Rattle.occ_open.specs.Transactions.{Unless}
+use Rattle.occ_open.specs.Transactions as transactions
 use Rattle.occ_model.specs.State as states
 use Rattle.occ_model.specs.Event as events
 use Rattle.occ_model.proofs.Headlines.{refusals_leave}

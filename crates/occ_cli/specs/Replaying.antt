@@ -21,8 +21,8 @@ use Rattle.occ_model.specs.Event as events
 use Rattle.occ_model.specs.Step as model
 use Rattle.occ_queue.specs.Numbering.{Numbered, unused, next, with_item, is_full, refusal_of_request}
 use Rattle.occ_sets.specs.Sets.{Copied}
-use Rattle.occ_client.specs.Transactions.{begin_fault, begun, write_fault, written, WantsRoom, WantsRange, open_after}
-use Rattle.occ_client.specs.Transactions as transactions
+use Rattle.occ_open.specs.Transactions.{begin_fault, begun, write_fault, written, WantsRoom, WantsRange, open_after}
+use Rattle.occ_open.specs.Transactions as transactions
 use Rattle.occ_text.specs.declared.steps.Act.TheVariants as acts
 use Rattle.occ_core.specs.declared.steps.Step as code_step
 use Rattle.occ_core.specs.declared.steps.Step.TheVariants as calls

@@ -14,8 +14,8 @@ ghost use Rattle.occ_cli.specs.Replaying.{client_of, fresh, Begins, Abandons, Wr
 
 use crate::answers::Answer;
 use crate::operations::operations_named;
-use occ_client::OpenTransaction;
 use occ_core::{Core, Reply, Step};
+use occ_open::OpenTransaction;
 use occ_queue::{Item, SessionQueue};
 use occ_sets::Op;
 use occ_text::operations::Operation;

@@ -10,7 +10,7 @@ use Rattle.occ_model.specs.Step.{Step}
 use Rattle.occ_sets.specs.Sets.{Copied}
 use Rattle.occ_client.specs.Clients.{Client, close_refusal, HasNext, Commits, CommitsNext, after_end, spent, IsLastEnd}
 use Rattle.occ_client.specs.Ends.{Ends, WritesOut, is_refusal}
-use Rattle.occ_client.specs.Transactions.{Abandons, Unless}
+use Rattle.occ_open.specs.Transactions.{Abandons, Unless}
 
 -- the write phase goes on
 pub goes_on : (client : Client) (old : World) (stopped : Bool) (reply : Reply) (new : World) → client.writing ≡ true

@@ -1,4 +1,3 @@
-pub mod Answering
 pub mod Committing
 pub mod Endings
 pub mod StepsFollow

@@ -13,7 +13,7 @@ use Rattle.occ_model.specs.Replies.{replied, replied_back}
 use Rattle.occ_core.specs.declared.outcomes.Outcome as code_outcome
 use Rattle.occ_core.specs.declared.outcomes.Outcome.TheVariants as outcomes
 use Rattle.occ_client.specs.Ends.{Ends, WritesOut, is_refusal}
-use Rattle.occ_client.specs.Transactions.{begin_fault}
+use Rattle.occ_open.specs.Transactions.{begin_fault}
 use Rattle.occ_client.specs.declared.ending.End.{End}
 use Rattle.occ_client.specs.declared.ending.End.TheVariants as ends
 use Rattle.occ_client.specs.declared.ending.Handed.{Handed}

@@ -8,13 +8,13 @@ ghost use Rattle.occ_model.specs.Event.{Enter, Close, Refused as refused};
 ghost use Rattle.occ_model.specs.Step.{Step};
 ghost use Rattle.occ_client.specs.Clients.{begin_refusal, close_refusal, closing, ending, Commits, StaysOrStops, after_end, spent};
 ghost use Rattle.occ_client.specs.Ends.{Ends, WritesOut};
-ghost use Rattle.occ_client.specs.Replies.{reading, scanning, forgetting};
-ghost use Rattle.occ_client.specs.Transactions.{IsRefusedBy, Unless, begun, write_fault, written, WantsRoom, Gets, WantsOwn, Scans, WantsRange, Abandons, open_after, OrStarves};
+ghost use Rattle.occ_open.specs.Replies.{reading, scanning, forgetting};
+ghost use Rattle.occ_open.specs.Transactions.{IsRefusedBy, Unless, begun, write_fault, written, WantsRoom, Gets, WantsOwn, Scans, WantsRange, Abandons, open_after, OrStarves};
 
 use crate::by_steps::write_out;
 use crate::ending::{End, Handed, close_session, end_request};
-use crate::kept_transactions::KeptTransaction;
 use occ_core::Core;
+use occ_open::KeptTransaction;
 use occ_sets::{RangeRows, Write};
 use occ_types::{Fault, Key, Refused, Row};
 use std::alloc::Allocator;

@@ -16,6 +16,7 @@ mod entry_checks;
 mod outcomes;
 mod performed;
 mod read_checks;
+mod readable;
 mod reading;
 mod replies;
 mod serial;

@@ -11,7 +11,7 @@ use Rattle.occ_model.specs.Operations.{Operation}
 use Rattle.occ_model.specs.declared.verdict.Verdict.{Verdict}
 use Rattle.occ_model.specs.declared.verdict.Verdict.TheVariants.{Commit, BackUp}
 use Rattle.occ_sets.specs.Sets.{Copied}
-use Rattle.occ_client.specs.Transactions.{written}
+use Rattle.occ_open.specs.Transactions.{written}
 use Rattle.occ_store.specs.Sessions.{SessionView, due, Submits, handed_in, request, begun}
 use Rattle.occ_run.specs.declared.ends.Try.{Try}
 use Rattle.occ_run.specs.declared.ends.Try.TheVariants as outcome

@@ -9,7 +9,7 @@ use Rattle.occ_model.specs.State.{Answer, Found, Rows}
 use Rattle.occ_model.specs.Operations.{Operation}
 use Rattle.occ_model.specs.Event.{Answered, Refused}
 use Rattle.occ_model.specs.World.{World, Settings}
-use Rattle.occ_client.specs.Transactions.{OrStarves, WantsOwn, Gets, WantsRange, Scans}
+use Rattle.occ_open.specs.Transactions.{OrStarves, WantsOwn, Gets, WantsRange, Scans}
 use Rattle.occ_store.specs.Sessions.{InOneHolding}
 use Rattle.occ_store.specs.Transactions.{TransactionView}
 use Rattle.occ_store.specs.Bodies.{Sees, Performs}

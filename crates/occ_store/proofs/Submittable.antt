@@ -16,7 +16,7 @@ use Rattle.occ_types.specs.Object.{Object}
 use Rattle.occ_types.specs.Row.{Row}
 use Rattle.occ_sets.specs.Sets.{Copied}
 use Rattle.occ_queue.specs.Lanes.{Known, as_queue}
-use Rattle.occ_client.specs.Transactions.{written, none_open, open_after}
+use Rattle.occ_open.specs.Transactions.{written, none_open, open_after}
 use Rattle.occ_store.specs.Sessions.{IsNext, MayBeSubmitted, draft_of}
 
 written_next : (sender : Known) (draft : Option Copied) (object : Object) (row : Option Row) → MayBeSubmitted sender draft → MayBeSubmitted sender (written draft object row)

@@ -7,7 +7,7 @@ use Rattle.occ_model.specs.Event.{Item, Request, Alone, Close}
 use Rattle.occ_model.specs.World.{Settings}
 use Rattle.occ_model.specs.Operations.{Operation}
 use Rattle.occ_sets.specs.Sets.{Copied}
-use Rattle.occ_client.specs.Transactions.{begun as no_writes}
+use Rattle.occ_open.specs.Transactions.{begun as no_writes}
 use Rattle.occ_queue.specs.Items.{number_of}
 use Rattle.occ_queue.specs.Lanes.{pushing}
 use Rattle.occ_board.specs.declared.rule.Seen.{Seen}

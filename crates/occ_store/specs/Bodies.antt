@@ -8,7 +8,7 @@ use Rattle.occ_model.specs.State.{Answer}
 use Rattle.occ_model.specs.Operations.{Operation, Get, Scan, Put, Delete, Add, number_in, held_sum}
 use Rattle.occ_model.specs.Event.{Answered}
 use Rattle.occ_model.specs.World.{Settings}
-use Rattle.occ_client.specs.Transactions.{Gets, Scans, written}
+use Rattle.occ_open.specs.Transactions.{Gets, Scans, written}
 use Rattle.occ_store.specs.Sessions.{InOneHolding}
 use Rattle.occ_store.specs.Transactions.{TransactionView}
 

@@ -14,7 +14,7 @@ use Rattle.occ_queue.specs.Lanes.{Known, as_queue, pushing}
 use Rattle.occ_queue.specs.Numbering as numbering
 use Rattle.occ_board.specs.declared.rule.Seen.{Seen}
 use Rattle.occ_board.specs.Rule.{started}
-use Rattle.occ_client.specs.Transactions as transactions
+use Rattle.occ_open.specs.Transactions as transactions
 
 -- Its number, the tables of its store, what its seat has seen of the board, what it pushed and heard of as taken, and the transaction that it has open.
 pub record SessionView : Type 0 where

@@ -6,7 +6,7 @@ use Rattle.occ_model.specs.Operations.{Operation}
 use Rattle.occ_model.specs.Event.{Item, Request, Alone, Close, Reply}
 use Rattle.occ_model.specs.World.{Settings}
 use Rattle.occ_sets.specs.Sets.{Copied}
-use Rattle.occ_client.specs.Transactions.{begun, Abandons}
+use Rattle.occ_open.specs.Transactions.{begun, Abandons}
 use Rattle.occ_store.specs.Sessions.{SessionView, due, begin_fault, submit_fault, request, handed_in, alone_fault, IsRefusedBy, InOneHolding}
 use Rattle.occ_store.specs.Transactions.{TransactionView}
 use Rattle.occ_store.specs.Bodies.{Making, Performing}

@@ -3,7 +3,7 @@ ghost use Rattle.std.specs.Prelude.{◌≡◌};
 
 use crate::names::Name;
 use crate::shared::Shared;
-use occ_client::Readable;
+use occ_open::Readable;
 use occ_sets::RangeRows;
 use occ_types::{Fault, Key, Row, Schema};
 use std::alloc::Allocator;

@@ -2,8 +2,8 @@
 ghost use Rattle.std.specs.Prelude.{◌≡◌, None, Some, IfErr, OnOk, OnErr, MatchResult};
 ghost use Rattle.occ_types.specs.PlainData.{key_of, end_of};
 ghost use Rattle.occ_types.specs.Question.{Span};
-ghost use Rattle.occ_client.specs.Replies.{reading, scanning, forgetting};
-ghost use Rattle.occ_client.specs.Transactions.{IsRefusedBy, write_fault, written, WantsRoom, WantsOwn, Gets, WantsRange, Scans, Abandons, open_after, OrStarves};
+ghost use Rattle.occ_open.specs.Replies.{reading, scanning, forgetting};
+ghost use Rattle.occ_open.specs.Transactions.{IsRefusedBy, write_fault, written, WantsRoom, WantsOwn, Gets, WantsRange, Scans, Abandons, open_after, OrStarves};
 ghost use Rattle.occ_store.specs.Locked.{world_of};
 ghost use Rattle.occ_store.specs.Sessions.{InOneHolding};
 

@@ -2,7 +2,7 @@
 ghost use Rattle.std.specs.Prelude.{◌≡◌, ◌⊎◌, None, Some, Ok, Err, IfOk, IfErr, OnOk, OnErr, IsOkUnless};
 ghost use Rattle.occ_types.specs.declared.fault.Fault.TheVariants.{Memory, OutOfTurn};
 ghost use Rattle.occ_sets.specs.Operations.{ops_of};
-ghost use Rattle.occ_client.specs.Transactions.{begun as no_writes};
+ghost use Rattle.occ_open.specs.Transactions.{begun as no_writes};
 ghost use Rattle.occ_store.specs.Ended.{ended_by, IsTold};
 ghost use Rattle.occ_store.specs.Sessions.{Submits, IsNext, MayBeSubmitted, IsRefusedBy, submit_fault};
 ghost use Rattle.occ_store.specs.Workers.{GivesUp, Reopens};
@@ -14,8 +14,8 @@ use crate::operations::copied;
 use crate::sessions::Session;
 use crate::stores::Store;
 use crate::transactions::Transaction;
-use occ_client::OpenTransaction;
 use occ_model::Verdict;
+use occ_open::OpenTransaction;
 use occ_sets::Op;
 use occ_types::Fault;
 use std::alloc::{AllocError, Allocator};

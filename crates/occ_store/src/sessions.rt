@@ -14,7 +14,7 @@ ghost use Rattle.occ_store.specs.Sessions.{due, begin_fault, begun, submit_fault
 
 use crate::names::Name;
 use occ_board::{Last, Seat};
-use occ_client::OpenTransaction;
+use occ_open::OpenTransaction;
 use occ_queue::{Item, Sender};
 use occ_sets::{Op, RequestWrites, check_operations};
 use occ_types::limits::{MAX_NUMBER, MAX_OPERATIONS};

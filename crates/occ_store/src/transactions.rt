@@ -3,13 +3,13 @@ ghost use Rattle.std.specs.Prelude.{◌≡◌, None, Some, IfErr, OnOk, OnErr, M
 ghost use Rattle.std.specs.Arc.{arc_value};
 ghost use Rattle.occ_types.specs.PlainData.{key_of, end_of};
 ghost use Rattle.occ_types.specs.Question.{Span};
-ghost use Rattle.occ_client.specs.Replies.{reading, scanning};
-ghost use Rattle.occ_client.specs.Transactions.{IsRefusedBy, write_fault, written, WantsRoom, WantsOwn, Gets, WantsRange, Scans, OrStarves};
+ghost use Rattle.occ_open.specs.Replies.{reading, scanning};
+ghost use Rattle.occ_open.specs.Transactions.{IsRefusedBy, write_fault, written, WantsRoom, WantsOwn, Gets, WantsRange, Scans, OrStarves};
 ghost use Rattle.occ_store.specs.Sessions.{InOneHolding};
 
 use crate::names::Name;
 use crate::stores::Store;
-use occ_client::OpenTransaction;
+use occ_open::OpenTransaction;
 use occ_sets::{RangeRows, Write};
 use occ_types::{Fault, Key, Refused, Row, Schema};
 use std::alloc::Allocator;

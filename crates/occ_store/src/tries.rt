@@ -1,6 +1,6 @@
 //! The tries of a worker's transaction.
 ghost use Rattle.std.specs.Prelude.{◌≡◌, ◌<◌, Some, Ok, IfErr, IfOk, OnOk, OnErr};
-ghost use Rattle.occ_client.specs.Transactions.{begun as no_writes};
+ghost use Rattle.occ_open.specs.Transactions.{begun as no_writes};
 ghost use Rattle.occ_store.specs.Bodies.{Goes};
 ghost use Rattle.occ_store.specs.Lanes.{Nothing};
 ghost use Rattle.occ_store.specs.Workers.{Ends, Tried, HandsInUpTo, HandsInOne, NotHandedIn, Stops, IsKept, RunsIn, RunFails, Reopens};
@@ -11,7 +11,7 @@ use crate::serving::{AlwaysGo, Served};
 use crate::stores::Store;
 use crate::transactions::Body;
 use crate::workers::Worker;
-use occ_client::OpenTransaction;
+use occ_open::OpenTransaction;
 use occ_types::Fault;
 use std::alloc::Allocator;
 use std::sync::Wait;

@@ -1,5 +1,5 @@
 use Rattle.std.proofs.Common.{sym, subst}
-use Rattle.occ_client.specs.Replies.{forgetting}
+use Rattle.occ_open.specs.Replies.{forgetting}
 use Rattle.occ_store.specs.Sessions.{MayBeSubmitted}
 use Rattle.occ_store.proofs.Submittable.{open_next}
 use Rattle.occ_store.proofs.sessions.Session.abandon_in.Goals as goal

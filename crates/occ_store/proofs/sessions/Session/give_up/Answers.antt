@@ -1,5 +1,5 @@
 use Rattle.std.proofs.Common.{None, ap, ◌∙◌}
-use Rattle.occ_client.specs.Replies.{forgetting}
+use Rattle.occ_open.specs.Replies.{forgetting}
 use Rattle.occ_store.specs.Sessions.{SessionView}
 use Rattle.occ_store.proofs.sessions.Session.give_up.Goals as goal
 

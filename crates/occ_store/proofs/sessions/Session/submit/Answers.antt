@@ -5,7 +5,7 @@ use Rattle.occ_types.specs.Schema.{fault_if, first_fault}
 use Rattle.std.proofs.Common.{◌≡◌, Some, [], ◌∷◌}
 use Rattle.occ_queue.specs.Lanes.{as_queue}
 use Rattle.occ_queue.specs.Numbering.{is_full}
-use Rattle.occ_client.specs.Transactions.{none_open}
+use Rattle.occ_open.specs.Transactions.{none_open}
 use Rattle.occ_store.specs.Sessions.{SessionView, MayBeSubmitted}
 use Rattle.occ_store.proofs.Submittable.{back_again, submit_refused}
 use Rattle.occ_store.proofs.sessions.Session.submit.Goals as goal

@@ -1,6 +1,6 @@
 use Rattle.std.proofs.Common.{refl, ap, ◌∙◌, Option}
 use Rattle.occ_sets.specs.Sets.{Copied}
-use Rattle.occ_client.specs.Transactions.{begun}
+use Rattle.occ_open.specs.Transactions.{begun}
 use Rattle.occ_store.specs.Sessions.{SessionView}
 use Rattle.occ_store.proofs.sessions.Session.take_back.Goals as goal
 

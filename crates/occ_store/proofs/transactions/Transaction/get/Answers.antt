@@ -2,8 +2,8 @@ use Rattle.std.proofs.Common.{◌≡◌, sym, subst, ◌∙◌}
 use Rattle.occ_types.specs.Object.{Object}
 use Rattle.occ_types.specs.PlainData.{key_of}
 use Rattle.occ_model.specs.Invariant.{Invariant}
-use Rattle.occ_client.specs.Replies.{reading}
-use Rattle.occ_client.specs.Transactions.{OrStarves, WantsOwn, Gets}
+use Rattle.occ_open.specs.Replies.{reading}
+use Rattle.occ_open.specs.Transactions.{OrStarves, WantsOwn, Gets}
 use Rattle.occ_store.specs.Locked.{Locked, world_of}
 use Rattle.occ_store.specs.Transactions.{TransactionView}
 use Rattle.occ_store.proofs.transactions.Transaction.get.Goals as goal

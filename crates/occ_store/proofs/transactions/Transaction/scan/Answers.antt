@@ -2,8 +2,8 @@ use Rattle.std.proofs.Common.{◌≡◌, sym, subst, ◌∙◌}
 use Rattle.occ_types.specs.PlainData.{end_of}
 use Rattle.occ_types.specs.Question.{Span}
 use Rattle.occ_model.specs.Invariant.{Invariant}
-use Rattle.occ_client.specs.Replies.{scanning}
-use Rattle.occ_client.specs.Transactions.{OrStarves, WantsRange, Scans}
+use Rattle.occ_open.specs.Replies.{scanning}
+use Rattle.occ_open.specs.Transactions.{OrStarves, WantsRange, Scans}
 use Rattle.occ_store.specs.Locked.{Locked, world_of}
 use Rattle.occ_store.specs.Transactions.{TransactionView}
 use Rattle.occ_store.proofs.transactions.Transaction.scan.Goals as goal

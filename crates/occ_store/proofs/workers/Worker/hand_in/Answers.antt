@@ -1,5 +1,5 @@
 use Rattle.std.proofs.Common.{Some, ap, sym, ◌∙◌, ℕ}
-use Rattle.occ_client.specs.Transactions.{begun as no_writes}
+use Rattle.occ_open.specs.Transactions.{begun as no_writes}
 use Rattle.occ_store.specs.Sessions.{SessionView}
 use Rattle.occ_store.proofs.Working.{stays, hands_in, none_handed_in, not_handed_in, not_begun}
 use Rattle.occ_store.proofs.workers.Worker.hand_in.Goals as goal

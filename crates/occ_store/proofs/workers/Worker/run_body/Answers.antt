@@ -1,5 +1,5 @@
 use Rattle.std.proofs.Common.{sym, subst}
-use Rattle.occ_client.specs.Transactions.{begun as no_writes}
+use Rattle.occ_open.specs.Transactions.{begun as no_writes}
 use Rattle.occ_store.specs.Sessions.{SessionView, IsNext}
 use Rattle.occ_store.proofs.Working.{body_made, body_refused, came_back}
 use Rattle.occ_store.proofs.workers.Worker.run_body.Goals as goal

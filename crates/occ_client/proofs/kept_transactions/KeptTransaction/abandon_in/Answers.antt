@@ -1,8 +1,0 @@
-use Rattle.std.proofs.Common.{sym, ap, ◌∙◌}
-use Rattle.occ_client.specs.Kept.{Kept, kept_of}
-use Rattle.occ_client.proofs.Committing.{told_to_forget}
-use Rattle.occ_client.proofs.kept_transactions.KeptTransaction.abandon_in.Goals as goal
-
-pub returns-in-Err-clause-step : goal.returns-in-Err-clause-step
-returns-in-Err-clause-step g c = told_to_forget _ _ _ _ (record { number = c.in-Returned.number; start = c.in-Returned.start; writes = c.in-Returned.writes }) _
-    (sym (ap (λ (k : Kept). k.current) c.self.view_is) ∙ ap (λ content. (kept_of content).current) c.in-Returned.is) c.in-Err.ensures

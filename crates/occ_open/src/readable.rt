@@ -1,0 +1,63 @@
+//! What a transaction asks of a store in its read phase.
+ghost use Rattle.std.specs.Prelude.{◌≡◌};
+ghost use Rattle.std.specs.Option.{option_copied};
+ghost use Rattle.occ_types.specs.PlainData.{key_of, end_of};
+ghost use Rattle.occ_types.specs.Question.{One, Span};
+ghost use Rattle.occ_model.specs.World.{World};
+ghost use Rattle.occ_model.specs.Event.{Read, Forget};
+ghost use Rattle.occ_model.specs.Step.{Step};
+ghost use Rattle.occ_open.specs.Replies.{reading, scanning, copying, forgetting};
+
+use occ_sets::RangeRows;
+use occ_types::{Fault, Key, Row, Schema};
+use std::alloc::Allocator;
+
+/// A store that a transaction asks in its read phase. Clauses see it as a world, and each call that moves it is a step of the model.
+pub trait Readable<A: Allocator> {
+    ghost world: { Self → World };
+
+    /// The tables of the store, and what fits them.
+    fn schema(&self) -> &Schema<A>
+        ensures { result.now ≡ (world self.now).settings.schema };
+
+    /// A copy of the row under a key of a table, or none where there is none. The question is noted with its answer in the read phase
+    /// of the number, which begins with it from this start where it is not under way.
+    fn read(
+        &mut self,
+        session: usize,
+        number: u64,
+        start: u64,
+        table: usize,
+        key: &Key<A>,
+    ) -> Result<Option<Row<A>>, Fault>
+        ensures { Step (world self.old) (Read session number start (One table (key_of key.now))) (reading result) (world self.new) };
+
+    /// The rows of a table from the lower end on and below the upper one, with their keys and in the order of the keys. The question is
+    /// noted with its answer as by `read`, which may share the rows.
+    fn scan(
+        &mut self,
+        session: usize,
+        number: u64,
+        start: u64,
+        table: usize,
+        lower: Option<&Key<A>>,
+        upper: Option<&Key<A>>,
+    ) -> Result<RangeRows<A>, Fault>
+        ensures { Step (world self.old) (Read session number start (Span table (end_of (option_copied lower.entry)) (end_of (option_copied upper.entry)))) (scanning result) (world self.new) };
+
+    /// The same, as copies of the rows that the caller alone owns.
+    fn scan_apart(
+        &mut self,
+        session: usize,
+        number: u64,
+        start: u64,
+        table: usize,
+        lower: Option<&Key<A>>,
+        upper: Option<&Key<A>>,
+    ) -> Result<Vec<(Key<A>, Row<A>), A>, Fault>
+        ensures { Step (world self.old) (Read session number start (Span table (end_of (option_copied lower.entry)) (end_of (option_copied upper.entry)))) (copying result) (world self.new) };
+
+    /// Forgets what a session has read under a number, and answers whether it has read anything. It takes no memory.
+    fn forget(&mut self, session: usize, number: u64) -> Result<bool, Fault>
+        ensures { Step (world self.old) (Forget session number) (forgetting result) (world self.new) };
+}
