@@ -5,12 +5,12 @@ use Rattle.occ_types.specs.declared.fault.Fault.{Fault}
 use Rattle.occ_types.specs.declared.fault.Fault.TheVariants as faults
 use Rattle.occ_types.specs.Schema.{fault_if, first_fault}
 use Rattle.occ_model.specs.World.{World}
-use Rattle.occ_model.specs.Event.{Enter, Close, Forget, Reply, Refused}
+use Rattle.occ_model.specs.Event.{Enter, Close, Reply, Refused}
 use Rattle.occ_model.specs.Step.{Step}
 use Rattle.occ_sets.specs.Sets.{Copied}
 use Rattle.occ_client.specs.Clients.{Client, close_refusal, HasNext, Commits, CommitsNext, after_end, spent, IsLastEnd}
 use Rattle.occ_client.specs.Ends.{Ends, WritesOut, is_refusal}
-use Rattle.occ_open.specs.Transactions.{Abandons, Unless}
+use Rattle.occ_open.specs.Transactions.{Unless}
 
 -- the write phase goes on
 pub goes_on : (client : Client) (old : World) (stopped : Bool) (reply : Reply) (new : World) → client.writing ≡ true
@@ -65,8 +65,3 @@ unhindered inside client is old reply new unclosed none step =
     free : close_refusal inside ≡ None
     free = ap (λ b. first_fault (fault_if b faults.Closed ∷ fault_if (is_some inside.current) faults.ReadOpen ∷ [])) unclosed
         ∙ ap (λ b. first_fault (fault_if b faults.ReadOpen ∷ [])) none
-
--- the store was told to forget what the open transaction read
-pub told_to_forget : (old new : World) (session : ℕ) (current : Option Copied) (copy : Copied) (reply : Reply) → current ≡ Some copy
-    → Step old (Forget session copy.number) reply new → Abandons old session current reply new
-told_to_forget old new session current copy reply is step = subst (λ (current : Option Copied). Abandons old session current reply new) (sym is) step

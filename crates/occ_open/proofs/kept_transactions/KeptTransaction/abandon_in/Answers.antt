@@ -1,6 +1,6 @@
 use Rattle.std.proofs.Common.{sym, ap, ◌∙◌}
 use Rattle.occ_open.specs.Kept.{Kept, kept_of}
-use Rattle.occ_client.proofs.Committing.{told_to_forget}
+use Rattle.occ_open.proofs.Forgetting.{told_to_forget}
 use Rattle.occ_open.proofs.kept_transactions.KeptTransaction.abandon_in.Goals as goal
 
 pub returns-in-Err-clause-step : goal.returns-in-Err-clause-step
