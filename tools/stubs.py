@@ -49,7 +49,7 @@ def owner_of(line, module, homes):
     home = homes.get(name, module)
     if trait:
         trait, of = re.match(r"(?:\w+::)*(\w+)(?:<(\w+))?", trait).groups()
-        return None if trait in ("Model", "Drop") else (*home, f"{name}{trait}{of if trait == 'From' else ''}")
+        return None if trait in ("Model", "Drop") else (*home, f"{name}{trait}{of[0].upper() + of[1:] if trait == 'From' else ''}")
     return (*module, f"{name}+Global") if re.search(r"Global|<(Fault|usize|u64)", owner) else (*home, name)
 
 
