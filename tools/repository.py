@@ -1,0 +1,92 @@
+"""What the tools read of the repository: its crates, what these stand on, their texts, and the edits that must be refused."""
+import functools
+import glob
+import hashlib
+import os
+import subprocess
+
+TOP = os.path.dirname(os.path.dirname(os.path.abspath(__file__)))
+
+
+def stands_on():
+    """What each crate stands on, in the order of crates.txt."""
+    with open(f"{TOP}/crates.txt") as lines:
+        parts = [line.split("#")[0].partition(":") for line in lines if ":" in line.split("#")[0]]
+    return {head.split()[0]: rest.split() for head, _, rest in parts}
+
+
+CRATES = stands_on()
+
+
+def below(crate):
+    """The repository's crates that a crate stands on, the lowest first."""
+    found = []
+    for name in CRATES[crate]:
+        if name in CRATES:
+            found += [it for it in [*below(name), name] if it not in found]
+    return found
+
+
+@functools.lru_cache(None)
+def kit():
+    """The folder of the kit, which holds the toolchain and its libraries."""
+    return os.path.dirname(subprocess.run(["rt", "doc"], stdout=subprocess.PIPE, text=True, check=True).stdout.strip())
+
+
+def read(path):
+    with open(path, encoding="utf-8") as text:
+        return text.read()
+
+
+def checksum(*texts):
+    total = hashlib.sha256()
+    for text in texts:
+        total.update(text.encode() + b"\0")
+    return total.hexdigest()[:16]
+
+
+def text_of(crate, *parts):
+    """The checksum of a crate's text: the names and the content of the files in these folders of it."""
+    files = [path for part in parts for path in glob.glob(f"{TOP}/crates/{crate}/{part}/**/*.*", recursive=True)]
+    return checksum(*[text for path in sorted(files) for text in (os.path.relpath(path, TOP), read(path))])
+
+
+class Edit:
+    """A wrong body. `changes` has the new line for each file of src and number of a line that it changes (the first is 0), `within` the
+    functions that it names, and `fault` says what is wrong with the edit itself."""
+
+    def __init__(self, crate, path):
+        self.name, self.text = os.path.basename(path).removesuffix(".edit"), read(path)
+        self.within, self.changes, self.fault, self.sum = [], {}, None, checksum(self.text)
+        texts, file, old = {}, None, None
+        for line in self.text.split("\n"):
+            word, _, rest = line.partition(": ")
+            if word == "file":
+                file = rest.strip().removeprefix("src/")
+                texts.setdefault(file, read_lines(f"{TOP}/crates/{crate}/src/{file}"))
+            elif word == "in":
+                self.within.append(rest.strip())
+            elif word == "old":
+                old = rest
+            elif word in ("new", "new:"):
+                self.replace(file, texts[file], old, rest)
+        if not self.changes and not self.fault:
+            self.fault = "it changes nothing"
+
+    def replace(self, file, lines, old, new):
+        found = [number for number, line in enumerate(lines) for _ in range(line.count(old))]
+        if len(found) != 1:
+            self.fault = self.fault or f"`{old.strip()}` stands {len(found)} times in src/{file}, and not once"
+            return
+        lines[found[0]] = lines[found[0]].replace(old, new)
+        self.changes[file, found[0]] = lines[found[0]]
+
+
+def read_lines(path):
+    return read(path).split("\n") if os.path.exists(path) else []
+
+
+def edits_of(crate):
+    """The edits of a crate: those beside it in bodies, and those that the gate tries."""
+    folders = (f"{TOP}/bodies/{crate}", f"{TOP}/crates/{crate}/must-fail")
+    return [Edit(crate, path) for folder in folders for path in sorted(glob.glob(f"{folder}/*.edit"))]
