@@ -14,9 +14,6 @@ use std::thread::Threads;
 use std::time::Clock;
 use thiserror::Error;
 
-#[cfg(test)]
-mod tests;
-
 /// What ends the program with another status than 0. Its text is the line that stands on standard error.
 #[derive(Clone, Copy, Debug, Error)]
 enum Stop {
