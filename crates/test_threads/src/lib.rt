@@ -11,3 +11,5 @@ mod filed_stores;
 mod filed_tests;
 #[cfg(test)]
 mod lane_tests;
+#[cfg(test)]
+mod locked_tests;

@@ -1,370 +1,165 @@
-//! That calls succeed where there is memory, which no clause says.
-ghost use Rattle.std.specs.Prelude.{IfSome};
-ghost use Rattle.occ_model.specs.Content.{IsSession};
-ghost use Rattle.occ_book.specs.Base.{FitsIn, AllFitIn};
+//! Tables, marks and a base that take memory.
+ghost use Rattle.std.specs.Prelude.{◌≡◌, ◌<◌, IfOk};
 ghost use Rattle.occ_sets.specs.Sets.{ArePlaced};
 
-use occ_book::{Base, Book, LogRow, Marks, Standing, Tables};
-use occ_case::Cause;
-use occ_sets::{ReadSet, WriteSet};
-use occ_types::{Cell, Fault, Key, Row};
+use occ_book::{Base, Marks, Tables};
+use occ_sets::{LogRow, ReadSet, Standing, WriteSet};
+use occ_types::{Fault, Key, Row};
 use std::alloc::Global;
 use std::test::Fail;
 
-// Two tables, of which the first has rows of one number under the keys 7 and 9.
-fn stock(alloc: Global) -> Option<Tables<Global>> {
-    let mut tables = Tables::new(alloc, 2).ok()?;
-    for key in [9, 7] {
-        if tables.count() == 0 {
-            return None;
-        }
-        let row = Row::from_cells(vec![in alloc; Cell::Int(100)].ok()?).ok()?;
-        tables.put(0, &Key::Num(key), Some(&row)).ok()?;
-    }
-    Some(tables)
+// Puts a row under the keys 9 and 7 of the first table.
+fn stock(tables: &mut Tables<Global>) -> Result<(), Fault>
+    requires { 0 < tables.old.tables }
+{
+    let row = Row::from(100i64);
+    tables.put(0, &Key::Num(9), Some(&row))?;
+    tables.put(0, &Key::Num(7), Some(&row))
+}
+
+// How many rows are answered to a range, without and with a limit.
+fn answered(tables: &Tables<Global>) -> Result<(usize, Option<usize>), Fault> {
+    let upper = Some(Key::Num(9));
+    let below = tables.rows(0, None, upper.as_ref())?.len();
+    let all = tables.rows_up_to(2, 0, None, None)?;
+    Ok((below, all.map(|rows| rows.len())))
+}
+
+// How many rows are answered to both, and how many a copy has.
+fn asked(alloc: Global) -> Result<((usize, Option<usize>), usize), Fault> {
+    let mut tables = Box::new(alloc, Tables::new(alloc, 2)?)?;
+    stock(&mut tables)?;
+    let answers = answered(&tables)?;
+    Ok((answers, tables.clone()?.len()))
 }
 
 #[test]
-fn tables(rt: HostRuntime) -> Result<(), Fail> {
-    let Some(tables) = stock(rt.alloc()) else {
-        assert!(rt; false, "there is memory");
-        return Ok(());
-    };
-    let copy = tables.clone()?;
-    assert_eq!(rt; copy.count(), 2);
-    assert_eq!(rt; copy.len(), 2);
-    assert!(rt; copy.row(0, &Key::Num(7)).is_some());
-    assert!(rt; copy.row(1, &Key::Num(7)).is_none());
-    let upper = Some(Key::Num(9));
-    assert_eq!(rt; copy.count_rows(0, None, upper.as_ref()), 1);
-    assert!(rt;
-        copy.rows(0, None, upper.as_ref())
-            .is_ok_and(|rows| rows.len() == 1)
-    );
-    assert!(rt; copy.table(0).is_some_and(|rows| rows.len() == 2));
+fn tables_find_memory(rt: HostRuntime) -> Result<(), Fail> {
+    assert!(rt; asked(rt.alloc())? == ((1, Some(2)), 2));
     Ok(())
 }
 
-// The writes with one more of the first table.
+#[test]
+fn marks_find_memory(rt: HostRuntime) -> Result<(), Fail> {
+    let marks = Marks::new(rt.alloc(), 2)?.clone()?;
+    assert!(rt; marks.sessions() == 2 && marks.is_empty());
+    Ok(())
+}
+
+// The writes with one more of the first table: a row of this number, or a deletion.
 #[tactic(auto, using(occ_book::proofs::Parted::placed_set))]
-fn with_write(
+fn with(
     mut writes: WriteSet<Global>,
     key: u64,
-    row: Option<Row<Global>>,
-) -> Option<WriteSet<Global>>
+    number: Option<i64>,
+) -> Result<WriteSet<Global>, Fault>
     requires { ArePlaced 1 writes }
-    ensures { IfSome result (λ more. ArePlaced 1 more) }
+    ensures { IfOk result (λ more. ArePlaced 1 more) }
 {
-    if writes.set(0, Key::Num(key), row).is_err() {
-        return None;
-    }
-    Some(writes)
+    let row = match number {
+        Some(number) => Some(Row::from(number)),
+        None => None,
+    };
+    writes.set(0, Key::Num(key), row)?;
+    Ok(writes)
 }
 
-// Writes of the first table: under each key a row of one number, or a deletion.
-fn writes(alloc: Global, rows: &[(u64, Option<i64>)]) -> Option<WriteSet<Global>>
-    ensures { IfSome result (λ writes. ArePlaced 1 writes) }
+// Two rows are put.
+fn putting(alloc: Global) -> Result<WriteSet<Global>, Fault>
+    ensures { IfOk result (λ writes. ArePlaced 1 writes) }
 {
-    let mut writes = WriteSet::new(alloc);
-    for (key, number) in rows {
-        let row = match number {
-            Some(number) => Some(row_of(alloc, *number)?),
-            None => None,
-        };
-        writes = with_write(writes, *key, row)?;
-    }
-    Some(writes)
+    let first = with(WriteSet::new(alloc), 7, Some(1))?;
+    with(first, 9, Some(2))
 }
 
-// A row of one number.
-fn row_of(alloc: Global, number: i64) -> Option<Row<Global>> {
-    Row::from_cells(vec![in alloc; Cell::Int(number)].ok()?).ok()
+// One of them is deleted, the other one changed, and a third one put.
+fn changing(alloc: Global) -> Result<WriteSet<Global>, Fault>
+    ensures { IfOk result (λ writes. ArePlaced 1 writes) }
+{
+    let first = with(WriteSet::new(alloc), 9, None)?;
+    let second = with(first, 7, Some(4))?;
+    with(second, 8, Some(5))
 }
 
-// Whether the first table has exactly these rows of one number.
-fn has_rows(alloc: Global, tables: &Tables<Global>, rows: &[(u64, i64)]) -> bool {
-    for (key, number) in rows {
-        let Some(row) = row_of(alloc, *number) else {
-            return false;
-        };
-        if tables.row(0, &Key::Num(*key)) != Some(&row) {
-            return false;
-        }
-    }
-    tables.len() == rows.len()
+// The number under a key.
+fn number(tables: &Tables<Global>, key: u64) -> Option<i64> {
+    tables.row(0, &Key::Num(key))?.int(0)
 }
 
-#[test]
-fn all_writes(rt: HostRuntime) -> Result<(), Fail> {
-    let alloc = rt.alloc();
-    let (Some(first), Some(second), Some(none)) = (
-        writes(alloc, &[(7, Some(1)), (9, Some(2)), (11, Some(3))]),
-        writes(alloc, &[(9, None), (7, Some(4)), (8, Some(5)), (10, None)]),
-        writes(alloc, &[]),
-    ) else {
-        assert!(rt; false, "there is memory");
-        return Ok(());
-    };
-    let Ok(mut tables) = Tables::new(alloc, 1) else {
-        assert!(rt; false, "there is memory");
-        return Ok(());
-    };
-    assert!(rt; tables.put_all(&first).is_ok());
-    assert!(rt; has_rows(alloc, &tables, &[(7, 1), (9, 2), (11, 3)]));
-    assert!(rt; tables.put_all(&second).is_ok());
-    assert!(rt; has_rows(alloc, &tables, &[(7, 4), (8, 5), (11, 3)]));
-    assert!(rt; tables.put_all(&none).is_ok());
-    assert!(rt; has_rows(alloc, &tables, &[(7, 4), (8, 5), (11, 3)]));
-    Ok(())
+// Whether a table has the rows that both leave, and no others.
+fn is_left(tables: &Tables<Global>) -> bool {
+    number(tables, 7) == Some(4) && number(tables, 8) == Some(5) && tables.len() == 2
 }
 
-// Marks of two sessions, of which the second has one.
-fn closed(alloc: Global) -> Option<Marks<Global>> {
-    let mut marks = Marks::new(alloc, 2).ok()?;
-    if marks.sessions() < 2 {
-        return None;
-    }
-    marks.set(2, 5);
-    Some(marks)
+// Does both in a table.
+fn write(alloc: Global, tables: &mut Tables<Global>) -> Result<(), Fault>
+    requires { tables.old.tables ≡ 1 }
+{
+    let first = putting(alloc)?;
+    tables.put_all(&first)?;
+    let second = changing(alloc)?;
+    tables.put_all(&second)
+}
+
+fn written(alloc: Global) -> Result<bool, Fault> {
+    let mut tables = Tables::new(alloc, 1)?;
+    write(alloc, &mut tables)?;
+    Ok(is_left(&tables))
 }
 
 #[test]
-fn marks(rt: HostRuntime) -> Result<(), Fail> {
-    let Some(marks) = closed(rt.alloc()) else {
-        assert!(rt; false, "there is memory");
-        return Ok(());
-    };
-    let copy = marks.clone()?;
-    assert_eq!(rt; copy.sessions(), 2);
-    assert_eq!(rt; copy.len(), 1);
-    assert!(rt; !copy.is_empty());
-    for (session, mark) in [(0, None), (1, None), (2, Some(5)), (3, None)] {
-        assert!(rt; copy.get(session) == mark);
-    }
+fn writes_find_memory(rt: HostRuntime) -> Result<(), Fail> {
+    assert!(rt; written(rt.alloc())?);
     Ok(())
 }
 
-// A row without reads and writes, which was backed up.
-fn row(alloc: Global) -> LogRow<Global, ()> {
-    LogRow {
-        place: 0,
-        session: 2,
-        number: 4,
-        start: 0,
-        finish: 1,
-        reads: ReadSet::new(alloc),
-        writes: WriteSet::new(alloc),
-        standing: Standing::Back(Cause::Conflict),
-    }
-}
-
-// A book with two rows, which goes on from a base at the place 3.
-fn book(alloc: Global) -> Option<Book<Global, ()>> {
-    let table = stock(alloc)?;
-    let marks = closed(alloc)?;
-    let base = base_at(alloc, 3)?;
-    let log = vec![in alloc; row(alloc), row(alloc)].ok()?;
-    Some(Book {
-        base,
-        log,
-        table,
-        marks,
-        low: 0,
-        tnc: 1,
-    })
-}
-
-// A base of one table and two sessions, without rows and marks.
-fn base_at(alloc: Global, place: usize) -> Option<Base<Global>> {
-    let tables = Tables::new(alloc, 1).ok()?;
-    let marks = Marks::new(alloc, 2).ok()?;
-    Some(Base::from_parts(tables, marks, place))
-}
-
-#[test]
-fn books(rt: HostRuntime) -> Result<(), Fail> {
-    let Some(book) = book(rt.alloc()) else {
-        assert!(rt; false, "there is memory");
-        return Ok(());
-    };
-    let lent = book.view();
-    assert_eq!(rt; lent.base.place(), 3);
-    assert_eq!(rt; lent.log.len(), 2);
-    assert!(rt; lent.log[1].standing == Standing::Back(Cause::Conflict));
-    assert_eq!(rt; lent.table.len(), 2);
-    assert_eq!(rt; lent.marks.len(), 1);
-    assert_eq!(rt; lent.low, 0);
-    assert_eq!(rt; lent.tnc, 1);
-    Ok(())
-}
-
-#[test]
-fn rows_are_copied(rt: HostRuntime) -> Result<(), Fail> {
-    let copy = row(rt.alloc()).clone()?;
-    assert!(rt; copy.standing == Standing::Back(Cause::Conflict));
-    Ok(())
-}
-
-// A row of one of two sessions, with its number, that writes rows of one number to the first table.
-fn entered(
+// Folds a committed transaction of session 1 with these writes into a base of one table and two sessions.
+fn fold(
     alloc: Global,
-    session: usize,
+    base: &mut Base<Global>,
     number: u64,
-    rows: &[(u64, Option<i64>)],
-    standing: Standing<()>,
-) -> Option<LogRow<Global, ()>>
-    requires { IsSession 2 session }
-    ensures { IfSome result (λ row. FitsIn 1 2 row) }
+    writes: WriteSet<Global>,
+) -> Result<(), Fault>
+    requires { ArePlaced 1 writes }
 {
-    let writes = writes(alloc, rows)?;
-    Some(LogRow {
+    if base.tables() != 1 || base.numbers().sessions() != 2 || base.place() > 100 {
+        return Err(Fault::Memory);
+    }
+    let row: LogRow<Global, ()> = LogRow {
         place: 0,
-        session,
+        session: 1,
         number,
         start: 0,
         finish: 0,
         reads: ReadSet::new(alloc),
         writes,
-        standing,
-    })
+        standing: Standing::Done(number),
+    };
+    base.fold(vec![in alloc; row]?.as_slice())
 }
 
-// The first row of session 1, which puts two rows.
-fn putting(alloc: Global) -> Option<LogRow<Global, ()>>
-    ensures { IfSome result (λ row. FitsIn 1 2 row) }
-{
-    entered(
-        alloc,
-        1,
-        1,
-        &[(7, Some(1)), (9, Some(2))],
-        Standing::Done(1),
-    )
+// Folds both, one after the other.
+fn fold_both(alloc: Global, base: &mut Base<Global>) -> Result<(), Fault> {
+    fold(alloc, base, 1, putting(alloc)?)?;
+    fold(alloc, base, 2, changing(alloc)?)
 }
 
-// The first row of session 2, which is backed up.
-fn failing(alloc: Global) -> Option<LogRow<Global, ()>>
-    ensures { IfSome result (λ row. FitsIn 1 2 row) }
-{
-    let back = Standing::Back(Cause::Conflict);
-    entered(alloc, 2, 1, &[(7, Some(100)), (10, Some(6))], back)
+// Whether the state of a base is what both leave.
+fn has_both(base: &Base<Global>) -> Result<bool, Fault> {
+    Ok(is_left(&base.state()?))
 }
 
-// The second row of session 1, which deletes one of its rows, replaces the other, and puts a third.
-fn changing(alloc: Global) -> Option<LogRow<Global, ()>>
-    ensures { IfSome result (λ row. FitsIn 1 2 row) }
-{
-    let rows = [(9, None), (7, Some(4)), (8, Some(5))];
-    entered(alloc, 1, 2, &rows, Standing::Done(2))
-}
-
-// Folds rows into a base of one table and two sessions.
-fn fold_in(base: &mut Base<Global>, rows: &[LogRow<Global, ()>]) -> Result<(), Fault>
-    requires { AllFitIn 1 2 rows.now }
-{
-    if base.tables() != 1 || base.numbers().sessions() != 2 {
-        return Err(Fault::Memory);
-    }
-    if base.place() > 100 || rows.len() > 100 {
-        return Err(Fault::Memory);
-    }
-    base.fold(rows)
-}
-
-// All three rows, folded at once.
-fn folded_at_once(alloc: Global) -> Option<Base<Global>> {
-    let (first, second, third) = (putting(alloc)?, failing(alloc)?, changing(alloc)?);
-    let rows = vec![in alloc; first, second, third].ok()?;
-    let mut base = Base::new(alloc, 1, 2).ok()?;
-    fold_in(&mut base, rows.as_slice()).ok()?;
-    Some(base)
-}
-
-// The first two rows.
-fn first_rows(alloc: Global) -> Option<Vec<LogRow<Global, ()>>>
-    ensures { IfSome result (λ rows. AllFitIn 1 2 rows.items) }
-{
-    let (first, second) = (putting(alloc)?, failing(alloc)?);
-    vec![in alloc; first, second].ok()
-}
-
-// The last row.
-fn last_rows(alloc: Global) -> Option<Vec<LogRow<Global, ()>>>
-    ensures { IfSome result (λ rows. AllFitIn 1 2 rows.items) }
-{
-    let third = changing(alloc)?;
-    vec![in alloc; third].ok()
-}
-
-// The same, folded in two parts.
-fn folded_in_parts(alloc: Global) -> Option<Base<Global>> {
-    let (front, last) = (first_rows(alloc)?, last_rows(alloc)?);
-    let mut base = Base::new(alloc, 1, 2).ok()?;
-    fold_in(&mut base, front.as_slice()).ok()?;
-    fold_in(&mut base, last.as_slice()).ok()?;
-    Some(base)
-}
-
-// A row that is backed up, folded alone.
-fn folded_back(alloc: Global) -> Option<Base<Global>> {
-    let row = failing(alloc)?;
-    let rows = vec![in alloc; row].ok()?;
-    let mut base = Base::new(alloc, 1, 2).ok()?;
-    fold_in(&mut base, rows.as_slice()).ok()?;
-    Some(base)
-}
-
-// Whether the state of a base has just these rows.
-fn has_folded(alloc: Global, base: &Base<Global>, rows: &[(u64, i64)]) -> bool {
-    match base.state() {
-        Ok(state) => has_rows(alloc, &state, rows),
-        Err(_memory) => false,
-    }
-}
-
-// Whether a base has what the three rows leave.
-fn has_three_rows(alloc: Global, base: &Base<Global>) -> bool {
-    has_folded(alloc, base, &[(7, 4), (8, 5)])
-        && base.last(1) == Some(2)
-        && base.last(2) == Some(1)
-        && base.numbers().len() == 2
-        && base.place() == 3
+// Whether a base is that which both leave, and a copy of it.
+fn folded(alloc: Global) -> Result<bool, Fault> {
+    let mut base = Box::new(alloc, Base::new(alloc, 1, 2)?)?;
+    fold_both(alloc, &mut base)?;
+    let counted = base.last(1) == Some(2) && base.place() == 2;
+    let copy = Box::new(alloc, base.clone()?)?;
+    Ok(counted && has_both(&copy)?)
 }
 
 #[test]
-fn rows_fold_at_once(rt: HostRuntime) -> Result<(), Fail> {
-    let alloc = rt.alloc();
-    let Some(base) = folded_at_once(alloc) else {
-        assert!(rt; false, "there is memory");
-        return Ok(());
-    };
-    assert!(rt; has_three_rows(alloc, &base));
-    Ok(())
-}
-
-#[test]
-fn rows_fold_in_parts(rt: HostRuntime) -> Result<(), Fail> {
-    let alloc = rt.alloc();
-    let Some(base) = folded_in_parts(alloc) else {
-        assert!(rt; false, "there is memory");
-        return Ok(());
-    };
-    assert!(rt; has_three_rows(alloc, &base));
-    let copy = base.clone()?;
-    assert!(rt; has_three_rows(alloc, &copy));
-    Ok(())
-}
-
-#[test]
-fn base_of_a_backed_up_row(rt: HostRuntime) -> Result<(), Fail> {
-    let alloc = rt.alloc();
-    let Some(base) = folded_back(alloc) else {
-        assert!(rt; false, "there is memory");
-        return Ok(());
-    };
-    assert!(rt; has_folded(alloc, &base, &[]));
-    assert!(rt; base.last(1) == None);
-    assert!(rt; base.last(2) == Some(1));
-    assert_eq!(rt; base.place(), 1);
+fn a_base_finds_memory(rt: HostRuntime) -> Result<(), Fail> {
+    assert!(rt; folded(rt.alloc())?);
     Ok(())
 }

@@ -1,5 +1,6 @@
-//! Tests of the libraries below the core, and of the allocator that refuses: each module tests one of them, or a part of it. They are
-//! apart from what they test, since a crate with tests is proved twice.
+//! Each call of the libraries up to the client that may answer a want of memory, once with ample memory, since no clause says that it
+//! succeeds then; and what else no clause says: texts, how often a client tries, a full log, and the counts of the allocator that
+//! refuses. They are apart from what they test, since a crate with tests is proved twice.
 #![tactic(auto)]
 
 #[cfg(test)]
@@ -7,17 +8,18 @@ mod audit;
 #[cfg(test)]
 mod book;
 #[cfg(test)]
+mod clients;
+#[cfg(test)]
+mod cores;
+#[cfg(test)]
 mod log;
-#[cfg(test)]
-#[cfg(test)]
-mod phases;
 #[cfg(test)]
 mod queue;
 #[cfg(test)]
 mod refusing;
 #[cfg(test)]
-mod set_operations;
-#[cfg(test)]
 mod sets;
+#[cfg(test)]
+mod stores;
 #[cfg(test)]
 mod types;

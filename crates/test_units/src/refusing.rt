@@ -29,94 +29,109 @@ fn mapped<A: Allocator + Copy>(alloc: A, count: u64) -> Result<usize, AllocError
     Ok(names.len())
 }
 
-// How many requests these make where none is refused.
-fn asked(alloc: Global) -> Result<u64, AllocError> {
+// What was asked for, what of that was refused, and the bytes that are out.
+fn counts<A: Allocator>(lent: &Refusing<A>) -> (u64, u64, u64) {
+    (lent.requests(), lent.refused(), lent.bytes_out())
+}
+
+// How many requests a list and a map make where none is refused, if both are right then.
+fn asked(alloc: Global) -> Result<Option<u64>, AllocError> {
     let ample = Refusing::new(alloc, Plan::Nothing);
-    let _sum = listed(&ample, 100)?;
-    let _count = mapped(&ample, 40)?;
-    Ok(ample.requests())
+    let right = listed(&ample, 100)? == 4950 && mapped(&ample, 40)? == 39;
+    let (requests, refused, out) = counts(&ample);
+    if !right || refused != 0 || out != 0 {
+        return Ok(None);
+    }
+    Ok(Some(requests))
 }
 
-#[test]
-fn nothing_is_refused_by_no_plan(rt: HostRuntime) -> Result<(), Fail> {
-    let ample = Refusing::new(rt.alloc(), Plan::Nothing);
-    assert_eq!(rt; listed(&ample, 100)?, 4950);
-    assert_eq!(rt; mapped(&ample, 40)?, 39);
-    assert!(rt; ample.requests() > 40);
-    assert_eq!(rt; ample.refused(), 0);
-    assert_eq!(rt; ample.bytes_out(), 0);
-    Ok(())
-}
-
-#[test]
-fn bytes_are_out_as_long_as_they_are_held(rt: HostRuntime) -> Result<(), Fail> {
-    let ample = Refusing::new(rt.alloc(), Plan::Nothing);
-    let mut list = Vec::with_capacity(&ample, 10)?;
-    list.push(7u64)?;
-    assert_eq!(rt; (ample.requests(), ample.bytes_out()), (1, 80));
-    list.reserve_exact(20)?;
-    assert_eq!(rt; (ample.requests(), ample.bytes_out()), (2, 168));
-    list.shrink_to_fit();
-    assert_eq!(rt; (ample.requests(), ample.bytes_out()), (3, 8));
-    drop(list);
-    assert_eq!(rt; (ample.requests(), ample.bytes_out()), (3, 0));
-    Ok(())
+// Whether a run ends where this request is refused, with nothing out, and the next run is served.
+fn ends_at(alloc: Global, place: u64) -> bool {
+    let lent = Refusing::new(alloc, Plan::Once(place));
+    let ended = listed(&lent, 100).is_err() || mapped(&lent, 40).is_err();
+    ended && lent.refused() == 1 && lent.bytes_out() == 0 && listed(&lent, 100) == Ok(4950)
 }
 
 #[test]
 fn each_request_is_refused_once(rt: HostRuntime) -> Result<(), Fail> {
     let requests = asked(rt.alloc())?;
-    for place in 0..requests {
-        let lent = Refusing::new(rt.alloc(), Plan::Once(place));
-        let ended = listed(&lent, 100).is_err() || mapped(&lent, 40).is_err();
-        assert!(rt; ended, "{place}");
-        assert_eq!(rt; lent.refused(), 1, "{place}");
-        assert_eq!(rt; lent.bytes_out(), 0, "{place}");
-        // the one that was refused is the last of its run, and the next run is served
-        assert_eq!(rt; listed(&lent, 100)?, 4950, "{place}");
+    assert!(rt; requests > Some(40));
+    for place in 0..requests.unwrap_or(0) {
+        assert!(rt; ends_at(rt.alloc(), place), "{place}");
     }
     Ok(())
+}
+
+// What is counted as a list with room for ten is made, grows, shrinks to one and is dropped.
+fn held(alloc: Global) -> Result<[(u64, u64, u64); 4], AllocError> {
+    let ample = Refusing::new(alloc, Plan::Nothing);
+    let mut list = Vec::with_capacity(&ample, 10)?;
+    list.push(7u64)?;
+    let made = counts(&ample);
+    list.reserve_exact(20)?;
+    let grown = counts(&ample);
+    list.shrink_to_fit();
+    let shrunk = counts(&ample);
+    drop(list);
+    Ok([made, grown, shrunk, counts(&ample)])
+}
+
+#[test]
+fn bytes_are_out_as_long_as_they_are_held(rt: HostRuntime) -> Result<(), Fail> {
+    let held = held(rt.alloc())?;
+    assert!(rt; held == [(1, 0, 80), (2, 0, 168), (3, 0, 8), (3, 0, 0)]);
+    Ok(())
+}
+
+// Whether four more letters are refused, one after another, with the bytes of three requests out.
+fn refuses_four<A: Allocator>(lent: &Refusing<Global>, letters: &mut Vec<u8, A>) -> bool {
+    for refused in 1u64..5 {
+        let counted = (refused.saturating_add(3), refused, 4);
+        if letters.push(b'b').is_ok() || counts(lent) != counted {
+            return false;
+        }
+    }
+    true
+}
+
+// Whether all is refused from the third request on, and what was held goes on once requests are served again.
+fn serves_again(alloc: Global) -> Result<bool, AllocError> {
+    let lent = Refusing::new(alloc, Plan::From(3));
+    let mut first = Vec::with_capacity(&lent, 1)?;
+    let second = Vec::from_slice(&lent, b"ab")?;
+    let third = String::from_str(&lent, "c")?;
+    first.push(b'a')?;
+    let refused = counts(&lent) == (3, 0, 4) && refuses_four(&lent, &mut first);
+    lent.follow(Plan::Nothing);
+    first.push(b'b')?;
+    Ok(refused && first.as_slice() == second.as_slice() && third.as_str() == "c")
 }
 
 #[test]
 fn all_are_refused_from_one_on(rt: HostRuntime) -> Result<(), Fail> {
-    let lent = Refusing::new(rt.alloc(), Plan::From(3));
-    let mut first = Vec::with_capacity(&lent, 1)?;
-    let second = Vec::from_slice(&lent, b"ab")?;
-    let third = String::from_str(&lent, "c")?;
-    assert_eq!(rt; (lent.requests(), lent.bytes_out()), (3, 4));
-    first.push(b'a')?;
-    for refused in 1u64..5 {
-        assert!(rt; first.push(b'b').is_err(), "{refused}");
-        assert_eq!(rt;
-            (lent.requests(), lent.refused()),
-            (refused.saturating_add(3), refused)
-        );
-        assert_eq!(rt; lent.bytes_out(), 4, "{refused}");
-    }
-    // what was held is as it was, and goes on once requests are served again
-    lent.follow(Plan::Nothing);
-    first.push(b'b')?;
-    assert!(rt; first.as_slice() == second.as_slice());
-    assert!(rt; third.as_str() == "c");
-    assert_eq!(rt; lent.refused(), 4);
-    drop(first);
-    drop(second);
-    drop(third);
-    assert_eq!(rt; lent.bytes_out(), 0);
+    assert!(rt; serves_again(rt.alloc())?);
     Ok(())
+}
+
+fn is_served<A: Allocator>(lent: A) -> bool {
+    Vec::<u8, _>::with_capacity(lent, 4).is_ok()
+}
+
+// Which of three requests are served where the second is to be refused from now on, and what is counted then.
+fn served(alloc: Global) -> Result<([bool; 3], (u64, u64, u64)), AllocError> {
+    let lent = Refusing::new(alloc, Plan::Nothing);
+    let _sum = listed(&lent, 10)?;
+    let before = lent.requests();
+    lent.follow(Plan::Once(before.saturating_add(1)));
+    let served = [is_served(&lent), is_served(&lent), is_served(&lent)];
+    let (requests, refused, out) = counts(&lent);
+    Ok((served, (requests.saturating_sub(before), refused, out)))
 }
 
 #[test]
 fn a_plan_is_changed_on_the_way(rt: HostRuntime) -> Result<(), Fail> {
-    let lent = Refusing::new(rt.alloc(), Plan::Nothing);
-    assert_eq!(rt; listed(&lent, 10)?, 45);
-    let next = lent.requests();
-    lent.follow(Plan::Once(next.saturating_add(1)));
-    assert!(rt; Vec::<u8, _>::with_capacity(&lent, 4).is_ok());
-    assert!(rt; Vec::<u8, _>::with_capacity(&lent, 4).is_err());
-    assert!(rt; Vec::<u8, _>::with_capacity(&lent, 4).is_ok());
-    assert_eq!(rt; lent.requests(), next.saturating_add(3));
-    assert_eq!(rt; (lent.refused(), lent.bytes_out()), (1, 0));
+    let (served, counted) = served(rt.alloc())?;
+    assert!(rt; served == [true, false, true]);
+    assert!(rt; counted == (3, 1, 0));
     Ok(())
 }

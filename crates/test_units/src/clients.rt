@@ -1,0 +1,103 @@
+//! Clients of a store, and how often they try.
+use crate::stores::{putting, store};
+use occ_client::{Client, Core, End, Item};
+use occ_core::Step;
+use occ_types::Fault;
+use occ_types::limits::MAX_WRITES;
+use std::alloc::Global;
+use std::test::Fail;
+
+// Opens a transaction that writes two keys, one of them twice.
+fn write(client: &mut Client<Global>, core: &mut Core<Global>) -> Result<(), Fault> {
+    client.begin(core)?;
+    client.put(core, 0, 7.into(), 5.into())?;
+    client.put(core, 0, 8.into(), 6.into())?;
+    client.delete(core, 0, 7.into())?;
+    Ok(())
+}
+
+// Whether it reads just the row that it has left.
+fn reads(client: &mut Client<Global>, core: &mut Core<Global>) -> Result<bool, Fault> {
+    let gone = client.get(core, 0, 7.into())?.is_none();
+    let own = client.get(core, 0, 8.into())? == Some(6.into());
+    let rows = client.scan(core, 0, None, None)?;
+    Ok(gone && own && rows.len() == 1)
+}
+
+// How many rows a transaction sees that has put as many as it may.
+fn most(client: &mut Client<Global>, core: &mut Core<Global>) -> Result<usize, Fault> {
+    client.begin(core)?;
+    for key in 0..MAX_WRITES {
+        client.put(core, 0, (key as u64).into(), 1.into())?;
+    }
+    Ok(client.scan(core, 0, None, None)?.len())
+}
+
+// A transaction that puts one row and commits, and the end of the session.
+fn commit_and_close(client: &mut Client<Global>, core: &mut Core<Global>) -> Result<End, Fault> {
+    client.begin(core)?;
+    client.put(core, 0, 9.into(), 1.into())?;
+    let end = client.commit(core)?;
+    client.close(core)?;
+    Ok(end)
+}
+
+// Two transactions that are abandoned, and one that commits. Whether each is answered what is due.
+fn calls(client: &mut Client<Global>, core: &mut Core<Global>) -> Result<bool, Fault> {
+    write(client, core)?;
+    let read = reads(client, core)? && client.abandon(core)?;
+    let seen = most(client, core)?;
+    let told = client.abandon(core)?;
+    let end = commit_and_close(client, core)?;
+    Ok(read && seen == MAX_WRITES && told && end == End::Committed { tn: 1 })
+}
+
+#[test]
+fn a_client_finds_memory(rt: HostRuntime) -> Result<(), Fail> {
+    let mut core = store(rt.alloc())?;
+    let mut client = Client::new(rt.alloc(), 1);
+    assert!(rt; calls(&mut client, &mut core)?);
+    Ok(())
+}
+
+// A client that reads one key and puts two, beside the open row of another session.
+fn beside(
+    client: &mut Client<Global>,
+    core: &mut Core<Global>,
+    other: Item<Global>,
+) -> Result<End, Fault> {
+    let _entered = core.enter(2, other)?;
+    client.begin(core)?;
+    let _row = client.get(core, 0, 6.into())?;
+    client.put(core, 0, 4.into(), 2.into())?;
+    client.put(core, 0, 5.into(), 2.into())?;
+    client.commit(core)
+}
+
+#[test]
+fn a_client_finds_memory_beside_an_open_row(rt: HostRuntime) -> Result<(), Fail> {
+    let mut core = store(rt.alloc())?;
+    let mut client = Client::new(rt.alloc(), 1);
+    let other = putting(rt.alloc(), 3)?;
+    let end = beside(&mut client, &mut core, other)?;
+    assert!(rt; end == End::Committed { tn: 1 });
+    Ok(())
+}
+
+// Puts a row that it has read, and that the open row of another session writes, which is written and finished meanwhile.
+fn read_and_put(client: &mut Client<Global>, core: &mut Core<Global>) -> Result<(), Fault> {
+    let _row = client.get(core, 0, 3.into())?;
+    let _replies = (core.take(Step::Decide(2)), core.take(Step::WriteOne(2)));
+    let _reply = core.take(Step::Finish(2));
+    Ok(client.put(core, 0, 3.into(), 2.into())?)
+}
+
+#[test]
+fn a_client_tries_again(rt: HostRuntime) -> Result<(), Fail> {
+    let mut core = store(rt.alloc())?;
+    let _entered = core.enter(2, putting(rt.alloc(), 3)?)?;
+    let mut client = Client::new(rt.alloc(), 1);
+    let end = client.transact(&mut core, 3, |client, core| read_and_put(client, core))?;
+    assert!(rt; end == End::Committed { tn: 2 });
+    Ok(())
+}
