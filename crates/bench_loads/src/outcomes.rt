@@ -1,7 +1,8 @@
 //! What comes of a load.
 use crate::budgets::Until;
+use crate::dice::Dice;
+use crate::loads::{Shape, amount};
 use crate::turns::Turn;
-use bench_loads::{Dice, Shape, amount};
 use occ_types::Fault;
 
 /// What a thread has done.
@@ -11,6 +12,8 @@ pub(crate) struct Done {
     pub(crate) committed: u64,
     /// How many tries of them were backed up.
     pub(crate) backed_up: u64,
+    /// The last of their transaction numbers.
+    last: u64,
     /// The fault that ended its work.
     pub(crate) fault: Option<Fault>,
 }
@@ -36,6 +39,8 @@ pub(crate) struct Told {
     pub(crate) micros: u64,
     /// The sum of all rows at the end.
     pub(crate) sum: i64,
+    /// The transaction number that was the last before the load, of a store.
+    pub(crate) before: Option<u64>,
 }
 
 impl Done {
@@ -43,6 +48,7 @@ impl Done {
     const NOTHING: Done = Done {
         committed: 0,
         backed_up: 0,
+        last: 0,
         fault: None,
     };
 
@@ -51,6 +57,7 @@ impl Done {
         Done {
             committed: self.committed.saturating_add(other.committed),
             backed_up: self.backed_up.saturating_add(other.backed_up),
+            last: self.last.max(other.last),
             fault: self.fault.or(other.fault),
         }
     }
@@ -71,11 +78,12 @@ impl Part {
         Turn::new(self.shape, self.shape.first(&mut self.dice))
     }
 
-    /// A transaction committed, of which so many tries were backed up.
-    pub(crate) fn commit(&mut self, backed_up: u64) {
+    /// A transaction committed under a number, and so many tries of it were backed up.
+    pub(crate) fn commit(&mut self, tn: u64, backed_up: u64) {
         self.done = self.done.and(Done {
             committed: 1,
             backed_up,
+            last: tn,
             fault: None,
         });
     }
@@ -100,6 +108,7 @@ impl Told {
             least: u64::MAX,
             micros,
             sum: 0,
+            before: None,
         }
     }
 
@@ -109,13 +118,21 @@ impl Told {
         self.least = self.least.min(done.committed);
     }
 
-    /// Whether no thread met a fault, each transaction committed, and the rows add up.
+    /// Whether no thread met a fault, each transaction committed, under a number of its own, and the rows add up.
     pub(crate) fn is_right(&self, until: Until) -> bool {
         let all = match until {
             Until::Count(count) => self.all.committed == count,
             Until::Seconds(_) => true,
         };
-        all && self.all.fault.is_none() && self.adds_up()
+        all && self.all.fault.is_none() && self.is_numbered() && self.adds_up()
+    }
+
+    /// Whether the last number is that of as many commits as there were.
+    fn is_numbered(&self) -> bool {
+        match self.before {
+            Some(before) => self.all.last.max(before) == before.saturating_add(self.all.committed),
+            None => true,
+        }
     }
 
     /// Whether the rows add up to what the commits put there.
