@@ -4,7 +4,7 @@ ghost use Rattle.std.specs.Prelude.{◌≡◌};
 use crate::budgets::Budget;
 use crate::crews::{Member, told};
 use crate::hands::Hand;
-use crate::outcomes::Told;
+use crate::outcomes::{Done, Told};
 use crate::rows::{PUTS, TABLE, puts, schema, write};
 use crate::tasks::Task;
 use occ_store::{Frame, Lane, Name, Session, Store, Worker};
@@ -103,23 +103,28 @@ fn hired<N: Name, A: Allocator + Copy>(
     Ok(workers)
 }
 
-/// Puts so many rows of 0, and behind them one of 1, which is deleted again; and folds all. The last transaction number.
+/// Puts so many rows of 0, and behind them one of 1, which is deleted again; and folds all.
 fn fill<N: Name, A: Allocator + Copy, R: Wait>(
     rt: &R,
     alloc: A,
     store: &Store<N, A>,
     worker: &mut Worker<N, A>,
     rows: u64,
-) -> Result<u64, Fault> {
+) -> Result<Done, Fault> {
+    let mut done = Done::NOTHING;
     for part in 0..rows.div_ceil(PUTS) {
         let first = part.saturating_mul(PUTS);
         let puts = puts(alloc, first, rows.min(first.saturating_add(PUTS)))?;
-        let _tn = worker.run(rt, store, 0, &puts)?;
+        let tn = worker.run(rt, store, 0, &puts)?;
+        done = done.and(Done::one(tn, 0));
     }
-    let _put = worker.run(rt, store, 1, &write(alloc, rows, Some(1))?)?;
-    let deleted = worker.run(rt, store, 1, &write(alloc, rows, None)?)?;
+    for number in [Some(1), None] {
+        let write = write(alloc, rows, number)?;
+        let tn = worker.run(rt, store, 1, &write)?;
+        done = done.and(Done::one(tn, 0));
+    }
     let _folded = store.checkpoint(rt)?;
-    Ok(deleted)
+    Ok(done)
 }
 
 /// Has each member work in a thread of its own.

@@ -12,8 +12,8 @@ pub(crate) struct Done {
     pub(crate) committed: u64,
     /// How many tries of them were backed up.
     pub(crate) backed_up: u64,
-    /// The last of their transaction numbers.
-    last: u64,
+    /// The sum of their transaction numbers.
+    numbers: u64,
     /// The fault that ended its work.
     pub(crate) fault: Option<Fault>,
 }
@@ -39,25 +39,35 @@ pub(crate) struct Told {
     pub(crate) micros: u64,
     /// The sum of all rows at the end.
     pub(crate) sum: i64,
-    /// The transaction number that was the last before the load, of a store.
-    pub(crate) before: Option<u64>,
+    /// What was done before the load, on a store.
+    pub(crate) before: Option<Done>,
 }
 
 impl Done {
     /// Nothing.
-    const NOTHING: Done = Done {
+    pub(crate) const NOTHING: Done = Done {
         committed: 0,
         backed_up: 0,
-        last: 0,
+        numbers: 0,
         fault: None,
     };
 
+    /// A transaction that committed under a number, after so many tries that were backed up.
+    pub(crate) fn one(tn: u64, backed_up: u64) -> Done {
+        Done {
+            committed: 1,
+            backed_up,
+            numbers: tn,
+            fault: None,
+        }
+    }
+
     /// What it and another have done together.
-    fn and(self, other: Done) -> Done {
+    pub(crate) fn and(self, other: Done) -> Done {
         Done {
             committed: self.committed.saturating_add(other.committed),
             backed_up: self.backed_up.saturating_add(other.backed_up),
-            last: self.last.max(other.last),
+            numbers: self.numbers.saturating_add(other.numbers),
             fault: self.fault.or(other.fault),
         }
     }
@@ -78,14 +88,9 @@ impl Part {
         Turn::new(self.shape, self.shape.first(&mut self.dice))
     }
 
-    /// A transaction committed under a number, and so many tries of it were backed up.
+    /// A transaction committed under a number, after so many tries that were backed up.
     pub(crate) fn commit(&mut self, tn: u64, backed_up: u64) {
-        self.done = self.done.and(Done {
-            committed: 1,
-            backed_up,
-            last: tn,
-            fault: None,
-        });
+        self.done = self.done.and(Done::one(tn, backed_up));
     }
 
     /// A fault ended its work.
@@ -127,10 +132,16 @@ impl Told {
         all && self.all.fault.is_none() && self.is_numbered() && self.adds_up()
     }
 
-    /// Whether the last number is that of as many commits as there were.
+    /// Whether the numbers of all commits of a store add up to what those from 1 on do.
     fn is_numbered(&self) -> bool {
         match self.before {
-            Some(before) => self.all.last.max(before) == before.saturating_add(self.all.committed),
+            Some(before) => {
+                let all = before.and(self.all);
+                let twice = all
+                    .committed
+                    .saturating_mul(all.committed.saturating_add(1));
+                all.numbers == twice / 2
+            }
             None => true,
         }
     }
