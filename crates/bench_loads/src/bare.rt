@@ -5,13 +5,13 @@ use std::collections::BTreeMap;
 
 /// A bare map with the rows of a load.
 #[derive(Drop)]
-pub struct Bare<A: Allocator> {
+pub(crate) struct Bare<A: Allocator> {
     rows: BTreeMap<u64, i64, A>,
 }
 
 impl<A: Allocator> Bare<A> {
     /// The sum of all rows.
-    pub fn sum(&self) -> i64 {
+    pub(crate) fn sum(&self) -> i64 {
         let mut sum = 0i64;
         for (_, row) in &self.rows {
             sum = sum.wrapping_add(*row);
@@ -42,7 +42,7 @@ impl<A: Allocator> Bare<A> {
 
 impl<A: Allocator + Copy> Bare<A> {
     /// The map of a load, whose rows are all 0.
-    pub fn fill(alloc: A, shape: &Shape) -> Result<Bare<A>, AllocError> {
+    pub(crate) fn fill(alloc: A, shape: &Shape) -> Result<Bare<A>, AllocError> {
         let mut rows = BTreeMap::new(alloc);
         for key in 0..shape.rows {
             let _before = rows.insert(key, 0)?;
@@ -51,7 +51,7 @@ impl<A: Allocator + Copy> Bare<A> {
     }
 
     /// Does the reads and writes of a transaction that begins at a key. The answer is the sum of what was read.
-    pub fn turn(&mut self, shape: &Shape, first: u64) -> Result<i64, AllocError> {
+    pub(crate) fn turn(&mut self, shape: &Shape, first: u64) -> Result<i64, AllocError> {
         let sum = self.read_all(shape, first);
         for place in 0..shape.writes {
             let key = shape.key(first, place);

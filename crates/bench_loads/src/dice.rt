@@ -2,18 +2,18 @@
 
 /// A generator of such numbers.
 #[derive(Clone, Copy)]
-pub struct Dice {
+pub(crate) struct Dice {
     state: u64,
 }
 
 impl Dice {
     /// The generator of all that needs one alone.
-    pub fn new() -> Dice {
+    pub(crate) fn new() -> Dice {
         Dice { state: 1 }
     }
 
     /// The generator of a seed.
-    pub fn of(seed: u64) -> Dice {
+    pub(crate) fn of(seed: u64) -> Dice {
         // seeds that are near one another are to give other numbers
         Dice {
             state: seed.wrapping_mul(0x9E37_79B9_7F4A_7C15) | 1,
@@ -21,7 +21,7 @@ impl Dice {
     }
 
     /// A number below this one; 0 where there is none.
-    pub fn below(&mut self, limit: u64) -> u64 {
+    pub(crate) fn below(&mut self, limit: u64) -> u64 {
         // the factor and the summand of Knuth's MMIX
         self.state = self
             .state

@@ -3,7 +3,7 @@ use crate::dice::Dice;
 
 /// A load of like transactions over one table, whose rows are one number under number keys.
 #[derive(Clone, Copy)]
-pub enum Load {
+pub(crate) enum Load {
     /// Two reads and two writes, over 100,000 rows.
     Transfer,
     /// Two reads and two writes over 16 rows, four transactions at a time.
@@ -20,22 +20,22 @@ pub enum Load {
 
 /// What each transaction of a load does.
 #[derive(Clone, Copy)]
-pub struct Shape {
+pub(crate) struct Shape {
     /// How many rows the table has.
-    pub rows: u64,
+    pub(crate) rows: u64,
     /// How many keys are read, one by one.
-    pub reads: u64,
+    pub(crate) reads: u64,
     /// How many rows are read as a range.
-    pub span: u64,
+    pub(crate) span: u64,
     /// How many of the keys that are read are written; of a range, its first ones.
-    pub writes: u64,
+    pub(crate) writes: u64,
     /// How many transactions begin before the first of them ends.
-    pub together: usize,
+    pub(crate) together: usize,
 }
 
 impl Load {
     /// All of them.
-    pub const ALL: [Load; 6] = [
+    pub(crate) const ALL: [Load; 6] = [
         Load::Transfer,
         Load::HotTransfer,
         Load::Counter,
@@ -45,12 +45,12 @@ impl Load {
     ];
 
     /// The load that a word names.
-    pub fn named(name: &str) -> Option<Load> {
+    pub(crate) fn named(name: &str) -> Option<Load> {
         Load::ALL.into_iter().find(|load| load.name() == name)
     }
 
     /// The word that names it.
-    pub fn name(self) -> &'static str {
+    pub(crate) fn name(self) -> &'static str {
         match self {
             Load::Transfer => "transfer",
             Load::HotTransfer => "hot-transfer",
@@ -62,7 +62,7 @@ impl Load {
     }
 
     /// What its transactions do.
-    pub fn shape(self) -> Shape {
+    pub(crate) fn shape(self) -> Shape {
         let (rows, reads, span, writes, together) = match self {
             Load::Transfer => (100_000, 2, 0, 2, 1),
             Load::HotTransfer => (16, 2, 0, 2, 4),
@@ -83,12 +83,12 @@ impl Load {
 
 impl Shape {
     /// The first key of the next transaction; a range that begins there stays among the rows.
-    pub fn first(&self, dice: &mut Dice) -> u64 {
+    pub(crate) fn first(&self, dice: &mut Dice) -> u64 {
         dice.below(self.rows.saturating_sub(self.span))
     }
 
     /// The key at a place of a transaction, among those that it reads one by one, or those of its range.
-    pub fn key(&self, first: u64, place: u64) -> u64 {
+    pub(crate) fn key(&self, first: u64, place: u64) -> u64 {
         let stride = if self.span > 0 { 1 } else { 7_919 };
         let key = first.saturating_add(place.saturating_mul(stride));
         match self.rows {
@@ -99,6 +99,6 @@ impl Shape {
 }
 
 /// What a write adds to the row at its place: what the first gives the second gets.
-pub fn amount(place: u64) -> i64 {
+pub(crate) fn amount(place: u64) -> i64 {
     if place % 2 == 0 { -1 } else { 1 }
 }

@@ -5,17 +5,17 @@ use occ_types::{Cell, Fault, Key, KeyKind, Kind, Row, Schema};
 use std::alloc::Allocator;
 
 /// The place of the one table.
-pub const TABLE: usize = 0;
+pub(crate) const TABLE: usize = 0;
 /// How many rows are put by one transaction at first.
-pub const PUTS: u64 = 256;
+pub(crate) const PUTS: u64 = 256;
 
 /// The one table, of rows of one number under number keys.
-pub fn schema<A: Allocator + Copy>(alloc: A) -> Result<Schema<A>, Fault> {
+pub(crate) fn schema<A: Allocator + Copy>(alloc: A) -> Result<Schema<A>, Fault> {
     Schema::of(alloc, &[("t", KeyKind::Num, &[Kind::Int])])
 }
 
 /// Puts of rows of 0, from one key on and below another.
-pub fn puts<A: Allocator + Copy>(
+pub(crate) fn puts<A: Allocator + Copy>(
     alloc: A,
     first: u64,
     behind: u64,
@@ -31,8 +31,27 @@ pub fn puts<A: Allocator + Copy>(
     Ok(puts)
 }
 
+/// A put of a number under a key, or the deletion of its row.
+pub(crate) fn write<A: Allocator + Copy>(
+    alloc: A,
+    key: u64,
+    number: Option<i64>,
+) -> Result<Vec<Op<A>, A>, Fault> {
+    let (table, key) = (TABLE, Key::Num(key));
+    let mut list = Vec::new(alloc);
+    match number {
+        Some(number) => list.push(Op::Put {
+            table,
+            key,
+            row: number.into(),
+        })?,
+        None => list.push(Op::Delete { table, key })?,
+    }
+    Ok(list)
+}
+
 /// The operations of a transaction that begins at a key. What is written is added, which reads it as well.
-pub fn operations<A: Allocator + Copy>(
+pub(crate) fn operations<A: Allocator + Copy>(
     alloc: A,
     shape: &Shape,
     first: u64,

@@ -6,6 +6,8 @@ mod ample_tests;
 #[cfg(test)]
 mod board_tests;
 #[cfg(test)]
+mod file_tests;
+#[cfg(test)]
 mod filed_stores;
 #[cfg(test)]
 mod filed_tests;

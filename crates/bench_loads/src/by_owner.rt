@@ -1,6 +1,8 @@
-//! The loads on a store.
+//! The loads on a core of one owner.
 use crate::by_clients::{commit_all, number_in, read_and_write};
-use bench_loads::{Dice, PUTS, Shape, TABLE, amount, operations, puts, schema};
+use crate::dice::Dice;
+use crate::loads::{Shape, amount};
+use crate::rows::{PUTS, TABLE, operations, puts, schema};
 use occ_case::Verdict;
 use occ_client::Client;
 use occ_core::{Core, Outcome, SingleWrite};
@@ -15,7 +17,7 @@ const FOLDED_AFTER: u64 = 10_000;
 
 /// How a transaction ends, and with what it begins.
 #[derive(Clone, Copy)]
-pub(crate) enum Way {
+pub(crate) enum Ending {
     /// It reads, and then enters, is decided, writes and finishes step by step.
     Steps,
     /// It reads, and all the rest is one step.
@@ -26,35 +28,45 @@ pub(crate) enum Way {
     Alone,
 }
 
-impl Way {
-    pub(crate) const ALL: [Way; 4] = [Way::Steps, Way::Serial, Way::Client, Way::Alone];
+impl Ending {
+    pub(crate) const ALL: [Ending; 4] = [
+        Ending::Steps,
+        Ending::Serial,
+        Ending::Client,
+        Ending::Alone,
+    ];
 
     /// The word that names it.
     pub(crate) fn name(self) -> &'static str {
         match self {
-            Way::Steps => "steps",
-            Way::Serial => "serial",
-            Way::Client => "client",
-            Way::Alone => "alone",
+            Ending::Steps => "steps",
+            Ending::Serial => "serial",
+            Ending::Client => "client",
+            Ending::Alone => "alone",
         }
+    }
+
+    /// The one that a word names.
+    pub(crate) fn named(word: &str) -> Option<Ending> {
+        Ending::ALL.into_iter().find(|ending| ending.name() == word)
     }
 }
 
-/// A store with the rows of a load, and what its next transactions read and write.
+/// A core with the rows of a load, and what its next transactions read and write.
 #[derive(Drop)]
-pub(crate) struct Store<A: Allocator> {
+pub(crate) struct Owner<A: Allocator> {
     alloc: A,
     core: Box<Core<A>, A>,
     shape: Shape,
     dice: Dice,
-    // The private copies of a round. Their room is kept from round to round, since it is no cost of the store.
+    // The private copies of a round. Their room is kept from round to round, since it is no cost of the core.
     copies: VecDeque<PrivateCopy<A>, A>,
     clients: Vec<Client<A>, A>,
 }
 
-impl<A: Allocator + Copy> Store<A> {
-    /// A store with the rows of a load, put by a session behind those of the load, and folded away.
-    pub(crate) fn open(alloc: A, shape: Shape) -> Result<Store<A>, Fault> {
+impl<A: Allocator + Copy> Owner<A> {
+    /// A core with the rows of a load, put by a session behind those of the load, and folded away.
+    pub(crate) fn open(alloc: A, shape: Shape) -> Result<Owner<A>, Fault> {
         let schema = schema(alloc)?;
         let filling = shape.together.saturating_add(1);
         let core = Core::open(alloc, schema, filling, 8)?;
@@ -62,7 +74,7 @@ impl<A: Allocator + Copy> Store<A> {
         for session in 1..=shape.together {
             clients.push(Client::new(alloc, session))?;
         }
-        let mut store = Store {
+        let mut owner = Owner {
             alloc,
             core: Box::new(alloc, core)?,
             shape,
@@ -70,20 +82,20 @@ impl<A: Allocator + Copy> Store<A> {
             copies: VecDeque::new(alloc),
             clients,
         };
-        fill(alloc, &mut store.core, filling, shape.rows)?;
-        let _folded = store.core.checkpoint()?;
-        Ok(store)
+        fill(alloc, &mut owner.core, filling, shape.rows)?;
+        let _folded = owner.core.checkpoint()?;
+        Ok(owner)
     }
 
     /// Does so many rounds of transactions, one of each session. The answer is how many committed.
-    pub(crate) fn play(&mut self, way: Way, rounds: u64, folds: bool) -> Result<u64, Fault> {
+    pub(crate) fn play(&mut self, ending: Ending, rounds: u64, folds: bool) -> Result<u64, Fault> {
         let mut committed = 0u64;
         for round in 0..rounds {
             let number = round.saturating_add(1);
-            let done = match way {
-                Way::Alone => self.round_alone(number)?,
-                Way::Serial | Way::Steps => self.round_by_copies(way, number)?,
-                Way::Client => self.round_by_clients()?,
+            let done = match ending {
+                Ending::Alone => self.round_alone(number)?,
+                Ending::Serial | Ending::Steps => self.round_by_copies(ending, number)?,
+                Ending::Client => self.round_by_clients()?,
             };
             committed = committed.saturating_add(done);
             if folds && number % FOLDED_AFTER == 0 {
@@ -111,7 +123,7 @@ impl<A: Allocator + Copy> Store<A> {
     }
 
     // One transaction of each session: all begin before the first ends.
-    fn round_by_copies(&mut self, way: Way, number: u64) -> Result<u64, Fault> {
+    fn round_by_copies(&mut self, ending: Ending, number: u64) -> Result<u64, Fault> {
         for session in 1..=self.shape.together {
             let copy = self.begin(session, number)?;
             self.copies.push_back(copy)?;
@@ -121,9 +133,9 @@ impl<A: Allocator + Copy> Store<A> {
             let Some(copy) = self.copies.pop_front() else {
                 return Ok(committed);
             };
-            let done = match way {
-                Way::Steps => end_by_steps(&mut self.core, session, copy)?,
-                Way::Serial | Way::Client | Way::Alone => end_serially(
+            let done = match ending {
+                Ending::Steps => end_by_steps(&mut self.core, session, copy)?,
+                Ending::Serial | Ending::Client | Ending::Alone => end_serially(
                     &mut self.core,
                     session,
                     copy,

@@ -1,7 +1,7 @@
 //! Transactions of a session and its lane, which one thread serves by hand.
+use crate::rows::operations;
 use crate::tasks::By;
 use crate::turns::{Draft, Turn};
-use bench_loads::operations;
 use occ_store::{AlwaysGo, Lane, Name, Served, Session, Store, Worker};
 use occ_types::Fault;
 use std::alloc::Allocator;

@@ -1,26 +1,38 @@
-//! Loads on a store by threads, and the same on an ordered map under one lock.
+//! Loads of like transactions: by threads on a store or on an ordered map under one lock, and by one owner on a core or on a bare map.
 //!
-//! `bench_threads LOAD WAY THREADS END` does a load by so many threads and prints what came of it. The load is `accounts`, which is a
-//! transfer over 1,000 rows, or one of those of `bench_costs`. The way is `steps`, `serial`, `alone` (by a session and its lane: in single
-//! events, ended in one event, as operations that run alone), `worker` or `map`. Behind it may stand `-leased` (16 transactions in one
-//! lease, or in one holding of the map's lock; with `-leased-64` so many) and then `-folded` (a checkpoint every 10,000 transactions).
-//! The end is a number of transactions, or of seconds, as `60s`.
+//! `bench_loads LOAD WAY THREADS END` does a load by so many threads and prints what came of it. The load is `accounts`, which is a
+//! transfer over 1,000 rows, or one of `loads.rt`. The way is `steps`, `serial`, `alone` (by a session and its lane: in single events,
+//! ended in one event, as operations that run alone), `worker` or `map`. Behind it may stand `-leased` (16 transactions in one lease, or
+//! in one holding of the map's lock; with `-leased-64` so many) and then `-folded` (a checkpoint every 10,000 transactions). The end is a
+//! number of transactions, or of seconds, as `60s`.
 //!
-//! With no words it does a short load of each, and prints whether all is right.
+//! `bench_loads LOAD WAY ROUNDS` does so many rounds by one owner and prints how many transactions committed. The load is one of `loads.rt`,
+//! and the way `steps`, `serial`, `client`, `alone`, `folded` (as `serial`, with a log that is folded every 10,000 rounds) or `bare`.
+//!
+//! With no words it opens the bank of `bank.rt`; prints how many requests for memory the transactions of each load make by one owner, in
+//! each way, and how many bytes of them stay; and does a short load of each by threads, and prints whether all is right.
 #![tactic(auto)]
 
+mod bank;
+mod bare;
 mod budgets;
+mod by_clients;
 mod by_lanes;
 mod by_lock;
+mod by_owner;
 mod by_stores;
+mod costs;
 mod crews;
+mod dice;
 mod folds;
 mod hands;
+mod loads;
 mod outcomes;
+mod rows;
 mod tasks;
 mod turns;
 
-use bench_loads::Load;
+use loads::Load;
 use occ_types::Fault;
 use outcomes::{Done, Told};
 use std::alloc::Global;
@@ -61,8 +73,9 @@ fn run<R: Runtime + Threads + Wait + Sync>(
     match Asked::of(words) {
         Some(Asked::All) => check_all(rt, alloc),
         Some(Asked::Load(task)) => tell(rt, alloc, task, true),
+        Some(Asked::Rounds(rounds)) => costs::tell_rounds(rt, alloc, rounds),
         None => {
-            eprintln!(rt; "bench_threads [LOAD WAY THREADS END]")?;
+            eprintln!(rt; "bench_loads [LOAD WAY (THREADS END | ROUNDS)]")?;
             Ok(false)
         }
     }
@@ -135,8 +148,14 @@ fn tell_fault<R: Runtime>(rt: &R, fault: Fault) -> io::Result<bool> {
     Ok(false)
 }
 
-/// A short load by each way, and one of each load. Whether all are right.
+/// What each load costs one owner, the short loads by threads, and the clients of a bank. Whether the loads are right.
 fn check_all<R: Runtime + Threads + Wait + Sync>(rt: &R, alloc: Global) -> io::Result<bool> {
+    println!(rt; "right sums of four clients: {:?}", bank::named(rt, alloc))?;
+    Ok(costs::tell_all(rt, alloc)? && check_loads(rt, alloc)?)
+}
+
+/// A short load by each way, and one of each load. Whether all are right.
+fn check_loads<R: Runtime + Threads + Wait + Sync>(rt: &R, alloc: Global) -> io::Result<bool> {
     for by in By::ALL {
         if !check_by(rt, alloc, by)? {
             return Ok(false);

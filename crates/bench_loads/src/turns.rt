@@ -1,5 +1,6 @@
 //! What a thread does in a transaction.
-use bench_loads::{Shape, TABLE, amount};
+use crate::loads::{Shape, amount};
+use crate::rows::TABLE;
 use occ_sets::RangeRows;
 use occ_store::{Body, Name, Session, Store, Transaction};
 use occ_types::{Fault, Row};

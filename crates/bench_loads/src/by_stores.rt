@@ -2,12 +2,11 @@
 ghost use Rattle.std.specs.Prelude.{◌≡◌};
 
 use crate::budgets::Budget;
-use crate::by_lanes::Client;
 use crate::crews::{Member, told};
-use crate::hands::{Hand, Maker};
-use crate::outcomes::Told;
-use crate::tasks::{By, Task, Way};
-use bench_loads::{PUTS, TABLE, puts, schema};
+use crate::hands::Hand;
+use crate::outcomes::{Done, Told};
+use crate::rows::{PUTS, TABLE, puts, schema, write};
+use crate::tasks::Task;
 use occ_store::{Frame, Lane, Name, Session, Store, Worker};
 use occ_types::{Fault, Key, Row};
 use std::alloc::Allocator;
@@ -57,20 +56,18 @@ fn play<N: Name + Send + Sync, A: Allocator + Copy + Send + Sync, R: Threads + W
     task: Task,
 ) -> Result<Told, Fault> {
     let mut workers = hired(alloc, sessions, lanes)?;
+    let mut before = None;
     if let Some(worker) = workers.first_mut() {
-        fill(rt, alloc, store, worker, task.load.shape.rows)?;
+        before = Some(fill(rt, alloc, store, worker, task.load.shape.rows)?);
     }
-    let mut told = if task.way.by == By::Worker {
-        play_by_workers(rt, alloc, store, workers, task)?
-    } else {
-        play_by_clients(rt, alloc, store, workers, task)?
-    };
+    let mut told = play_by(rt, alloc, store, workers, task)?;
+    told.before = before;
     told.sum = total(rt, store);
     Ok(told)
 }
 
-/// Does a task by workers; the sum of the rows is left out.
-fn play_by_workers<
+/// Does a task by workers, or by their sessions and lanes; the sum of the rows is left out.
+fn play_by<
     N: Name + Send + Sync,
     A: Allocator + Copy + Send + Sync,
     R: Threads + Wait + Clock + Sync,
@@ -84,33 +81,11 @@ fn play_by_workers<
     let mut crew = Vec::new(alloc);
     for worker in workers {
         let place = crew.len();
-        crew.push(Member::new(worker, task, place))?;
+        let hand = Hand::new(alloc, worker, task.way);
+        crew.push(Member::new(hand, task, place))?;
     }
     let budget = Budget::begin(rt, task.until);
-    workers_at_once(rt, store, &mut crew, task.way, &budget);
-    Ok(told(rt, &crew, task, &budget))
-}
-
-/// Does a task by the sessions and lanes of workers; the sum of the rows is left out.
-fn play_by_clients<
-    N: Name + Send + Sync,
-    A: Allocator + Copy + Send + Sync,
-    R: Threads + Wait + Clock + Sync,
->(
-    rt: &R,
-    alloc: A,
-    store: &Store<N, A>,
-    workers: Vec<Worker<N, A>, A>,
-    task: Task,
-) -> Result<Told, Fault> {
-    let mut crew = Vec::new(alloc);
-    for worker in workers {
-        let place = crew.len();
-        let client = Client::new(alloc, worker, task.way.by);
-        crew.push(Member::new(client, task, place))?;
-    }
-    let budget = Budget::begin(rt, task.until);
-    clients_at_once(rt, store, &mut crew, task.way, &budget);
+    work_at_once(rt, store, &mut crew, &budget);
     Ok(told(rt, &crew, task, &budget))
 }
 
@@ -128,71 +103,51 @@ fn hired<N: Name, A: Allocator + Copy>(
     Ok(workers)
 }
 
-/// Puts so many rows of 0, and folds them.
+/// Puts so many rows of 0, and behind them one of 1, which is deleted again; and folds all.
 fn fill<N: Name, A: Allocator + Copy, R: Wait>(
     rt: &R,
     alloc: A,
     store: &Store<N, A>,
     worker: &mut Worker<N, A>,
     rows: u64,
-) -> Result<(), Fault> {
+) -> Result<Done, Fault> {
+    let mut done = Done::NOTHING;
     for part in 0..rows.div_ceil(PUTS) {
         let first = part.saturating_mul(PUTS);
         let puts = puts(alloc, first, rows.min(first.saturating_add(PUTS)))?;
-        let _tn = worker.run(rt, store, 0, &puts)?;
+        let tn = worker.run(rt, store, 0, &puts)?;
+        done = done.and(Done::one(tn, 0));
+    }
+    for number in [Some(1), None] {
+        let write = write(alloc, rows, number)?;
+        let tn = worker.run(rt, store, 1, &write)?;
+        done = done.and(Done::one(tn, 0));
     }
     let _folded = store.checkpoint(rt)?;
-    Ok(())
+    Ok(done)
 }
 
-/// Has each worker work in a thread of its own.
-fn workers_at_once<
+/// Has each member work in a thread of its own.
+fn work_at_once<
     N: Name + Send + Sync,
     A: Allocator + Copy + Send + Sync,
     R: Threads + Wait + Clock + Sync,
->(rt: &R, store: &Store<N, A>, crew: &mut [Member<Worker<N, A>>], way: Way, budget: &Budget) {
+>(rt: &R, store: &Store<N, A>, crew: &mut [Member<Hand<N, A>>], budget: &Budget) {
     thread::scope(thread::scope_env(), rt, |scope| {
         for member in crew.iter_mut() {
-            let _ = scope.spawn(move || worker_works(rt, store, member, way, budget));
+            let _ = scope.spawn(move || work(rt, store, member, budget));
         }
     });
 }
 
-/// Has a worker make its part.
-fn worker_works<N: Name, A: Allocator + Copy, R: Wait + Clock>(
+/// Has a member make its part.
+fn work<N: Name, A: Allocator + Copy, R: Wait + Clock>(
     rt: &R,
     store: &Store<N, A>,
-    member: &mut Member<Worker<N, A>>,
-    way: Way,
+    member: &mut Member<Hand<N, A>>,
     budget: &Budget,
 ) {
-    let mut hand = Hand::new(Maker::Worker(&mut member.player), way);
-    hand.work(rt, store, &mut member.part, budget);
-}
-
-/// Has each client work in a thread of its own.
-fn clients_at_once<
-    N: Name + Send + Sync,
-    A: Allocator + Copy + Send + Sync,
-    R: Threads + Wait + Clock + Sync,
->(rt: &R, store: &Store<N, A>, crew: &mut [Member<Client<N, A>>], way: Way, budget: &Budget) {
-    thread::scope(thread::scope_env(), rt, |scope| {
-        for member in crew.iter_mut() {
-            let _ = scope.spawn(move || client_works(rt, store, member, way, budget));
-        }
-    });
-}
-
-/// Has a client make its part.
-fn client_works<N: Name, A: Allocator + Copy, R: Wait + Clock>(
-    rt: &R,
-    store: &Store<N, A>,
-    member: &mut Member<Client<N, A>>,
-    way: Way,
-    budget: &Budget,
-) {
-    let mut hand = Hand::new(Maker::Client(&mut member.player), way);
-    hand.work(rt, store, &mut member.part, budget);
+    member.player.work(rt, store, &mut member.part, budget);
 }
 
 /// The sum of all rows.

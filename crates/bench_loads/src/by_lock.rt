@@ -1,9 +1,9 @@
 //! A load on an ordered map under one lock.
+use crate::bare::Bare;
 use crate::budgets::Budget;
 use crate::crews::{Member, told};
 use crate::outcomes::{Part, Told};
 use crate::tasks::Task;
-use bench_loads::Bare;
 use occ_types::Fault;
 use std::alloc::Allocator;
 use std::sync::{Mutex, Wait};
@@ -50,7 +50,7 @@ fn hold<A: Allocator + Copy, R: Wait>(
     for _ in 0..many {
         let turn = part.next();
         let _sum = rows.turn(&turn.shape, turn.first)?;
-        part.commit(0);
+        part.commit(0, 0);
     }
     Ok(())
 }

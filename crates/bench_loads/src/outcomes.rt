@@ -1,7 +1,8 @@
 //! What comes of a load.
 use crate::budgets::Until;
+use crate::dice::Dice;
+use crate::loads::{Shape, amount};
 use crate::turns::Turn;
-use bench_loads::{Dice, Shape, amount};
 use occ_types::Fault;
 
 /// What a thread has done.
@@ -11,6 +12,8 @@ pub(crate) struct Done {
     pub(crate) committed: u64,
     /// How many tries of them were backed up.
     pub(crate) backed_up: u64,
+    /// The sum of their transaction numbers.
+    numbers: u64,
     /// The fault that ended its work.
     pub(crate) fault: Option<Fault>,
 }
@@ -36,21 +39,35 @@ pub(crate) struct Told {
     pub(crate) micros: u64,
     /// The sum of all rows at the end.
     pub(crate) sum: i64,
+    /// What was done before the load, on a store.
+    pub(crate) before: Option<Done>,
 }
 
 impl Done {
     /// Nothing.
-    const NOTHING: Done = Done {
+    pub(crate) const NOTHING: Done = Done {
         committed: 0,
         backed_up: 0,
+        numbers: 0,
         fault: None,
     };
 
+    /// A transaction that committed under a number, after so many tries that were backed up.
+    pub(crate) fn one(tn: u64, backed_up: u64) -> Done {
+        Done {
+            committed: 1,
+            backed_up,
+            numbers: tn,
+            fault: None,
+        }
+    }
+
     /// What it and another have done together.
-    fn and(self, other: Done) -> Done {
+    pub(crate) fn and(self, other: Done) -> Done {
         Done {
             committed: self.committed.saturating_add(other.committed),
             backed_up: self.backed_up.saturating_add(other.backed_up),
+            numbers: self.numbers.saturating_add(other.numbers),
             fault: self.fault.or(other.fault),
         }
     }
@@ -71,13 +88,9 @@ impl Part {
         Turn::new(self.shape, self.shape.first(&mut self.dice))
     }
 
-    /// A transaction committed, of which so many tries were backed up.
-    pub(crate) fn commit(&mut self, backed_up: u64) {
-        self.done = self.done.and(Done {
-            committed: 1,
-            backed_up,
-            fault: None,
-        });
+    /// A transaction committed under a number, after so many tries that were backed up.
+    pub(crate) fn commit(&mut self, tn: u64, backed_up: u64) {
+        self.done = self.done.and(Done::one(tn, backed_up));
     }
 
     /// A fault ended its work.
@@ -100,6 +113,7 @@ impl Told {
             least: u64::MAX,
             micros,
             sum: 0,
+            before: None,
         }
     }
 
@@ -109,13 +123,27 @@ impl Told {
         self.least = self.least.min(done.committed);
     }
 
-    /// Whether no thread met a fault, each transaction committed, and the rows add up.
+    /// Whether no thread met a fault, each transaction committed, under a number of its own, and the rows add up.
     pub(crate) fn is_right(&self, until: Until) -> bool {
         let all = match until {
             Until::Count(count) => self.all.committed == count,
             Until::Seconds(_) => true,
         };
-        all && self.all.fault.is_none() && self.adds_up()
+        all && self.all.fault.is_none() && self.is_numbered() && self.adds_up()
+    }
+
+    /// Whether the numbers of all commits of a store add up to what those from 1 on do.
+    fn is_numbered(&self) -> bool {
+        match self.before {
+            Some(before) => {
+                let all = before.and(self.all);
+                let twice = all
+                    .committed
+                    .saturating_mul(all.committed.saturating_add(1));
+                all.numbers == twice / 2
+            }
+            None => true,
+        }
     }
 
     /// Whether the rows add up to what the commits put there.

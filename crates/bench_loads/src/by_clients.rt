@@ -1,5 +1,6 @@
 //! The loads through clients.
-use bench_loads::{Shape, TABLE, amount};
+use crate::loads::{Shape, amount};
+use crate::rows::TABLE;
 use occ_client::{Client, End};
 use occ_core::Core;
 use occ_types::{Cell, Fault, Key, Row};

@@ -1,6 +1,7 @@
 //! What the words of a call ask for.
 use crate::budgets::Until;
-use bench_loads::{Load, Shape};
+use crate::costs::Rounds;
+use crate::loads::{Load, Shape};
 use occ_types::limits::MAX_SESSIONS;
 
 /// How many rows the accounts have.
@@ -65,8 +66,10 @@ pub(crate) struct Task {
 pub(crate) enum Asked {
     /// A short load of each.
     All,
-    /// A load.
+    /// A load by threads.
     Load(Task),
+    /// Rounds of a load by one owner.
+    Rounds(Rounds),
 }
 
 impl By {
@@ -218,6 +221,10 @@ impl Asked {
     pub(crate) fn of(words: &[String]) -> Option<Asked> {
         match words {
             [_] => Some(Asked::All),
+            [_, load, way, count] => {
+                let rounds = Rounds::told(load, way, count)?;
+                Some(Asked::Rounds(rounds))
+            }
             [_, load, way, threads, until] => {
                 let task = Task::told(load, way, threads, until)?;
                 Some(Asked::Load(task))

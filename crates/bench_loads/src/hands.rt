@@ -3,7 +3,7 @@ use crate::budgets::Budget;
 use crate::by_lanes::Client;
 use crate::folds::Folds;
 use crate::outcomes::Part;
-use crate::tasks::Way;
+use crate::tasks::{By, Way};
 use crate::turns::Turn;
 use occ_store::{Lease, Name, Store, Worker};
 use occ_types::Fault;
@@ -17,21 +17,30 @@ const TRIES: usize = 1_000;
 
 /// What makes transactions.
 #[derive(Drop)]
-pub(crate) enum Maker<'a, N: Name, A: Allocator + Copy> {
-    Client(&'a mut Client<N, A>),
-    Worker(&'a mut Worker<N, A>),
+enum Maker<N: Name, A: Allocator + Copy> {
+    Client(Client<N, A>),
+    Worker(Worker<N, A>),
 }
 
 /// What makes the transactions of one thread on a store, in leases or not, and the checkpoints that are due after them.
 #[derive(Drop)]
-pub(crate) struct Hand<'a, N: Name, A: Allocator + Copy> {
-    maker: Maker<'a, N, A>,
+pub(crate) struct Hand<N: Name, A: Allocator + Copy> {
+    maker: Maker<N, A>,
     leased: bool,
     at_a_time: u64,
     folds: Folds,
 }
 
-impl<N: Name, A: Allocator + Copy> Maker<'_, N, A> {
+impl<N: Name, A: Allocator + Copy> Maker<N, A> {
+    /// A worker, or its session and lane.
+    fn new(alloc: A, worker: Worker<N, A>, by: By) -> Maker<N, A> {
+        if by == By::Worker {
+            Maker::Worker(worker)
+        } else {
+            Maker::Client(Client::new(alloc, worker, by))
+        }
+    }
+
     /// Tries a transaction, within a lease where there is one. Its transaction number; none where it was backed up.
     fn transact<R: Wait>(
         &mut self,
@@ -52,11 +61,11 @@ impl<N: Name, A: Allocator + Copy> Maker<'_, N, A> {
     }
 }
 
-impl<'a, N: Name, A: Allocator + Copy> Hand<'a, N, A> {
+impl<N: Name, A: Allocator + Copy> Hand<N, A> {
     /// That of a thread which makes transactions in this way.
-    pub(crate) fn new(maker: Maker<'a, N, A>, way: Way) -> Hand<'a, N, A> {
+    pub(crate) fn new(alloc: A, worker: Worker<N, A>, way: Way) -> Hand<N, A> {
         Hand {
-            maker,
+            maker: Maker::new(alloc, worker, way.by),
             leased: way.leased,
             at_a_time: way.at_a_time,
             folds: Folds::new(way.folded),
@@ -97,7 +106,7 @@ impl<'a, N: Name, A: Allocator + Copy> Hand<'a, N, A> {
         for _ in 0..many {
             let mut turn = part.next();
             let tn = self.make(rt, store, lease.as_ref(), &mut turn)?;
-            part.commit(turn.backed_up());
+            part.commit(tn, turn.backed_up());
             self.folds.after(rt, store, tn)?;
         }
         Ok(())

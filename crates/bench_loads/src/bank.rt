@@ -1,6 +1,4 @@
 //! A bank in threads: four clients move money between accounts and sum all of them. Each sum is what was paid in.
-#![tactic(auto)]
-
 ghost use Rattle.std.specs.Prelude.{◌≡◌};
 
 use occ_store::{
@@ -92,11 +90,7 @@ fn run<N: Name + Send + Sync, A: Allocator + Copy + Send + Sync, R: Threads + Wa
 }
 
 /// Four sessions, each with room for four items, and the last 16 write sets kept for testing.
-fn named<R: Threads + Wait + Sync>(rt: &R, alloc: Global) -> Result<u64, Fault> {
+pub(crate) fn named<R: Threads + Wait + Sync>(rt: &R, alloc: Global) -> Result<u64, Fault> {
     let schema = Schema::of(alloc, &[("accounts", KeyKind::Num, &[Kind::Int])])?;
     run::<std::marker::Brand, Global, R>(rt, alloc, Frame::new(alloc, schema, 4, 4, 16)?)
-}
-
-fn main(rt: HostRuntime) -> std::io::Result<()> {
-    println!(rt; "right sums of four clients: {:?}", named(&rt, rt.alloc()))
 }
