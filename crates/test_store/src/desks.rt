@@ -1,22 +1,16 @@
-//! A store with its sessions and lanes, on which tests play.
+//! A store with its sessions and lanes, on which scenarios and loads are played.
 ghost use Rattle.std.specs.Prelude.{◌≡◌};
 
-use crate::account_tests::end;
-use crate::refused_tests::serve_refused;
-use crate::soak_tests::soak;
-use crate::steps::{Step, take_all};
-use crate::worker_tests::call_worker;
+use crate::plays::{Scene, play};
 use occ_audit::audit_rows;
-use occ_book::Standing;
-use occ_sets::Op;
-use occ_store::{AlwaysGo, Frame, Gate, Group, Lane, Name, Served, Session, Store};
+use occ_store::{AlwaysGo, Frame, Gate, Group, Lane, Name, Op, Served, Session, Store};
 use occ_types::{Cell, Fault, Key, KeyKind, Kind, Row, Schema};
-use std::alloc::{Allocator, Global};
+use std::alloc::Allocator;
 use std::marker::Brand;
 use std::sync::Wait;
 use std::thread::Threads;
 use std::time::Clock;
-use test_tools::Refusing;
+use test_tools::Plan;
 
 /// How a store is opened.
 #[derive(Clone, Copy)]
@@ -29,7 +23,12 @@ pub(crate) struct Settings {
     pub(crate) keep: usize,
     /// Into how many groups its lanes are dealt.
     pub(crate) groups: usize,
+    /// Whether its opening finds no memory at one of its requests, and is tried again.
+    pub(crate) starved: bool,
 }
+
+/// A store with its sessions and lanes.
+type Opened<N, A> = (Store<N, A>, Vec<Session<N, A>, A>, Vec<Lane<N, A>, A>);
 
 /// A store with all that was opened with it.
 #[derive(Drop)]
@@ -44,47 +43,41 @@ pub(crate) struct Desk<N: Name, A: Allocator + Copy> {
     pub(crate) groups: Vec<Group<N, A>, A>,
 }
 
-/// What is played on a new store.
-#[derive(Clone, Copy)]
-pub(crate) enum Play<'a> {
-    /// These steps.
-    Steps(&'a [Step]),
-    /// Clients and validators in threads, whose loads this seed gives.
-    Soak(u64),
-    /// Each call of a worker.
-    Worker,
-    /// A put whose request for memory at this place is refused, counted from the serving of its lane.
-    Refused(&'a Refusing<Global>, u64),
-    /// An end, whose request for memory at this place is refused, counted from its first call that gives an account.
-    End(&'a Refusing<Global>, u64),
-}
-
-/// Plays on a new store of one table, whose keys are numbers and whose rows are one number. Whether all came as it should.
+/// Plays a scenario on a new store of one table, whose keys are numbers and whose rows are one number. The first step that was answered
+/// otherwise, with its answer.
 pub(crate) fn played<A: Allocator + Copy + Send + Sync, R: Threads + Wait + Clock + Sync>(
     rt: &R,
     alloc: A,
     settings: Settings,
-    play: Play<'_>,
-) -> Result<bool, Fault> {
-    let frame = frame(alloc, settings)?;
-    played_on::<Brand, A, R>(rt, alloc, frame, settings.groups, play)
+    scene: Scene<'_>,
+) -> Result<Option<String>, Fault> {
+    let schema = Schema::of(alloc, &[("t", KeyKind::Num, &[Kind::Int])])?;
+    if settings.starved {
+        scene.refuse();
+    }
+    let frame = framed(alloc, schema, settings)?;
+    played_on::<Brand, A, R>(rt, alloc, frame, settings.groups, scene)
 }
 
-/// The frame of such a store.
-pub(crate) fn frame<A: Allocator + Copy>(alloc: A, settings: Settings) -> Result<Frame<A>, Fault> {
-    let frame = Frame::new(
-        alloc,
-        schema(alloc)?,
-        settings.sessions,
-        settings.capacity,
-        settings.keep,
-    )?;
-    Ok(frame)
-}
-
-/// The table.
-pub(crate) fn schema<A: Allocator + Copy>(alloc: A) -> Result<Schema<A>, Fault> {
-    Ok(Schema::of(alloc, &[("t", KeyKind::Num, &[Kind::Int])])?)
+// The frame of a store. Where it finds no memory it is made of the schema that came back.
+fn framed<A: Allocator + Copy>(
+    alloc: A,
+    schema: Schema<A>,
+    settings: Settings,
+) -> Result<Frame<A>, Fault> {
+    let Settings {
+        sessions,
+        capacity,
+        keep,
+        ..
+    } = settings;
+    match Frame::new(alloc, schema, sessions, capacity, keep) {
+        Ok(frame) => Ok(frame),
+        Err(refused) => {
+            let frame = Frame::new(alloc, refused.value, sessions, capacity, keep)?;
+            Ok(frame)
+        }
+    }
 }
 
 // Plays on the store of a frame.
@@ -92,11 +85,17 @@ fn played_on<
     N: Name + Send + Sync,
     A: Allocator + Copy + Send + Sync,
     R: Threads + Wait + Clock + Sync,
->(rt: &R, alloc: A, frame: Frame<A>, groups: usize, play: Play<'_>) -> Result<bool, Fault>
+>(
+    rt: &R,
+    alloc: A,
+    frame: Frame<A>,
+    groups: usize,
+    scene: Scene<'_>,
+) -> Result<Option<String>, Fault>
     requires named { frame.named ≡ N.named }
     requires ledger { (frame.ledger ≡ N.name) × (frame.parts ≡ N.parts) }
 {
-    let Ok((store, sessions, lanes)) = Store::<N, A>::open(frame) else {
+    let Ok((store, sessions, lanes)) = opened::<N, A>(frame) else {
         return Err(Fault::Memory);
     };
     let mut desk = Desk {
@@ -105,7 +104,21 @@ fn played_on<
         sessions,
         groups: Vec::new(alloc),
     };
-    deal_and_play(rt, &mut desk, lanes, groups, play)
+    deal_and_play(rt, &mut desk, lanes, groups, scene)
+}
+
+// The store of a frame. Where it finds no memory it is opened of the frame that came back.
+fn opened<N: Name, A: Allocator + Copy>(frame: Frame<A>) -> Result<Opened<N, A>, Fault>
+    requires named { frame.named ≡ N.named }
+    requires ledger { (frame.ledger ≡ N.name) × (frame.parts ≡ N.parts) }
+{
+    match Store::<N, A>::open(frame) {
+        Ok(opened) => Ok(opened),
+        Err(refused) => match Store::<N, A>::open(refused.value) {
+            Ok(opened) => Ok(opened),
+            Err(refused) => Err(refused.fault),
+        },
+    }
 }
 
 // Deals the lanes into so many groups, and plays.
@@ -118,16 +131,11 @@ fn deal_and_play<
     desk: &mut Desk<N, A>,
     lanes: Vec<Lane<N, A>, A>,
     groups: usize,
-    play: Play<'_>,
-) -> Result<bool, Fault> {
+    scene: Scene<'_>,
+) -> Result<Option<String>, Fault> {
+    scene.refusing.follow(Plan::Nothing);
     desk.deal(lanes, groups)?;
-    match play {
-        Play::Steps(steps) => take_all(rt, desk, steps),
-        Play::Soak(seed) => soak(rt, desk, seed),
-        Play::Worker => call_worker(rt, desk),
-        Play::Refused(refusing, place) => serve_refused(rt, desk, refusing, place),
-        Play::End(refusing, place) => end(rt, desk, refusing, place),
-    }
+    play(rt, desk, scene)
 }
 
 /// The lane of a session, which was dealt out with the others.
@@ -209,6 +217,11 @@ impl<N: Name, A: Allocator + Copy> Desk<N, A> {
         Ok(number)
     }
 
+    /// A session closes. The number of its mark.
+    pub(crate) fn close<R: Wait>(&mut self, rt: &R, session: usize) -> Result<u64, Fault> {
+        self.session(session)?.close(rt)
+    }
+
     /// Serves the lane of a session once.
     pub(crate) fn serve<R: Wait, G: Gate>(
         &mut self,
@@ -222,21 +235,6 @@ impl<N: Name, A: Allocator + Copy> Desk<N, A> {
     /// The lane of a session goes on with what it has left.
     pub(crate) fn resume<R: Wait>(&mut self, rt: &R, session: usize) -> Result<Served, Fault> {
         lane_of(&mut self.groups, session)?.resume(rt, &self.store, &AlwaysGo)
-    }
-
-    /// How the row of a session's transaction stands.
-    pub(crate) fn stands<R: Wait>(
-        &self,
-        rt: &R,
-        session: usize,
-        number: u64,
-    ) -> Option<Standing<()>> {
-        self.store.row(rt, session, number)
-    }
-
-    /// Whether that row stands as finished.
-    pub(crate) fn is_done<R: Wait>(&self, rt: &R, session: usize, number: u64) -> bool {
-        matches!(self.stands(rt, session, number), Some(Standing::Done(_)))
     }
 
     /// Whether serial replay explains the book of the store.

@@ -1,181 +1,123 @@
-//! Steps of scenarios, each with what it is to come to.
-use crate::desks::{Desk, lane_of};
-use crate::gates::{Looks, StopOnce, Together};
-use occ_book::Standing;
-use occ_model::Verdict;
-use occ_store::{AlwaysGo, Name, Point, Served, run_validators};
-use occ_types::{Fault, Key};
-use std::alloc::Allocator;
-use std::sync::Wait;
-use std::thread::Threads;
-use std::time::Clock;
+//! Steps of scenarios, and the lines that tell them.
+use occ_store::Point;
 
 /// A step of a scenario. It begins with the session, where there is one.
 #[derive(Clone, Copy)]
 pub(crate) enum Step {
-    /// It hands in a transaction that puts 7 under the keys from the first to the last, with this number.
-    Put(usize, u64, u64, u64),
-    /// It hands in a put of 7 under a key to run alone, with this number.
-    Alone(usize, u64, u64),
-    /// It closes, with a mark of this number.
-    Close(usize, u64),
-    /// Its lane is served once, and answers this.
-    Serve(usize, Served),
+    /// It hands in a transaction that puts 7 under the keys from the first to the last.
+    Put(usize, u64, u64),
+    /// It hands in a put of 7 under a key to run alone.
+    Alone(usize, u64),
+    /// It closes.
+    Close(usize),
+    /// Its lane is served once.
+    Serve(usize),
     /// Its lane is served once, by a gate that stops it at this point.
     Stop(usize, Point),
-    /// Its lane is served once, by a gate that takes the lock at each of so many points, and answers this.
-    Look(usize, u64, Served),
-    /// Its lane goes on with what is left, and answers this.
-    Resume(usize, Served),
+    /// Its lane is served once, by a gate that takes the lock at each point.
+    Look(usize),
+    /// Its lane goes on with what is left.
+    Resume(usize),
     /// All groups are served in threads, by a gate that stops it at its first pass of this point.
     ServeAllBut(usize, Point),
     /// All groups are served in threads, by a gate that holds each of two sessions at this point until the other has come there.
     ServeTogether(Point),
-    /// Its row with this number stands so.
-    Stands(usize, u64, Option<Standing<()>>),
-    /// Its row with this number is finished.
-    IsDone(usize, u64),
-    /// Its lane is closed, or not.
-    IsClosed(usize, bool),
-    /// So many decisions of its lane came by a verdict that was reached outside the lock.
-    Judged(usize, u64),
-    /// Its poll shows that its transaction with this number ended so, and the counter of its last commit.
-    Polls(usize, u64, Verdict, u64),
-    /// It begins a transaction whose start is this or later, and reads 7 under a key.
-    Reads(usize, u64, u64),
-    /// A checkpoint folds so many rows.
-    Folds(usize),
-    /// Serial replay explains the book.
-    IsRight,
+    /// Clients in threads, one for each session, and all groups in threads, do what this seed says.
+    Load(u64),
+    /// How its row with this number stands.
+    Row(usize, u64),
+    /// Whether its lane is closed.
+    Lane(usize),
+    /// How many decisions of its lane came by a verdict that was reached outside the lock.
+    Judged(usize),
+    /// Its last transaction that is over.
+    Poll(usize),
+    /// It begins a transaction, and reads a key.
+    Read(usize, u64),
+    /// A checkpoint.
+    Fold,
+    /// Whether serial replay explains the book.
+    Audit,
+    /// The store ends.
+    End,
+    /// The same without the last lane.
+    EndShort,
 }
 
-/// Takes steps, one after another. Whether each came to what it is to come to.
-pub(crate) fn take_all<
-    N: Name + Send + Sync,
-    A: Allocator + Copy + Send + Sync,
-    R: Threads + Wait + Clock + Sync,
->(rt: &R, desk: &mut Desk<N, A>, steps: &[Step]) -> Result<bool, Fault> {
-    for step in steps {
-        if !take(rt, desk, *step)? {
-            return Ok(false);
+impl Step {
+    /// The step that a line tells, as `put 1 2 2`: a verb, numbers and at most one point.
+    pub(crate) fn told(line: &str) -> Option<Step> {
+        let [first, second, third, _] = numbers_in(line);
+        let session = first as usize;
+        match line.split(' ').next()? {
+            "put" => Some(Step::Put(session, second, third)),
+            "alone" => Some(Step::Alone(session, second)),
+            "close" => Some(Step::Close(session)),
+            "serve" => Some(Step::Serve(session)),
+            "stop" => Some(Step::Stop(session, point_in(line)?)),
+            "look" => Some(Step::Look(session)),
+            "resume" => Some(Step::Resume(session)),
+            "serve-all-but" => Some(Step::ServeAllBut(session, point_in(line)?)),
+            "serve-together" => Some(Step::ServeTogether(point_in(line)?)),
+            "load" => Some(Step::Load(first)),
+            "row" => Some(Step::Row(session, second)),
+            "lane" => Some(Step::Lane(session)),
+            "judged" => Some(Step::Judged(session)),
+            "poll" => Some(Step::Poll(session)),
+            "read" => Some(Step::Read(session, second)),
+            "fold" => Some(Step::Fold),
+            "audit" => Some(Step::Audit),
+            "end" => Some(Step::End),
+            "end-short" => Some(Step::EndShort),
+            _ => None,
         }
-    }
-    Ok(true)
-}
-
-// Takes a step. Whether it came to what it is to come to.
-fn take<N: Name + Send + Sync, A: Allocator + Copy + Send + Sync, R: Threads + Wait + Clock + Sync>(
-    rt: &R,
-    desk: &mut Desk<N, A>,
-    step: Step,
-) -> Result<bool, Fault> {
-    match step {
-        Step::ServeAllBut(session, point) => Ok(serve_all_but(rt, desk, session, point)),
-        Step::ServeTogether(point) => Ok(serve_together(rt, desk, point)),
-        Step::Put(..) | Step::Alone(..) | Step::Close(..) => hand_in(rt, desk, step),
-        Step::Serve(..) | Step::Stop(..) | Step::Look(..) | Step::Resume(..) => {
-            serve(rt, desk, step)
-        }
-        _ => look_at(rt, desk, step),
-    }
-}
-
-fn hand_in<N: Name, A: Allocator + Copy, R: Wait>(
-    rt: &R,
-    desk: &mut Desk<N, A>,
-    step: Step,
-) -> Result<bool, Fault> {
-    match step {
-        Step::Put(session, first, last, number) => {
-            Ok(desk.put(rt, session, first, last)? == number)
-        }
-        Step::Alone(session, key, number) => Ok(desk.put_alone(rt, session, key)? == number),
-        Step::Close(session, number) => Ok(desk.session(session)?.close(rt)? == number),
-        _ => Ok(false),
     }
 }
 
-fn serve<N: Name, A: Allocator + Copy, R: Wait>(
-    rt: &R,
-    desk: &mut Desk<N, A>,
-    step: Step,
-) -> Result<bool, Fault> {
-    match step {
-        Step::Serve(session, served) => Ok(desk.serve(rt, session, &AlwaysGo)? == served),
-        Step::Stop(session, point) => {
-            let gate = StopOnce::new(session, point);
-            Ok(desk.serve(rt, session, &gate)? == Served::Stopped(point))
+/// The first four numbers in a line; 0 where there are fewer.
+pub(crate) fn numbers_in(line: &str) -> [u64; 4] {
+    let mut numbers = [0; 4];
+    let mut count = 0usize;
+    for word in line.split(' ') {
+        if let (Ok(number), Some(place)) = (word.parse::<u64>(), numbers.get_mut(count)) {
+            *place = number;
+            count = count.saturating_add(1);
         }
-        Step::Look(session, points, served) => {
-            let gate = Looks::at(rt, &desk.store);
-            let came = lane_of(&mut desk.groups, session)?.serve_one(rt, &desk.store, &gate)?;
-            Ok(came == served && gate.passed() == points)
+    }
+    numbers
+}
+
+// The first point that a line names.
+fn point_in(line: &str) -> Option<Point> {
+    for word in line.split(' ') {
+        let point = point_named(word);
+        if point.is_some() {
+            return point;
         }
-        Step::Resume(session, served) => Ok(desk.resume(rt, session)? == served),
-        _ => Ok(false),
+    }
+    None
+}
+
+fn point_named(word: &str) -> Option<Point> {
+    match word {
+        "took" => Some(Point::Took),
+        "entered" => Some(Point::Entered),
+        "judged" => Some(Point::Judged),
+        "decided" => Some(Point::Decided),
+        "wrote" => Some(Point::Wrote),
+        "settled" => Some(Point::Settled),
+        _ => None,
     }
 }
 
-// Whether no group met a fault.
-fn serve_all_but<
-    N: Name + Send + Sync,
-    A: Allocator + Copy + Send + Sync,
-    R: Threads + Wait + Clock + Sync,
->(rt: &R, desk: &mut Desk<N, A>, session: usize, point: Point) -> bool {
-    let gate = StopOnce::new(session, point);
-    run_validators(rt, &desk.store, &mut desk.groups, &gate).is_none()
-}
-
-// Whether no group met a fault.
-fn serve_together<
-    N: Name + Send + Sync,
-    A: Allocator + Copy + Send + Sync,
-    R: Threads + Wait + Clock + Sync,
->(rt: &R, desk: &mut Desk<N, A>, point: Point) -> bool {
-    let gate = Together::at(rt, point);
-    run_validators(rt, &desk.store, &mut desk.groups, &gate).is_none()
-}
-
-fn look_at<N: Name, A: Allocator + Copy, R: Wait>(
-    rt: &R,
-    desk: &mut Desk<N, A>,
-    step: Step,
-) -> Result<bool, Fault> {
-    match step {
-        Step::Stands(session, number, standing) => {
-            Ok(desk.stands(rt, session, number) == standing)
-        }
-        Step::IsDone(session, number) => Ok(desk.is_done(rt, session, number)),
-        Step::IsClosed(session, closed) => {
-            Ok(lane_of(&mut desk.groups, session)?.is_closed() == closed)
-        }
-        Step::Judged(session, judged) => {
-            Ok(lane_of(&mut desk.groups, session)?.judged() == judged)
-        }
-        Step::Polls(session, number, verdict, tn) => {
-            let last = desk.session(session)?.poll();
-            Ok(last.number == number && last.status == Some(verdict) && last.tn == tn)
-        }
-        Step::Reads(session, start, key) => reads(rt, desk, session, start, key),
-        Step::Folds(rows) => Ok(desk.store.checkpoint(rt)? == rows),
-        Step::IsRight => desk.is_right(rt),
-        _ => Ok(false),
+/// The word of a point.
+pub(crate) fn word_of(point: Point) -> &'static str {
+    match point {
+        Point::Took => "took",
+        Point::Entered => "entered",
+        Point::Judged => "judged",
+        Point::Decided => "decided",
+        Point::Wrote => "wrote",
+        Point::Settled => "settled",
     }
-}
-
-// Begins a transaction, and reads a key in it.
-fn reads<N: Name, A: Allocator + Copy, R: Wait>(
-    rt: &R,
-    desk: &mut Desk<N, A>,
-    session: usize,
-    start: u64,
-    key: u64,
-) -> Result<bool, Fault> {
-    let (_number, begun) = desk.session(session)?.begin()?;
-    let row = match desk.sessions.get(session.wrapping_sub(1)) {
-        Some(session) => session.get(rt, &desk.store, 0, Key::Num(key))?,
-        None => None,
-    };
-    let number = row.as_ref().and_then(|row| row.int(0));
-    Ok(begun >= start && number == Some(7))
 }

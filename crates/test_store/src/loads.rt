@@ -1,21 +1,19 @@
-//! Many clients and validators, from a seed.
+//! Many clients and validators in threads.
 use crate::clients::{Random, run_client};
-use crate::desks::{Desk, Play, Settings, lane_of, played};
-use occ_store::{AlwaysGo, Group, Name, Session, Store};
+use crate::desks::{Desk, lane_of};
+use crate::gates::Yields;
+use occ_store::{Group, Name, Session, Store};
 use occ_types::Fault;
-use std::alloc::{Allocator, Global};
+use std::alloc::Allocator;
 use std::sync::Wait;
 use std::sync::atomic::{AtomicU64, Ordering};
-use std::test::Fail;
+use std::thread;
 use std::thread::Threads;
-use std::time::{Clock, Duration, Instant};
-use std::{io, thread};
+use std::time::Clock;
 
-/// For how long stores are opened, one after another.
-const SECONDS: u64 = 20;
-
-/// Clients in threads, one for each session, and the groups of lanes in threads, with the loads of a seed. Whether all came as it should.
-pub(crate) fn soak<
+/// Clients in threads, one for each session, and the groups of lanes in threads, do what a seed says, until all lanes are closed. Whether
+/// all came as it should.
+pub(crate) fn play_load<
     N: Name + Send + Sync,
     A: Allocator + Copy + Send + Sync,
     R: Threads + Wait + Clock + Sync,
@@ -33,8 +31,7 @@ pub(crate) fn soak<
         serving: AtomicU64::new(desk.groups.len() as u64),
     };
     let mut all = parties(desk)?;
-    let right = run_all(rt, &load, &desk.store, &mut all);
-    Ok(right && desk.is_right(rt)?)
+    Ok(run_all(rt, &load, &desk.store, &mut all))
 }
 
 // A client's session, or a group of lanes.
@@ -125,7 +122,7 @@ fn serve<N: Name, A: Allocator + Copy, R: Wait + Clock>(
     store: &Store<N, A>,
     group: &mut Group<N, A>,
 ) {
-    group.serve(rt, store, &AlwaysGo);
+    group.serve(rt, store, &Yields);
     let _before = load.serving.fetch_sub(1, Ordering::SeqCst);
 }
 
@@ -142,61 +139,4 @@ fn run<N: Name, A: Allocator + Copy, R: Wait>(
         Ok(true) => {}
         _ => load.fail(),
     }
-}
-
-// A number from 1 to this one.
-fn at_least_one(random: &mut Random, most: u64) -> usize {
-    random.below(most).saturating_add(1) as usize
-}
-
-// The store of a seed: the first has 64 sessions and 8 validators, the others up to so many.
-fn soaked<R: Threads + Wait + Clock + Sync>(
-    rt: &R,
-    alloc: Global,
-    seed: u64,
-) -> Result<bool, Fault> {
-    let mut random = Random::new(seed);
-    let (mut sessions, mut groups) = (64, 8);
-    if seed > 0 {
-        sessions = at_least_one(&mut random, 64);
-        groups = at_least_one(&mut random, 8);
-    }
-    let settings = Settings {
-        sessions,
-        capacity: at_least_one(&mut random, 4),
-        keep: random.below(64) as usize,
-        groups,
-    };
-    played(rt, alloc, settings, Play::Soak(seed))
-}
-
-// Stores of one seed after another, until the time is over. Whether all were right.
-fn soaked_all<R: Threads + Wait + Clock + Sync>(
-    rt: &R,
-    alloc: Global,
-    begun: Instant,
-) -> Result<bool, Fault> {
-    for seed in 0..u64::MAX {
-        if !soaked(rt, alloc, seed)? {
-            return Ok(false);
-        }
-        if is_late(rt, &begun) {
-            break;
-        }
-    }
-    Ok(true)
-}
-
-// Whether the time is over.
-fn is_late<R: Clock>(rt: &R, begun: &Instant) -> bool {
-    match begun.elapsed(rt) {
-        Ok(elapsed) => elapsed >= Duration::from_secs(SECONDS),
-        Err(_) => true,
-    }
-}
-
-#[test]
-fn every_book_is_right(rt: HostRuntime) -> Result<(), Fail> {
-    let begun = Instant::now(&rt)?;
-    Ok(assert!(rt; soaked_all(&rt, rt.alloc(), begun)?))
 }
