@@ -4,6 +4,7 @@ import glob
 import hashlib
 import os
 import subprocess
+import sys
 
 TOP = os.path.dirname(os.path.dirname(os.path.abspath(__file__)))
 
@@ -28,9 +29,17 @@ def below(crate):
 
 
 @functools.lru_cache(None)
+def told_by_rt(word):
+    """What a command of the toolchain tells; without the toolchain nothing goes on."""
+    try:
+        return subprocess.run(["rt", word], stdout=subprocess.PIPE, text=True, check=True).stdout
+    except OSError:
+        sys.exit(f"tools/{os.path.basename(sys.argv[0])}: no toolchain: `rt` is not on the PATH (README, under Quick start, says where it comes from)")
+
+
 def kit():
     """The folder of the kit, which holds the toolchain and its libraries."""
-    return os.path.dirname(subprocess.run(["rt", "doc"], stdout=subprocess.PIPE, text=True, check=True).stdout.strip())
+    return os.path.dirname(told_by_rt("doc").strip())
 
 
 def read(path):

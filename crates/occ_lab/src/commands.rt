@@ -1,5 +1,6 @@
 //! The commands, and what help says of them.
 
+use crate::formats::FORMATS;
 use clap::{Arg, ArgAction, Command};
 use std::alloc::{AllocError, Global};
 
@@ -9,20 +10,33 @@ Exit status:
   0  all is right
   1  a file can't be read or written, memory was refused, or a run gave up
   2  a line is malformed, or the words are no command
-  3  explain found something wrong, or the audit of a run says no";
+  3  explain found something wrong, a run did nothing, or its audit says no";
+
+/// What stands below the list of commands.
+const WAYS: &str = "\
+Where `occ` answers `line N: malformed`, `occ_lab explain FILE` says what is wrong with that line and
+what can stand there. Where it answers `usage`, `occ_lab help formats` has the words that it takes.
+FILE may be -, for standard input.
+
+Exit status:
+  0  all is right
+  1  a file can't be read or written, memory was refused, or a run gave up
+  2  a line is malformed, or the words are no command
+  3  explain found something wrong, a run did nothing, or its audit says no";
 
 /// The program with its commands.
 pub(crate) fn program<'a>(alloc: Global) -> Result<Command<'a>, AllocError> {
     let program = Command::new(alloc, "occ_lab")
-        .version("1.0")
+        .version("0.4.0")
         .about("A laboratory for schedules, books and workloads")
-        .after_help(STATUSES)
+        .after_help(WAYS)
         .subcommand_required(true)
         .arg_required_else_help(true);
     let program = with(program, explain(alloc))?;
     let program = with(program, picture(alloc))?;
     let program = with(program, shell(alloc))?;
-    with(program, run(alloc))
+    let program = with(program, run(alloc))?;
+    program.subcommand(formats(alloc))
 }
 
 /// The program with one command more, where that could be made.
@@ -36,10 +50,13 @@ fn with<'a>(
 /// `occ_lab explain [--json] FILE`.
 fn explain<'a>(alloc: Global) -> Result<Command<'a>, AllocError> {
     Command::new(alloc, "explain")
-        .about("Says what is wrong with a schedule or a book")
+        .about("Says what is wrong with a schedule, a book or a workload")
         .after_help(STATUSES)
         .arg(flag(alloc, "json", "Writes one object of JSON for each finding"))?
-        .arg(file(alloc, "A schedule or a book"))
+        .arg(file(
+            alloc,
+            "A schedule, a book or a workload; - is standard input",
+        ))
 }
 
 /// `occ_lab picture FILE`.
@@ -53,7 +70,7 @@ fn picture<'a>(alloc: Global) -> Result<Command<'a>, AllocError> {
 /// `occ_lab shell [FILE]`.
 fn shell<'a>(alloc: Global) -> Result<Command<'a>, AllocError> {
     Command::new(alloc, "shell")
-        .about("Answers the steps on standard input one by one; help is one of its words")
+        .about("Answers the steps on standard input one by one; help and quit are two of its words")
         .after_help(STATUSES)
         .arg(file(alloc, "A schedule whose header and steps stand first").required(false))
 }
@@ -65,6 +82,13 @@ fn run<'a>(alloc: Global) -> Result<Command<'a>, AllocError> {
         .after_help(STATUSES)
         .arg(flag(alloc, "json", "Writes one object of JSON"))?;
     with_outputs(alloc, run)?.arg(file(alloc, "A workload"))
+}
+
+/// `occ_lab formats`.
+fn formats<'a>(alloc: Global) -> Command<'a> {
+    Command::new(alloc, "formats")
+        .about("Describes schedules, books and workloads in short")
+        .after_help(FORMATS)
 }
 
 /// A command that may write a book and a picture.

@@ -3,25 +3,51 @@
 use anyhow::{Context, Result};
 use occ_text::trouble::Trouble;
 use occ_words::malformed_lines::say_malformed;
-use std::fs;
+use std::fs::{self, File};
+use std::io::{ErrorKind, Read, Write};
 
-/// The bytes of a file. Where it can't be read, the error names it.
+/// Whether a path stands for standard input.
+pub(crate) fn is_input(path: &str) -> bool {
+    path == "-"
+}
+
+/// The name of a file in what is said of it.
+pub(crate) fn name_of(path: &str) -> &str {
+    if is_input(path) {
+        return "standard input";
+    }
+    path
+}
+
+/// The bytes of a file, or of standard input. Where it can't be read, the error names it.
 pub(crate) fn read_file(rt: &HostRuntime, path: &str) -> Result<Vec<u8>> {
+    if is_input(path) {
+        let mut bytes = Vec::new(rt.alloc());
+        rt.stdin()
+            .read_to_end(&mut bytes)
+            .context("standard input")?;
+        return Ok(bytes);
+    }
     fs::read(rt, path).context(format_args!("{path}"))
 }
 
-/// Writes a file anew. Where it can't be written, the error names it.
-pub(crate) fn write_file(rt: &HostRuntime, path: &str, bytes: &[u8]) -> Result<()> {
-    fs::write(rt, path, bytes).context(format_args!("{path}"))
+/// Opens a file that is written, where one is named. Where it can't be opened, the error names it.
+pub(crate) fn open_output(rt: &HostRuntime, path: Option<&str>) -> Result<Option<File>> {
+    let Some(path) = path else {
+        return Ok(None);
+    };
+    let file = File::create(rt, path).context(format_args!("{path}"))?;
+    Ok(Some(file))
 }
 
-/// Tells what ended the work on a file before it was done, and answers the status. `text` is a schedule or a book, whose malformed line is explained.
+/// Tells what ended the work on a file before it was done, and answers the status. `text` is its text, whose malformed line is explained.
 pub(crate) fn tell_trouble(
     rt: &HostRuntime,
     path: &str,
     text: &[u8],
     trouble: Trouble,
 ) -> Result<u8> {
+    let path = name_of(path);
     match trouble {
         Trouble::Malformed(line) => {
             let saying = say_malformed(rt.alloc(), text, line)?;
@@ -30,8 +56,18 @@ pub(crate) fn tell_trouble(
             return Ok(2);
         }
         Trouble::Read => eprintln!(rt; "occ_lab: standard input: {trouble}")?,
+        // nobody is there to be told where a pipe was closed
+        Trouble::Write if is_closed(rt) => {}
         Trouble::Write => eprintln!(rt; "occ_lab: standard output: {trouble}")?,
         Trouble::Memory => eprintln!(rt; "occ_lab: {path}: {trouble}")?,
     }
     Ok(1)
+}
+
+// Whether standard output, to which a write failed, is a pipe that nobody reads.
+fn is_closed(rt: &HostRuntime) -> bool {
+    match rt.stdout().write_all(b"\n") {
+        Err(error) => error.kind() == ErrorKind::BrokenPipe,
+        Ok(()) => false,
+    }
 }

@@ -2,7 +2,8 @@
 
 ghost use Rattle.std.specs.Prelude.{◌≡◌};
 
-use crate::files::read_file;
+use crate::files::{is_input, read_file};
+use crate::loads::is_load;
 use anyhow::{Context, Result};
 use occ_reading::whole_books::take_book;
 use occ_text::faults::ReadFault;
@@ -17,10 +18,14 @@ use std::io::Read;
 /// The bytes that are read of a malformed line: two more than a line may have.
 const MALFORMED_LINE: u64 = 8_194;
 
-/// The text of a schedule or a book: up to its malformed line where it has one, so that what stands behind that takes no memory, and else all of it. A pipe is read whole. Where the file can't be read, the error names it.
+/// The text of a schedule or a book: up to its malformed line where it has one, so that what stands behind that takes no memory, and else all of it. A workload and a pipe are read whole. Where the file can't be read, the error names it.
 pub(crate) fn read_text(rt: &HostRuntime, path: &str) -> Result<Vec<u8>> {
     // what is no file can't be read twice
-    if !is_file(rt, path)? {
+    if is_input(path) || !is_file(rt, path)? {
+        return read_file(rt, path);
+    }
+    let mut file = open(rt, path)?;
+    if tells_load(rt.alloc(), &mut file)? {
         return read_file(rt, path);
     }
     let mut file = open(rt, path)?;
@@ -39,6 +44,13 @@ fn is_file(rt: &HostRuntime, path: &str) -> Result<bool> {
 
 fn open(rt: &HostRuntime, path: &str) -> Result<File> {
     File::open(rt, path).context(format_args!("{path}"))
+}
+
+// Whether a reader begins as a workload does.
+fn tells_load<R: Read>(alloc: Global, reader: &mut R) -> Result<bool> {
+    let mut input = Input::new(alloc)?;
+    let read = input.next_line(reader);
+    Ok(matches!(read, Ok(Next::Line)) && is_load(input.line()))
 }
 
 // Whether a reader has a line of a book before any line `steps`.

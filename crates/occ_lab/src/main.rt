@@ -12,7 +12,9 @@ use std::time::Clock;
 mod commands;
 mod explain;
 mod files;
+mod formats;
 mod fronts;
+mod loads;
 mod memory;
 mod picture;
 mod running;
@@ -68,7 +70,8 @@ fn serve<H: Threads + Wait + Clock + Sync>(
         return shell::shell(rt, found.get_str("file"));
     }
     let Some(found) = matches.subcommand_matches("run") else {
-        return Ok(2);
+        print!(rt; "{}", formats::FORMATS)?;
+        return Ok(0);
     };
     let wanted = running::Wanted {
         json: found.get_flag("json"),

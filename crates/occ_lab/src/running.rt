@@ -1,6 +1,7 @@
 //! `occ_lab run`.
 
-use crate::files::{read_file, write_file};
+use crate::files::{name_of, open_output, read_file, tell_trouble};
+use crate::loads::{take_load, tell_refused};
 use crate::memory::peak_memory;
 use crate::picture::draw_book;
 use crate::watching::Watcher;
@@ -8,7 +9,9 @@ use anyhow::{Context, Result};
 use occ_run::{PATIENCE, Ran, run_watched};
 use occ_text::trouble::Trouble;
 use occ_words::run_summaries::{Summary, ends_of};
+use occ_words::telling::{Style, Told};
 use std::fs::File;
+use std::io::Write;
 use std::sync::Wait;
 use std::thread::Threads;
 use std::time::Clock;
@@ -24,6 +27,22 @@ pub(crate) struct Wanted<'w> {
     pub(crate) picture: Option<&'w str>,
 }
 
+/// Where what is wanted of a run is written. It is opened before the run, so that none is in vain.
+#[derive(Drop)]
+struct Outputs {
+    book: Option<File>,
+    picture: Option<File>,
+}
+
+/// What a workload asks for.
+#[derive(Clone, Copy, Debug)]
+struct Asked {
+    /// How many transactions it has.
+    transactions: u64,
+    /// How many of them the tables refuse.
+    refused: u64,
+}
+
 /// Runs a workload, and tells what it came to.
 pub(crate) fn run_file<H: Threads + Wait + Clock + Sync>(
     rt: &HostRuntime,
@@ -32,8 +51,42 @@ pub(crate) fn run_file<H: Threads + Wait + Clock + Sync>(
     wanted: &Wanted<'_>,
 ) -> Result<u8> {
     let text = read_file(rt, path)?;
+    match look_at(rt, path, text.as_slice())? {
+        Ok(asked) => run_text(rt, threads, path, text.as_slice(), asked, wanted),
+        Err(trouble) => tell_trouble(rt, path, text.as_slice(), trouble),
+    }
+}
+
+// Tells on standard error which operations of a workload are refused, and answers what it asks for.
+fn look_at(rt: &HostRuntime, path: &str, text: &[u8]) -> Result<Result<Asked, Trouble>> {
+    let mut told = Told::new(rt.alloc(), name_of(path), Style::Text)?;
+    let workload = match take_load(rt.alloc(), text) {
+        Ok(workload) => workload,
+        Err(trouble) => return Ok(Err(trouble)),
+    };
+    let refused = tell_refused(rt.alloc(), text, &workload, &mut told)?;
+    let _sent = told.send(&mut rt.stderr());
+    Ok(Ok(Asked {
+        transactions: workload.plans.len() as u64,
+        refused,
+    }))
+}
+
+// Runs a workload that was looked at.
+fn run_text<H: Threads + Wait + Clock + Sync>(
+    rt: &HostRuntime,
+    threads: &H,
+    path: &str,
+    text: &[u8],
+    asked: Asked,
+    wanted: &Wanted<'_>,
+) -> Result<u8> {
+    let mut outputs = Outputs {
+        book: open_output(rt, wanted.book)?,
+        picture: open_output(rt, wanted.picture)?,
+    };
     let watcher = Watcher::new(rt);
-    let mut reader = text.as_slice();
+    let mut reader = text;
     let mut book = Vec::new(rt.alloc());
     let ran = run_watched(
         threads,
@@ -46,60 +99,84 @@ pub(crate) fn run_file<H: Threads + Wait + Clock + Sync>(
     );
     watcher.end_line();
     match ran {
-        Ok(Ran::Audit(holds)) => tell(rt, wanted, &watcher, book.as_slice(), holds),
+        Ok(Ran::Audit(holds)) => {
+            let summary = summary_of(rt, &watcher, book.as_slice(), holds);
+            tell(rt, wanted.json, &summary)?;
+            write_outputs(rt, wanted, &mut outputs, book.as_slice())?;
+            tell_missing(rt, path, asked, &summary)
+        }
         Ok(Ran::GaveUp(sessions)) => {
             for session in &sessions {
-                eprintln!(rt; "occ_lab: {path}: the client of session {session} gave up")?;
+                let name = name_of(path);
+                eprintln!(rt; "occ_lab: {name}: the client of session {session} gave up")?;
             }
             Ok(1)
         }
-        Err(trouble) => stop(rt, path, trouble),
-    }
-}
-
-// Tells what stopped a run, and answers the status.
-fn stop(rt: &HostRuntime, path: &str, trouble: Trouble) -> Result<u8> {
-    match trouble {
-        Trouble::Malformed(line) => {
-            eprintln!(rt; "{path}:{line}: no line of a workload, or none that can stand here")?;
-            Ok(2)
-        }
-        // the workload and the book stand in memory, so nothing else can be refused
-        Trouble::Read | Trouble::Write | Trouble::Memory => {
-            eprintln!(rt; "occ_lab: {path}: no memory, or a thread can't be started")?;
+        // the workload was read before, and it and the book stand in memory, so nothing else can be refused
+        Err(_trouble) => {
+            let name = name_of(path);
+            eprintln!(rt; "occ_lab: {name}: no memory, or a thread can't be started")?;
             Ok(1)
         }
     }
 }
 
-// Tells what a run came to, whose book is printed, and writes what is wanted.
-fn tell(
-    rt: &HostRuntime,
-    wanted: &Wanted<'_>,
-    watcher: &Watcher<'_>,
-    book: &[u8],
-    holds: bool,
-) -> Result<u8> {
-    let summary = Summary {
+// What a run came to, whose book is printed.
+fn summary_of(rt: &HostRuntime, watcher: &Watcher<'_>, book: &[u8], holds: bool) -> Summary {
+    Summary {
         took: watcher.took(),
         ends: ends_of(book),
         retried: watcher.retried(),
         alone: watcher.alone(),
         memory: peak_memory(rt),
         holds,
-    };
-    let told = if wanted.json {
+    }
+}
+
+// Tells what a run came to.
+fn tell(rt: &HostRuntime, json: bool, summary: &Summary) -> Result<()> {
+    let told = if json {
         summary.json(rt.alloc())?
     } else {
         summary.text(rt.alloc())?
     };
     print!(rt; "{told}").context("standard output")?;
-    if let Some(path) = wanted.book {
-        write_file(rt, path, book)?;
+    Ok(())
+}
+
+// Writes the book of a run and its picture, where they are wanted.
+fn write_outputs(
+    rt: &HostRuntime,
+    wanted: &Wanted<'_>,
+    outputs: &mut Outputs,
+    book: &[u8],
+) -> Result<()> {
+    if let (Some(file), Some(path)) = (&mut outputs.book, wanted.book) {
+        file.write_all(book).context(format_args!("{path}"))?;
     }
-    if let Some(path) = wanted.picture {
-        let mut picture = File::create(rt, path).context(format_args!("{path}"))?;
-        draw_book(rt.alloc(), book, &mut picture).context(format_args!("{path}"))?;
+    if let (Some(file), Some(path)) = (&mut outputs.picture, wanted.picture) {
+        draw_book(rt.alloc(), book, file).context(format_args!("{path}"))?;
     }
-    Ok(if holds { 0 } else { 3 })
+    Ok(())
+}
+
+// Tells how many transactions were refused, where any was, and answers the status.
+fn tell_missing(rt: &HostRuntime, path: &str, asked: Asked, summary: &Summary) -> Result<u8> {
+    let committed = summary.ends.committed;
+    let refused = asked.transactions.saturating_sub(committed);
+    let name = name_of(path);
+    if refused > asked.refused {
+        let more = refused - asked.refused;
+        eprintln!(rt;
+            "{name}: {more} transactions more were refused as they ran: a range of over 1,024 rows, or over 256 keys"
+        )?;
+    }
+    if refused > 0 {
+        eprintln!(rt;
+            "{name}: refused {refused} of {} transactions",
+            asked.transactions
+        )?;
+    }
+    let none_is_done = refused > 0 && committed == 0;
+    Ok(if summary.holds && !none_is_done { 0 } else { 3 })
 }

@@ -5,17 +5,54 @@ use crate::fronts::read_text;
 use anyhow::Result;
 use occ_text::trouble::Trouble;
 use occ_words::shells::shell_text;
+use std::io::{self, IsTerminal, Read};
+
+/// Standard input, before each reading of which a prompt is written where it is a terminal.
+#[derive(Drop)]
+struct Prompted<'h> {
+    rt: &'h HostRuntime,
+    is_shown: bool,
+}
+
+impl<'h> Prompted<'h> {
+    fn new(rt: &'h HostRuntime) -> Prompted<'h> {
+        Prompted {
+            rt,
+            is_shown: rt.stdin().is_terminal() && rt.stderr().is_terminal(),
+        }
+    }
+}
+
+impl Read for Prompted<'_> {
+    fn read(&mut self, bytes: &mut [u8]) -> io::Result<usize> {
+        if self.is_shown {
+            let _written = eprint!(self.rt; "> ");
+        }
+        self.rt.stdin().read(bytes)
+    }
+}
 
 /// Answers the steps of standard input one by one, behind those of a file where one is named.
 pub(crate) fn shell(rt: &HostRuntime, path: Option<&str>) -> Result<u8> {
+    let mut steps = Prompted::new(rt);
     let Some(path) = path else {
-        let ended = shell_text(rt.alloc(), None, &mut rt.stdin(), &mut rt.stdout());
+        tell_first_line(rt, steps.is_shown);
+        let ended = shell_text(rt.alloc(), None, &mut steps, &mut rt.stdout());
         return end(rt, "standard input", b"", ended);
     };
     let text = read_text(rt, path)?;
     let opening = Some(text.as_slice());
-    let ended = shell_text(rt.alloc(), opening, &mut rt.stdin(), &mut rt.stdout());
+    let ended = shell_text(rt.alloc(), opening, &mut steps, &mut rt.stdout());
     end(rt, path, text.as_slice(), ended)
+}
+
+// Tells on a terminal what comes first.
+fn tell_first_line(rt: &HostRuntime, is_shown: bool) {
+    if is_shown {
+        let _written = eprintln!(rt;
+            "A header comes first, as occ 2, sessions 2, queue 4, keep 8, table t num int, steps; help and quit are words too."
+        );
+    }
 }
 
 // Tells what ended a shell, whose opening has a name, and answers the status.

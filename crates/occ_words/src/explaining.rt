@@ -5,7 +5,6 @@ use crate::line_walk::token_at;
 use crate::malformed_lines::say_malformed;
 use crate::notes::tell_notes;
 use crate::phrases::write_counted;
-use crate::sayings::{Saying, Subject};
 use crate::schedule_steps::Steps;
 use crate::telling::Told;
 use occ_findings::{Finding, explain_book};
@@ -30,11 +29,6 @@ pub fn explain_text<W: Write>(
     told: &mut Told,
     writer: &mut W,
 ) -> Result<bool, Trouble> {
-    if text.starts_with(b"load ") {
-        tell_load(alloc, told)?;
-        told.send(writer)?;
-        return Err(Trouble::Malformed(1));
-    }
     let is_book = is_book(text);
     let ended = if is_book {
         judge_book(alloc, text, told, writer)
@@ -54,15 +48,6 @@ pub fn explain_text<W: Write>(
         return ended;
     }
     replay(alloc, text, true, told, writer)
-}
-
-// Tells that a text is a workload.
-fn tell_load(alloc: Global, told: &mut Told) -> Result<(), AllocError> {
-    let mut saying = Saying::new(alloc, Subject::Malformed, Some(1));
-    saying.sentence.push_str(
-        "this is a workload, which `occ run` and `occ_lab run` take; a schedule or a book begins with `occ 1` or `occ 2`",
-    )?;
-    told.say(alloc, &saying)
 }
 
 /// Whether a text has a line of a book before any line `steps`.

@@ -28,11 +28,23 @@ pub const STEPS: Forms = &[
     "show",
 ];
 
+/// The operations of a run alone and of a workload, with a space for each colon.
+pub const OPERATIONS: Forms = &[
+    "get NAME KEY",
+    "scan NAME END END",
+    "put NAME KEY ROW",
+    "delete NAME KEY",
+    "add NAME KEY INT",
+];
+
+/// The first lines of a text: of a schedule or a book, and of a workload.
+pub const FIRST: Forms = &["occ 1|2", "load 1|2"];
+
 /// What may stand behind the first table of a text.
 pub const BEHIND_TABLES: Forms = &["table NAME KEYKIND KIND ..", "steps", "log K", "base P L R"];
 
-/// How many lines of which forms are to come in a text, the last ones first. Behind the tables they are those of a book.
-pub const AT_FIRST: &[(u64, Forms)] = &[
+/// How many lines of which forms are to come behind the first line of a schedule or a book, the last ones first. Behind the tables they are those of a book.
+pub const OF_SCHEDULE: &[(u64, Forms)] = &[
     (1, &["audit yes|no"]),
     (1, &["counter T low L"]),
     (1, &["state R"]),
@@ -42,7 +54,18 @@ pub const AT_FIRST: &[(u64, Forms)] = &[
     (1, &["keep 1..4096"]),
     (1, &["queue 1..1024"]),
     (1, &["sessions 1..64"]),
-    (1, &["occ 1|2"]),
+];
+
+/// The same behind the first line of a workload.
+pub const OF_WORKLOAD: &[(u64, Forms)] = &[
+    (u64::MAX, &["txn S OP .."]),
+    (u64::MAX, &["table NAME KEYKIND KIND ..", "begin"]),
+    (1, &["table NAME KEYKIND KIND .."]),
+    (1, &["retries 0..16"]),
+    (1, &["validators 1..64"]),
+    (1, &["keep 1..4096"]),
+    (1, &["queue 1..1024"]),
+    (1, &["sessions 1..64"]),
 ];
 
 /// The lines that others bring behind them: the word of such a line, the index of the token that counts them, or 0 where there is none, and their forms. Where one line brings several, the last ones stand first.
@@ -118,6 +141,24 @@ pub const UNFIT: &[(&str, &str)] = &[
         "the table or key doesn't fit the header, or the row writes this key twice",
     ),
     ("steps", "no table stands before it"),
+    (
+        "txn",
+        "the session is none of the header, or it has over 256 operations, or all transactions with all their tries come to over 1,048,576 rows",
+    ),
+    (
+        "load",
+        "this is a workload: `occ run FILE` or `occ_lab run FILE` runs it, and `occ_lab explain FILE` says what is wrong with it",
+    ),
+    (
+        "occ",
+        "this is a schedule or a book, and no workload: `occ replay FILE` takes a schedule, `occ audit FILE` a book, and `occ_lab explain FILE` either",
+    ),
+];
+
+/// The words of the answers that a replay begins with.
+pub const ANSWERS: &[&str] = &[
+    "begun", "ok", "queued", "closing", "entered", "empty", "closed", "finished", "folded",
+    "counter", "refused", "none", "rows",
 ];
 
 /// What a token has to be.
@@ -151,6 +192,7 @@ const LETTERS: &[(&str, Field, &str)] = &[
     ("1..64", Field::Whole(1, 64), "a decimal, 1 to 64"),
     ("1..1024", Field::Whole(1, 1024), "a decimal, 1 to 1024"),
     ("1..4096", Field::Whole(1, 4096), "a decimal, 1 to 4096"),
+    ("0..16", Field::Whole(0, 16), "a decimal, 0 to 16"),
     (
         "S",
         Field::Whole(0, 255),
@@ -187,6 +229,7 @@ const LETTERS: &[(&str, Field, &str)] = &[
         "a row: cells with one comma between, each a whole number, or ' and a text",
     ),
     ("ROW|none", Field::Found, "a row, or none"),
+    ("INT", Field::Row, "a whole number"),
     (
         "OP",
         Field::Operation,

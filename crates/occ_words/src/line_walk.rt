@@ -1,6 +1,6 @@
 //! A walk over the well-formed lines of a text, which tells what lines may stand next.
 
-use crate::line_forms::{AT_FIRST, BROUGHT, Forms, STEPS};
+use crate::line_forms::{BROUGHT, FIRST, Forms, OF_SCHEDULE, OF_WORKLOAD, STEPS};
 use occ_text::separated_parts::Parts;
 use occ_text::tokens::{is_word, number};
 use occ_text::versions::Version;
@@ -28,7 +28,7 @@ impl Walk {
     /// A walk before the first line.
     pub fn new(alloc: Global) -> Result<Walk, AllocError> {
         let mut to_come = Vec::new(alloc);
-        to_come.extend_from_slice(AT_FIRST)?;
+        to_come.push((1, FIRST))?;
         Ok(Walk {
             version: Version::One,
             to_come,
@@ -61,10 +61,15 @@ impl Walk {
     /// Goes over a well-formed line.
     pub fn take(&mut self, line: &[u8]) -> Result<(), AllocError> {
         let word = token_at(line, 0);
-        if is_word(line, "occ 2") {
+        if is_word(line, "occ 2") || is_word(line, "load 2") {
             self.version = Version::Two;
         }
-        self.count_down(word)?;
+        self.count_down(line)?;
+        if is_word(word, "occ") {
+            self.to_come.extend_from_slice(OF_SCHEDULE)?;
+        } else if is_word(word, "load") {
+            self.to_come.extend_from_slice(OF_WORKLOAD)?;
+        }
         for (head, index, forms) in BROUGHT {
             if is_word(word, *head) {
                 let count = number(token_at(line, *index), u64::MAX);
@@ -74,9 +79,13 @@ impl Walk {
         Ok(())
     }
 
-    // One line with this word is taken of those that stand next.
-    fn count_down(&mut self, word: &[u8]) -> Result<(), AllocError> {
-        let ends_tables = is_word(word, "steps") || is_word(word, "base") || is_word(word, "log");
+    // A line is taken of those that stand next.
+    fn count_down(&mut self, line: &[u8]) -> Result<(), AllocError> {
+        let word = token_at(line, 0);
+        let ends_tables = is_word(word, "steps")
+            || is_word(word, "base")
+            || is_word(word, "log")
+            || is_word(line, "begin");
         match self.to_come.pop() {
             Some((count, forms)) if !ends_tables => self.expect(count.saturating_sub(1), forms),
             _ => Ok(()),

@@ -1,6 +1,6 @@
 //! Malformed lines in words: what is wrong with one, and what can stand there.
 
-use crate::line_forms::{Forms, OTHERS, STEPS, UNFIT, field_of};
+use crate::line_forms::{ANSWERS, Forms, OPERATIONS, OTHERS, STEPS, UNFIT, field_of};
 use crate::line_walk::{Walk, token_at};
 use crate::phrases::{push_all, shown};
 use crate::sayings::{Saying, Subject};
@@ -117,6 +117,11 @@ fn write_word_cause(
     if word.starts_with(b"#") || word.starts_with(b"//") {
         return line.push_str("a text has no comments: take the line out");
     }
+    if is_answer(due, word) {
+        return line.push_str(
+            "this is what `occ replay` prints, answers and then a book: with `--quiet` it prints the book alone",
+        );
+    }
     if let Some(form) = missing(due, word) {
         return push_all(line, &["a line is missing before this one: `", form, "`"]);
     }
@@ -129,6 +134,13 @@ fn write_word_cause(
             due,
         ),
     }
+}
+
+// Whether a word heads an answer, where the first line of a text is due.
+fn is_answer(due: Forms, word: &[u8]) -> bool {
+    due.len() == 2
+        && form_of(due, b"occ").is_some()
+        && ANSWERS.iter().any(|answer| is_word(word, *answer))
 }
 
 fn write_likely(line: &mut String, word: &str, form: &str) -> Result<(), AllocError> {
@@ -151,7 +163,8 @@ fn missing(due: Forms, word: &[u8]) -> Option<&'static str> {
         return None;
     }
     match due {
-        [form] => Some(*form),
+        [form] if !is_word(head(*form), "txn") => Some(*form),
+        [first, _] if is_word(head(*first), "occ") => Some(*first),
         [_, steps, log, _] => Some(if is_step { *steps } else { *log }),
         _ => None,
     }
@@ -224,8 +237,71 @@ fn write_field_cause(
     saying.tell("token", index as u64)?;
     let letters = letters_at(form, index);
     let token = token_at(line, index);
+    if is_word(letters, "OP") {
+        if let Some(operation) = form_of(OPERATIONS, word_of(token)) {
+            return write_operation_cause(alloc, &mut saying.sentence, version, operation, token);
+        }
+    }
     write_wrong(&mut saying.sentence, version, letters, token)?;
     push_all(&mut saying.sentence, &["; the form is `", form, "`"])
+}
+
+// The word of an operation.
+fn word_of(operation: &[u8]) -> &[u8] {
+    Parts::new(operation, b':').take_part().unwrap_or(b"")
+}
+
+// Appends which part of an operation isn't what its form wants, or that there are too many or too few.
+fn write_operation_cause(
+    alloc: Global,
+    line: &mut String,
+    version: Version,
+    form: &str,
+    token: &[u8],
+) -> Result<(), AllocError> {
+    let mut parts = Vec::new(alloc);
+    parts.extend_from_slice(token)?;
+    for byte in parts.iter_mut() {
+        if *byte == b':' {
+            *byte = b' ';
+        }
+    }
+    push_all(line, &["in `", shown(token), "` "])?;
+    match first_wrong(alloc, version, form, parts.as_slice())? {
+        Some(index) => {
+            let part = token_at(parts.as_slice(), index);
+            write_wrong_part(line, version, letters_at(form, index), part)?;
+        }
+        None => line.push_str("a part is none of its form")?,
+    }
+    push_all(
+        line,
+        &["; its form is `", form, "`, with : in place of each space"],
+    )
+}
+
+// Appends what is wrong with a part of an operation, which is empty where it is missing, as are the letters where it is one too many.
+fn write_wrong_part(
+    line: &mut String,
+    version: Version,
+    letters: &[u8],
+    part: &[u8],
+) -> Result<(), AllocError> {
+    let (_, meaning) = field_of(letters);
+    if part.is_empty() {
+        return push_all(line, &["a part is missing: ", meaning]);
+    }
+    if letters.is_empty() {
+        return push_all(
+            line,
+            &[
+                "`",
+                shown(part),
+                "` is one part too many; a colon within a text is %3a",
+            ],
+        );
+    }
+    write_unread(line, shown(part), meaning, token_slip(version, part))
 }
 
 // Appends what is wrong with a token, which is empty where it is missing, as are the letters where it is one too many.

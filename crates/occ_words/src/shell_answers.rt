@@ -38,6 +38,7 @@ pub(crate) const HELP: &str = "\
 #   help                 this text
 #   book                 prints the book of all so far
 #   audit                says whether the log explains the tables
+#   quit                 ends the shell
 # Each step is answered by one line. A line that begins with # is a remark.
 ";
 

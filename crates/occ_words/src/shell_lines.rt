@@ -4,6 +4,7 @@ use crate::shell_answers::write_remark;
 use occ_text::faults::LineFault;
 use occ_text::input::{Input, Next};
 use occ_text::output::Output;
+use occ_text::tokens::is_word;
 use occ_text::trouble::Trouble;
 use std::alloc::Global;
 use std::io::{Read, Write};
@@ -13,15 +14,16 @@ use std::io::{Read, Write};
 pub(crate) enum Heard {
     /// A whole line.
     Line,
-    /// The end.
+    /// The end, or the word `quit`.
     End,
     /// What is no line, after which none can be taken.
     Broken,
 }
 
-/// Takes the next line, which the input then shows.
+/// Takes the next line, which the input then shows. The word `quit` is the end.
 pub(crate) fn hear<R: Read>(input: &mut Input<Global>, reader: &mut R) -> Result<Heard, Trouble> {
     match input.next_line(reader) {
+        Ok(Next::Line) if is_word(input.line(), "quit") => Ok(Heard::End),
         Ok(Next::Line) => Ok(Heard::Line),
         Ok(Next::End) => Ok(Heard::End),
         Err(LineFault::Read) => Err(Trouble::Read),

@@ -30,10 +30,26 @@ pub fn shell_text<R: Read, W: Write>(
         None => hear_header(alloc, &mut input, reader, &mut output, writer, &mut header)?,
     };
     if heard == Heard::Line {
+        if opening.is_none() {
+            greet(alloc, &mut output, writer)?;
+        }
         let text = opening.unwrap_or(header.as_slice());
         return open(alloc, text, &mut input, reader, &mut output, writer);
     }
     end(alloc, heard, &mut output, writer)
+}
+
+// Tells that a header is whole.
+fn greet<W: Write>(
+    alloc: Global,
+    output: &mut Output<Global>,
+    writer: &mut W,
+) -> Result<(), Trouble> {
+    let mut text = String::new(alloc);
+    write_remark(&mut text, "the store is open; help lists the steps")?;
+    output.push(writer, text.as_bytes())?;
+    output.flush(writer)?;
+    Ok(())
 }
 
 // Opens the store of a schedule, does its steps, and answers what comes behind them.
