@@ -88,6 +88,11 @@ pub const OTHERS: &[&str] = &[
     "one", "span", "pair", "del", "marks", "mark", "state", "at", "counter", "audit",
 ];
 
+/// The words of the lines of a book that others before them count, and of those behind such lines.
+pub const COUNTED: &[&str] = &[
+    "last", "from", "log", "row", "pair", "marks", "mark", "state", "at", "counter",
+];
+
 /// What is wrong with a line of a word whose tokens each are what they have to be.
 pub const UNFIT: &[(&str, &str)] = &[
     (

@@ -1,6 +1,6 @@
 //! Malformed lines in words: what is wrong with one, and what can stand there.
 
-use crate::line_forms::{ANSWERS, Forms, OPERATIONS, OTHERS, STEPS, UNFIT, field_of};
+use crate::line_forms::{ANSWERS, COUNTED, Forms, OPERATIONS, OTHERS, STEPS, UNFIT, field_of};
 use crate::line_walk::{Walk, token_at};
 use crate::phrases::{push_all, shown};
 use crate::sayings::{Saying, Subject};
@@ -123,7 +123,15 @@ fn write_word_cause(
         );
     }
     if let Some(form) = missing(due, word) {
-        return push_all(line, &["a line is missing before this one: `", form, "`"]);
+        let more = if is_counted(form) {
+            "; or a count above is wrong"
+        } else {
+            ""
+        };
+        return push_all(
+            line,
+            &["a line is missing before this one: `", form, "`", more],
+        );
     }
     let word = shown(word);
     match nearest(alloc, due, word.as_bytes())? {
@@ -134,6 +142,11 @@ fn write_word_cause(
             due,
         ),
     }
+}
+
+// Whether a form is of a line that others before it count, or that stands behind such lines.
+fn is_counted(form: &str) -> bool {
+    COUNTED.iter().any(|counted| is_word(head(form), *counted))
 }
 
 // Whether a word heads an answer, where the first line of a text is due.

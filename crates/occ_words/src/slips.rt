@@ -75,16 +75,16 @@ pub fn token_slip(version: Version, token: &[u8]) -> Option<&'static str> {
             "a decimal other than 0 doesn't begin with 0",
         ),
         (
+            last == b',' || token.contains(&b';'),
+            "one comma stands between two cells, and nothing behind the last one",
+        ),
+        (
             first == b'-' || first == b'+',
             "a decimal has no sign; only a cell may begin with -",
         ),
         (
             token.contains(&b'"') || (is_text && is_long && last == b'\''),
             "a text begins with ' and has no quote behind it",
-        ),
-        (
-            last == b',' || token.contains(&b';'),
-            "one comma stands between two cells, and nothing behind the last one",
         ),
         (
             is_text || token.contains(&b'%'),
