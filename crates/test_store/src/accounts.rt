@@ -1,6 +1,6 @@
 //! The end of a store.
-use crate::desks::Desk;
-use occ_store::{Account, Group, Lane, Name, Parties};
+use crate::desks::{Desk, push_lane};
+use occ_store::{Account, Group, Name, Parties};
 use occ_types::Fault;
 use std::alloc::Allocator;
 use std::mem;
@@ -36,7 +36,7 @@ pub(crate) fn end_short<N: Name, A: Allocator + Copy, R: Wait>(
     };
     let ended = end(rt, desk);
     if let Some(lane) = last {
-        put_lane(desk, lane)?;
+        push_lane(&mut desk.groups, 0, lane)?;
     }
     ended
 }
@@ -49,16 +49,5 @@ fn put_back<N: Name, A: Allocator + Copy>(
     let (lanes, sessions) = parties;
     let _none = mem::replace(&mut desk.sessions, sessions);
     desk.groups.push(Group::new(lanes))?;
-    Ok(())
-}
-
-// A lane more in the first group of a desk.
-fn put_lane<N: Name, A: Allocator + Copy>(
-    desk: &mut Desk<N, A>,
-    lane: Lane<N, A>,
-) -> Result<(), Fault> {
-    if let Some(group) = desk.groups.get_mut(0) {
-        group.lanes.push(lane)?;
-    }
     Ok(())
 }

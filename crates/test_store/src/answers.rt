@@ -47,6 +47,17 @@ pub(crate) fn served_text(texts: Global, served: Result<Served, Fault>) -> Resul
     Ok(text?)
 }
 
+/// What came of serving a lane by a gate that was asked at so many points.
+pub(crate) fn looked_text(
+    texts: Global,
+    served: Result<Served, Fault>,
+    points: u64,
+) -> Result<String, Fault> {
+    let served = served_text(texts, served)?;
+    let text = format!(in texts; "{served}, {points} points")?;
+    Ok(text)
+}
+
 /// How a row stands.
 pub(crate) fn row_text(texts: Global, standing: Option<Standing<()>>) -> Result<String, Fault> {
     let text = match standing {

@@ -1,7 +1,6 @@
 //! Clients that do what a seed says.
 use crate::desks::seven;
-use occ_sets::Op;
-use occ_store::{Name, Session, Store};
+use occ_store::{Name, Op, Session, Store};
 use occ_types::{Cell, Fault, Key, Row};
 use std::alloc::Allocator;
 use std::sync::Wait;

@@ -114,10 +114,18 @@ fn opened<N: Name, A: Allocator + Copy>(frame: Frame<A>) -> Result<Opened<N, A>,
 {
     match Store::<N, A>::open(frame) {
         Ok(opened) => Ok(opened),
-        Err(refused) => match Store::<N, A>::open(refused.value) {
-            Ok(opened) => Ok(opened),
-            Err(refused) => Err(refused.fault),
-        },
+        Err(refused) => opened_again::<N, A>(refused.value),
+    }
+}
+
+// The same where that was the second try.
+fn opened_again<N: Name, A: Allocator + Copy>(frame: Frame<A>) -> Result<Opened<N, A>, Fault>
+    requires named { frame.named ≡ N.named }
+    requires ledger { (frame.ledger ≡ N.name) × (frame.parts ≡ N.parts) }
+{
+    match Store::<N, A>::open(frame) {
+        Ok(opened) => Ok(opened),
+        Err(refused) => Err(refused.fault),
     }
 }
 
@@ -155,6 +163,18 @@ pub(crate) fn lane_of<N: Name, A: Allocator + Copy>(
     }
 }
 
+/// A lane more in the group at a place.
+pub(crate) fn push_lane<N: Name, A: Allocator + Copy>(
+    groups: &mut [Group<N, A>],
+    place: usize,
+    lane: Lane<N, A>,
+) -> Result<(), Fault> {
+    if let Some(group) = groups.get_mut(place) {
+        group.lanes.push(lane)?;
+    }
+    Ok(())
+}
+
 /// The row that most transactions put.
 pub(crate) fn seven<A: Allocator>() -> Row<A> {
     Row::from_cell(Cell::Int(7))
@@ -169,9 +189,7 @@ impl<N: Name, A: Allocator + Copy> Desk<N, A> {
         for lane in lanes {
             let dealt = lane.session().wrapping_sub(1);
             let place = dealt.checked_rem(count).unwrap_or(0);
-            if let Some(group) = self.groups.get_mut(place) {
-                group.lanes.push(lane)?;
-            }
+            push_lane(&mut self.groups, place, lane)?;
         }
         Ok(())
     }

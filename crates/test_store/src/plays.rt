@@ -1,14 +1,14 @@
 //! Plays of a scenario on a store: each step is taken, and its answer compared to the one that is wanted.
 use crate::accounts::{end, end_short};
 use crate::answers::{
-    account_text, last_text, number_text, or_fault, queued_text, reading_text, row_text,
-    served_text, word_text,
+    account_text, last_text, looked_text, number_text, or_fault, queued_text, reading_text,
+    row_text, served_text, word_text,
 };
 use crate::desks::{Desk, lane_of};
 use crate::gates::{Looks, StopOnce, Together};
 use crate::loads::play_load;
 use crate::steps::Step;
-use occ_store::{AlwaysGo, Name, Point, Served, run_validators};
+use occ_store::{AlwaysGo, Lane, Name, Point, Served, Store, run_validators};
 use occ_types::{Fault, Key};
 use std::alloc::{AllocError, Allocator, Global};
 use std::sync::Wait;
@@ -131,10 +131,20 @@ fn look<N: Name, A: Allocator + Copy, R: Wait>(
     texts: Global,
     session: usize,
 ) -> Result<String, Fault> {
-    let gate = Looks::at(rt, &desk.store);
-    let came = lane_of(&mut desk.groups, session)?.serve_one(rt, &desk.store, &gate);
-    let served = served_text(texts, came)?;
-    Ok(format!(in texts; "{served}, {} points", gate.passed())?)
+    let lane = lane_of(&mut desk.groups, session)?;
+    let (came, points) = serve_looking(rt, &desk.store, lane);
+    looked_text(texts, came, points)
+}
+
+// The same of a lane, with how many points it passed.
+fn serve_looking<N: Name, A: Allocator + Copy, R: Wait>(
+    rt: &R,
+    store: &Store<N, A>,
+    lane: &mut Lane<N, A>,
+) -> (Result<Served, Fault>, u64) {
+    let gate = Looks::at(rt, store);
+    let came = lane.serve_one(rt, store, &gate);
+    (came, gate.passed())
 }
 
 // Serves all groups in threads, by a gate that stops a session at a point.
