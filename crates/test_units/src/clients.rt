@@ -1,7 +1,6 @@
 //! Clients of a store, and how often they try.
 use crate::stores::{putting, store};
-use occ_client::{Client, Core, End, Item};
-use occ_core::Step;
+use occ_client::{Client, Core, End};
 use occ_types::Fault;
 use occ_types::limits::MAX_WRITES;
 use std::alloc::Global;
@@ -60,44 +59,53 @@ fn a_client_finds_memory(rt: HostRuntime) -> Result<(), Fail> {
     Ok(())
 }
 
-// A client that reads one key and puts two, beside the open row of another session.
-fn beside(
-    client: &mut Client<Global>,
-    core: &mut Core<Global>,
-    other: Item<Global>,
-) -> Result<End, Fault> {
-    let _entered = core.enter(2, other)?;
+// The row of session 2, which puts a row under the key 3, is open.
+fn beside(alloc: Global) -> Result<Box<Core<Global>>, Fault> {
+    let mut core = store(alloc)?;
+    let _entered = core.enter(2, putting(alloc, 3)?)?;
+    Ok(core)
+}
+
+// A client that puts a row.
+fn put(client: &mut Client<Global>, core: &mut Core<Global>) -> Result<End, Fault> {
     client.begin(core)?;
-    let _row = client.get(core, 0, 6.into())?;
     client.put(core, 0, 4.into(), 2.into())?;
-    client.put(core, 0, 5.into(), 2.into())?;
     client.commit(core)
 }
 
 #[test]
 fn a_client_finds_memory_beside_an_open_row(rt: HostRuntime) -> Result<(), Fail> {
-    let mut core = store(rt.alloc())?;
+    let mut core = beside(rt.alloc())?;
     let mut client = Client::new(rt.alloc(), 1);
-    let other = putting(rt.alloc(), 3)?;
-    let end = beside(&mut client, &mut core, other)?;
+    let end = put(&mut client, &mut core)?;
     assert!(rt; end == End::Committed { tn: 1 });
     Ok(())
 }
 
-// Puts a row that it has read, and that the open row of another session writes, which is written and finished meanwhile.
+// The open row is written and finished, where that is not done yet.
+fn finish(core: &mut Core<Global>) {
+    let _verdict = core.decide(2);
+    let _written = core.write_one(2);
+    let _number = core.finish(2);
+}
+
+// Puts a row under a key that it has read, and that the open row writes meanwhile.
 fn read_and_put(client: &mut Client<Global>, core: &mut Core<Global>) -> Result<(), Fault> {
     let _row = client.get(core, 0, 3.into())?;
-    let _replies = (core.take(Step::Decide(2)), core.take(Step::WriteOne(2)));
-    let _reply = core.take(Step::Finish(2));
+    finish(core);
     Ok(client.put(core, 0, 3.into(), 2.into())?)
+}
+
+// How it ends, with three tries.
+fn tried(client: &mut Client<Global>, core: &mut Core<Global>) -> Result<End, Fault> {
+    client.transact(core, 3, |client, core| read_and_put(client, core))
 }
 
 #[test]
 fn a_client_tries_again(rt: HostRuntime) -> Result<(), Fail> {
-    let mut core = store(rt.alloc())?;
-    let _entered = core.enter(2, putting(rt.alloc(), 3)?)?;
+    let mut core = beside(rt.alloc())?;
     let mut client = Client::new(rt.alloc(), 1);
-    let end = client.transact(&mut core, 3, |client, core| read_and_put(client, core))?;
+    let end = tried(&mut client, &mut core)?;
     assert!(rt; end == End::Committed { tn: 2 });
     Ok(())
 }

@@ -1,5 +1,6 @@
-//! A core that takes memory, and a log with as many rows as it may have.
+//! A core and its audit, which take memory, and a log with as many rows as it may have.
 use crate::stores::{putting, store};
+use occ_audit::audit_rows;
 use occ_book::Tables;
 use occ_case::Verdict;
 use occ_core::{Core, Outcome, Reply, Step, drive, perform_all};
@@ -86,17 +87,22 @@ fn replies(alloc: Global, core: &mut Core<Global>) -> Result<bool, Fault> {
     Ok(replies.len() == 9)
 }
 
-// The same, and how many rows the table of a book has that is taken then.
-fn replies_and_shows(alloc: Global) -> Result<(bool, usize), Fault> {
+// How many rows the table of a book has that is taken of a core.
+fn rows_in_book(core: &Core<Global>) -> Result<usize, Fault> {
+    Ok(core.book()?.table.len())
+}
+
+// Whether the replies are due and the audit finds no fault then, and how many rows are in the table.
+fn replied(alloc: Global) -> Result<(bool, bool, usize), Fault> {
     let mut core = store(alloc)?;
     let right = replies(alloc, &mut core)?;
-    let rows = core.book()?.table.len();
-    Ok((right, rows))
+    let audited = audit_rows(alloc, &core.view())?;
+    Ok((right, audited, rows_in_book(&core)?))
 }
 
 #[test]
-fn a_core_finds_memory(rt: HostRuntime) -> Result<(), Fail> {
-    assert!(rt; replies_and_shows(rt.alloc())? == (true, 2));
+fn a_core_and_its_audit_find_memory(rt: HostRuntime) -> Result<(), Fail> {
+    assert!(rt; replied(rt.alloc())? == (true, true, 2));
     Ok(())
 }
 
@@ -147,22 +153,26 @@ fn changes_and_questions(alloc: Global) -> Result<Vec<Op<Global>>, Fault> {
     Ok(operations)
 }
 
-// The number and how many rows are answered.
-fn performed(alloc: Global) -> Result<Option<(i64, usize)>, Fault> {
+// Whether the number 2 and 1100 rows are answered.
+fn are_answers(answers: &[Answer<Global>]) -> bool {
+    match answers {
+        [Answer::Found(Some(row)), Answer::Rows(rows)] => {
+            row.int(0) == Some(2) && rows.len() == 1100
+        }
+        _ => false,
+    }
+}
+
+fn performed(alloc: Global) -> Result<bool, Fault> {
     let tables = many_rows(alloc)?;
     let operations = changes_and_questions(alloc)?;
     let done = perform_all(alloc, &tables, operations.as_slice())?;
-    Ok(match done.answers.as_slice() {
-        [Answer::Found(Some(row)), Answer::Rows(rows)] => {
-            row.int(0).map(|number| (number, rows.len()))
-        }
-        _ => None,
-    })
+    Ok(are_answers(done.answers.as_slice()))
 }
 
 #[test]
 fn operations_find_memory(rt: HostRuntime) -> Result<(), Fail> {
-    assert!(rt; performed(rt.alloc())? == Some((2, 1100)));
+    assert!(rt; performed(rt.alloc())?);
     Ok(())
 }
 // Transactions of a session that do nothing, up to this number. Whether all of them ran.
@@ -185,23 +195,23 @@ fn fault_of(alloc: Global, core: &mut Core<Global>, number: u64) -> Option<Fault
 
 // Whether the closing mark of a session with this number enters.
 fn close(core: &mut Core<Global>, number: u64) -> bool {
-    match core.enter(1, Item::Close { number }) {
-        Ok(entry) => matches!(&entry, Outcome::MarkedClosed),
-        Err(_) => false,
-    }
+    core.enter(1, Item::Close { number }).is_ok()
+}
+
+// Fills a log. Whether it could be filled and then closed, why it takes no more, and how many rows it has.
+fn fill(alloc: Global, core: &mut Core<Global>) -> (bool, bool, Option<Fault>, usize) {
+    let rows = MAX_LOG_ROWS as u64;
+    let filled = run_to(alloc, core, rows);
+    let refused = fault_of(alloc, core, rows + 1);
+    let closed = close(core, rows + 1);
+    (filled, closed, refused, core.log().len())
 }
 
 #[test]
 fn a_full_log_takes_no_more(rt: HostRuntime) -> Result<(), Fail> {
     let mut core = store(rt.alloc())?;
-    let rows = MAX_LOG_ROWS as u64;
-    let filled = run_to(rt.alloc(), &mut core, rows);
-    let refused = fault_of(rt.alloc(), &mut core, rows + 1);
-    let closed = close(&mut core, rows + 1);
-    let length = core.log().len();
+    let told = fill(rt.alloc(), &mut core);
     drop(core);
-    assert!(rt; filled && closed);
-    assert!(rt; refused == Some(Fault::LogFull));
-    assert_eq!(rt; length, MAX_LOG_ROWS);
+    assert!(rt; told == (true, true, Some(Fault::LogFull), MAX_LOG_ROWS));
     Ok(())
 }

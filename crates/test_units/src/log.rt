@@ -1,13 +1,20 @@
 //! A log, read phases and a window that take memory.
+ghost use Rattle.std.specs.Prelude.{◌≡◌, length};
+ghost use Rattle.std.specs.FinMap as finite;
+ghost use Rattle.occ_log.specs.Logs.{IsBegun};
+ghost use Rattle.occ_log.specs.Phases.{reads_of};
+
 use occ_log::{Log, ReadPhases, Sessions, Transaction, Window};
 use occ_sets::{Answer, LogRow, ReadSet, Standing, WriteSet};
+use occ_types::limits::MAX_QUESTIONS;
 use occ_types::{Fault, Key, Object, Question};
 use std::alloc::Global;
 use std::test::Fail;
 
-// A log of two sessions with one row of the second.
-fn log(alloc: Global) -> Result<Log<Global>, Fault> {
-    let mut log = Log::new(alloc, 2)?;
+// The first row of a log of two sessions comes in.
+fn enter(alloc: Global, log: &mut Log<Global>) -> Result<(), Fault>
+    requires { IsBegun 2 log.old }
+{
     log.reserve(2)?;
     log.push(LogRow {
         place: 0,
@@ -19,23 +26,37 @@ fn log(alloc: Global) -> Result<Log<Global>, Fault> {
         writes: WriteSet::new(alloc),
         standing: Standing::Done(1),
     });
-    Ok(log)
+    Ok(())
 }
 
-// The sessions of the rows that it shares.
-fn shared(alloc: Global) -> Result<(usize, Option<usize>), Fault> {
-    let rows = log(alloc)?.share_rows()?;
-    Ok((rows.len(), rows.first().map(|row| row.session)))
+// How many rows a log shares in which one came in.
+fn shared(alloc: Global) -> Result<usize, Fault> {
+    let mut log = Box::new(alloc, Log::new(alloc, 2)?)?;
+    enter(alloc, &mut log)?;
+    Ok(log.share_rows()?.len())
 }
 
 #[test]
 fn a_log_finds_memory(rt: HostRuntime) -> Result<(), Fail> {
-    assert!(rt; shared(rt.alloc())? == (1, Some(2)));
+    assert_eq!(rt; shared(rt.alloc())?, 1);
     Ok(())
 }
 
-// How many questions the only read phase has, and how many it shares.
-fn noted(alloc: Global) -> Result<(usize, usize), Fault> {
+// How many questions the first transaction of session 1 has asked.
+fn questions(phases: &ReadPhases<Global>) -> usize
+    ensures { result ≡ length (reads_of (finite.get phases.now (1, 1))) }
+{
+    match phases.get(1, 1) {
+        Some(phase) => phase.reads.len(),
+        None => 0,
+    }
+}
+
+// It asks for a key, where it may.
+fn note(alloc: Global, phases: &mut ReadPhases<Global>) -> Result<(), Fault> {
+    if questions(phases) >= MAX_QUESTIONS {
+        return Err(Fault::SetFull);
+    }
     let transaction = Transaction {
         session: 1,
         number: 1,
@@ -45,18 +66,19 @@ fn noted(alloc: Global) -> Result<(usize, usize), Fault> {
         table: 0,
         key: Key::Num(7),
     });
-    let mut phases = ReadPhases::new(alloc);
-    phases.note(alloc, transaction, question, Answer::Found(None))?;
-    let shared = phases.share(alloc, 1, 1)?.len();
-    Ok((
-        phases.get(1, 1).map_or(0, |phase| phase.reads.len()),
-        shared,
-    ))
+    Ok(phases.note(alloc, transaction, question, Answer::Found(None))?)
+}
+
+// How many questions its read phase shares.
+fn noted(alloc: Global) -> Result<usize, Fault> {
+    let mut phases = Box::new(alloc, ReadPhases::new(alloc))?;
+    note(alloc, &mut phases)?;
+    Ok(phases.share(alloc, 1, 1)?.len())
 }
 
 #[test]
 fn read_phases_find_memory(rt: HostRuntime) -> Result<(), Fail> {
-    assert!(rt; noted(rt.alloc())? == (1, 1));
+    assert_eq!(rt; noted(rt.alloc())?, 1);
     Ok(())
 }
 
