@@ -2,7 +2,8 @@
 ghost use Rattle.std.specs.Prelude.{◌≡◌};
 
 use occ_store::{
-    Body, Fault, Frame, KeyKind, Kind, Name, Schema, Store, Transaction as Work, Worker,
+    Body, Fault, Frame, KeyKind, Kind, Lane, Name, Schema, Session, Store, Transaction as Work,
+    Worker,
 };
 use std::alloc::{Allocator, Global};
 use std::sync::Wait;
@@ -69,6 +70,23 @@ fn serve<N: Name + Send + Sync, A: Allocator + Copy + Send + Sync, R: Threads + 
     right.load(Ordering::SeqCst)
 }
 
+/// A worker of each session and its lane, which has paid 250 in.
+fn hired<N: Name, A: Allocator + Copy, R: Wait>(
+    rt: &R,
+    alloc: A,
+    bank: &Store<N, A>,
+    sessions: Vec<Session<N, A>, A>,
+    lanes: Vec<Lane<N, A>, A>,
+) -> Result<Vec<Worker<N, A>, A>, Fault> {
+    let mut workers = Vec::new(alloc);
+    for (session, lane) in sessions.into_iter().zip(lanes) {
+        let mut worker = Worker::new(session, lane)?;
+        worker.transact(rt, bank, 1, &mut Add([(0, 250), (1, 0)]))?;
+        workers.push(worker)?;
+    }
+    Ok(workers)
+}
+
 /// A bank into which 1,000 is paid, and its clients. How many sums were right.
 fn run<N: Name + Send + Sync, A: Allocator + Copy + Send + Sync, R: Threads + Wait + Sync>(
     rt: &R,
@@ -80,12 +98,7 @@ fn run<N: Name + Send + Sync, A: Allocator + Copy + Send + Sync, R: Threads + Wa
     let Ok((bank, sessions, lanes)) = Store::<N, A>::open(frame) else {
         return Err(Fault::Memory);
     };
-    let mut workers = Vec::new(alloc);
-    for (session, lane) in sessions.into_iter().zip(lanes) {
-        let mut worker = Worker::new(session, lane)?;
-        worker.transact(rt, &bank, 1, &mut Add([(0, 250), (1, 0)]))?;
-        workers.push(worker)?;
-    }
+    let mut workers = hired(rt, alloc, &bank, sessions, lanes)?;
     Ok(serve(rt, &bank, &mut workers))
 }
 

@@ -2,11 +2,12 @@
 ghost use Rattle.std.specs.Prelude.{◌≡◌};
 
 use crate::budgets::Budget;
+use crate::by_lanes::Client;
 use crate::crews::{Member, told};
-use crate::hands::Hand;
+use crate::hands::{Hand, Maker};
 use crate::outcomes::{Done, Told};
 use crate::rows::{PUTS, TABLE, puts, schema, write};
-use crate::tasks::Task;
+use crate::tasks::{By, Task, Way};
 use occ_store::{Frame, Lane, Name, Session, Store, Worker};
 use occ_types::{Fault, Key, Row};
 use std::alloc::Allocator;
@@ -60,14 +61,18 @@ fn play<N: Name + Send + Sync, A: Allocator + Copy + Send + Sync, R: Threads + W
     if let Some(worker) = workers.first_mut() {
         before = Some(fill(rt, alloc, store, worker, task.load.shape.rows)?);
     }
-    let mut told = play_by(rt, alloc, store, workers, task)?;
+    let mut told = if task.way.by == By::Worker {
+        play_by_workers(rt, alloc, store, workers, task)?
+    } else {
+        play_by_clients(rt, alloc, store, workers, task)?
+    };
     told.before = before;
     told.sum = total(rt, store);
     Ok(told)
 }
 
-/// Does a task by workers, or by their sessions and lanes; the sum of the rows is left out.
-fn play_by<
+/// Does a task by workers; the sum of the rows is left out.
+fn play_by_workers<
     N: Name + Send + Sync,
     A: Allocator + Copy + Send + Sync,
     R: Threads + Wait + Clock + Sync,
@@ -81,11 +86,33 @@ fn play_by<
     let mut crew = Vec::new(alloc);
     for worker in workers {
         let place = crew.len();
-        let hand = Hand::new(alloc, worker, task.way);
-        crew.push(Member::new(hand, task, place))?;
+        crew.push(Member::new(worker, task, place))?;
     }
     let budget = Budget::begin(rt, task.until);
-    work_at_once(rt, store, &mut crew, &budget);
+    workers_at_once(rt, store, &mut crew, task.way, &budget);
+    Ok(told(rt, &crew, task, &budget))
+}
+
+/// Does a task by the sessions and lanes of workers; the sum of the rows is left out.
+fn play_by_clients<
+    N: Name + Send + Sync,
+    A: Allocator + Copy + Send + Sync,
+    R: Threads + Wait + Clock + Sync,
+>(
+    rt: &R,
+    alloc: A,
+    store: &Store<N, A>,
+    workers: Vec<Worker<N, A>, A>,
+    task: Task,
+) -> Result<Told, Fault> {
+    let mut crew = Vec::new(alloc);
+    for worker in workers {
+        let place = crew.len();
+        let client = Client::new(alloc, worker, task.way.by);
+        crew.push(Member::new(client, task, place))?;
+    }
+    let budget = Budget::begin(rt, task.until);
+    clients_at_once(rt, store, &mut crew, task.way, &budget);
     Ok(told(rt, &crew, task, &budget))
 }
 
@@ -127,27 +154,54 @@ fn fill<N: Name, A: Allocator + Copy, R: Wait>(
     Ok(done)
 }
 
-/// Has each member work in a thread of its own.
-fn work_at_once<
+/// Has each worker work in a thread of its own.
+fn workers_at_once<
     N: Name + Send + Sync,
     A: Allocator + Copy + Send + Sync,
     R: Threads + Wait + Clock + Sync,
->(rt: &R, store: &Store<N, A>, crew: &mut [Member<Hand<N, A>>], budget: &Budget) {
+>(rt: &R, store: &Store<N, A>, crew: &mut [Member<Worker<N, A>>], way: Way, budget: &Budget) {
     thread::scope(thread::scope_env(), rt, |scope| {
         for member in crew.iter_mut() {
-            let _ = scope.spawn(move || work(rt, store, member, budget));
+            let _ = scope.spawn(move || worker_works(rt, store, member, way, budget));
         }
     });
 }
 
-/// Has a member make its part.
-fn work<N: Name, A: Allocator + Copy, R: Wait + Clock>(
+/// Has a worker make its part.
+fn worker_works<N: Name, A: Allocator + Copy, R: Wait + Clock>(
     rt: &R,
     store: &Store<N, A>,
-    member: &mut Member<Hand<N, A>>,
+    member: &mut Member<Worker<N, A>>,
+    way: Way,
     budget: &Budget,
 ) {
-    member.player.work(rt, store, &mut member.part, budget);
+    let mut hand = Hand::new(Maker::Worker(&mut member.player), way);
+    hand.work(rt, store, &mut member.part, budget);
+}
+
+/// Has each client work in a thread of its own.
+fn clients_at_once<
+    N: Name + Send + Sync,
+    A: Allocator + Copy + Send + Sync,
+    R: Threads + Wait + Clock + Sync,
+>(rt: &R, store: &Store<N, A>, crew: &mut [Member<Client<N, A>>], way: Way, budget: &Budget) {
+    thread::scope(thread::scope_env(), rt, |scope| {
+        for member in crew.iter_mut() {
+            let _ = scope.spawn(move || client_works(rt, store, member, way, budget));
+        }
+    });
+}
+
+/// Has a client make its part.
+fn client_works<N: Name, A: Allocator + Copy, R: Wait + Clock>(
+    rt: &R,
+    store: &Store<N, A>,
+    member: &mut Member<Client<N, A>>,
+    way: Way,
+    budget: &Budget,
+) {
+    let mut hand = Hand::new(Maker::Client(&mut member.player), way);
+    hand.work(rt, store, &mut member.part, budget);
 }
 
 /// The sum of all rows.

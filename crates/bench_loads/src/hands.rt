@@ -3,7 +3,7 @@ use crate::budgets::Budget;
 use crate::by_lanes::Client;
 use crate::folds::Folds;
 use crate::outcomes::Part;
-use crate::tasks::{By, Way};
+use crate::tasks::Way;
 use crate::turns::Turn;
 use occ_store::{Lease, Name, Store, Worker};
 use occ_types::Fault;
@@ -17,30 +17,21 @@ const TRIES: usize = 1_000;
 
 /// What makes transactions.
 #[derive(Drop)]
-enum Maker<N: Name, A: Allocator + Copy> {
-    Client(Client<N, A>),
-    Worker(Worker<N, A>),
+pub(crate) enum Maker<'a, N: Name, A: Allocator + Copy> {
+    Client(&'a mut Client<N, A>),
+    Worker(&'a mut Worker<N, A>),
 }
 
 /// What makes the transactions of one thread on a store, in leases or not, and the checkpoints that are due after them.
 #[derive(Drop)]
-pub(crate) struct Hand<N: Name, A: Allocator + Copy> {
-    maker: Maker<N, A>,
+pub(crate) struct Hand<'a, N: Name, A: Allocator + Copy> {
+    maker: Maker<'a, N, A>,
     leased: bool,
     at_a_time: u64,
     folds: Folds,
 }
 
-impl<N: Name, A: Allocator + Copy> Maker<N, A> {
-    /// A worker, or its session and lane.
-    fn new(alloc: A, worker: Worker<N, A>, by: By) -> Maker<N, A> {
-        if by == By::Worker {
-            Maker::Worker(worker)
-        } else {
-            Maker::Client(Client::new(alloc, worker, by))
-        }
-    }
-
+impl<N: Name, A: Allocator + Copy> Maker<'_, N, A> {
     /// Tries a transaction, within a lease where there is one. Its transaction number; none where it was backed up.
     fn transact<R: Wait>(
         &mut self,
@@ -49,23 +40,33 @@ impl<N: Name, A: Allocator + Copy> Maker<N, A> {
         lease: Option<&Lease<'_, N>>,
         turn: &mut Turn,
     ) -> Result<Option<u64>, Fault> {
-        let worker = match self {
-            Maker::Client(client) => return client.transact(rt, store, turn),
-            Maker::Worker(worker) => worker,
-        };
-        let ended = match lease {
-            Some(lease) => worker.transact_within(rt, store, lease, TRIES, turn)?,
-            None => worker.transact(rt, store, TRIES, turn)?,
-        };
-        Ok(ended.tn())
+        match self {
+            Maker::Client(client) => client.transact(rt, store, turn),
+            Maker::Worker(worker) => transact(rt, store, worker, lease, turn),
+        }
     }
 }
 
-impl<N: Name, A: Allocator + Copy> Hand<N, A> {
+/// Has a worker try a transaction, within a lease where there is one. Its transaction number; none where it was backed up each time.
+fn transact<N: Name, A: Allocator + Copy, R: Wait>(
+    rt: &R,
+    store: &Store<N, A>,
+    worker: &mut Worker<N, A>,
+    lease: Option<&Lease<'_, N>>,
+    turn: &mut Turn,
+) -> Result<Option<u64>, Fault> {
+    let ended = match lease {
+        Some(lease) => worker.transact_within(rt, store, lease, TRIES, turn)?,
+        None => worker.transact(rt, store, TRIES, turn)?,
+    };
+    Ok(ended.tn())
+}
+
+impl<'a, N: Name, A: Allocator + Copy> Hand<'a, N, A> {
     /// That of a thread which makes transactions in this way.
-    pub(crate) fn new(alloc: A, worker: Worker<N, A>, way: Way) -> Hand<N, A> {
+    pub(crate) fn new(maker: Maker<'a, N, A>, way: Way) -> Hand<'a, N, A> {
         Hand {
-            maker: Maker::new(alloc, worker, way.by),
+            maker,
             leased: way.leased,
             at_a_time: way.at_a_time,
             folds: Folds::new(way.folded),
