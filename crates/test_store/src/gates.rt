@@ -1,4 +1,4 @@
-//! Gates of the scenarios and loads.
+//! Gates of the scenarios.
 use occ_store::{Gate, Name, Pace, Point, Store};
 use std::alloc::Allocator;
 use std::sync::Wait;
@@ -101,17 +101,6 @@ impl<N: Name, A: Allocator + Copy, R: Wait> Gate for Looks<'_, N, A, R> {
     fn pass(&self, _point: Point, session: usize, number: u64) -> Pace {
         let _before = self.passed.fetch_add(1, Ordering::SeqCst);
         let _standing = self.store.row(self.rt, session, number);
-        Pace::Go
-    }
-}
-
-/// Lets another thread go first at each point.
-#[derive(Clone, Copy)]
-pub(crate) struct Yields;
-
-impl Gate for Yields {
-    fn pass(&self, _point: Point, _session: usize, _number: u64) -> Pace {
-        thread::yield_now();
         Pace::Go
     }
 }

@@ -1,8 +1,7 @@
 //! Many clients and validators in threads.
 use crate::clients::{Random, run_client};
 use crate::desks::{Desk, lane_of};
-use crate::gates::Yields;
-use occ_store::{Group, Name, Session, Store};
+use occ_store::{AlwaysGo, Group, Name, Session, Store};
 use occ_types::Fault;
 use std::alloc::Allocator;
 use std::sync::Wait;
@@ -122,7 +121,7 @@ fn serve<N: Name, A: Allocator + Copy, R: Wait + Clock>(
     store: &Store<N, A>,
     group: &mut Group<N, A>,
 ) {
-    group.serve(rt, store, &Yields);
+    group.serve(rt, store, &AlwaysGo);
     let _before = load.serving.fetch_sub(1, Ordering::SeqCst);
 }
 
