@@ -36,11 +36,14 @@ use std::io::{Read, Write};
 /// Replays a schedule: reads its header, does each step and answers it by a line, and then writes the book of what came of it and
 /// that its audit holds. Without answers where `quiet` is true.
 ///
-/// `Malformed` at the first line that is none of the grammar, and at line 2^64 - 1 where that many lines were taken; `Read` where the
-/// reader fails: the answers to all whole lines before were written then, and nothing else. At `Read` these are all whole lines that the
-/// reader gave. `Write` where the writer fails, and `Memory` where memory was refused: a beginning
-/// of the text was written then. Its memory is bounded by what the store holds, and not by the text. At `Ok` the reader is at its
-/// end; at an error it may have given more than the lines that were taken.
+/// Refused with
+/// - `Malformed` at the first line that is none of the grammar, and at line 2^64 - 1 where that many lines were taken: the answers to all
+///   whole lines before were written then, and nothing else;
+/// - `Read` where the reader fails: the answers to all whole lines that it gave were written then, and nothing else;
+/// - `Write` where the writer fails, and `Memory` where memory was refused: a beginning of the text was written then.
+///
+/// Its memory is bounded by what the store holds, and not by the text. At `Ok` the reader is at its end; at an error it may have given
+/// more than the lines that were taken.
 pub fn replay_text<R: Read, W: Write, A: Allocator + Copy>(
     alloc: A,
     reader: &mut R,

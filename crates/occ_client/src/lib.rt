@@ -12,7 +12,7 @@ pub use occ_case::{Cause, Verdict};
 pub use occ_core::{Core, Outcome, SingleWrite};
 pub use occ_open::{KeptTransaction, OpenTransaction, Readable};
 pub use occ_queue::Item;
-pub use occ_sets::{Answer, Op, WriteSet};
+pub use occ_sets::{Answer, Op, RangeRows, RequestWrites, Write, WriteSet};
 pub use occ_types::{
     Cell, Fault, Key, KeyKind, KeyPart, Kind, Object, Pair, PartKind, Question, Refused, Row,
     Schema, TableDef, Text, limits,

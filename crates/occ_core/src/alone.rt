@@ -34,10 +34,15 @@ impl<A: Allocator + Copy> Core<A> {
     /// transaction number that it took, and what its questions were answered, in their order. An empty list commits too. Its row, with what it
     /// asked of the tables and what it wrote, comes into the log, and its start is the counter as it ran.
     ///
-    /// Refused, the first of these that holds: where there is no such session; where it is closed; where the number is not the one that is
-    /// due; where the session has a row under way; where something was read under the number; where any transaction is active; where only the
-    /// number of the closing mark is left; where there are more than 256 operations; where one does not fit the schema; where the log is full;
-    /// where the counter has no room for one more; and where there is no memory. The list is handed back then, and nothing moves.
+    /// Refused with the first of these that holds; the list is handed back then, and nothing moves:
+    /// - `NoSession`, `SessionClosed`, `OutOfTurn` where the number is not the one that is due, `SessionBusy`;
+    /// - `ReadOpen` where something was read under the number;
+    /// - `StoreBusy` where any transaction is active;
+    /// - `NumbersExhausted`;
+    /// - `SetFull` where there are more than 256 operations;
+    /// - the fault of the first operation that does not fit the schema: `NoTable`, `WrongKind` or `TooLong` of its key, then
+    ///   `WrongColumns`, `WrongKind` or `TooLong` of its row, or `EmptyRange`;
+    /// - `LogFull`, `CounterExhausted`, `Memory`.
     pub fn run_alone(
         &mut self,
         session: usize,

@@ -46,7 +46,9 @@ impl<A: Allocator> Model for Core<A> {
 }
 
 impl<A: Allocator + Copy> Core<A> {
-    /// An empty store with these tables and so many sessions, numbered from 1, which keeps the last `keep` write sets for testing.
+    /// An empty store with these tables and so many sessions, numbered from 1, which keeps the last `keep` write sets for testing. Both
+    /// may be any number that memory has room for.
+    ///
     /// Refused with `Memory` where there is none for it, and the schema is handed back then.
     pub fn open(
         alloc: A,

@@ -19,8 +19,8 @@ use occ_types::Fault;
 use std::alloc::Allocator;
 
 impl<A: Allocator> Core<A> {
-    /// Decides the transaction that the session has entered: by the verdict on its case, it commits or is to be backed up. Refused
-    /// where there is no such session, where nothing of it is under way, and where it is decided. It takes no memory.
+    /// Decides the transaction that the session has entered: by the verdict on its case, it commits or is to be backed up. It takes no
+    /// memory. Refused with the first of these that holds: `NoSession`; `NothingEntered`; `AlreadyDecided`.
     pub fn decide(&mut self, session: usize) -> Result<Verdict, Fault>
         ensures { Transition self.old (Decide session) (replied Decided result) self.new }
     {

@@ -18,8 +18,10 @@ use std::alloc::Allocator;
 
 impl<A: Allocator> Core<A> {
     /// Ends the write phase of the transaction that the session has under way: it takes the next transaction number, which is
-    /// answered, and the session may go on. Refused where there is no such session, where nothing of it is under way, where that
-    /// is not decided, where it is to be backed up, and where single writes of it are left. It takes no memory.
+    /// answered, and the session may go on. It takes no memory.
+    ///
+    /// Refused with the first of these that holds: `NoSession`; `NothingEntered`; `NotDecided`; `AlreadyDecided` where it is to be backed
+    /// up; `WritesLeft`.
     pub fn finish(&mut self, session: usize) -> Result<u64, Fault>
         ensures { Transition self.old (Finish session) (replied Finished result) self.new }
     {
@@ -35,8 +37,9 @@ impl<A: Allocator> Core<A> {
     }
 
     /// Lets the session go on after its transaction was decided to be backed up, and answers the number of that transaction. Its
-    /// row stays in the log, if it was not folded since. Refused where there is no such session, where nothing of it is under way,
-    /// where that is not decided, and where it commits. It takes no memory.
+    /// row stays in the log, if it was not folded since. It takes no memory.
+    ///
+    /// Refused with the first of these that holds: `NoSession`; `NothingEntered`; `NotDecided`; `AlreadyDecided` where it commits.
     pub fn back_up(&mut self, session: usize) -> Result<u64, Fault>
         ensures { Transition self.old (BackUp session) (replied BackedUp result) self.new }
     {

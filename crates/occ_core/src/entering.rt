@@ -28,17 +28,18 @@ use occ_types::{Fault, Refused};
 use std::alloc::{AllocError, Allocator};
 
 impl<A: Allocator + Copy> Core<A> {
-    /// Enters what a session hands in. A request is a transaction that ends its read phase with this number, start and writes. Its
-    /// row, with what was read under the number, comes into the log and is open. Its case is fixed now, however late its decision
-    /// comes: its opponents are the transactions that are active, and of those that finished since its start the ones in the window.
-    /// Operations that run alone do now what `Core::run_alone` does with them, and are refused as there. A closing mark ends the
-    /// session: it is noted, and what the session has read under any number is dropped. That takes no memory.
+    /// Enters what a session submits.
+    /// - A request is a transaction that ends its read phase with this number, start and writes. Its row, with what was read under the
+    ///   number, comes into the log and is open. Its case is fixed now, however late its decision comes: its opponents are the
+    ///   transactions that are active, and of those that finished since its start the ones in the window.
+    /// - Operations that run alone do now what `Core::run_alone` does with them, and are refused as there.
+    /// - A closing mark ends the session: it is noted, and what the session has read under any number is dropped. It takes no memory.
     ///
-    /// Refused, the first of these that holds: where there is no such session; where it is closed; where the number is not the one that is
-    /// due; where the session has a row under way; and a request also where only the number of the closing mark is left; where the read
-    /// phase has another start, or there is none and the start lies above the counter; where a write does not fit the schema; where the
-    /// log is full; where the counter has no room for one more; and where there is no memory. The item is handed back then, and nothing
-    /// moves.
+    /// Refused with the first of these that holds; the item is handed back then, and nothing moves:
+    /// - `NoSession`, `SessionClosed`, `OutOfTurn` where the number is not the one that is due, `SessionBusy`;
+    /// - a request also with `NumbersExhausted`; `StartDiffers` where its read phase has another start, or `FutureStart` where there is
+    ///   none and the start lies above the counter; the fault of the first write that does not fit the schema (`NoTable`, `WrongKind`
+    ///   or `TooLong` of its key, then `WrongColumns`, `WrongKind` or `TooLong` of its row); `LogFull`, `CounterExhausted`, `Memory`.
     pub fn enter(&mut self, session: usize, item: Item<A>) -> Result<Outcome<A>, Refused<Item<A>>>
         ensures step { Transition self.old (Enter session (item_of item)) (replied_back outcome_of result) self.new }
         ensures outcome { IfOk result (CanEnter (item_of item)) }

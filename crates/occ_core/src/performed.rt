@@ -32,7 +32,9 @@ pub struct Performed<A: Allocator> {
     pub answers: Vec<Answer<A>, A>,
 }
 
-/// Performs operations in their order over tables, which stay as they are, and tells what they read, wrote and answered. Each operation sees the writes of those before it. There may be any number of operations, and of rows in a range. Whether an operation fits the schema is not asked here; an addition to a row that isn't one whole number counts it as 0.
+/// Performs operations in their order over tables, which stay as they are, and answers what they read, wrote and were answered. Each
+/// operation sees the writes of those before it. There may be any number of operations, and of rows in a range. Whether an operation
+/// fits the schema is not asked here; an addition to a row that isn't one whole number counts it as 0.
 ///
 /// Refused with `Memory` alone, where there is none for what is read, written or answered.
 pub fn perform_all<A: Allocator + Copy>(

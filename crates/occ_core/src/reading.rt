@@ -26,7 +26,7 @@ use std::alloc::Allocator;
 
 impl<A: Allocator> Core<A> {
     /// Forgets what a session has read under a number, and answers whether it has read anything. The number may then be read under
-    /// from another start. Refused where there is no such session. It takes no memory.
+    /// from another start. Refused with `NoSession` alone. It takes no memory.
     pub fn forget(&mut self, session: usize, number: u64) -> Result<bool, Fault>
         ensures { Transition self.old (Forget session number) (replied Forgotten result) self.new }
     {
@@ -40,9 +40,12 @@ impl<A: Allocator + Copy> Core<A> {
     /// A copy of the row under a key of a table, or none where there is none, as the tables have it now. The question is noted with its answer
     /// in the read phase of the number, which begins with it from this start where it is not under way.
     ///
-    /// Refused, the first of these that holds: where there is no such session; where it is closed; where the number is not the one that is due or among
-    /// the 1,025 after it; where the read phase has another start, or there is none and the start lies above the counter; where the
-    /// key does not fit the schema; where 256 questions are noted; and where there is no memory for the copies. Nothing moves then.
+    /// Refused with the first of these that holds; nothing moves then:
+    /// - `NoSession`, `SessionClosed`, `OutOfTurn` where the number is not the one that is due or among the 1,025 after it;
+    /// - `StartDiffers` where the read phase has another start, or `FutureStart` where there is none and the start lies above the counter;
+    /// - `NoTable`, `WrongKind` or `TooLong` of the key;
+    /// - `SetFull` where 256 questions are noted;
+    /// - `Memory` where there is none for the copies.
     pub fn read(
         &mut self,
         session: usize,
@@ -67,8 +70,8 @@ impl<A: Allocator + Copy> Core<A> {
     /// The rows of a table from the lower end on and below the upper one, with their keys and in the order of the keys, as
     /// the table has them now. The question is noted with its answer as by `read`, and the rows are shared with what is noted.
     ///
-    /// Refused as `read` is, where the ends must fit the schema and the lower one be below the upper one; and after that, before the
-    /// room for questions is looked at, where the answer has more than 1,024 rows.
+    /// Refused as `read` is, but for the key: with `NoTable`, `WrongKind` or `TooLong` of an end; `EmptyRange` where the lower end is not below
+    /// the upper one; `RangeTooLarge` where the answer has more than 1,024 rows. Then come `SetFull` and `Memory`.
     pub fn scan(
         &mut self,
         session: usize,

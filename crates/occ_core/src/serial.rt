@@ -30,15 +30,14 @@ use occ_types::{Fault, Refused};
 use std::alloc::Allocator;
 
 impl<A: Allocator + Copy> Core<A> {
-    /// Ends what a session hands in, in one step. A request enters, is tested against the write sets of the transactions that finished since
+    /// Ends what a session submits, in one step. A request enters, is tested against the write sets of the transactions that finished since
     /// its start, and either commits, with all its writes done, or is backed up. Its row, with what was read under the number, comes into the
     /// log, and the session may go on. It makes no case. Operations that run alone, and a closing mark, do what `Core::enter` does with them.
     ///
-    /// Refused, the first of these that holds: where there is no such session; where it is closed; where the number is not the one that is
-    /// due; where the session has a row under way; and a request also where any transaction is active; where only the number of the closing
-    /// mark is left; where the read phase has another start, or there is none and the start lies above the counter; where a write does not fit
-    /// the schema; where the log is full; where the counter has no room for one more; and where there is no memory. The item is handed back
-    /// then, and nothing moves.
+    /// Refused with the first of these that holds; the item is handed back then, and nothing moves:
+    /// - `NoSession`, `SessionClosed`, `OutOfTurn`, `SessionBusy`, as by `enter`;
+    /// - a request also with `StoreBusy` where any transaction is active, and then with `NumbersExhausted`, `StartDiffers` or `FutureStart`,
+    ///   the fault of a write, `LogFull`, `CounterExhausted` and `Memory`, as by `enter`.
     pub fn serial_end(
         &mut self,
         session: usize,

@@ -32,9 +32,11 @@ pub enum SingleWrite {
 }
 
 impl<A: Allocator + Copy> Core<A> {
-    /// Does the next single write of the transaction that the session has under way, and names its object, or tells that none is
-    /// left. Refused where there is no such session, where nothing of it is under way, where that is not decided, where it is to
-    /// be backed up, and where there is no memory for the row to be put. A deletion takes no memory.
+    /// Does the next single write of the transaction that the session has under way, and names its object, or says that none is left.
+    /// A deletion takes no memory.
+    ///
+    /// Refused with the first of these that holds: `NoSession`; `NothingEntered`; `NotDecided`; `AlreadyDecided` where it is to be backed
+    /// up; `Memory` where there is none for the row to be put.
     pub fn write_one(&mut self, session: usize) -> Result<SingleWrite, Fault>
         ensures step { Transition self.old (WriteOne session) (replied (wrote self.new.world) result) self.new }
         ensures named { (row write : ℕ) → result ≡ Ok (Wrote row write) → is_some (written_in self.new.world row write) ≡ true }

@@ -40,7 +40,7 @@ impl<A: Allocator> Model for FiledCore<A> {
 
 impl<A: Allocator + Copy> FiledCore<A> {
     /// An empty store with these tables and so many sessions, numbered from 1, which keeps the last `keep` write sets for testing, and
-    /// an empty file. Refused with `Memory` where there is none for it, and the schema is handed back then.
+    /// an empty file. Both may be any number that memory has room for. Refused with `Memory` where there is none for it, and the schema is handed back then.
     pub fn open(
         alloc: A,
         schema: Schema<A>,

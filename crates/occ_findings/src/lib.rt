@@ -1,6 +1,13 @@
 //! What the audit of a log says no for: the first of all that stands wrong, told by its place, with what stands there due.
 //!
-//! A finding is data and no sentence. The library makes findings, by contract: none exactly where the audit says yes, and else the first one in this order. First the log is in order: from its first row on each place and each number is the next one, and then each closing mark, session by session. Then serial replay explains it, row by row and read by read. At last the tables are what the replay of the whole log leaves, object by object. What is wrong behind a first finding may follow from it, so it isn't looked for.
+//! A finding is data and no sentence. The library makes findings, by contract: none exactly where the audit says yes, and else the first
+//! one in this order.
+//! 1. The log is in order: from its first row on each place and each number is the next one, and then each closing mark, session by
+//!    session.
+//! 2. Serial replay explains it, row by row and read by read.
+//! 3. The tables are what the replay of the whole log leaves, object by object.
+//!
+//! What is wrong behind a first finding may follow from it, so it isn't looked for.
 #![tactic(auto)]
 
 mod explaining;

@@ -3,11 +3,14 @@
 
 ghost use Rattle.occ_model.specs.EndLaws.{StepsShow, CasesStay, CausesAreTold, CausesStay};
 
-/// Every step shows exactly this. One that ends no transaction leaves every session's poll and the counter, be it refused or not, and
-/// so does the entry of a closing mark. One that commits, which is a finish, a serial end or operations that run alone, makes its
-/// session's poll one number more, committed, under the next transaction number; of the other polls only the counter rises. One that
-/// backs up makes its session's poll one number more, for its cause, and leaves the others; where the row was folded before its
-/// back-up, no poll shows how the transaction ended. After a checkpoint, what polls still show is as it was.
+/// Every step shows exactly this.
+/// - One that ends no transaction leaves every session's poll and the counter, be it refused or not, and so does the entry of a closing
+///   mark.
+/// - One that commits, which is a finish, a serial end or operations that run alone, makes its session's poll one number more, committed,
+///   under the next transaction number; of the other polls only the counter rises.
+/// - One that backs up makes its session's poll one number more, for its cause, and leaves the others; where the row was folded before its
+///   back-up, no poll shows how the transaction ended.
+/// - After a checkpoint, what polls still show is as it was.
 pub fn every_step_shows()
     ensures { StepsShow }
 {}

@@ -47,7 +47,12 @@ impl From<WriteFault> for BookFault {
 
 /// Prints the book of a store that was opened with these limits and this schema, as `write_book` does, where a reader of books can take its text.
 ///
-/// In version 1 it is refused by `PairKeys` exactly where a table has keys of two parts, and else by `MissingEnd` exactly where a range that was read has a missing end: a core can have both, and version 1 of the format has no words for them. A key fits its table, so that no key of two parts stands in the book of a core whose tables have none. In version 2 no book is refused. Where one is, the writer and the output are as they were. At `Write` and `Memory` a beginning of the book was pushed, and no more is promised of what the writer has.
+/// In version 1 it is refused by `PairKeys` exactly where a table has keys of two parts, and else by `MissingEnd` exactly where a range that
+/// was read has a missing end: a core can have both, and version 1 of the format has no words for them. A key fits its table, so that no
+/// key of two parts is in the book of a core whose tables have none. In version 2 no book is refused. Where one is, the writer and the
+/// output are as they were.
+///
+/// At `Write` and `Memory` a beginning of the book was pushed, and no more is promised of what the writer has.
 pub fn write_readable_book<W: Write, A: Allocator + Clone, O>(
     alloc: A,
     output: &mut Output<A>,

@@ -84,11 +84,14 @@ impl<A: Allocator> Sender<A> {
         self.closed
     }
 
-    /// Pushes an item that has the next number, which takes no memory. Refused, the first of these that holds: with `Closed` where the
-    /// closing mark was pushed; with `NumbersExhausted` where only the number of the mark is left; with `OutOfTurn` where the item has
-    /// another number, or is a closing mark, which `close` pushes; and with `QueueFull`, only where as many were pushed as the lane
-    /// holds beyond those that this end heard of as taken. The item is handed back then, and the next number stays. It may wait for the
-    /// other end, as the library's queue does, for as long as that end is within its own step.
+    /// Pushes an item that has the next number, which takes no memory. It may wait for the other end, as the library's queue does, for as
+    /// long as that end is within its own step.
+    ///
+    /// Refused with the first of these that holds; the item is handed back then, and the next number stays:
+    /// - `Closed` where the closing mark was pushed;
+    /// - `NumbersExhausted` where only the number of the mark is left;
+    /// - `OutOfTurn` where the item has another number, or is a closing mark, which `close` pushes;
+    /// - `QueueFull`, only where as many were pushed as the lane holds beyond those that this end heard of as taken.
     pub fn submit<R: Wait>(&mut self, rt: &R, item: Item<A>) -> Result<(), Refused<Item<A>>>
         ensures ok { OnOk result (self.new ≡ pushing self.old (item_of item)) }
         ensures err { OnErr result (self.new ≡ self.old) }

@@ -15,7 +15,7 @@ use std::alloc::Allocator;
 use std::sync::Wait;
 use std::sync::ledger::{Ledger, Share};
 
-/// What became of a session, and of all that it handed in.
+/// What became of a session, and of all that it submitted.
 #[derive(Drop)]
 pub struct AccountLine<A: Allocator + Copy> {
     /// How many items were pushed, the closing mark too.

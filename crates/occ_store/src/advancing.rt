@@ -26,11 +26,15 @@ use std::sync::Wait;
 use std::sync::ledger::Share;
 
 impl<N: Name, A: Allocator + Copy> Lane<N, A> {
-    /// One event for what it has left, on the locked state, with its publishing: a kept item enters; else a row that is not decided is
-    /// decided, by the verdict that is handed in or now; else a row that is decided to commit does its next single write, or finishes;
-    /// else one that is to be backed up is. It answers the point that this reached. Refused with `NothingEntered` where nothing is left,
-    /// with `WrongCase` where the verdict that is handed in is on another case, and as the core refuses the event; what is left stays
-    /// then. A verdict that is handed in is of no use to another event than a decision.
+    /// One event for what it has left, on the locked state, with its publishing. It is the first of these that can be, and the point that
+    /// it reached is answered:
+    /// - a kept item enters;
+    /// - a row that is not decided is decided, by the verdict that is given or now;
+    /// - a row that is decided to commit does its next single write, or finishes;
+    /// - one that is to be backed up is.
+    ///
+    /// Refused with `NothingEntered` where nothing is left, with `WrongCase` where the verdict that is given is on another case, and as
+    /// the core refuses the event; what is left stays then. A verdict that is given is of no use to another event than a decision.
     pub fn advance<R: Wait>(
         &mut self,
         rt: &R,

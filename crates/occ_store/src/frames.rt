@@ -48,8 +48,8 @@ impl<A: Allocator + Copy> Model for Frame<A> {
 
 impl<A: Allocator + Copy> Frame<A> {
     /// The frame of an empty store with these tables and so many sessions, numbered from 1, each of which has a queue with room for
-    /// `capacity` items, or for one where that is 0. It keeps the last `keep` write sets for testing. Refused with `Memory` where there
-    /// is none for it, and the schema is handed back then.
+    /// `capacity` items, or for one where that is 0. It keeps the last `keep` write sets for testing. Each may be any number
+    /// that memory has room for. Refused with `Memory` where there is none for it, and the schema is handed back then.
     pub fn new(
         alloc: A,
         schema: Schema<A>,

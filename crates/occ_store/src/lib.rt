@@ -1,9 +1,11 @@
 //! The store: sessions, lanes and validators in threads, round one locked core.
 //!
 //! A program makes a `Frame`, names it and opens it: it gets the `Store`, which threads share, a `Session` for each client and a `Lane`
-//! for what each session hands in. Each holding of the store's lock is one event, and between any two of them the log is in order,
-//! serial replay explains it, and the board shows each session's last transaction that is over. A `Worker` joins a session and its lane
-//! for one thread. What a program names of the crates below stands here too, so that it lists this crate alone.
+//! for what each session submits. Each holding of the store's lock is one event, and between any two of them the log is in order, serial
+//! replay explains it, and the board shows each session's last transaction that is over. A `Worker` joins a session and its lane for one
+//! thread.
+//!
+//! What a program names of the crates below is handed on here, so it lists this crate alone.
 #![tactic(auto)]
 
 mod accounts;
@@ -38,16 +40,20 @@ pub use frames::Frame;
 pub use lanes::Lane;
 pub use leases::Lease;
 pub use names::Name;
-pub use occ_book::Standing;
-pub use occ_case::Cause;
-pub use occ_sets::Op;
+pub use occ_board::Last;
+pub use occ_book::{Base, Book, LogRow, Marks, Standing, Tables};
+pub use occ_case::{CaseFile, CaseToken, Cause, Judged, OpenCase, SharedCase, Verdict};
+pub use occ_core::Core;
+pub use occ_queue::Item;
+pub use occ_sets::{Op, RangeRows, ReadSet, RequestWrites, Write, WriteSet};
 pub use occ_types::{
-    Cell, Fault, Key, KeyKind, KeyPart, Kind, Pair, Refused, Row, Schema, TableDef, Text,
+    Cell, Fault, Key, KeyKind, KeyPart, Kind, Object, Pair, PartKind, Refused, Row, Schema,
+    TableDef, Text,
 };
 pub use serving::{AlwaysGo, Gate, Pace, Point, Served};
 pub use sessions::Session;
 pub use shared::Shared;
-pub use stores::Store;
+pub use stores::{Opened, Store};
 pub use transactions::{Body, Transaction};
 pub use validators::{Group, run_validators};
 pub use workers::Worker;

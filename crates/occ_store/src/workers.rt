@@ -81,11 +81,15 @@ impl<N: Name, A: Allocator + Copy> Worker<N, A> {
     /// last try ended: by its transaction number, or by the cause for which it was backed up. A try begins a transaction, runs the body
     /// in it, hands it in and serves it to its end: what it hands in is what the body made, as far as `Body::makes` tells.
     ///
-    /// What an earlier call left, as after a fault, is ended first; how that ended is not told. Refused with the fault that ending it
-    /// meets, with `StoreBusy` where operations that run alone are left and a row of another session is under way; as `Session::begin`;
-    /// with the body's fault, or with `OutOfTurn` where it left another transaction in the place of its own, and the transaction is
-    /// abandoned then; as `Session::submit`; and with the fault that serving it meets: the lane keeps it then, and the next call ends it.
-    /// No transaction is open then, unless one was before.
+    /// What an earlier call left, as after a fault, is ended first; how that ended is not told.
+    ///
+    /// Refused with the first of these that holds; no transaction is open then, unless one was before:
+    /// - the fault that ending what was left meets, or `StoreBusy` where operations that run alone are left and a row of another session
+    ///   is under way;
+    /// - as `Session::begin`;
+    /// - the body's fault, or `OutOfTurn` where it left another transaction in the place of its own: the transaction is abandoned then;
+    /// - as `Session::submit`;
+    /// - the fault that serving it meets: the lane keeps it then, and the next call ends it.
     pub fn transact<R: Wait, B: Body<N, A, R>>(
         &mut self,
         rt: &R,

@@ -6,8 +6,8 @@ use std::alloc::{AllocError, AllocFailed};
 use std::error::Error;
 use std::fmt;
 
-/// Why a call is refused. A refused call leaves everything as it was, and hands back what was handed in. `Display` tells the word that
-/// texts have for it, `F1` to `F28`, and a sentence.
+/// Why a call is refused. A refused call leaves everything as it was. A write, an item or a list that came in comes back with the
+/// refusal; the key of a read does not. `Display` writes the word that texts have for it, `F1` to `F28`, and a sentence.
 #[derive(Clone, Copy, Debug, PartialEq, Eq)]
 pub enum Fault {
     /// `F1`: there is no such table.
@@ -26,7 +26,7 @@ pub enum Fault {
     SetFull,
     /// `F8`: a request for memory was refused.
     Memory,
-    /// `F9`: the queue was full at some moment of the call.
+    /// `F9`: as many items were pushed as the queue holds beyond those that its sender heard of as taken.
     QueueFull,
     /// `F10`: the client has closed the session.
     Closed,

@@ -1,11 +1,11 @@
 //! How large things may be. Every limit is our own choice.
 ghost use Rattle.std.specs.Prelude.{◌≡◌, ◌^◌, ◌-◌};
 
-/// Sessions, numbered from 1.
+/// Sessions of a text, numbered from 1. A program opens a store with any number that memory has room for.
 pub const MAX_SESSIONS: usize = 64;
-/// Items that wait in a queue.
+/// Items that wait in a queue, in a text.
 pub const MAX_QUEUE: usize = 1024;
-/// Write sets that are kept for testing.
+/// Write sets that a text may ask to keep for testing.
 pub const MAX_KEEP: usize = 4096;
 /// Tables of a schema; it has at least one.
 pub const MAX_TABLES: usize = 32;
