@@ -60,6 +60,15 @@ def text_of(crate, *parts):
     return checksum(*[text for path in sorted(files) for text in (os.path.relpath(path, TOP), read(path))])
 
 
+def code_of(crate, *parts):
+    """The same of its code, without the lines that are comments."""
+    texts = []
+    for path in sorted(path for part in parts for path in glob.glob(f"{TOP}/crates/{crate}/{part}/**/*.*", recursive=True)):
+        lines = [line for line in read_lines(path) if not line.lstrip().startswith("//" if path.endswith(".rt") else "--")]
+        texts += [os.path.relpath(path, TOP), "\n".join(lines)]
+    return checksum(*texts)
+
+
 class Edit:
     """A wrong body. `changes` has the new line for each file of src and number of a line that it changes (the first is 0), `within` the
     functions that it names, and `fault` says what is wrong with the edit itself."""

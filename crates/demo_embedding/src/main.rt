@@ -1,12 +1,15 @@
-//! The store in a program of one's own: a conflict, a retry, a range, a counter under load, a log that is kept short, and refusals.
+//! The store in a program of one's own: two tables, a conflict, a retry, a range, a counter under load, a log that is kept short, and
+//! refusals.
 #![tactic(auto)]
 
-use occ_client::{Cell, Client, Core, Fault, Key, KeyKind, Kind, Schema, Text};
+use occ_client::{Client, Core, Fault, Key, KeyKind, Kind, Schema};
 use std::alloc::Global;
 use std::process::ExitCode;
 
-/// The place of the one table in the schema.
+/// The places of the tables in the schema: the balance of each account, and the account of each owner.
 const ACCOUNTS: usize = 0;
+
+const OWNERS: usize = 1;
 
 fn main(rt: HostRuntime) -> ExitCode {
     let told = match show(rt.alloc()) {
@@ -29,7 +32,13 @@ fn show(alloc: Global) -> Result<String, Fault> {
 
 /// A store of two sessions that keeps the last 8 write sets for testing.
 fn open(alloc: Global) -> Result<Box<Store>, Fault> {
-    let schema = Schema::of(alloc, &[("accounts", KeyKind::Num, &[Kind::Int])])?;
+    let schema = Schema::of(
+        alloc,
+        &[
+            ("accounts", KeyKind::Num, &[Kind::Int]),
+            ("owners", KeyKind::Text, &[Kind::Int]),
+        ],
+    )?;
     let store = Core::open(alloc, schema, 2, 8)?;
     Ok(Box::new(alloc, store)?)
 }
@@ -38,6 +47,7 @@ fn open(alloc: Global) -> Result<Box<Store>, Fault> {
 fn tell(alloc: Global, store: &mut Store, lines: &mut String) -> Result<(), Fault> {
     let (mut alice, mut bob) = (Client::new(alloc, 1), Client::new(alloc, 2));
     pay(&mut alice, &mut bob, store, lines)?;
+    owner(alloc, &mut bob, store, lines)?;
     count(&mut alice, &mut bob, store, lines)?;
     range(&mut alice, store, lines)?;
     refusals(alloc, &mut alice, store, lines)
@@ -56,13 +66,34 @@ fn pay(a: &mut One, b: &mut One, store: &mut Store, lines: &mut String) -> Resul
 
 /// Adds to the balance of an account, which is 0 where there is none.
 fn add(client: &mut One, store: &mut Store, account: u64, amount: i64) -> Result<(), Fault> {
-    let row = client.get(store, ACCOUNTS, account.into())?;
-    let balance = match row.as_ref().and_then(|row| row.cell(0)) {
-        Some(Cell::Int(balance)) => *balance,
-        _ => 0,
-    };
-    let sum = balance.saturating_add(amount);
+    let sum = balance(client, store, account)?.saturating_add(amount);
     Ok(client.put(store, ACCOUNTS, account.into(), sum.into())?)
+}
+
+/// The balance of an account, which is 0 where there is none.
+fn balance(client: &mut One, store: &mut Store, account: u64) -> Result<i64, Fault> {
+    let row = client.get(store, ACCOUNTS, account.into())?;
+    Ok(row.as_ref().and_then(|row| row.int(0)).unwrap_or(0))
+}
+
+/// Carol opens the account 9 with 40: one transaction writes to both tables, and another finds the account by its owner.
+fn owner(
+    alloc: Global,
+    client: &mut One,
+    store: &mut Store,
+    lines: &mut String,
+) -> Result<(), Fault> {
+    let carol = Key::text(alloc, "carol")?;
+    client.begin(store)?;
+    client.put(store, OWNERS, carol.clone()?, 9.into())?;
+    add(client, store, 9, 40)?;
+    let end = client.commit(store)?;
+    client.begin(store)?;
+    let row = client.get(store, OWNERS, carol)?;
+    let account = row.as_ref().and_then(|row| row.int(0)).unwrap_or(0);
+    let balance = balance(client, store, account as u64)?;
+    client.commit(store)?;
+    Ok(writeln!(lines, "{end:?}, carol has account {account} with {balance}")?)
 }
 
 /// Two sessions count on one account in turn, and the log is folded after every thousand commits.
@@ -100,11 +131,11 @@ fn refusals(
     let none = client.commit(store).err();
     client.begin(store)?;
     let twice = client.begin(store).err();
-    let name = Key::Text(Text::new(alloc, "seven")?);
+    let name = Key::text(alloc, "seven")?;
     let kind = client.get(store, ACCOUNTS, name).err();
     let (lower, upper) = (Some(Key::Num(7)), Some(Key::Num(1)));
     let empty = client.scan(store, ACCOUNTS, lower, upper).err();
-    let table = client.get(store, 1, Key::Num(7)).err();
+    let table = client.get(store, 2, Key::Num(7)).err();
     let _known = client.abandon(store)?;
     client.close(store)?;
     let closed = client.begin(store).err();
