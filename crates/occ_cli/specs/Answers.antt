@@ -16,7 +16,7 @@ use Rattle.occ_model.specs.declared.verdict.Verdict.TheVariants as verdicts
 use Rattle.occ_model.specs.declared.verdict.Cause.{Cause}
 use Rattle.occ_model.specs.declared.verdict.Cause.TheVariants as causes
 use Rattle.occ_core.specs.Runs.{reply_of}
-use Rattle.occ_text.specs.Spelling.{key_text, row_text}
+use Rattle.occ_types.specs.Spelling.{key_text, row_text}
 use Rattle.occ_cli.specs.declared.answers.Counts.{Counts}
 use Rattle.occ_cli.specs.declared.answers.Answer as code_answer
 use Rattle.occ_cli.specs.declared.answers.Answer.TheVariants as answers

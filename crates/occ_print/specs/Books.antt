@@ -14,7 +14,8 @@ use Rattle.occ_model.specs.Log.{Case, LogRow, Base, Standing, Open, Writing, Don
 use Rattle.occ_model.specs.declared.verdict.Cause.TheVariants.{Conflict, TooOld}
 use Rattle.occ_sets.specs.LogRows.{log_of}
 use Rattle.occ_book.specs.declared.books.BookView as code_view
-use Rattle.occ_text.specs.Spelling.{line_text, key_text, end_text, row_text}
+use Rattle.occ_types.specs.Spelling.{key_text, row_text}
+use Rattle.occ_text.specs.Spelling.{line_text, end_text}
 use Rattle.occ_text.specs.declared.headers.Limits.{Limits}
 use Rattle.occ_text.specs.Headers.{Header, limits_of, limits_lines, count_text, table_text}
 use Rattle.occ_text.specs.Line.{lines_text}

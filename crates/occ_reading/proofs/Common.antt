@@ -65,7 +65,8 @@ pub use Rattle.occ_text.specs.Line.{AtEnd, BeginsNoLine, CannotStand, HasFailed,
 pub use Rattle.occ_text.specs.Reading.{Reads, name_of, tokens_of}
 unfoldable pub use Rattle.occ_text.specs.Reading.{decimal_of, int_of, is_decimal, is_token, number_of}
 pub use Rattle.occ_text.specs.Sending.{Outgoing, PushGives, Sends}
-pub use Rattle.occ_text.specs.Spelling.{CellFits, EndFits, IsName, IsToken, KeyFits, PartFits, RowFits, cell_text, end_text, escaped, escaped_byte, is_plain, key_text, line_text, part_text, row_text}
+pub use Rattle.occ_types.specs.Spelling.{cell_text, escaped, escaped_byte, is_plain, key_text, part_text, row_text}
+pub use Rattle.occ_text.specs.Spelling.{CellFits, EndFits, IsName, IsToken, KeyFits, PartFits, RowFits, end_text, line_text}
 pub use Rattle.occ_text.specs.declared.faults.LineFault.{LineFault}
 pub use Rattle.occ_text.specs.declared.faults.ReadFault.{ReadFault}
 pub use Rattle.occ_text.specs.declared.faults.ReadFault.TheVariants.{Malformed, Memory}

@@ -13,7 +13,8 @@ use Rattle.occ_types.specs.declared.keys.Key as code_key
 use Rattle.occ_types.specs.declared.objects.Object as code_object
 use Rattle.occ_model.specs.State.{Write, Found}
 use Rattle.occ_text.specs.declared.versions.Version.{Version}
-use Rattle.occ_text.specs.Spelling.{line_text, key_text, end_text, row_text, KeyFits, EndFits, RowFits}
+use Rattle.occ_types.specs.Spelling.{key_text, row_text}
+use Rattle.occ_text.specs.Spelling.{line_text, end_text, KeyFits, EndFits, RowFits}
 use Rattle.occ_text.specs.StepReading.{◌>>=◌, next_end}
 use Rattle.occ_print.specs.Books.{table_name, question_text, answer_text, read_line, entry_word}
 use Rattle.occ_print.specs.declared.sections.Section.{Section}

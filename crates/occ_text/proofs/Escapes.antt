@@ -6,7 +6,7 @@ use Rattle.std.proofs.lemmas.Bool.{lt-ltb, le-ltb, leb-true, le-leb, lt-leb, eqb
 use Rattle.std.proofs.lemmas.List.{append-nil, length-append}
 use Rattle.std.proofs.lemmas.List.Elements.{All-head, All-tail, All-nil, All-cons}
 use Rattle.std.proofs.lemmas.Bool.Decides.{nat_tests}
-use Rattle.occ_text.specs.Spelling.{is_plain, hex_digit, escaped_byte, escaped}
+use Rattle.occ_types.specs.Spelling.{is_plain, hex_digit, escaped_byte, escaped}
 use Rattle.occ_text.specs.Escapes.{hex_value, unless_plain, escape_of, before, with_rest, front_of, unescaped}
 use Rattle.occ_text.proofs.Words.{both}
 

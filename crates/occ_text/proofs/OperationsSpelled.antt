@@ -11,7 +11,8 @@ use Rattle.occ_types.specs.Key.{Key}
 use Rattle.occ_types.specs.Row.{Row}
 use Rattle.occ_types.specs.Row as rows
 use Rattle.occ_text.specs.declared.versions.Version.{Version}
-use Rattle.occ_text.specs.Spelling.{key_text, end_text, row_text, IsToken, IsName, KeyFits, EndFits, RowFits}
+use Rattle.occ_types.specs.Spelling.{key_text, row_text}
+use Rattle.occ_text.specs.Spelling.{end_text, IsToken, IsName, KeyFits, EndFits, RowFits}
 use Rattle.occ_text.specs.Reading.{Reads, is_name}
 use Rattle.occ_text.specs.Operations.{Operation, Get, Scan, Put, Delete, Add, operation_parts, operation_text, OperationFits}
 use Rattle.occ_text.specs.OperationReading.{operation_of_parts, read_operation}

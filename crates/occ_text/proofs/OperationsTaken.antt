@@ -5,7 +5,8 @@ use Rattle.std.specs.List.{slice_split, join_with_byte}
 use Rattle.std.specs.Fmt.{signed_decimal}
 use Rattle.std.proofs.lemmas.List.Splits.{join_with_byte-slice_split}
 use Rattle.occ_text.specs.declared.versions.Version.{Version}
-use Rattle.occ_text.specs.Spelling.{key_text, end_text, row_text}
+use Rattle.occ_types.specs.Spelling.{key_text, row_text}
+use Rattle.occ_text.specs.Spelling.{end_text}
 use Rattle.occ_text.specs.Reading.{is_token}
 use Rattle.occ_text.specs.Operations.{Operation, Get, Scan, Put, Delete, Add, operation_parts, operation_text, OperationFits}
 use Rattle.occ_text.specs.OperationReading.{get_of, delete_of, scan_of, put_of, add_of, forms, operation_field, operation_of_parts, read_operation}

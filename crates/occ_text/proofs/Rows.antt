@@ -1,16 +1,11 @@
 -- A row is written cell by cell.
-use Rattle.std.proofs.Common.{◌≡◌, ℕ, ◌+◌, List, [], ◌∷◌, ◌++◌, length, take, Some, refl, sym, ap, ◌∙◌, append_assoc, arith}
+use Rattle.std.proofs.Common.{◌≡◌, ℕ, ◌+◌, List, [], ◌∷◌, ◌++◌, length, take, Some, sym, ap, ◌∙◌, append_assoc, arith}
 use Rattle.std.proofs.lemmas.List.{take_more, length-take-le}
 use Rattle.std.proofs.lemmas.Option.{slice_get_within, get_or_from_slice_get}
 use Rattle.std.specs.Prelude.{slice_get}
 use Rattle.occ_types.specs.Row.{Cell, Row}
-use Rattle.occ_text.specs.Spelling.{cell_text, row_text, comma}
-
-row_push : (cells : Row) (cell : Cell) → row_text (cells ++ cell ∷ []) ≡ row_text cells ++ (comma (length cells) ++ cell_text cell)
-row_push [] cell = refl
-row_push (a ∷ []) cell = refl
-row_push (a ∷ b ∷ cells) cell =
-    ap (λ (l : List ℕ). cell_text a ++ 44 ∷ l) (row_push (b ∷ cells) cell) ∙ sym (append_assoc (cell_text a) (44 ∷ row_text (b ∷ cells)) (44 ∷ cell_text cell))
+use Rattle.occ_types.specs.Spelling.{cell_text, row_text, comma}
+use Rattle.occ_types.proofs.RowTexts.{row_push}
 
 -- one more cell behind those that were written
 pub row_more : (old line mid new : List ℕ) (row : Row) (place : ℕ) (cell : Cell) → Some cell ≡ slice_get row place

@@ -18,7 +18,8 @@ use Rattle.occ_types.specs.KeyPart as parts
 use Rattle.occ_types.specs.Row.{Cell, Row}
 use Rattle.occ_types.specs.Row as rows
 use Rattle.occ_text.specs.declared.versions.Version.{Version}
-use Rattle.occ_text.specs.Spelling.{is_plain, hex_digit, escaped_byte, escaped, part_text, key_text, end_text, cell_text, row_text, IsToken, IsName, PartFits, KeyFits, EndFits, CellFits, RowFits}
+use Rattle.occ_types.specs.Spelling.{is_plain, hex_digit, escaped_byte, escaped, part_text, key_text, cell_text, row_text}
+use Rattle.occ_text.specs.Spelling.{end_text, IsToken, IsName, PartFits, KeyFits, EndFits, CellFits, RowFits}
 use Rattle.occ_text.proofs.Numbers.{decimal_digits}
 use Rattle.occ_text.proofs.Escapes.{low_digit, high_digit, plain_spelling, escape_spelling}
 use Rattle.occ_text.proofs.Words.{both}

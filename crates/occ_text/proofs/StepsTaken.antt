@@ -7,7 +7,8 @@ use Rattle.std.proofs.lemmas.List.Elements.{All-cons}
 use Rattle.occ_text.specs.declared.versions.Version.{Version}
 use Rattle.occ_text.specs.declared.steps.Act.{Act}
 use Rattle.occ_text.specs.declared.steps.Act.TheVariants as acts
-use Rattle.occ_text.specs.Spelling.{key_text, end_text, row_text, IsToken, AreTokens}
+use Rattle.occ_types.specs.Spelling.{key_text, row_text}
+use Rattle.occ_text.specs.Spelling.{end_text, IsToken, AreTokens}
 use Rattle.occ_text.specs.Reading.{is_token, number_of}
 use Rattle.occ_text.specs.Operations.{operation_text}
 use Rattle.occ_text.specs.OperationReading.{operations_of}

@@ -2,7 +2,8 @@
 use Rattle.std.proofs.Common.{◌+◌, length, refl, arith}
 use Rattle.std.specs.Fmt.{signed_decimal}
 use Rattle.occ_text.specs.declared.versions.Version.{Version}
-use Rattle.occ_text.specs.Spelling.{key_text, end_text, row_text}
+use Rattle.occ_types.specs.Spelling.{key_text, row_text}
+use Rattle.occ_text.specs.Spelling.{end_text}
 use Rattle.occ_text.specs.Reading.{name_of, int_of}
 use Rattle.occ_text.specs.Escapes.{read_key, read_end, read_row}
 use Rattle.occ_text.specs.ValueFields as fields

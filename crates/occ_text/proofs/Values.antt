@@ -18,7 +18,8 @@ use Rattle.occ_types.specs.Row as rows
 use Rattle.occ_text.specs.declared.tokens.Unread.{Unread}
 use Rattle.occ_text.specs.declared.versions.Version.{Version}
 use Rattle.occ_text.specs.declared.versions.Version.TheVariants.{One, Two}
-use Rattle.occ_text.specs.Spelling.{is_plain, text_text, part_text, key_text, end_text, cell_text, row_text, IsText, PartFits, KeyFits, EndFits, CellFits, RowFits}
+use Rattle.occ_types.specs.Spelling.{is_plain, text_text, part_text, key_text, cell_text, row_text}
+use Rattle.occ_text.specs.Spelling.{end_text, IsText, PartFits, KeyFits, EndFits, CellFits, RowFits}
 use Rattle.occ_text.specs.Reading.{Reads, begins_with, number_of, int_of}
 use Rattle.occ_text.specs.Escapes.{Gives, unescaped, if_text, text_of, read_part, key_of_part, simple_key, pair_key, key_of_parts, read_key, is_missing, read_end, read_cell, read_cells, read_row}
 use Rattle.occ_text.proofs.Numbers.{first_is, number_takes, number_again, int_takes, int_again, decimal_begins_otherwise, some_or_none}

@@ -12,7 +12,7 @@ use Rattle.occ_text.specs.declared.tokens.Unread.{Unread}
 use Rattle.occ_text.specs.declared.tokens.Unread.TheVariants.{Malformed, Memory}
 use Rattle.occ_text.specs.declared.versions.Version.{Version}
 use Rattle.occ_text.specs.declared.versions.Version.TheVariants.{One, Two}
-use Rattle.occ_text.specs.Spelling.{is_plain}
+use Rattle.occ_types.specs.Spelling.{is_plain}
 use Rattle.occ_text.specs.Reading.{begins_with, number_of, int_of}
 
 -- what a call gave, seen by view, is what reading gives, unless memory was refused

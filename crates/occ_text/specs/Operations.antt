@@ -6,7 +6,8 @@ use Rattle.std.specs.List.{join_with_byte}
 use Rattle.occ_types.specs.Key.{Key}
 use Rattle.occ_types.specs.Row.{Row}
 use Rattle.occ_types.specs.PlainData.{key_of, end_of}
-use Rattle.occ_text.specs.Spelling.{key_text, end_text, row_text, IsName, KeyFits, EndFits, RowFits}
+use Rattle.occ_types.specs.Spelling.{key_text, row_text}
+use Rattle.occ_text.specs.Spelling.{end_text, IsName, KeyFits, EndFits, RowFits}
 use Rattle.occ_text.specs.declared.versions.Version.{Version}
 use Rattle.occ_text.specs.declared.operations.Operation as code_operation
 use Rattle.occ_text.specs.declared.operations.Operation.TheVariants as operations

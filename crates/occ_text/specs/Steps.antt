@@ -4,7 +4,8 @@ use Rattle.std.specs.Fmt.{decimal}
 use Rattle.occ_types.specs.Key.{Key}
 use Rattle.occ_types.specs.Row.{Row}
 use Rattle.occ_types.specs.PlainData.{key_of, end_of}
-use Rattle.occ_text.specs.Spelling.{line_text, key_text, end_text, row_text, IsName, KeyFits, EndFits, RowFits}
+use Rattle.occ_types.specs.Spelling.{key_text, row_text}
+use Rattle.occ_text.specs.Spelling.{line_text, end_text, IsName, KeyFits, EndFits, RowFits}
 use Rattle.occ_text.specs.Operations.{Operation, operation_of, operation_text, OperationFits}
 use Rattle.occ_text.specs.declared.versions.Version.{Version}
 use Rattle.occ_text.specs.declared.steps.Act.{Act}

@@ -4,22 +4,17 @@ ghost use Rattle.std.specs.Prelude.{◌≡◌, ◌∷◌, true, Some, ℕ, List,
 ghost use Rattle.occ_types.specs.Key as keys;
 ghost use Rattle.occ_types.specs.Row as rows;
 ghost use Rattle.occ_types.specs.PlainData.{part_of, key_of, end_of, cell_of};
-ghost use Rattle.occ_text.specs.Spelling.{is_plain, text_text, key_text, end_text, row_text, IsText, KeyFits, EndFits, RowFits};
+ghost use Rattle.occ_types.specs.Spelling.{text_text, key_text, row_text};
+ghost use Rattle.occ_text.specs.Spelling.{end_text, IsText, KeyFits, EndFits, RowFits};
 ghost use Rattle.occ_text.specs.Escapes.{Gives, hex_value, escape_of, front_of, unescaped, text_of, read_part, simple_key, pair_key, key_of_parts, read_key, is_missing, read_end, read_cell, read_cells, read_row, part_takes, parts_take, key_takes};
 ghost use Rattle.occ_text.specs.SeparatedParts.{parts_left};
 
 use crate::separated_parts::{Parts, cut};
 use crate::tokens::{Unread, begins_with, int, is_word, number, without_first};
 use crate::versions::Version;
+use occ_types::spelling::is_plain;
 use occ_types::{Cell, Key, KeyPart, Pair, Row, Text};
 use std::alloc::Allocator;
-
-/// Whether the byte stands for itself in a text.
-pub(crate) fn is_plain(byte: u8) -> bool
-    ensures { result ≡ is_plain byte }
-{
-    byte.is_ascii_alphanumeric() || byte == b'_' || byte == b'-' || byte == b'.'
-}
 
 /// The value of a lower-case hexadecimal digit.
 fn hex_value(digit: u8) -> Option<u8>

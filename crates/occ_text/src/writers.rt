@@ -4,10 +4,11 @@ ghost use Rattle.std.specs.Prelude.{◌≡◌, ◌<◌, ◌+◌, ◌++◌, ◌�
 ghost use Rattle.std.specs.Fmt.{decimal, signed_decimal};
 ghost use Rattle.occ_types.specs.Key as keys;
 ghost use Rattle.occ_types.specs.PlainData.{part_of, key_of, end_of, cell_of};
-ghost use Rattle.occ_text.specs.Spelling.{hex_digit, escaped_byte, escaped, text_text, part_text, key_text, end_text, cell_text, row_text, comma};
+ghost use Rattle.occ_types.specs.Spelling.{escaped_byte, escaped, text_text, part_text, key_text, cell_text, row_text, comma};
+ghost use Rattle.occ_text.specs.Spelling.{end_text};
 
-use crate::texts::is_plain;
 use itoa::Buffer;
+use occ_types::spelling::{hex_digit, is_plain};
 use occ_types::{Cell, Key, KeyPart, Pair, Row, Text};
 use std::alloc::{AllocError, Allocator};
 
@@ -64,18 +65,6 @@ pub fn write_int<A: Allocator>(line: &mut String<A>, number: i64) -> Result<(), 
 {
     let mut digits = Buffer::new();
     line.push_str(digits.format(number))
-}
-
-/// A lower-case hexadecimal digit.
-fn hex_digit(value: u8) -> char
-    requires { value < 16 }
-    ensures { result ≡ hex_digit value }
-{
-    if value < 10 {
-        char::from(b'0' + value)
-    } else {
-        char::from(87 + value)
-    }
 }
 
 fn write_byte<A: Allocator>(line: &mut String<A>, byte: u8) -> Result<(), AllocError>

@@ -6,4 +6,5 @@ pub mod Question
 pub mod Row
 pub mod Same
 pub mod Schema
+pub mod Spelling
 pub mod PlainData

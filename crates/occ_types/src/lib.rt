@@ -12,6 +12,7 @@ mod pairs;
 mod questions;
 mod rows;
 mod schemas;
+pub mod spelling;
 mod tables;
 mod texts;
 

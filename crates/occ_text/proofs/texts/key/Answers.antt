@@ -1,5 +1,6 @@
 use Rattle.occ_types.specs.PlainData.{key_of}
-use Rattle.occ_text.specs.Spelling.{key_text, KeyFits}
+use Rattle.occ_types.specs.Spelling.{key_text}
+use Rattle.occ_text.specs.Spelling.{KeyFits}
 use Rattle.occ_text.specs.Escapes.{read_key}
 use Rattle.occ_text.proofs.Values.{found_by, again_by, key_reads}
 use Rattle.occ_text.proofs.texts.key.Goals as goal

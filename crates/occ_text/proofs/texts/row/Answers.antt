@@ -1,4 +1,5 @@
-use Rattle.occ_text.specs.Spelling.{row_text, RowFits}
+use Rattle.occ_types.specs.Spelling.{row_text}
+use Rattle.occ_text.specs.Spelling.{RowFits}
 use Rattle.occ_text.specs.Escapes.{read_row}
 use Rattle.occ_text.proofs.Values.{found_by, again_by, row_reads}
 use Rattle.occ_text.proofs.texts.row.Goals as goal

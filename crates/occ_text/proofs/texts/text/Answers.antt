@@ -1,4 +1,5 @@
-use Rattle.occ_text.specs.Spelling.{text_text, IsText}
+use Rattle.occ_types.specs.Spelling.{text_text}
+use Rattle.occ_text.specs.Spelling.{IsText}
 use Rattle.occ_text.specs.Escapes.{text_of}
 use Rattle.occ_text.proofs.Values.{found_by, again_by, text_reads}
 use Rattle.occ_text.proofs.texts.text.Goals as goal

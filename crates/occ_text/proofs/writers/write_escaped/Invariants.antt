@@ -1,6 +1,6 @@
 use Rattle.std.proofs.Common.{◌≡◌, ◌++◌, take}
 use Rattle.std.specs.Prelude.{string_bytes}
-use Rattle.occ_text.specs.Spelling.{escaped}
+use Rattle.occ_types.specs.Spelling.{escaped}
 use Rattle.occ_text.proofs.writers.write_escaped.Given as goal
 
 abbrev pub invariant-loop-byte : goal.invariant-loop-byte

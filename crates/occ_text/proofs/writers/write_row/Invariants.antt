@@ -1,6 +1,6 @@
 use Rattle.std.proofs.Common.{◌≡◌, ◌++◌, take}
 use Rattle.std.specs.Prelude.{string_bytes}
-use Rattle.occ_text.specs.Spelling.{row_text}
+use Rattle.occ_types.specs.Spelling.{row_text}
 use Rattle.occ_text.proofs.writers.write_row.Given as goal
 
 abbrev pub invariant-loop-place : goal.invariant-loop-place
