@@ -1,15 +1,17 @@
 //! Cells of a row.
-ghost use Rattle.std.specs.Prelude.{◌≡◌, option_map, IfOk};
+ghost use Rattle.std.specs.Prelude.{◌≡◌, Some, option_map, IfOk};
 ghost use Rattle.std.specs.Ordering.{on};
 ghost use Rattle.std.specs.Cmp.{on_per, on_equiv, partial_equiv_from_equiv};
 ghost use Rattle.occ_types.specs.Row.{Int, Text as PlainText, int_in, text_in};
 ghost use Rattle.occ_types.specs.Same.{cell_same, cell_same_equiv};
 ghost use Rattle.occ_types.specs.PlainData.{cell_of};
+ghost use Rattle.occ_types.specs.Spelling.{cell_text};
 
 use crate::texts::Text;
 use std::alloc::{AllocError, Allocator};
+use std::fmt;
 
-/// A cell of a row.
+/// A cell of a row. `Display` writes it as the text formats do.
 #[derive(Drop)]
 #[derive_where(Debug)]
 pub enum Cell<A: Allocator> {
@@ -65,6 +67,17 @@ impl<A: Allocator> Clone for Cell<A> {
         match self {
             Cell::Int(number) => Ok(Cell::Int(*number)),
             Cell::Text(text) => Ok(Cell::Text(text.clone()?)),
+        }
+    }
+}
+
+impl<A: Allocator> fmt::Display for Cell<A> {
+    ghost output = { λ cell. Some (cell_text (cell_of cell)) };
+
+    fn fmt<W: fmt::Write>(&self, f: &mut fmt::Formatter<W>) -> fmt::Result {
+        match self {
+            Cell::Int(number) => f.write(*number),
+            Cell::Text(text) => f.write(text),
         }
     }
 }

@@ -1,17 +1,20 @@
 //! Parts of a key of two parts, and their one total order.
-ghost use Rattle.std.specs.Prelude.{◌≡◌, List, ◌++◌, IfOk, refl};
+ghost use Rattle.std.specs.Prelude.{◌≡◌, List, ◌++◌, Some, IfOk, refl};
 ghost use Rattle.std.specs.Ordering.{on, eq_by_cmp, as_partial_cmp};
 ghost use Rattle.std.specs.Cmp.{on_per, on_equiv, on_total, on_po, po, eq_by_cmp_equiv, partial_equiv_from_equiv};
 ghost use Rattle.occ_types.specs.KeyPart.{Num, Text as PlainText, part_cmp, part_cmp_total};
 ghost use Rattle.occ_types.specs.Same.{part_same, part_same_equiv, part_po, part_fed, part_fed_alike};
 ghost use Rattle.occ_types.specs.PlainData.{part_of};
+ghost use Rattle.occ_types.specs.Spelling.{part_text};
 
 use crate::texts::Text;
 use std::alloc::{AllocError, Allocator};
 use std::cmp::Ordering;
+use std::fmt;
 use std::hash::{Hash, Hasher};
 
 /// One part of a key of two parts. Numbers come by size, texts by their bytes, and every number comes before every text.
+/// `Display` writes it as the text formats do.
 #[derive(Drop)]
 #[derive_where(Debug)]
 pub enum KeyPart<A: Allocator> {
@@ -45,6 +48,17 @@ impl<A: Allocator> Clone for KeyPart<A> {
         match self {
             KeyPart::Num(number) => Ok(KeyPart::Num(*number)),
             KeyPart::Text(text) => Ok(KeyPart::Text(text.clone()?)),
+        }
+    }
+}
+
+impl<A: Allocator> fmt::Display for KeyPart<A> {
+    ghost output = { λ part. Some (part_text (part_of part)) };
+
+    fn fmt<W: fmt::Write>(&self, f: &mut fmt::Formatter<W>) -> fmt::Result {
+        match self {
+            KeyPart::Num(number) => f.write(*number),
+            KeyPart::Text(text) => f.write(text),
         }
     }
 }

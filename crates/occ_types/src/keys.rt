@@ -1,11 +1,12 @@
 //! Keys of a row, and their one total order.
-ghost use Rattle.std.specs.Prelude.{◌≡◌, List, ◌++◌, IfOk, MatchResult, refl};
+ghost use Rattle.std.specs.Prelude.{◌≡◌, List, ◌++◌, Some, IfOk, MatchResult, refl};
 ghost use Rattle.std.specs.Ordering.{on, eq_by_cmp, as_partial_cmp};
 ghost use Rattle.std.specs.Cmp.{on_per, on_equiv, on_total, on_po, po, eq_by_cmp_equiv, partial_equiv_from_equiv};
 ghost use Rattle.occ_types.specs.Key.{Num, Text as PlainText, Pair as PlainPair, key_cmp, key_cmp_total};
 ghost use Rattle.occ_types.specs.Same.{key_same, key_same_equiv, key_po, key_fed, key_fed_alike};
 ghost use Rattle.occ_types.specs.declared.fault.Fault.TheVariants.{Memory};
 ghost use Rattle.occ_types.specs.PlainData.{key_of, part_of};
+ghost use Rattle.occ_types.specs.Spelling.{key_text};
 
 use crate::fault::Refused;
 use crate::key_parts::KeyPart;
@@ -13,10 +14,11 @@ use crate::pairs::Pair;
 use crate::texts::Text;
 use std::alloc::{AllocError, Allocator};
 use std::cmp::Ordering;
+use std::fmt;
 use std::hash::{Hash, Hasher};
 
 /// The key of a row. Numbers come by size, texts by their bytes, and pairs by their first part and then by the second; every
-/// number comes before every text, and every text before every pair.
+/// number comes before every text, and every text before every pair. `Display` writes it as the text formats do.
 #[derive(Drop)]
 #[derive_where(Debug)]
 pub enum Key<A: Allocator> {
@@ -71,6 +73,18 @@ impl<A: Allocator> Clone for Key<A> {
             Key::Num(number) => Ok(Key::Num(*number)),
             Key::Text(text) => Ok(Key::Text(text.clone()?)),
             Key::Pair(pair) => Ok(Key::Pair(pair.clone()?)),
+        }
+    }
+}
+
+impl<A: Allocator> fmt::Display for Key<A> {
+    ghost output = { λ key. Some (key_text (key_of key)) };
+
+    fn fmt<W: fmt::Write>(&self, f: &mut fmt::Formatter<W>) -> fmt::Result {
+        match self {
+            Key::Num(number) => f.write(*number),
+            Key::Text(text) => f.write(text),
+            Key::Pair(pair) => f.write(pair),
         }
     }
 }

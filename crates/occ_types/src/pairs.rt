@@ -1,22 +1,25 @@
 //! Keys of two parts, which are seen as both.
-ghost use Rattle.std.specs.Prelude.{◌≡◌, ◌++◌, MatchResult, refl};
+ghost use Rattle.std.specs.Prelude.{◌≡◌, ◌++◌, Some, MatchResult, refl};
 ghost use Rattle.std.specs.Ordering.{eq_by_cmp, as_partial_cmp};
 ghost use Rattle.std.specs.Cmp.{partial_equiv_from_equiv};
 ghost use Rattle.occ_types.specs.declared.fault.Fault.TheVariants.{Memory};
+ghost use Rattle.occ_types.specs.Key.{Pair as PlainPair};
 ghost use Rattle.occ_types.specs.KeyPart.{pair_cmp, pair_cmp_total};
 ghost use Rattle.occ_types.specs.Same.{part_fed, pair_equiv, pair_po, pair_fed, pair_fed_alike};
 ghost use Rattle.occ_types.specs.PlainData.{part_of};
+ghost use Rattle.occ_types.specs.Spelling.{key_text};
 
 use crate::fault::{Fault, Refused};
 use crate::key_parts::KeyPart;
 use std::alloc::{AllocError, AllocFailed, Allocator};
 use std::cmp::Ordering;
+use std::fmt;
 use std::hash::{Hash, Hasher};
 use std::marker::Model;
 use std::sync::Arc;
 
 /// A key of two parts, which clauses see as the pair of the plain parts. Its copies share them on the heap, so that other keys stay
-/// short and a copy takes no memory.
+/// short and a copy takes no memory. `Display` writes it as the text formats do.
 #[derive(Drop)]
 #[derive_where(Debug)]
 pub struct Pair<A: Allocator> {
@@ -77,6 +80,15 @@ impl<A: Allocator> Clone for Pair<A> {
         Ok(Pair {
             parts: Arc::try_clone(&self.parts)?,
         })
+    }
+}
+
+impl<A: Allocator> fmt::Display for Pair<A> {
+    ghost output = { λ pair. Some (key_text (PlainPair pair.0 pair.1)) };
+
+    fn fmt<W: fmt::Write>(&self, f: &mut fmt::Formatter<W>) -> fmt::Result {
+        let (first, second) = (self.first(), self.second());
+        write!(f, "{first}+{second}")
     }
 }
 

@@ -1,19 +1,20 @@
 //! Rows of a table, which are seen as their cells.
-ghost use Rattle.std.specs.Prelude.{◌≡◌, ◌==◌, List, [], ◌∷◌, length, slice_get, IsOk, MatchResult};
+ghost use Rattle.std.specs.Prelude.{◌≡◌, ◌==◌, List, [], ◌∷◌, length, slice_get, Some, IsOk, MatchResult};
 ghost use Rattle.std.specs.Cmp.{partial_equiv_from_equiv};
 ghost use Rattle.std.specs.Option.{option_map};
 ghost use Rattle.occ_types.specs.Row.{Int, int_at, text_at};
 ghost use Rattle.occ_types.specs.Same.{row_same, row_same_equiv};
 ghost use Rattle.occ_types.specs.PlainData.{cell_of, row_of};
+ghost use Rattle.occ_types.specs.Spelling.{row_text};
 
 use crate::cells::Cell;
 use std::alloc::{AllocError, AllocFailed, Allocator};
 use std::marker::Model;
-use std::slice;
 use std::sync::Arc;
+use std::{fmt, slice};
 
 /// A row of a table, which clauses see as its cells in the order of the columns. A row of one number has no memory of its own, and the
-/// copies of a longer one share its cells, so that a copy takes no memory.
+/// copies of a longer one share its cells, so that a copy takes no memory. `Display` writes it as the text formats do.
 #[derive(Drop)]
 #[derive_where(Debug)]
 pub struct Row<A: Allocator> {
@@ -158,6 +159,20 @@ impl<A: Allocator> Clone for Row<A> {
                 cells: Cells::List(Arc::try_clone(cells)?),
             }),
         }
+    }
+}
+
+impl<A: Allocator> fmt::Display for Row<A> {
+    ghost output = { λ row. Some (row_text row) };
+
+    fn fmt<W: fmt::Write>(&self, f: &mut fmt::Formatter<W>) -> fmt::Result {
+        if let [first, rest @ ..] = self.cells() {
+            f.write(first)?;
+            for cell in rest {
+                write!(f, ",{cell}")?;
+            }
+        }
+        Ok(())
     }
 }
 

@@ -6,14 +6,18 @@ ghost use Rattle.std.specs.Cmp.Lexicographic.{pointwise, slice_cmp, nat_list_eq_
 ghost use Rattle.std.specs.Cmp.Rules.{hashing};
 ghost use Rattle.std.specs.Hash as fed;
 ghost use Rattle.std.proofs.Common.{rules};
+ghost use Rattle.occ_types.specs.Spelling.{text_text};
 
+use crate::spelling::write_text;
 use std::alloc::{AllocError, AllocFailed, Allocator};
 use std::cmp::Ordering;
+use std::fmt;
 use std::hash::{Hash, Hasher};
 use std::marker::Model;
 use std::sync::Arc;
 
 /// A text of UTF-8, which clauses see as its bytes. Its copies share these, so that a copy takes no memory.
+/// `Display` writes it as the text formats do.
 #[derive(Drop)]
 #[derive_where(Debug)]
 pub struct Text<A: Allocator> {
@@ -90,6 +94,14 @@ impl<A: Allocator> Clone for Text<A> {
         Ok(Text {
             text: Arc::try_clone(&self.text)?,
         })
+    }
+}
+
+impl<A: Allocator> fmt::Display for Text<A> {
+    ghost output = { λ text. Some (text_text text) };
+
+    fn fmt<W: fmt::Write>(&self, f: &mut fmt::Formatter<W>) -> fmt::Result {
+        write_text(f, self.as_str())
     }
 }
 

@@ -80,6 +80,23 @@ fn a_text_is_told(rt: HostRuntime) -> Result<(), Fail> {
     Ok(())
 }
 
+// A key of two parts, a row and a text.
+fn written(alloc: Global) -> Result<String<Global>, Fault> {
+    let key = Key::pair(alloc, KeyPart::Num(2), KeyPart::text(alloc, "a+b")?)?;
+    let row = Row::from_cells(vec![in alloc; Cell::Int(-5), Cell::text(alloc, ",")?]?)?;
+    let text = Text::new(alloc, "a bé")?;
+    Ok(format!(in alloc; "{key} {row} {text}")?)
+}
+
+#[test]
+fn values_are_written_as_in_texts(rt: HostRuntime) -> Result<(), Fail> {
+    assert_eq!(rt;
+        written(rt.alloc())?.as_str(),
+        "2+'a%2bb -5,'%2c 'a%20b%c3%a9"
+    );
+    Ok(())
+}
+
 #[test]
 fn faults_are_told(rt: HostRuntime) -> Result<(), Fail> {
     let told = format!(in rt.alloc(); "{}; {}", Fault::QueueFull, Fault::NoReadOpen)?;
