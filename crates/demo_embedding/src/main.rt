@@ -115,7 +115,7 @@ fn range(client: &mut One, store: &mut Store, lines: &mut String) -> Result<(), 
     add(client, store, 3, 5)?;
     let rows = client.scan(store, ACCOUNTS, Some(Key::Num(1)), Some(Key::Num(7)))?;
     for (key, row) in rows.as_slice() {
-        writeln!(lines, "{key:?}: {row:?}")?;
+        writeln!(lines, "{key}: {row}")?;
     }
     let _known = client.abandon(store)?;
     Ok(())
