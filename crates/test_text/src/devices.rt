@@ -155,172 +155,137 @@ fn statuses_and_texts(rt: HostRuntime) -> Result<(), Fail> {
     Ok(())
 }
 
-/// What is read of a token, written again.
-fn read_and_written(alloc: Global, version: Version, token: &[u8]) -> Result<String, Unread> {
+/// Whether a token is read as a key, and written as it stood.
+fn is_key(alloc: Global, version: Version, token: &str) -> bool {
     let mut line = String::new(alloc);
-    let key = key(alloc, version, token)?;
-    write_key(&mut line, &key)?;
-    Ok(line)
+    match key(alloc, version, token.as_bytes()) {
+        Ok(key) => write_key(&mut line, &key).is_ok() && line.as_str() == token,
+        Err(_) => false,
+    }
+}
+
+/// Whether a token is malformed where a key is to stand.
+fn is_no_key(alloc: Global, version: Version, token: &str) -> bool {
+    matches!(
+        key(alloc, version, token.as_bytes()),
+        Err(Unread::Malformed)
+    )
 }
 
 #[test]
 fn keys_have_one_spelling(rt: HostRuntime) -> Result<(), Fail> {
-    for token in [
-        "0",
-        "7",
-        "18446744073709551615",
-        "'",
-        "'a%20b",
-        "'-_.Zz09",
-        "'%00%7f",
-        "'%c3%a9",
-    ] {
-        let line = read_and_written(rt.alloc(), Version::One, token.as_bytes()).map_err(
-            |_| AllocError,
-        )?;
-        assert!(rt; line.as_str() == token, "{token}");
+    let version = Version::One;
+    for token in "0 7 18446744073709551615 ' 'a%20b '-_.Zz09 '%00%7f '%c3%a9".split(' ') {
+        assert!(rt; is_key(rt.alloc(), version, token), "{token}");
     }
-    for token in [
-        "",
-        "00",
-        "07",
-        "-1",
-        "+1",
-        "1a",
-        "18446744073709551616",
-        "a",
-        "'a b",
-        "'%2",
-        "'%2G",
-        "'%C3%A9",
-        "'%61",
-        "'%c3",
-        "'%ff",
-    ] {
-        assert!(rt;
-            read_and_written(rt.alloc(), Version::One, token.as_bytes()).is_err(),
-            "{token}"
-        );
+    let others = "|00|07|-1|+1|1a|18446744073709551616|a|'a b|'%2|'%2G|'%C3%A9|'%61|'%c3|'%ff";
+    for token in others.split('|') {
+        assert!(rt; is_no_key(rt.alloc(), version, token), "{token}");
     }
     Ok(())
 }
 
 #[test]
 fn keys_of_two_parts_have_one_spelling(rt: HostRuntime) -> Result<(), Fail> {
-    for token in [
-        "7",
-        "'a",
-        "1+2",
-        "0+18446744073709551615",
-        "2+'",
-        "'+'",
-        "'a%2bb+'%2a",
-    ] {
-        let line = read_and_written(rt.alloc(), Version::Two, token.as_bytes()).map_err(
-            |_| AllocError,
-        )?;
-        assert!(rt; line.as_str() == token, "{token}");
+    let version = Version::Two;
+    for token in "7 'a 1+2 0+18446744073709551615 2+' '+' 'a%2bb+'%2a".split(' ') {
+        assert!(rt; is_key(rt.alloc(), version, token), "{token}");
     }
-    for token in ["1+2", "2+'", "'+'"] {
-        assert!(rt;
-            read_and_written(rt.alloc(), Version::One, token.as_bytes()).is_err(),
-            "{token}"
-        );
-    }
-    for token in [
-        "", "+", "1+", "+1", "1+2+3", "1++2", "01+2", "1+02", "1+-2", "'a+b", "*", "1+*",
-    ] {
-        assert!(rt;
-            read_and_written(rt.alloc(), Version::Two, token.as_bytes()).is_err(),
-            "{token}"
-        );
+    for token in "|+|1+|+1|1+2+3|1++2|01+2|1+02|1+-2|'a+b|*|1+*".split('|') {
+        assert!(rt; is_no_key(rt.alloc(), version, token), "{token}");
     }
     Ok(())
 }
 
-/// What is read of an end of a range, written again.
-fn end_read_and_written(alloc: Global, version: Version, token: &[u8]) -> Result<String, Unread> {
+#[test]
+fn keys_of_two_parts_are_malformed_in_version_1(rt: HostRuntime) -> Result<(), Fail> {
+    for token in "1+2 2+' '+'".split(' ') {
+        assert!(rt; is_no_key(rt.alloc(), Version::One, token), "{token}");
+    }
+    Ok(())
+}
+
+/// Whether a token is read as an end of a range, and written as it stood.
+fn is_end(alloc: Global, version: Version, token: &str) -> bool {
     let mut line = String::new(alloc);
-    let end = end(alloc, version, token)?;
-    write_end(&mut line, &end)?;
-    Ok(line)
+    match end(alloc, version, token.as_bytes()) {
+        Ok(end) => write_end(&mut line, &end).is_ok() && line.as_str() == token,
+        Err(_) => false,
+    }
+}
+
+/// Whether a token is malformed where an end of a range is to stand.
+fn is_no_end(alloc: Global, version: Version, token: &str) -> bool {
+    matches!(
+        end(alloc, version, token.as_bytes()),
+        Err(Unread::Malformed)
+    )
 }
 
 #[test]
 fn an_end_may_be_missing(rt: HostRuntime) -> Result<(), Fail> {
-    for token in ["*", "7", "'a", "2+'"] {
-        let line = end_read_and_written(rt.alloc(), Version::Two, token.as_bytes()).map_err(
-            |_| AllocError,
-        )?;
-        assert!(rt; line.as_str() == token, "{token}");
+    for token in "* 7 'a 2+'".split(' ') {
+        assert!(rt; is_end(rt.alloc(), Version::Two, token), "{token}");
     }
-    for (version, token) in [
-        (Version::One, "*"),
-        (Version::One, "2+'"),
-        (Version::Two, "**"),
-        (Version::Two, "*1"),
-        (Version::Two, ""),
-    ] {
-        assert!(rt;
-            end_read_and_written(rt.alloc(), version, token.as_bytes()).is_err(),
-            "{token}"
-        );
+    for token in "**|*1|".split('|') {
+        assert!(rt; is_no_end(rt.alloc(), Version::Two, token), "{token}");
+    }
+    for token in "*|2+'".split('|') {
+        assert!(rt; is_no_end(rt.alloc(), Version::One, token), "{token}");
     }
     Ok(())
 }
 
-/// What is read of a row, written again.
-fn row_read_and_written(alloc: Global, token: &[u8]) -> Result<String, Unread> {
+/// Whether a token is read as a row, and written as it stood.
+fn is_row(alloc: Global, token: &str) -> bool {
     let mut line = String::new(alloc);
-    let row = row(alloc, token)?;
-    write_row(&mut line, &row)?;
-    Ok(line)
+    match row(alloc, token.as_bytes()) {
+        Ok(row) => write_row(&mut line, &row).is_ok() && line.as_str() == token,
+        Err(_) => false,
+    }
 }
 
 #[test]
 fn rows_have_one_spelling(rt: HostRuntime) -> Result<(), Fail> {
-    for token in [
-        "0",
-        "-1,'",
-        "9223372036854775807,-9223372036854775808",
-        "'a%2cb,3,'",
-    ] {
-        let line = row_read_and_written(rt.alloc(), token.as_bytes()).map_err(|_| AllocError)?;
-        assert!(rt; line.as_str() == token, "{token}");
+    let alloc = rt.alloc();
+    for token in "0 -1,' 9223372036854775807,-9223372036854775808 'a%2cb,3,'".split(' ') {
+        assert!(rt; is_row(alloc, token), "{token}");
     }
-    for token in [
-        "",
-        ",",
-        "1,",
-        ",1",
-        "-0",
-        "-01",
-        "--1",
-        "9223372036854775808",
-        "-9223372036854775809",
-        "1,,2",
-    ] {
-        assert!(rt;
-            row_read_and_written(rt.alloc(), token.as_bytes()).is_err(),
-            "{token}"
-        );
+    let others = "|,|1,|,1|-0|-01|--1|9223372036854775808|-9223372036854775809|1,,2";
+    for token in others.split('|') {
+        let read = row(alloc, token.as_bytes());
+        assert!(rt; matches!(read, Err(Unread::Malformed)), "{token}");
     }
     Ok(())
 }
 
 #[test]
 fn tokens_are_parted_by_one_space(rt: HostRuntime) -> Result<(), Fail> {
-    for (line, count) in [("begin 1", 2), ("a", 1), ("~ ! x", 3)] {
-        let mut parts = tokens(line.as_bytes()).ok_or(AllocError)?;
-        for _ in 0..count {
-            assert!(rt; parts.take_part().is_some());
+    assert_eq!(rt; parts_of("begin 1"), Some(2));
+    assert_eq!(rt; parts_of("a"), Some(1));
+    assert_eq!(rt; parts_of("~ ! x"), Some(3));
+    for line in "| |a | a|a  b|a\tb|a\r|\u{e9}".split('|') {
+        assert_eq!(rt; parts_of(line), None, "{line:?}");
+    }
+    Ok(())
+}
+
+/// How many parts a line has, behind which no part stands, also when it is asked for again.
+fn parts_of(line: &str) -> Option<u64> {
+    let mut parts = tokens(line.as_bytes())?;
+    for count in 0..10u64 {
+        if parts.take_part().is_none() {
+            return match parts.take_part() {
+                None => Some(count),
+                Some(_) => None,
+            };
         }
-        assert!(rt; parts.take_part().is_none());
-        assert!(rt; parts.take_part().is_none());
     }
-    for line in ["", " ", "a ", " a", "a  b", "a\tb", "a\r", "\u{e9}"] {
-        assert!(rt; tokens(line.as_bytes()).is_none(), "{line:?}");
-    }
+    None
+}
+
+#[test]
+fn names_have_16_letters_at_most(rt: HostRuntime) -> Result<(), Fail> {
     assert!(rt; name(b"abcdefghijklmnop").is_some());
     assert!(rt; name(b"abcdefghijklmnopq").is_none());
     assert!(rt; name(b"").is_none());

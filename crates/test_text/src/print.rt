@@ -1,14 +1,11 @@
-//! Worked books, built row by row, and books on devices that fail.
+//! Worked books, printed again from what was read of them, and books on devices that fail.
 
-use occ_book::{Base, BookView, LogRow, Marks, Standing, Tables};
 use occ_print::{BookFault, write_readable_book};
-use occ_sets::{Answer, RangeRows, ReadSet, WriteSet};
+use occ_reading::whole_books::{PrintedBook, take_book};
 use occ_text::headers::Limits;
+use occ_text::input::Input;
 use occ_text::output::Output;
 use occ_text::versions::Version;
-use occ_types::{
-    Cell, Key, KeyKind, Kind, Object, PartKind, Question, Row, Schema, TableDef, Text,
-};
 use std::alloc::{AllocError, Global};
 use std::io;
 use std::io::{Error, ErrorKind, Write};
@@ -38,360 +35,189 @@ impl Write for Page {
     }
 }
 
-fn object(key: u64) -> Object<Global> {
-    Object {
-        table: 0,
-        key: Key::Num(key),
-    }
-}
-
-fn row(alloc: Global, number: i64) -> Result<Row<Global>, AllocError> {
-    let mut cells = Vec::new(alloc);
-    cells.push(Cell::Int(number))?;
-    Ok(Row::from_cells(cells)?)
-}
-
-/// One table `t` with keys of a kind and one column of whole numbers.
-fn schema(alloc: Global, key: KeyKind) -> Result<Schema<Global>, AllocError> {
-    let mut tables = Vec::new(alloc);
-    tables.push(TableDef {
-        name: Text::new(alloc, "t")?,
-        key,
-        columns: vec![in alloc; Kind::Int]?,
-    })?;
-    Schema::new(tables).map_err(|_| AllocError)
-}
-
-/// A finished row that reads one question and writes one object.
-fn finished(
-    alloc: Global,
-    places: (usize, usize, u64),
-    reads: ReadSet<Global>,
-    write: (u64, Option<i64>),
-) -> Result<LogRow<Global, ()>, AllocError> {
-    let (place, session, number) = places;
-    let mut writes = WriteSet::new(alloc);
-    let written = match write.1 {
-        Some(cell) => Some(row(alloc, cell)?),
-        None => None,
-    };
-    if writes.set(0, Key::Num(write.0), written).is_err() {
-        return Err(AllocError);
-    }
-    Ok(LogRow {
-        place,
-        session,
-        number: 1,
-        start: 0,
-        finish: 0,
-        reads,
-        writes,
-        standing: Standing::Done(number),
-    })
-}
-
-fn reading(
-    alloc: Global,
-    question: Question<Global>,
-    answer: Answer<Global>,
-) -> Result<ReadSet<Global>, AllocError> {
-    let mut reads = ReadSet::new(alloc);
-    match reads.note(question, answer) {
-        Ok(()) => Ok(reads),
-        Err(_) => Err(AllocError),
-    }
-}
-
-/// One table with these rows.
-fn tables(alloc: Global, rows: &[(u64, i64)]) -> Result<Tables<Global>, AllocError> {
-    let Ok(mut tables) = Tables::new(alloc, 1) else {
-        return Err(AllocError);
-    };
-    for (key, cell) in rows {
-        let row = row(alloc, *cell)?;
-        if tables.count() == 1 && tables.put(0, &Key::Num(*key), Some(&row)).is_err() {
-            return Err(AllocError);
-        }
-    }
-    Ok(tables)
-}
-
-/// Two sessions with these marks.
-fn marks(alloc: Global, closed: &[(usize, u64)]) -> Result<Marks<Global>, AllocError> {
-    let Ok(mut marks) = Marks::new(alloc, 2) else {
-        return Err(AllocError);
-    };
-    for (session, number) in closed {
-        if *session >= 1 && *session <= marks.sessions() {
-            marks.set(*session, *number);
-        }
-    }
-    Ok(marks)
-}
-
-/// Nothing was folded out of the log of one table and two sessions.
-fn nothing_folded(alloc: Global) -> Result<Base<Global>, AllocError> {
-    match Base::new(alloc, 1, 2) {
-        Ok(base) => Ok(base),
-        Err(_) => Err(AllocError),
-    }
-}
-
-/// Prints a book of two sessions, with queues of four and eight write sets kept.
+/// How the printing of a book ended that was read of a text, and what its writer has that fails from the call `fails` on. None where the
+/// text is no book.
 fn printed(
     alloc: Global,
-    log: &[LogRow<Global, ()>],
-    rows: &[(u64, i64)],
-    closed: &[(usize, u64)],
+    text: &str,
+    version: Version,
     fails: usize,
-) -> Result<(Vec<u8>, Result<(), BookFault>), AllocError> {
-    let base = nothing_folded(alloc)?;
-    printed_on(alloc, Version::One, &base, log, rows, closed, fails)
+) -> Option<(Result<(), BookFault>, Vec<u8>)> {
+    let mut reader = text.as_bytes();
+    let mut input = Input::new(alloc).ok()?;
+    match take_book(alloc, &mut input, &mut reader) {
+        Ok(book) => Some(print(alloc, &book, version, fails)),
+        Err(_) => None,
+    }
 }
 
-/// The same in a version, and on a base.
-fn printed_on(
+fn print(
     alloc: Global,
+    book: &PrintedBook<Global>,
     version: Version,
-    base: &Base<Global>,
-    log: &[LogRow<Global, ()>],
-    rows: &[(u64, i64)],
-    closed: &[(usize, u64)],
     fails: usize,
-) -> Result<(Vec<u8>, Result<(), BookFault>), AllocError> {
-    let tables = tables(alloc, rows)?;
-    let marks = marks(alloc, closed)?;
-    let book = BookView {
-        base,
-        log,
-        table: &tables,
-        marks: &marks,
-        low: 0,
-        tnc: 2,
-    };
+) -> (Result<(), BookFault>, Vec<u8>) {
     let mut page = Page {
         bytes: Vec::new(alloc),
         calls: 0,
         fails,
     };
-    let ended = written(
-        alloc,
-        version,
-        &mut page,
-        &schema(alloc, KeyKind::Num)?,
-        &book,
-    );
-    Ok((page.bytes, ended))
+    let ended = print_on(alloc, &mut page, book, version);
+    (ended, page.bytes)
 }
 
-fn written(
+fn print_on(
     alloc: Global,
-    version: Version,
     page: &mut Page,
-    schema: &Schema<Global>,
-    book: &BookView<'_, Global, ()>,
+    printed: &PrintedBook<Global>,
+    version: Version,
 ) -> Result<(), BookFault> {
+    let opened = printed.header.limits;
     let limits = Limits {
         version,
-        sessions: 2,
-        queue: 4,
-        keep: 8,
+        sessions: opened.sessions,
+        queue: opened.queue,
+        keep: opened.keep,
     };
     let mut output = Output::new(alloc);
-    write_readable_book(alloc, &mut output, page, limits, schema, book)?;
+    let (schema, book) = (&printed.header.schema, printed.book.view());
+    write_readable_book(alloc, &mut output, page, limits, schema, &book)?;
     match output.flush(page) {
         Ok(()) => Ok(()),
         Err(_failed) => Err(BookFault::Write),
     }
 }
 
+/// Whether a book of a version is printed as it was read.
+pub(crate) fn is_printed_again(alloc: Global, version: Version, text: &str) -> bool {
+    match printed(alloc, text, version, usize::MAX) {
+        Some((ended, bytes)) => ended == Ok(()) && bytes.as_slice() == text.as_bytes(),
+        None => false,
+    }
+}
+
+/// Whether a book is refused by this in version 1, with nothing printed of it.
+fn is_refused(alloc: Global, text: &str, fault: BookFault) -> bool {
+    match printed(alloc, text, Version::One, usize::MAX) {
+        Some((ended, bytes)) => ended == Err(fault) && bytes.is_empty(),
+        None => false,
+    }
+}
+
+/// The book of a version and of one table with these keys, whose lines behind the header are these.
+fn book(alloc: Global, version: u64, keys: &str, lines: &str) -> Result<String, AllocError> {
+    format!(in alloc; "occ {version}\nsessions 2\nqueue 4\nkeep 8\ntable t {keys} int\n{lines}")
+}
+
 /// Entry order against number order: the first row to enter finished as the second.
 const BOOK: &str =
     "occ 1\nsessions 2\nqueue 4\nkeep 8\ntable t num int\nlog 2\nrow 0 1 1 0 0 1 1 done 2\none t 1 none\nput t 2 5\nrow 1 2 1 0 0 0 1 done 1\nput t 1 9\nmarks 0\nstate 2\nat t 1 9\nat t 2 5\ncounter 2 low 0\n";
 
+/// Whether all of it is printed on a device that fails from this call on. None where what is printed is no beginning of it, or the failure
+/// isn't told.
+fn is_printed_whole(alloc: Global, fails: usize) -> Option<bool> {
+    let (ended, bytes) = printed(alloc, BOOK, Version::One, fails)?;
+    if !BOOK.as_bytes().starts_with(bytes.as_slice()) {
+        return None;
+    }
+    let is_whole = bytes.len() == BOOK.len();
+    match ended {
+        Ok(()) if is_whole => Some(true),
+        Err(BookFault::Write) if !is_whole => Some(false),
+        _ => None,
+    }
+}
+
 #[test]
 fn a_book_has_its_lines(rt: HostRuntime) -> Result<(), Fail> {
-    let alloc = rt.alloc();
-    let mut log = Vec::new(alloc);
-    let reads = reading(alloc, Question::One(object(1)), Answer::Found(None))?;
-    log.push(finished(alloc, (0, 1, 2), reads, (2, Some(5)))?)?;
-    log.push(finished(alloc, (1, 2, 1), ReadSet::new(alloc), (1, Some(9)))?)?;
-    let rows = [(2, 5), (1, 9)];
-    let mut whole = false;
-    for fails in 0..8 {
-        let (bytes, ended) = printed(alloc, log.as_slice(), &rows, &[], fails)?;
-        if ended.is_ok() {
-            assert!(rt; bytes.as_slice() == BOOK.as_bytes());
-            whole = true;
-        } else {
-            assert!(rt; ended == Err(BookFault::Write));
-            assert!(rt; BOOK.as_bytes().starts_with(bytes.as_slice()));
-        }
+    // its 187 bytes are four pieces of 50 at most
+    for fails in 0usize..8 {
+        assert_eq!(rt;
+            is_printed_whole(rt.alloc(), fails),
+            Some(fails > 3),
+            "{fails}"
+        );
     }
-    assert!(rt; whole);
     Ok(())
 }
 
 #[test]
 fn a_range_is_printed_with_its_rows(rt: HostRuntime) -> Result<(), Fail> {
-    let alloc = rt.alloc();
-    let mut pairs = Vec::new(alloc);
-    pairs.push((Key::Num(3), row(alloc, 30)?))?;
-    pairs.push((Key::Num(5), row(alloc, -50)?))?;
-    let question = Question::Span {
-        table: 0,
-        lower: Some(Key::Num(1)),
-        upper: Some(Key::Num(9)),
-    };
-    let answer = Answer::Rows(RangeRows::shared(pairs)?);
-    let reads = reading(alloc, question, answer)?;
-    let mut log = Vec::new(alloc);
-    log.push(finished(alloc, (0, 1, 1), reads, (3, None))?)?;
-    let (bytes, ended) = printed(alloc, log.as_slice(), &[], &[], usize::MAX)?;
-    assert!(rt; ended == Ok(()));
     let lines =
-        b"\nlog 1\nrow 0 1 1 0 0 1 1 done 1\nspan t 1 9 2\npair 3 30\npair 5 -50\ndel t 3\nmarks 0\nstate 0\ncounter";
-    let (_, rest) = bytes.as_slice().split_at(bytes.len().min(47));
-    assert!(rt; rest.starts_with(lines.as_slice()));
+        "log 1\nrow 0 1 1 0 0 1 1 done 1\nspan t 1 9 2\npair 3 30\npair 5 -50\ndel t 3\nmarks 0\nstate 0\ncounter 2 low 0\n";
+    let text = book(rt.alloc(), 1, "num", lines)?;
+    assert!(rt; is_printed_again(rt.alloc(), Version::One, text.as_str()));
     Ok(())
 }
 
-// What the printing of a book in a version answers that has a range with these ends, and what it wrote.
-fn with_range(
-    alloc: Global,
-    version: Version,
-    lower: Option<u64>,
-    upper: Option<u64>,
-) -> Result<(Result<(), BookFault>, Vec<u8>), AllocError> {
-    let question = Question::Span {
-        table: 0,
-        lower: lower.map(|key| Key::Num(key)),
-        upper: upper.map(|key| Key::Num(key)),
-    };
-    let answer = Answer::Rows(RangeRows::shared(Vec::new(alloc))?);
-    let reads = reading(alloc, question, answer)?;
-    let mut log = Vec::new(alloc);
-    log.push(finished(alloc, (0, 1, 1), reads, (3, None))?)?;
-    let base = nothing_folded(alloc)?;
-    let (bytes, ended) = printed_on(alloc, version, &base, log.as_slice(), &[], &[], usize::MAX)?;
-    Ok((ended, bytes))
+/// A book of a version that has a range with these ends.
+fn with_range(alloc: Global, version: u64, ends: &str) -> Result<String, AllocError> {
+    let lines = format!(in alloc;
+        "log 1\nrow 0 1 1 0 0 1 1 done 1\nspan t {ends} 0\ndel t 3\nmarks 0\nstate 0\ncounter 2 low 0\n"
+    )?;
+    book(alloc, version, "num", lines.as_str())
 }
 
 #[test]
 fn a_range_with_a_missing_end_is_not_printed_in_version_1(rt: HostRuntime) -> Result<(), Fail> {
-    let alloc = rt.alloc();
-    for (lower, upper) in [(None, Some(9)), (Some(1), None), (None, None)] {
-        let (ended, bytes) = with_range(alloc, Version::One, lower, upper)?;
-        assert!(rt; ended == Err(BookFault::MissingEnd) && bytes.is_empty());
+    for ends in "* 9|1 *|* *".split('|') {
+        let text = with_range(rt.alloc(), 2, ends)?;
+        let is_refused = is_refused(rt.alloc(), text.as_str(), BookFault::MissingEnd);
+        assert!(rt; is_refused, "{ends}");
     }
-    let (ended, bytes) = with_range(alloc, Version::One, Some(1), Some(9))?;
-    assert!(rt; ended == Ok(()) && bytes.as_slice().starts_with(b"occ 1\n"));
+    Ok(())
+}
+
+#[test]
+fn a_range_with_both_ends_is_printed_in_version_1(rt: HostRuntime) -> Result<(), Fail> {
+    let text = with_range(rt.alloc(), 1, "1 9")?;
+    assert!(rt; is_printed_again(rt.alloc(), Version::One, text.as_str()));
     Ok(())
 }
 
 #[test]
 fn a_missing_end_is_a_star_in_version_2(rt: HostRuntime) -> Result<(), Fail> {
-    let alloc = rt.alloc();
-    for (lower, upper, ends) in [
-        (None, Some(9), "* 9"),
-        (Some(1), None, "1 *"),
-        (None, None, "* *"),
-        (Some(1), Some(9), "1 9"),
-    ] {
-        let (ended, bytes) = with_range(alloc, Version::Two, lower, upper)?;
-        let text = format!(in alloc;
-            "occ 2\nsessions 2\nqueue 4\nkeep 8\ntable t num int\nlog 1\nrow 0 1 1 0 0 1 1 done 1\nspan t {ends} 0\ndel t 3\nmarks 0\nstate 0\ncounter 2 low 0\n"
-        )?;
-        assert!(rt; ended == Ok(()) && bytes.as_slice() == text.as_bytes());
+    for ends in "* 9|1 *|* *|1 9".split('|') {
+        let text = with_range(rt.alloc(), 2, ends)?;
+        let is_same = is_printed_again(rt.alloc(), Version::Two, text.as_str());
+        assert!(rt; is_same, "{ends}");
     }
     Ok(())
 }
 
-// What the printing of an empty book in a version answers, where its table has keys of two parts.
-fn with_pairs(
-    alloc: Global,
-    version: Version,
-) -> Result<(Result<(), BookFault>, Vec<u8>), AllocError> {
-    let (base, tables, marks) = (
-        nothing_folded(alloc)?,
-        tables(alloc, &[])?,
-        marks(alloc, &[])?,
-    );
-    let book = BookView::<Global, ()> {
-        base: &base,
-        log: &[],
-        table: &tables,
-        marks: &marks,
-        low: 0,
-        tnc: 0,
-    };
-    let mut page = Page {
-        bytes: Vec::new(alloc),
-        calls: 0,
-        fails: usize::MAX,
-    };
-    let schema = schema(alloc, KeyKind::Pair(PartKind::Text, PartKind::Num))?;
-    let ended = written(alloc, version, &mut page, &schema, &book);
-    Ok((ended, page.bytes))
-}
-
 #[test]
 fn keys_of_two_parts_are_not_printed_in_version_1(rt: HostRuntime) -> Result<(), Fail> {
-    let alloc = rt.alloc();
-    let (ended, bytes) = with_pairs(alloc, Version::One)?;
-    assert!(rt; ended == Err(BookFault::PairKeys) && bytes.is_empty());
-    let (ended, bytes) = with_pairs(alloc, Version::Two)?;
-    let text =
-        b"occ 2\nsessions 2\nqueue 4\nkeep 8\ntable t text+num int\nlog 0\nmarks 0\nstate 0\ncounter 0 low 0\n";
-    assert!(rt; ended == Ok(()) && bytes.as_slice() == text.as_slice());
+    let lines = "log 0\nmarks 0\nstate 0\ncounter 0 low 0\n";
+    let text = book(rt.alloc(), 2, "text+num", lines)?;
+    assert!(rt; is_refused(rt.alloc(), text.as_str(), BookFault::PairKeys));
+    assert!(rt; is_printed_again(rt.alloc(), Version::Two, text.as_str()));
     Ok(())
 }
 
 #[test]
 fn marks_are_printed_by_session(rt: HostRuntime) -> Result<(), Fail> {
-    let alloc = rt.alloc();
-    let (bytes, ended) = printed(alloc, &[], &[], &[(2, 5)], usize::MAX)?;
-    assert!(rt; ended == Ok(()));
-    let one =
-        b"occ 1\nsessions 2\nqueue 4\nkeep 8\ntable t num int\nlog 0\nmarks 1\nmark 2 5\nstate 0\ncounter 2 low 0\n";
-    assert!(rt; bytes.as_slice() == one.as_slice());
-    let (bytes, ended) = printed(alloc, &[], &[], &[(2, 5), (1, 7)], usize::MAX)?;
-    assert!(rt; ended == Ok(()));
-    let both =
-        b"occ 1\nsessions 2\nqueue 4\nkeep 8\ntable t num int\nlog 0\nmarks 2\nmark 1 7\nmark 2 5\nstate 0\ncounter 2 low 0\n";
-    assert!(rt; bytes.as_slice() == both.as_slice());
+    for marks in "1\nmark 2 5|2\nmark 1 7\nmark 2 5".split('|') {
+        let lines = format!(in rt.alloc(); "log 0\nmarks {marks}\nstate 0\ncounter 2 low 0\n")?;
+        let text = book(rt.alloc(), 1, "num", lines.as_str())?;
+        let is_same = is_printed_again(rt.alloc(), Version::One, text.as_str());
+        assert!(rt; is_same, "{marks}");
+    }
     Ok(())
 }
 
 #[test]
 fn a_base_is_printed_behind_the_header(rt: HostRuntime) -> Result<(), Fail> {
-    let alloc = rt.alloc();
-    let state = tables(alloc, &[(9, 3), (4, -1)])?;
-    let base = Base::from_parts(state, marks(alloc, &[(2, 6), (1, 2)])?, 8);
-    let (bytes, ended) = printed_on(
-        alloc,
-        Version::One,
-        &base,
-        &[],
-        &[(4, -1)],
-        &[(2, 7)],
-        usize::MAX,
-    )?;
-    assert!(rt; ended == Ok(()));
-    let text =
-        b"occ 1\nsessions 2\nqueue 4\nkeep 8\ntable t num int\nbase 8 2 2\nlast 1 2\nlast 2 6\nfrom t 4 -1\nfrom t 9 3\nlog 0\nmarks 1\nmark 2 7\nstate 1\nat t 4 -1\ncounter 2 low 0\n";
-    assert!(rt; bytes.as_slice() == text.as_slice());
+    let lines =
+        "base 8 2 2\nlast 1 2\nlast 2 6\nfrom t 4 -1\nfrom t 9 3\nlog 0\nmarks 1\nmark 2 7\nstate 1\nat t 4 -1\ncounter 2 low 0\n";
+    let text = book(rt.alloc(), 1, "num", lines)?;
+    assert!(rt; is_printed_again(rt.alloc(), Version::One, text.as_str()));
     Ok(())
 }
 
 #[test]
 fn a_base_of_rows_that_were_backed_up_has_no_rows(rt: HostRuntime) -> Result<(), Fail> {
-    let alloc = rt.alloc();
-    let base = Base::from_parts(tables(alloc, &[])?, marks(alloc, &[(2, 1)])?, 1);
-    let (bytes, ended) = printed_on(alloc, Version::One, &base, &[], &[], &[], usize::MAX)?;
-    assert!(rt; ended == Ok(()));
-    let text =
-        b"occ 1\nsessions 2\nqueue 4\nkeep 8\ntable t num int\nbase 1 1 0\nlast 2 1\nlog 0\nmarks 0\nstate 0\ncounter 2 low 0\n";
-    assert!(rt; bytes.as_slice() == text.as_slice());
+    let lines = "base 1 1 0\nlast 2 1\nlog 0\nmarks 0\nstate 0\ncounter 2 low 0\n";
+    let text = book(rt.alloc(), 1, "num", lines)?;
+    assert!(rt; is_printed_again(rt.alloc(), Version::One, text.as_str()));
     Ok(())
 }

@@ -1,11 +1,9 @@
 //! Books of one row with many reads and writes.
 
-use occ_print::books::write_book;
+use crate::print::is_printed_again;
 use occ_reading::audit_text;
-use occ_reading::whole_books::take_book;
-use occ_text::input::Input;
-use occ_text::output::Output;
 use occ_text::trouble::Trouble;
+use occ_text::versions::Version;
 use std::alloc::{AllocError, Global};
 use std::test::Fail;
 
@@ -28,37 +26,12 @@ fn of_one_row(alloc: Global, reads: u64, writes: u64) -> Result<String, AllocErr
     Ok(text)
 }
 
-/// What is printed of a book that was read, or nothing where it can't be read.
-fn printed_again(alloc: Global, text: &str) -> Option<Vec<u8>> {
-    let mut reader = text.as_bytes();
-    let mut input = Input::new(alloc).ok()?;
-    let Ok(printed) = take_book(alloc, &mut input, &mut reader) else {
-        return None;
-    };
-    let mut written = Vec::new(alloc);
-    let mut output = Output::new(alloc);
-    write_book(
-        alloc,
-        &mut output,
-        &mut written,
-        printed.header.limits,
-        &printed.header.schema,
-        &printed.book.view(),
-    )
-    .ok()?;
-    output.flush(&mut written).ok()?;
-    Some(written)
-}
-
 /// Whether a book is right, and is printed again as it was.
 fn is_taken_whole(alloc: Global, text: &str) -> bool {
     let mut reader = text.as_bytes();
     let mut told = Vec::new(alloc);
     let verdict = audit_text(alloc, &mut reader, &mut told);
-    match printed_again(alloc, text) {
-        Some(again) => verdict == Ok(true) && again.as_slice() == text.as_bytes(),
-        None => false,
-    }
+    verdict == Ok(true) && is_printed_again(alloc, Version::One, text)
 }
 
 #[test]
