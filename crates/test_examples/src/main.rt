@@ -1,28 +1,34 @@
-//! Replays each example, and tells of each how it ended, whether its text is the one that lies beside it, and what the audit of its book says. Then it tries lines that are malformed, and audits books that lie there alone, and some with one change each. At last it goes over the examples and the books again, each time with one request for memory refused.
+//! Replays each example, and tells of each how it ended, whether its text is the one that lies beside it, and what the audit of its book says. Then it tries lines that are malformed, audits books that lie there alone, and some with one change each, cuts schedules anywhere, and replays them over devices that fail. It tells what the laboratory says of texts that are spoiled, and whether it draws the pictures that lie there. At last it goes over the examples and the books again, each time with one request for memory refused.
 #![tactic(auto)]
 
 mod altered;
-#[cfg(test)]
-mod attack_tests;
-#[cfg(test)]
-mod device_tests;
-#[cfg(test)]
-mod limit_tests;
-mod loads;
+mod cuts;
+mod devices;
+mod limits;
+mod pictures;
+mod refusals;
 mod refused;
+mod shells;
+mod slips;
+mod spoiled;
+mod summaries;
 
 use altered::{tell_changed_schedule, tell_changes, tell_lines};
-use loads::{LOADS, tell_load};
+use cuts::tell_cuts;
+use devices::tell_devices;
+use limits::tell_limits;
 use occ_cli::{audit_text, replay_text, status_of};
-use refused::{Case, Engine, Tried, refuse_in_turn};
+use pictures::tell_pictures;
+use refusals::tell_refusals;
+use shells::tell_shells;
+use slips::tell_explanations;
+use spoiled::tell_spoiled;
 use std::process::ExitCode;
-use std::sync::Wait;
-use std::thread::Threads;
-use std::time::Clock;
 use std::{fs, io};
+use summaries::tell_run;
 
 /// The schedules, each in a file `NAME.occ` with its text in `NAME.out`.
-const EXAMPLES: [&str; 40] = [
+const EXAMPLES: &[&str] = &[
     "abandoned-and-begun-anew",
     "alone-reads-its-own-writes",
     "alone-while-another-writes",
@@ -66,7 +72,7 @@ const EXAMPLES: [&str; 40] = [
 ];
 
 /// Further schedules of that kind, which are replayed with ample memory alone.
-const OTHERS: [&str; 30] = [
+const OTHERS: &[&str] = &[
     "alone-sees-its-own-deletions",
     "backed-up-row-is-folded",
     "carriage-return",
@@ -100,17 +106,17 @@ const OTHERS: [&str; 30] = [
 ];
 
 /// Lines that are malformed, in files `NAME.lines`, each tried behind the schedule `NAME.occ`, whose answers are in `NAME.out`.
-const MALFORMED: [&str; 3] = [
+const MALFORMED: &[&str] = &[
     "malformed-lines",
     "malformed-lines-of-version-two",
     "malformed-texts",
 ];
 
 /// The books, each in a file `NAME.book`.
-const BOOKS: [&str; 3] = ["changed-base", "changed-book", "unchanged-book"];
+const BOOKS: &[&str] = &["changed-base", "changed-book", "unchanged-book"];
 
 /// Books, each in a file `NAME.book`, that are audited with each change of `NAME.changes`.
-const CHANGED_BOOKS: [&str; 12] = [
+const CHANGED_BOOKS: &[&str] = &[
     "histories/answered-late",
     "histories/answered-late-searched",
     "histories/lost-append",
@@ -126,15 +132,25 @@ const CHANGED_BOOKS: [&str; 12] = [
 ];
 
 fn main(rt: HostRuntime) -> ExitCode {
-    match tell_all(&rt, &rt) {
+    match tell_all(&rt) {
         Ok(()) => ExitCode::SUCCESS,
         Err(_) => ExitCode::FAILURE,
     }
 }
 
-/// Prints a line for each example, one for each book and one for each workload, and then what came of the examples and the books where
-/// memory was refused. The second handle is the same as the first, for what starts threads and waits.
-fn tell_all<H: Threads + Wait + Clock + Sync>(rt: &HostRuntime, threads: &H) -> io::Result<()> {
+/// Prints what came of replays and audits, of words and pictures, and of the examples and the books where memory was refused.
+fn tell_all(rt: &HostRuntime) -> io::Result<()> {
+    tell_examples(rt)?;
+    tell_books(rt)?;
+    tell_cuts(rt)?;
+    tell_devices(rt)?;
+    tell_limits(rt)?;
+    tell_words(rt)?;
+    tell_refusals(rt, EXAMPLES, BOOKS)
+}
+
+/// Prints a line for each example, and for each file of malformed lines.
+fn tell_examples(rt: &HostRuntime) -> io::Result<()> {
     for name in EXAMPLES {
         tell(rt, name)?;
     }
@@ -144,32 +160,27 @@ fn tell_all<H: Threads + Wait + Clock + Sync>(rt: &HostRuntime, threads: &H) -> 
     for name in MALFORMED {
         tell_lines(rt, name)?;
     }
-    tell_changed_schedule(rt, "no-step-of-one-session")?;
+    tell_changed_schedule(rt, "no-step-of-one-session")
+}
+
+/// Prints a line for each book.
+fn tell_books(rt: &HostRuntime) -> io::Result<()> {
     for name in BOOKS {
         tell_book(rt, name)?;
     }
     for name in CHANGED_BOOKS {
         tell_changes(rt, name)?;
     }
-    for name in LOADS {
-        tell_load(rt, threads, name)?;
-    }
-    tell_refusals(rt)
+    Ok(())
 }
 
-/// Prints a line for each replay and each audit of an example, and for each audit of a book: how many requests for memory it makes,
-/// how many of them were refused in turn, and how many of those runs came to their end all the same. The last line has the sum of the
-/// refused ones.
-fn tell_refusals(rt: &HostRuntime) -> io::Result<()> {
-    let mut sum = 0u64;
-    for name in EXAMPLES {
-        sum = sum.saturating_add(refuse_to_example(rt, name)?);
-    }
-    for name in BOOKS {
-        let book = fs::read_to_string(rt, format!(in rt.alloc(); "{name}.book")?.as_str())?;
-        sum = sum.saturating_add(refuse_to_audit(rt, name, book.as_bytes())?);
-    }
-    println!(rt; "{sum} requests refused")
+/// Prints what is said in words, and of the pictures.
+fn tell_words(rt: &HostRuntime) -> io::Result<()> {
+    tell_explanations(rt)?;
+    tell_spoiled(rt)?;
+    tell_shells(rt)?;
+    tell_run(rt)?;
+    tell_pictures(rt)
 }
 
 /// Prints the line of one example.
@@ -217,60 +228,4 @@ fn tell_book(rt: &HostRuntime, name: &str) -> io::Result<()> {
         Err(_) => "",
     };
     println!(rt; "{name}: {line}, status {}", status_of(&ended))
-}
-
-/// Refuses the requests of a replay in turn, and those of the audit of its book. The answer is how many were refused.
-fn refuse_to_example(rt: &HostRuntime, name: &str) -> io::Result<u64> {
-    let schedule = fs::read_to_string(rt, format!(in rt.alloc(); "{name}.occ")?.as_str())?;
-    let wanted = fs::read_to_string(rt, format!(in rt.alloc(); "{name}.out")?.as_str())?;
-    let mut reader = schedule.as_bytes();
-    let mut book = Vec::new(rt.alloc());
-    let ended = replay_text(rt.alloc(), &mut reader, &mut book, true);
-    let case = Case {
-        engine: Engine::Replay,
-        text: schedule.as_bytes(),
-        ended: ended.map(|()| true),
-        written: wanted.as_bytes(),
-    };
-    let refused = refuse_to(rt, name, "replay", case)?;
-    if ended.is_err() {
-        return Ok(refused);
-    }
-    Ok(refused.saturating_add(refuse_to_audit(rt, name, book.as_slice())?))
-}
-
-/// Refuses the requests of the audit of a book in turn. The answer is how many were refused.
-fn refuse_to_audit(rt: &HostRuntime, name: &str, book: &[u8]) -> io::Result<u64> {
-    let mut reader = book;
-    let mut written = Vec::new(rt.alloc());
-    let ended = audit_text(rt.alloc(), &mut reader, &mut written);
-    let case = Case {
-        engine: Engine::Audit,
-        text: book,
-        ended,
-        written: written.as_slice(),
-    };
-    refuse_to(rt, name, "audit", case)
-}
-
-/// Refuses the requests of a case in turn, and prints its line.
-fn refuse_to(rt: &HostRuntime, name: &str, what: &str, case: Case) -> io::Result<u64> {
-    match refuse_in_turn(rt.alloc(), case) {
-        Ok(
-            Tried {
-                requests,
-                refused,
-                whole,
-            },
-        ) => {
-            println!(rt;
-                "{name}, {what}: {refused} of {requests} requests refused in turn, {whole} to the end"
-            )?;
-            Ok(refused)
-        }
-        Err((place, flaw)) => {
-            println!(rt; "{name}, {what}: request {place} refused, {flaw}")?;
-            Ok(0)
-        }
-    }
 }

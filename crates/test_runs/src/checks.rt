@@ -65,16 +65,25 @@ fn is_right<H: Threads + Wait + Clock + Sync>(
 fn adds_up(text: &str, told: &str) -> bool {
     let transactions = starting(text, "txn ");
     let sessions = starting(told, "session ");
-    let committed = told.lines().filter(|line| line.contains(" done ")).count();
-    let mut refused = 0usize;
-    for line in told.lines() {
-        if line.starts_with("session ") {
-            refused = refused.saturating_add(last_number(line));
-        }
-    }
-    committed.saturating_add(refused) == transactions
+    committed(told).saturating_add(refused(told)) == transactions
         && starting(told, "mark ") == sessions
         && told.ends_with("audit yes\n")
+}
+
+/// How many transactions a run told of as committed.
+pub(crate) fn committed(told: &str) -> usize {
+    told.lines().filter(|line| line.contains(" done ")).count()
+}
+
+/// How many transactions of all sessions a run told of as refused.
+pub(crate) fn refused(told: &str) -> usize {
+    let mut sum = 0usize;
+    for line in told.lines() {
+        if line.starts_with("session ") {
+            sum = sum.saturating_add(last_number(line));
+        }
+    }
+    sum
 }
 
 // How many lines begin with a word.

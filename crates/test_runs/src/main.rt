@@ -3,6 +3,7 @@
 #![tactic(auto)]
 
 mod checks;
+mod loads;
 mod malformed;
 mod random;
 mod refusals;
@@ -29,6 +30,7 @@ fn tell<H: Threads + Wait + Clock + Sync>(rt: &HostRuntime, threads: &H) -> io::
     if let [_, count] = words.as_slice() {
         return random::tell(rt, threads, count.as_str().parse().unwrap_or(0));
     }
+    loads::tell(rt, threads)?;
     random::tell(rt, threads, COUNT)?;
     random::tell_hard(rt, threads)?;
     random::tell_most(rt, threads)?;

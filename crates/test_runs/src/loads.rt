@@ -1,5 +1,6 @@
-//! Runs each example of a workload, and tells of it what is the same whatever its threads do.
+//! The workloads that lie beside the program, and what of each run is the same whatever its threads do.
 
+use crate::checks::{committed, refused};
 use occ_run::{Ran, run_text};
 use std::alloc::Global;
 use std::sync::Wait;
@@ -8,7 +9,7 @@ use std::time::Clock;
 use std::{fs, io, str};
 
 /// The workloads, each in a file `NAME.load`.
-pub(crate) const LOADS: [&str; 6] = [
+const LOADS: [&str; 6] = [
     "backed-up-often",
     "bank",
     "hot-counter",
@@ -17,9 +18,20 @@ pub(crate) const LOADS: [&str; 6] = [
     "refused-operations",
 ];
 
-/// Prints the line of a workload: how many of its transactions committed and how many were refused, the sum of all whole numbers in the
-/// tables at its end, and what the audit says.
-pub(crate) fn tell_load<H: Threads + Wait + Clock + Sync>(
+/// Prints the line of each workload.
+pub(crate) fn tell<H: Threads + Wait + Clock + Sync>(
+    rt: &HostRuntime,
+    threads: &H,
+) -> io::Result<()> {
+    for name in LOADS {
+        tell_load(rt, threads, name)?;
+    }
+    Ok(())
+}
+
+// Prints the line of a workload: how many of its transactions committed and how many were refused, the sum of all whole numbers in the
+// tables at its end, and what the audit says.
+fn tell_load<H: Threads + Wait + Clock + Sync>(
     rt: &HostRuntime,
     threads: &H,
     name: &str,
@@ -27,7 +39,7 @@ pub(crate) fn tell_load<H: Threads + Wait + Clock + Sync>(
     let text = fs::read_to_string(rt, format!(in rt.alloc(); "{name}.load")?.as_str())?;
     let told = ran(rt, threads, text.as_str(), false)?;
     let book = ran(rt, threads, text.as_str(), true)?;
-    let committed = lines_with(told.as_str(), " done ");
+    let committed = committed(told.as_str());
     let refused = refused(told.as_str());
     let sum = sum_of(book.as_str());
     let audit = told.as_str().trim_end().rsplit('\n').next().unwrap_or("");
@@ -53,35 +65,12 @@ fn ran<H: Threads + Wait + Clock + Sync>(
     }
 }
 
-// How many lines have a word in them.
-fn lines_with(text: &str, word: &str) -> usize {
-    text.lines().filter(|line| line.contains(word)).count()
-}
-
-// How many transactions of all sessions were refused.
-fn refused(told: &str) -> u64 {
-    let mut sum = 0u64;
-    for line in told.lines() {
-        if line.starts_with("session ") {
-            sum = sum.saturating_add(last_number(line).unsigned_abs());
-        }
-    }
-    sum
-}
-
 // The sum of the whole numbers at the ends of the lines of rows in a book.
 fn sum_of(book: &str) -> i64 {
     let mut sum = 0i64;
-    for line in book.lines() {
-        if line.starts_with("at ") {
-            sum = sum.saturating_add(last_number(line));
-        }
+    for line in book.lines().filter(|line| line.starts_with("at ")) {
+        let number = line.rsplit(' ').next().unwrap_or("");
+        sum = sum.saturating_add(number.parse::<i64>().unwrap_or(0));
     }
     sum
-}
-
-// The whole number at the end of a line, 0 where none stands there.
-fn last_number(line: &str) -> i64 {
-    let word = line.rsplit(' ').next().unwrap_or("");
-    word.parse().unwrap_or(0)
 }

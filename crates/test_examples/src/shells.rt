@@ -6,10 +6,10 @@ use std::alloc::{AllocError, Global};
 use std::{fs, io};
 
 /// Sessions, each in a file `NAME.shell` with what is told in `NAME.told`.
-const SESSIONS: [&str; 3] = ["slips", "words", "cut"];
+const SESSIONS: [&str; 3] = ["words/slips", "words/words", "words/cut"];
 
 /// Schedules that are put to a shell whole.
-const SCHEDULES: [&str; 3] = ["schedule.occ", "faults.occ", "backed.occ"];
+const SCHEDULES: [&str; 3] = ["words/schedule.occ", "words/faults.occ", "words/backed.occ"];
 
 /// Tells where a shell doesn't tell what it is to, and where its answers aren't those of a replay; and how many sessions there were.
 pub(crate) fn tell_shells(rt: &HostRuntime) -> io::Result<()> {

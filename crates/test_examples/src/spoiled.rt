@@ -6,6 +6,9 @@ use occ_words::telling::{Style, Told};
 use std::alloc::{AllocError, Global};
 use std::{fs, io, str};
 
+/// Books of which each digit is spoiled in turn.
+const BOOKS: [&str; 2] = ["words/book.book", "words/standings.book"];
+
 /// What came of the books that were spoiled.
 #[derive(Clone, Copy, Debug)]
 struct Counts {
@@ -19,8 +22,16 @@ struct Counts {
     apart: u64,
 }
 
+/// Spoils the books, and tells what came of each.
+pub(crate) fn tell_spoiled(rt: &HostRuntime) -> io::Result<()> {
+    for file in BOOKS {
+        spoil(rt, file)?;
+    }
+    Ok(())
+}
+
 /// Spoils each digit of a book by other ones, and tells what came of that.
-pub(crate) fn tell_spoiled(rt: &HostRuntime, file: &str) -> io::Result<()> {
+fn spoil(rt: &HostRuntime, file: &str) -> io::Result<()> {
     let mut book = fs::read(rt, file)?;
     let mut counts = Counts {
         tried: 0,

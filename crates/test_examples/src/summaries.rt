@@ -5,7 +5,7 @@ use std::{fs, io};
 
 /// Tells what would be told of a run with this book.
 pub(crate) fn tell_run(rt: &HostRuntime) -> io::Result<()> {
-    let book = fs::read(rt, "book.book")?;
+    let book = fs::read(rt, "words/book.book")?;
     let summary = Summary {
         took: 1_250_000,
         ends: ends_of(book.as_slice()),

@@ -1,55 +1,32 @@
-//! Spoils texts at one place each, and tells where the first line of what is wrong with them isn't the one that is wanted. Then it spoils each number of some books, and tells where the explanation and the audit don't agree.
-#![tactic(auto)]
-
-mod shells;
-mod spoiled;
-mod summaries;
+//! Texts that are spoiled at one place each, and the first line that is told of each.
 
 use occ_words::explaining::explain_text;
 use occ_words::telling::{Style, Told};
-use shells::tell_shells;
-use spoiled::tell_spoiled;
 use std::alloc::{AllocError, Global};
-use std::process::ExitCode;
 use std::{fs, io, str};
-use summaries::tell_run;
 
 /// Texts, each with its slips in the file `NAME.slips`.
 const TEXTS: [(&str, &str); 5] = [
-    ("schedule", "schedule.occ"),
-    ("faults", "faults.occ"),
-    ("many", "many.occ"),
-    ("backed", "backed.occ"),
-    ("book", "book.book"),
+    ("words/schedule", "words/schedule.occ"),
+    ("words/faults", "words/faults.occ"),
+    ("words/many", "words/many.occ"),
+    ("words/backed", "words/backed.occ"),
+    ("words/book", "words/book.book"),
 ];
 
-/// Books of which each digit is spoiled in turn.
-const BOOKS: [&str; 2] = ["book.book", "standings.book"];
-
-fn main(rt: HostRuntime) -> ExitCode {
-    match tell_all(&rt) {
-        Ok(()) => ExitCode::SUCCESS,
-        Err(_) => ExitCode::FAILURE,
-    }
-}
-
-fn tell_all(rt: &HostRuntime) -> io::Result<()> {
+/// Tries the slips of each text, and prints what is told of a schedule, and of a book as an object.
+pub(crate) fn tell_explanations(rt: &HostRuntime) -> io::Result<()> {
     for (name, file) in TEXTS {
         tell_slips(rt, name, file)?;
     }
     tell_schedule(rt)?;
-    tell_objects(rt)?;
-    for file in BOOKS {
-        tell_spoiled(rt, file)?;
-    }
-    tell_shells(rt)?;
-    tell_run(rt)
+    tell_objects(rt)
 }
 
 /// Tells of a wrong read as an object.
 fn tell_objects(rt: &HostRuntime) -> io::Result<()> {
     let alloc = rt.alloc();
-    let text = fs::read_to_string(rt, "book.book")?;
+    let text = fs::read_to_string(rt, "words/book.book")?;
     let spoiled = text.replacen(alloc, "one t 7 1", "one t 7 none", 1)?;
     let written = explained(alloc, spoiled.as_str(), Style::Json)?;
     print!(rt; "{written}")
@@ -57,7 +34,7 @@ fn tell_objects(rt: &HostRuntime) -> io::Result<()> {
 
 /// Tells of a schedule all that is told of it.
 fn tell_schedule(rt: &HostRuntime) -> io::Result<()> {
-    let text = fs::read_to_string(rt, "backed.occ")?;
+    let text = fs::read_to_string(rt, "words/backed.occ")?;
     let written = explained(rt.alloc(), text.as_str(), Style::Text)?;
     print!(rt; "{written}")
 }
