@@ -1,9 +1,11 @@
-//! Replays each example, and tells of each how it ended, whether its text is the one that lies beside it, and what the audit of its book says. Then it tries lines that are malformed, audits books that lie there alone, and some with one change each, cuts schedules anywhere, and replays them over devices that fail. It tells what the laboratory says of texts that are spoiled, and whether it draws the pictures that lie there. At last it goes over the examples and the books again, each time with one request for memory refused.
+//! Replays each example, and tells of each how it ended, whether its text is the one that lies beside it, and what the audit of its book says. Then it tries lines that are malformed, audits books that lie there alone, and some with one change each, cuts schedules anywhere, and replays them over devices that fail. It tells what the laboratory says of texts that are spoiled, and whether it draws the pictures that lie there. At last it goes over the examples and the books again, each time with one request for memory refused, and makes the calls again that wanted it.
 #![tactic(auto)]
 
+mod again;
 mod altered;
 mod cuts;
 mod devices;
+mod handed_back;
 mod limits;
 mod pictures;
 mod refusals;
@@ -16,6 +18,7 @@ mod summaries;
 use altered::{tell_changed_schedule, tell_changes, tell_lines};
 use cuts::tell_cuts;
 use devices::tell_devices;
+use handed_back::tell_handed_back;
 use limits::tell_limits;
 use occ_cli::{audit_text, replay_text, status_of};
 use pictures::tell_pictures;
@@ -56,6 +59,7 @@ const EXAMPLES: &[&str] = &[
     "phantom-in-a-range",
     "range-too-large",
     "read-between-two-writes",
+    "reads-of-a-whole-table",
     "refusals",
     "refused-alone",
     "refused-serial-ends",
@@ -66,8 +70,10 @@ const EXAMPLES: &[&str] = &[
     "too-old",
     "torn-line",
     "upper-end-of-a-range",
+    "what-takes-no-memory",
     "what-waits-to-run-alone",
     "whole-tables",
+    "whole-transactions-at-once",
     "write-phase-left-open",
 ];
 
@@ -146,7 +152,8 @@ fn tell_all(rt: &HostRuntime) -> io::Result<()> {
     tell_devices(rt)?;
     tell_limits(rt)?;
     tell_words(rt)?;
-    tell_refusals(rt, EXAMPLES, BOOKS)
+    tell_refusals(rt, EXAMPLES, BOOKS)?;
+    tell_handed_back(rt)
 }
 
 /// Prints a line for each example, and for each file of malformed lines.

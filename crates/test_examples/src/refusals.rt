@@ -1,12 +1,13 @@
 //! The examples and the books once more, each time with one request for memory refused.
 
+use crate::again::{Repeated, repeat};
 use crate::refused::{Case, Engine, Tried, refuse_in_turn};
 use occ_cli::{audit_text, replay_text};
 use std::{fs, io};
 
 /// Prints a line for each replay and each audit of an example, and for each audit of a book: how many requests for memory it makes,
-/// how many of them were refused in turn, and how many of those runs came to their end all the same. The last line has the
-/// sum of the requests that were refused.
+/// how many of them were refused in turn, and how many of those runs came to their end all the same. Behind those of an example stands
+/// what came of its calls that were made again. The last line has the sum of the requests that were refused.
 pub(crate) fn tell_refusals(rt: &HostRuntime, examples: &[&str], books: &[&str]) -> io::Result<()> {
     let mut sum = 0u64;
     for name in examples {
@@ -19,7 +20,7 @@ pub(crate) fn tell_refusals(rt: &HostRuntime, examples: &[&str], books: &[&str])
     println!(rt; "{sum} requests refused")
 }
 
-/// Refuses the requests of a replay in turn, and those of the audit of its book. The answer is how many were refused.
+/// Refuses the requests of a replay in turn, those of the audit of its book, and those of its calls. The answer is how many were refused.
 fn refuse_to_example(rt: &HostRuntime, name: &str) -> io::Result<u64> {
     let schedule = fs::read_to_string(rt, format!(in rt.alloc(); "{name}.occ")?.as_str())?;
     let wanted = fs::read_to_string(rt, format!(in rt.alloc(); "{name}.out")?.as_str())?;
@@ -37,7 +38,8 @@ fn refuse_to_example(rt: &HostRuntime, name: &str) -> io::Result<u64> {
         return Ok(refused);
     }
     let audit = refuse_to_audit(rt, name, book.as_slice())?;
-    Ok(refused.saturating_add(audit))
+    let again = refuse_to_calls(rt, name, schedule.as_bytes(), wanted.as_bytes())?;
+    Ok(refused.saturating_add(audit).saturating_add(again))
 }
 
 /// Refuses the requests of the audit of a book in turn. The answer is how many were refused.
@@ -74,4 +76,22 @@ fn refuse_to(rt: &HostRuntime, name: &str, what: &str, case: Case) -> io::Result
             Ok(0)
         }
     }
+}
+
+/// Refuses the requests of the calls of a replay in turn, makes these calls again, and prints the line of that.
+fn refuse_to_calls(rt: &HostRuntime, name: &str, schedule: &[u8], text: &[u8]) -> io::Result<u64> {
+    let Some(repeated) = repeat(rt.alloc(), schedule, text) else {
+        println!(rt; "{name}, calls: another text")?;
+        return Ok(0);
+    };
+    let Repeated {
+        requests,
+        again,
+        calls,
+        starved,
+    } = repeated;
+    println!(rt;
+        "{name}, calls: {requests} requests refused in turn, {again} calls made again; {starved} of {calls} want memory"
+    )?;
+    Ok(requests)
 }
