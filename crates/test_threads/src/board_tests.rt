@@ -57,43 +57,30 @@ fn settle(publisher: &mut Publisher<Global>, session: usize, status: Verdict) ->
     true
 }
 
-// A commit and a back-up of one session, then a commit of another. The first session's seat sees each.
+fn told(number: u64, status: Option<Verdict>, tn: u64) -> Last {
+    Last { number, status, tn }
+}
+
+// A commit and a back-up of one session, then a commit of another. Whether the first session's seat sees each.
+fn sees_each(publisher: &mut Publisher<Global>, seat: &mut Seat<Global>) -> bool {
+    let (commit, conflict) = (Verdict::Commit, Verdict::BackUp(Cause::Conflict));
+    let nothing = seat.start() == 0 && seat.last() == told(0, None, 0);
+    let first = settle(publisher, 1, commit)
+        && seat.start() == 1
+        && seat.last() == told(1, Some(commit), 1);
+    let both = settle(publisher, 1, conflict) && settle(publisher, 2, commit);
+    let second = seat.start() == 2 && seat.last() == told(2, Some(conflict), 1);
+    nothing && first && both && second
+}
+
 #[test]
 fn a_seat_sees_what_was_stored(rt: HostRuntime) -> Result<(), Fail> {
     let (mut publisher, mut seats) = Board::new(rt.alloc(), 2)?;
-    let (_, Some(mut seat)) = (seats.pop(), seats.pop()) else {
-        return Ok(assert!(rt; false));
+    let right = match seats.get_mut(0) {
+        Some(seat) => sees_each(&mut publisher, seat),
+        None => false,
     };
-    assert!(rt;
-        seat.start() == 0
-            && seat.last()
-                == Last {
-                    number: 0,
-                    status: None,
-                    tn: 0
-                }
-    );
-    assert!(rt; settle(&mut publisher, 1, Verdict::Commit));
-    assert!(rt; seat.start() == 1);
-    assert!(rt;
-        seat.last()
-            == Last {
-                number: 1,
-                status: Some(Verdict::Commit),
-                tn: 1
-            }
-    );
-    let conflict = Verdict::BackUp(Cause::Conflict);
-    assert!(rt; settle(&mut publisher, 1, conflict) && settle(&mut publisher, 2, Verdict::Commit));
-    assert!(rt; seat.start() == 2);
-    assert!(rt;
-        seat.last()
-            == Last {
-                number: 2,
-                status: Some(conflict),
-                tn: 1
-            }
-    );
+    assert!(rt; right);
     Ok(())
 }
 
@@ -133,33 +120,29 @@ fn watch(seat: &mut Seat<Global>, rounds: u64) -> bool {
     true
 }
 
-// One thread stores and three load. Whether there was room, and no word fell.
+// One thread stores and three load. Whether there was room, no word fell, and each sees at last what was stored last.
 fn store_and_watch<R: Threads + Wait + Sync>(
     rt: &R,
     publisher: &mut Publisher<Global>,
-    first: &mut Seat<Global>,
-    second: &mut Seat<Global>,
-    third: &mut Seat<Global>,
+    seats: &mut [Seat<Global>],
 ) -> bool {
+    let [first, second, third] = seats else {
+        return false;
+    };
     let ((stored, one), (two, three)) = thread::join(
         rt,
         || thread::join(rt, || publish(publisher, ROUNDS), || watch(first, ROUNDS)),
         || thread::join(rt, || watch(second, ROUNDS), || watch(third, ROUNDS)),
     );
-    stored && one && two && three
+    let last = publisher.tnc();
+    let seen = first.start() == last && second.start() == last && third.start() == last;
+    stored && one && two && three && seen
 }
 
 #[test]
 fn no_word_falls(rt: HostRuntime) -> Result<(), Fail> {
     let (mut publisher, mut seats) = Board::new(rt.alloc(), 3)?;
-    let (Some(mut third), Some(mut second), Some(mut first)) = (
-        seats.pop(),
-        seats.pop(),
-        seats.pop(),
-    ) else {
-        return Ok(assert!(rt; false));
-    };
-    assert!(rt; store_and_watch(&rt, &mut publisher, &mut first, &mut second, &mut third));
-    assert!(rt; first.start() == publisher.tnc() && second.start() == publisher.tnc());
+    let right = store_and_watch(&rt, &mut publisher, &mut seats);
+    assert!(rt; right);
     Ok(())
 }

@@ -33,15 +33,29 @@ fn verdict_at(file: &CaseFile<Global>, index: u64) -> Option<Verdict> {
     }
 }
 
+// Pushes a case. The answer is its index.
+fn pushed<R: Wait>(
+    rt: &R,
+    file: &CaseFile<Global>,
+    case: SharedCase<Global>,
+) -> Result<u64, Fault> {
+    let token = file.push(rt, case)?;
+    Ok(token.index() as u64)
+}
+
+// Whether a case is found at an index, and judged as it is to be.
+fn is_right(file: &CaseFile<Global>, index: u64, case: &SharedCase<Global>) -> bool {
+    verdict_at(file, index) == Some(verdict(case.case()))
+}
+
 // Pushes a case. The answer is its index, if it is found there and judged as it is to be.
 fn push<R: Wait>(
     rt: &R,
     file: &CaseFile<Global>,
     case: &SharedCase<Global>,
 ) -> Result<Option<u64>, Fault> {
-    let token = file.push(rt, case.share()?)?;
-    let index = token.index() as u64;
-    let right = verdict_at(file, index) == Some(verdict(case.case()));
+    let index = pushed(rt, file, case.share()?)?;
+    let right = is_right(file, index, case);
     Ok(if right { Some(index) } else { None })
 }
 

@@ -100,23 +100,28 @@ fn submit_all(rt: &impl Wait, alloc: Global, sender: &mut Sender<Global>) -> Res
 }
 
 // Submits all requests and closes, also after a fault. The answer is the number of the mark.
-fn send(rt: &impl Wait, alloc: Global, mut sender: Sender<Global>) -> Result<u64, Fault> {
-    let sent = submit_all(rt, alloc, &mut sender);
-    let mark = close(rt, &mut sender);
+fn send(rt: &impl Wait, alloc: Global, sender: &mut Sender<Global>) -> Result<u64, Fault> {
+    let sent = submit_all(rt, alloc, sender);
+    let mark = close(rt, sender);
     sent?;
     mark
 }
 
+// Whether nothing comes behind the mark.
+fn is_over(rt: &impl Wait, receiver: &mut Receiver<Global>) -> bool {
+    receiver.take(rt).is_none() && receiver.is_closed()
+}
+
 // Takes until the mark. The answer is its number, or none where a request came that was not the next one as it was handed in.
-fn receive(rt: &impl Wait, mut receiver: Receiver<Global>) -> Option<u64> {
+fn receive(rt: &impl Wait, receiver: &mut Receiver<Global>) -> Option<u64> {
     let mut next = 1u64;
     let mut right = true;
     for _ in rt.forever() {
         match receiver.take(rt) {
             None => thread::yield_now(),
             Some(Item::Close { number }) => {
-                let still = receiver.take(rt).is_none() && receiver.is_closed();
-                return if right && still { Some(number) } else { None };
+                right = right && is_over(rt, receiver);
+                return if right { Some(number) } else { None };
             }
             Some(item) => {
                 right = right && is_request(&item, next);
@@ -130,22 +135,17 @@ fn receive(rt: &impl Wait, mut receiver: Receiver<Global>) -> Option<u64> {
 fn send_and_receive<R: Threads + Wait + Sync>(
     rt: &R,
     alloc: Global,
-    sender: Sender<Global>,
-    receiver: Receiver<Global>,
+    sender: &mut Sender<Global>,
+    receiver: &mut Receiver<Global>,
 ) -> (Result<u64, Fault>, Option<u64>) {
-    thread::join(
-        rt,
-        move || send(rt, alloc, sender),
-        move || receive(rt, receiver),
-    )
+    thread::join(rt, || send(rt, alloc, sender), || receive(rt, receiver))
 }
 
 #[test]
 fn what_one_thread_submits_another_takes(rt: HostRuntime) -> Result<(), Fail> {
     let alloc = rt.alloc();
-    let (sender, receiver) = lane(alloc, ROOM)?;
-    let (sent, taken) = send_and_receive(&rt, alloc, sender, receiver);
-    assert!(rt; sent == Ok(REQUESTS + 1));
-    assert!(rt; taken == Some(REQUESTS + 1));
+    let (mut sender, mut receiver) = lane(alloc, ROOM)?;
+    let came = send_and_receive(&rt, alloc, &mut sender, &mut receiver);
+    assert!(rt; came == (Ok(REQUESTS + 1), Some(REQUESTS + 1)));
     Ok(())
 }
