@@ -1,6 +1,9 @@
 //! A bank in threads: four clients move money between accounts and sum all of them. Each sum is what was paid in.
 ghost use Rattle.std.specs.Prelude.{◌≡◌};
 
+use crate::calls::run_list;
+use crate::rows::write;
+use occ_sets::RangeRows;
 use occ_store::{
     Body, Fault, Frame, KeyKind, Kind, Lane, Name, Schema, Session, Store, Transaction as Work,
     Worker,
@@ -10,84 +13,108 @@ use std::sync::Wait;
 use std::sync::atomic::{AtomicU64, Ordering};
 use std::thread::{self, Threads};
 
-/// Adds an amount to each of two accounts; it may be below 0.
+/// Adds an amount to each of two accounts, which may be below 0, and sums all accounts then.
 #[derive(Clone, Copy)]
-struct Add([(u64, i64); 2]);
+struct Add {
+    amounts: [(u64, i64); 2],
+    sum: i64,
+}
 
 impl<N: Name, A: Allocator + Copy, R: Wait> Body<N, A, R> for Add {
     fn run(&mut self, rt: &R, bank: &Store<N, A>, work: &mut Work<N, A>) -> Result<(), Fault> {
-        for (account, amount) in self.0 {
+        for (account, amount) in self.amounts {
             let row = work.get(rt, bank, 0, account.into())?;
             let balance = row.as_ref().and_then(|row| row.int(0)).unwrap_or(0);
             work.put(0, account.into(), balance.saturating_add(amount).into())?;
         }
+        self.sum = sum(&work.scan(rt, bank, 0, None, None)?);
         Ok(())
     }
 }
 
-/// Sums all accounts, at one moment of the bank.
-#[derive(Clone, Copy)]
-struct Sum(i64);
-
-impl<N: Name, A: Allocator + Copy, R: Wait> Body<N, A, R> for Sum {
-    fn run(&mut self, rt: &R, bank: &Store<N, A>, work: &mut Work<N, A>) -> Result<(), Fault> {
-        self.0 = 0;
-        for (_, row) in work.scan(rt, bank, 0, None, None)?.as_slice() {
-            self.0 = self.0.saturating_add(row.int(0).unwrap_or(0));
-        }
-        Ok(())
+/// The sum of some accounts.
+fn sum<A: Allocator>(rows: &RangeRows<A>) -> i64 {
+    let mut sum = 0i64;
+    for (_, row) in rows.as_slice() {
+        sum = sum.saturating_add(row.int(0).unwrap_or(0));
     }
+    sum
 }
 
-/// A client, which makes 200 transfers, and a sum after each. It counts the sums that are right.
+/// A client, which makes 200 transfers, with a sum in each. It counts the sums that are right.
 fn work<N: Name, A: Allocator + Copy, R: Wait>(
     rt: &R,
     bank: &Store<N, A>,
     worker: &mut Worker<N, A>,
     right: &AtomicU64,
-) -> Result<(), Fault> {
+) {
     for round in 0..200u64 {
-        let (mut moved, mut sum) = (Add([(round % 7, -1), (round % 10, 1)]), Sum(0));
-        worker.transact(rt, bank, 1_000, &mut moved)?;
-        worker.transact(rt, bank, 1_000, &mut sum)?;
-        right.fetch_add((sum.0 == 1_000) as u64, Ordering::SeqCst);
+        let amounts = [(round % 7, -1), (round % 10, 1)];
+        let mut moved = Add { amounts, sum: 0 };
+        let ended = worker.transact(rt, bank, 1_000, &mut moved);
+        let is_right = ended.is_ok() && moved.sum == 1_000;
+        right.fetch_add(is_right as u64, Ordering::SeqCst);
     }
-    Ok(())
 }
 
-/// The clients at once, each in a thread of its own. How many of their sums were right.
+/// The clients at once, each in a thread of its own.
 fn serve<N: Name + Send + Sync, A: Allocator + Copy + Send + Sync, R: Threads + Wait + Sync>(
     rt: &R,
     bank: &Store<N, A>,
     workers: &mut [Worker<N, A>],
-) -> u64 {
-    let right = &AtomicU64::new(0);
+    right: &AtomicU64,
+) {
     thread::scope(thread::scope_env(), rt, |scope| {
         for worker in workers.iter_mut() {
             let _ = scope.spawn(move || work(rt, bank, worker, right));
         }
     });
-    right.load(Ordering::SeqCst)
 }
 
-/// A worker of each session and its lane, which has paid 250 in.
-fn hired<N: Name, A: Allocator + Copy, R: Wait>(
-    rt: &R,
+/// A worker of each session and its lane.
+pub(crate) fn hired<N: Name, A: Allocator + Copy>(
     alloc: A,
-    bank: &Store<N, A>,
     sessions: Vec<Session<N, A>, A>,
     lanes: Vec<Lane<N, A>, A>,
 ) -> Result<Vec<Worker<N, A>, A>, Fault> {
     let mut workers = Vec::new(alloc);
     for (session, lane) in sessions.into_iter().zip(lanes) {
-        let mut worker = Worker::new(session, lane)?;
-        worker.transact(rt, bank, 1, &mut Add([(0, 250), (1, 0)]))?;
+        let worker = Worker::new(session, lane)?;
         workers.push(worker)?;
     }
     Ok(workers)
 }
 
-/// A bank into which 1,000 is paid, and its clients. How many sums were right.
+/// The first client pays 1,000 in.
+fn pay_in<N: Name, A: Allocator + Copy, R: Wait>(
+    rt: &R,
+    alloc: A,
+    bank: &Store<N, A>,
+    workers: &mut [Worker<N, A>],
+) -> Result<(), Fault> {
+    let paid = write(alloc, 0, Some(1_000))?;
+    if let Some(worker) = workers.first_mut() {
+        let _tn = run_list(rt, bank, worker, 1, &paid)?;
+    }
+    Ok(())
+}
+
+/// The clients of a bank into which 1,000 is paid. How many sums were right.
+fn play<N: Name + Send + Sync, A: Allocator + Copy + Send + Sync, R: Threads + Wait + Sync>(
+    rt: &R,
+    alloc: A,
+    bank: &Store<N, A>,
+    sessions: Vec<Session<N, A>, A>,
+    lanes: Vec<Lane<N, A>, A>,
+) -> Result<u64, Fault> {
+    let mut workers = hired(alloc, sessions, lanes)?;
+    pay_in(rt, alloc, bank, &mut workers)?;
+    let right = AtomicU64::new(0);
+    serve(rt, bank, &mut workers, &right);
+    Ok(right.load(Ordering::SeqCst))
+}
+
+/// A bank and its clients. How many sums were right.
 fn run<N: Name + Send + Sync, A: Allocator + Copy + Send + Sync, R: Threads + Wait + Sync>(
     rt: &R,
     alloc: A,
@@ -98,8 +125,7 @@ fn run<N: Name + Send + Sync, A: Allocator + Copy + Send + Sync, R: Threads + Wa
     let Ok((bank, sessions, lanes)) = Store::<N, A>::open(frame) else {
         return Err(Fault::Memory);
     };
-    let mut workers = hired(rt, alloc, &bank, sessions, lanes)?;
-    Ok(serve(rt, &bank, &mut workers))
+    play(rt, alloc, &bank, sessions, lanes)
 }
 
 /// Four sessions, each with room for four items, and the last 16 write sets kept for testing.

@@ -37,15 +37,20 @@ impl<N: Name, A: Allocator + Copy> Client<N, A> {
         store: &Store<N, A>,
         turn: &mut Turn,
     ) -> Result<Option<u64>, Fault> {
-        let before = self.session.poll().tn;
+        let before = self.last();
         if self.alone {
             self.hand_in_alone(rt, turn)?;
         } else {
             self.hand_in(rt, store, turn)?;
         }
         self.serve(rt, store)?;
-        let tn = self.session.poll().tn;
+        let tn = self.last();
         Ok(if tn > before { Some(tn) } else { None })
+    }
+
+    /// The transaction number of its last commit.
+    fn last(&mut self) -> u64 {
+        self.session.poll().tn
     }
 
     /// Begins a transaction, reads and writes in it, and hands it in.

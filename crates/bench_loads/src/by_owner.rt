@@ -67,24 +67,17 @@ pub(crate) struct Owner<A: Allocator> {
 impl<A: Allocator + Copy> Owner<A> {
     /// A core with the rows of a load, put by a session behind those of the load, and folded away.
     pub(crate) fn open(alloc: A, shape: Shape) -> Result<Owner<A>, Fault> {
-        let schema = schema(alloc)?;
         let filling = shape.together.saturating_add(1);
-        let core = Core::open(alloc, schema, filling, 8)?;
-        let mut clients = Vec::new(alloc);
-        for session in 1..=shape.together {
-            clients.push(Client::new(alloc, session))?;
-        }
-        let mut owner = Owner {
+        let mut core = empty(alloc, filling)?;
+        fill(alloc, &mut core, filling, shape.rows)?;
+        Ok(Owner {
             alloc,
-            core: Box::new(alloc, core)?,
+            core,
             shape,
             dice: Dice::new(),
             copies: VecDeque::new(alloc),
-            clients,
-        };
-        fill(alloc, &mut owner.core, filling, shape.rows)?;
-        let _folded = owner.core.checkpoint()?;
-        Ok(owner)
+            clients: clients(alloc, shape.together)?,
+        })
     }
 
     /// Does so many rounds of transactions, one of each session. The answer is how many committed.
@@ -99,7 +92,7 @@ impl<A: Allocator + Copy> Owner<A> {
             };
             committed = committed.saturating_add(done);
             if folds && number % FOLDED_AFTER == 0 {
-                let _folded = self.core.checkpoint()?;
+                fold(&mut self.core)?;
             }
         }
         Ok(committed)
@@ -110,7 +103,7 @@ impl<A: Allocator + Copy> Owner<A> {
         let mut committed = 0u64;
         for session in 1..=self.shape.together {
             let operations = self.operations()?;
-            let _done = self.core.run_alone(session, number, operations)?;
+            run_alone(&mut self.core, session, number, operations)?;
             committed = committed.saturating_add(1);
         }
         Ok(committed)
@@ -158,33 +151,52 @@ impl<A: Allocator + Copy> Owner<A> {
 
     // Reads what the next transaction reads, and writes into its private copy.
     fn begin(&mut self, session: usize, number: u64) -> Result<PrivateCopy<A>, Fault> {
-        let (alloc, shape, start) = (self.alloc, self.shape, self.core.tnc());
-        let first = shape.first(&mut self.dice);
-        let mut copy = PrivateCopy::new(alloc, number, start);
-        if shape.span > 0 {
-            let (lower, upper) = (first, first.saturating_add(shape.span));
-            let (lower, upper) = (Some(Key::Num(lower)), Some(Key::Num(upper)));
-            let _rows = self.core.scan(
-                session,
-                number,
-                start,
-                TABLE,
-                lower.as_ref(),
-                upper.as_ref(),
-            )?;
-        }
-        for place in 0..shape.reads.max(shape.writes) {
-            let key = shape.key(first, place);
-            let before = match place < shape.reads {
-                true => self.read(session, number, start, key)?,
-                false => 0,
-            };
-            if place < shape.writes {
-                let row = Row::from_cell(Cell::Int(before.saturating_add(amount(place))));
-                copy.put(TABLE, Key::Num(key), row)?;
-            }
+        let first = self.shape.first(&mut self.dice);
+        let mut copy = PrivateCopy::new(self.alloc, number, self.core.tnc());
+        self.scan(session, number, first)?;
+        for place in 0..self.shape.reads.max(self.shape.writes) {
+            self.turn(session, &mut copy, first, place)?;
         }
         Ok(copy)
+    }
+
+    // Reads the range of a transaction that begins now, where the load has one.
+    fn scan(&mut self, session: usize, number: u64, first: u64) -> Result<(), Fault> {
+        if self.shape.span == 0 {
+            return Ok(());
+        }
+        let (lower, upper) = (first, first.saturating_add(self.shape.span));
+        let (lower, upper) = (Some(Key::Num(lower)), Some(Key::Num(upper)));
+        let start = self.core.tnc();
+        let _rows = self.core.scan(
+            session,
+            number,
+            start,
+            TABLE,
+            lower.as_ref(),
+            upper.as_ref(),
+        )?;
+        Ok(())
+    }
+
+    // What stands at a place of a transaction: a read, a write or both.
+    fn turn(
+        &mut self,
+        session: usize,
+        copy: &mut PrivateCopy<A>,
+        first: u64,
+        place: u64,
+    ) -> Result<(), Fault> {
+        let key = self.shape.key(first, place);
+        let before = match place < self.shape.reads {
+            true => self.read(session, copy.number(), copy.start(), key)?,
+            false => 0,
+        };
+        if place < self.shape.writes {
+            let row = Row::from_cell(Cell::Int(before.saturating_add(amount(place))));
+            copy.put(TABLE, Key::Num(key), row)?;
+        }
+        Ok(())
     }
 
     // The number in a row, 0 where there is none.
@@ -196,7 +208,22 @@ impl<A: Allocator + Copy> Owner<A> {
     }
 }
 
-// Puts so many rows, by a session that does nothing else.
+// A core of so many sessions.
+fn empty<A: Allocator + Copy>(alloc: A, sessions: usize) -> Result<Box<Core<A>, A>, Fault> {
+    let core = Core::open(alloc, schema(alloc)?, sessions, 8)?;
+    Ok(Box::new(alloc, core)?)
+}
+
+// Clients of the first sessions, so many.
+fn clients<A: Allocator + Copy>(alloc: A, count: usize) -> Result<Vec<Client<A>, A>, Fault> {
+    let mut clients = Vec::new(alloc);
+    for session in 1..=count {
+        clients.push(Client::new(alloc, session))?;
+    }
+    Ok(clients)
+}
+
+// Puts so many rows, by a session that does nothing else, and folds them away.
 fn fill<A: Allocator + Copy>(
     alloc: A,
     core: &mut Core<A>,
@@ -206,8 +233,25 @@ fn fill<A: Allocator + Copy>(
     for part in 0..rows.div_ceil(PUTS) {
         let first = part.saturating_mul(PUTS);
         let puts = puts(alloc, first, rows.min(first.saturating_add(PUTS)))?;
-        let _done = core.run_alone(session, part.saturating_add(1), puts)?;
+        run_alone(core, session, part.saturating_add(1), puts)?;
     }
+    fold(core)
+}
+
+// A session runs operations alone.
+fn run_alone<A: Allocator + Copy>(
+    core: &mut Core<A>,
+    session: usize,
+    number: u64,
+    operations: Vec<Op<A>, A>,
+) -> Result<(), Fault> {
+    let _done = core.run_alone(session, number, operations)?;
+    Ok(())
+}
+
+// Makes a checkpoint.
+fn fold<A: Allocator + Copy>(core: &mut Core<A>) -> Result<(), Fault> {
+    let _folded = core.checkpoint()?;
     Ok(())
 }
 
@@ -233,13 +277,23 @@ fn end_serially<A: Allocator + Copy>(
     }
 }
 
+// Enters a transaction.
+fn enter<A: Allocator + Copy>(
+    core: &mut Core<A>,
+    session: usize,
+    copy: PrivateCopy<A>,
+) -> Result<(), Fault> {
+    let _entered: Outcome<A> = core.enter(session, request(copy))?;
+    Ok(())
+}
+
 // Ends a transaction step by step. The answer is whether it committed.
 fn end_by_steps<A: Allocator + Copy>(
     core: &mut Core<A>,
     session: usize,
     copy: PrivateCopy<A>,
 ) -> Result<bool, Fault> {
-    let _entered: Outcome<A> = core.enter(session, request(copy))?;
+    enter(core, session, copy)?;
     match core.decide(session)? {
         Verdict::Commit => {
             write_all(core, session)?;

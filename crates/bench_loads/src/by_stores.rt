@@ -1,13 +1,16 @@
 //! A load on a store: its rows at first, who makes its transactions, and its sum at the end.
 ghost use Rattle.std.specs.Prelude.{◌≡◌};
 
+use crate::bank::hired;
 use crate::budgets::Budget;
-use crate::by_lanes::Client;
+use crate::calls::{CALLS, are_right, run_list};
 use crate::crews::{Member, told};
+use crate::folds::fold;
 use crate::hands::{Hand, Maker};
+use crate::loads::Shape;
 use crate::outcomes::{Done, Told};
 use crate::rows::{PUTS, TABLE, puts, schema, write};
-use crate::tasks::{By, Task, Way};
+use crate::tasks::{Task, Way};
 use occ_store::{Frame, Lane, Name, Session, Store, Worker};
 use occ_types::{Fault, Key, Row};
 use std::alloc::Allocator;
@@ -57,80 +60,58 @@ fn play<N: Name + Send + Sync, A: Allocator + Copy + Send + Sync, R: Threads + W
     task: Task,
 ) -> Result<Told, Fault> {
     let mut workers = hired(alloc, sessions, lanes)?;
-    let mut before = None;
-    if let Some(worker) = workers.first_mut() {
-        before = Some(fill(rt, alloc, store, worker, task.load.shape.rows)?);
-    }
-    let mut told = if task.way.by == By::Worker {
-        play_by_workers(rt, alloc, store, workers, task)?
-    } else {
-        play_by_clients(rt, alloc, store, workers, task)?
-    };
-    told.before = before;
+    let (called, before) = prepare(rt, alloc, store, &mut workers, task.load.shape)?;
+    let mut crew = crew(alloc, workers, task)?;
+    let mut told = play_by(rt, store, &mut crew, task);
+    (told.called, told.before) = (called, before);
     told.sum = total(rt, store);
     Ok(told)
 }
 
-/// Does a task by workers; the sum of the rows is left out.
-fn play_by_workers<
-    N: Name + Send + Sync,
-    A: Allocator + Copy + Send + Sync,
-    R: Threads + Wait + Clock + Sync,
->(
+/// Has the first worker make each of its calls, and put the rows. Whether the calls came as is due, and what it did; none where there is no
+/// worker.
+fn prepare<N: Name, A: Allocator + Copy, R: Wait>(
     rt: &R,
     alloc: A,
     store: &Store<N, A>,
+    workers: &mut [Worker<N, A>],
+    shape: Shape,
+) -> Result<(bool, Option<Done>), Fault> {
+    let Some(worker) = workers.first_mut() else {
+        return Ok((true, None));
+    };
+    let called = are_right(rt, alloc, store, worker, shape)?;
+    let filled = fill(rt, alloc, store, worker, shape.rows)?;
+    Ok((called, Some(filled)))
+}
+
+/// The workers, or their sessions and lanes, each with its part.
+fn crew<N: Name, A: Allocator + Copy>(
+    alloc: A,
     workers: Vec<Worker<N, A>, A>,
     task: Task,
-) -> Result<Told, Fault> {
+) -> Result<Vec<Member<Maker<N, A>>, A>, Fault> {
     let mut crew = Vec::new(alloc);
     for worker in workers {
         let place = crew.len();
-        crew.push(Member::new(worker, task, place))?;
+        let maker = Maker::new(alloc, worker, task.way.by);
+        crew.push(Member::new(maker, task, place))?;
     }
-    let budget = Budget::begin(rt, task.until);
-    workers_at_once(rt, store, &mut crew, task.way, &budget);
-    Ok(told(rt, &crew, task, &budget))
+    Ok(crew)
 }
 
-/// Does a task by the sessions and lanes of workers; the sum of the rows is left out.
-fn play_by_clients<
+/// Does a task by a crew. What came of it, but the sum of the rows.
+fn play_by<
     N: Name + Send + Sync,
     A: Allocator + Copy + Send + Sync,
     R: Threads + Wait + Clock + Sync,
->(
-    rt: &R,
-    alloc: A,
-    store: &Store<N, A>,
-    workers: Vec<Worker<N, A>, A>,
-    task: Task,
-) -> Result<Told, Fault> {
-    let mut crew = Vec::new(alloc);
-    for worker in workers {
-        let place = crew.len();
-        let client = Client::new(alloc, worker, task.way.by);
-        crew.push(Member::new(client, task, place))?;
-    }
+>(rt: &R, store: &Store<N, A>, crew: &mut [Member<Maker<N, A>>], task: Task) -> Told {
     let budget = Budget::begin(rt, task.until);
-    clients_at_once(rt, store, &mut crew, task.way, &budget);
-    Ok(told(rt, &crew, task, &budget))
+    work_at_once(rt, store, crew, task.way, &budget);
+    told(rt, crew, task, &budget)
 }
 
-/// A worker of each session and its lane.
-fn hired<N: Name, A: Allocator + Copy>(
-    alloc: A,
-    sessions: Vec<Session<N, A>, A>,
-    lanes: Vec<Lane<N, A>, A>,
-) -> Result<Vec<Worker<N, A>, A>, Fault> {
-    let mut workers = Vec::new(alloc);
-    for (session, lane) in sessions.into_iter().zip(lanes) {
-        let worker = Worker::new(session, lane)?;
-        workers.push(worker)?;
-    }
-    Ok(workers)
-}
-
-/// Puts so many rows of 0, and behind them one of 1, which is deleted again; and folds all.
+/// Puts so many rows of 0, and behind them one of 1, which is deleted again; and folds all. What was done on the store until then.
 fn fill<N: Name, A: Allocator + Copy, R: Wait>(
     rt: &R,
     alloc: A,
@@ -138,69 +119,44 @@ fn fill<N: Name, A: Allocator + Copy, R: Wait>(
     worker: &mut Worker<N, A>,
     rows: u64,
 ) -> Result<Done, Fault> {
-    let mut done = Done::NOTHING;
+    let mut done = Done::first(CALLS);
     for part in 0..rows.div_ceil(PUTS) {
         let first = part.saturating_mul(PUTS);
         let puts = puts(alloc, first, rows.min(first.saturating_add(PUTS)))?;
-        let tn = worker.run(rt, store, 0, &puts)?;
+        let tn = run_list(rt, store, worker, 0, &puts)?;
         done = done.and(Done::one(tn, 0));
     }
     for number in [Some(1), None] {
         let write = write(alloc, rows, number)?;
-        let tn = worker.run(rt, store, 1, &write)?;
+        let tn = run_list(rt, store, worker, 1, &write)?;
         done = done.and(Done::one(tn, 0));
     }
-    let _folded = store.checkpoint(rt)?;
+    fold(rt, store)?;
     Ok(done)
 }
 
-/// Has each worker work in a thread of its own.
-fn workers_at_once<
+/// Has each member work in a thread of its own.
+fn work_at_once<
     N: Name + Send + Sync,
     A: Allocator + Copy + Send + Sync,
     R: Threads + Wait + Clock + Sync,
->(rt: &R, store: &Store<N, A>, crew: &mut [Member<Worker<N, A>>], way: Way, budget: &Budget) {
+>(rt: &R, store: &Store<N, A>, crew: &mut [Member<Maker<N, A>>], way: Way, budget: &Budget) {
     thread::scope(thread::scope_env(), rt, |scope| {
         for member in crew.iter_mut() {
-            let _ = scope.spawn(move || worker_works(rt, store, member, way, budget));
+            let _ = scope.spawn(move || work(rt, store, member, way, budget));
         }
     });
 }
 
-/// Has a worker make its part.
-fn worker_works<N: Name, A: Allocator + Copy, R: Wait + Clock>(
+/// Has a member make its part.
+fn work<N: Name, A: Allocator + Copy, R: Wait + Clock>(
     rt: &R,
     store: &Store<N, A>,
-    member: &mut Member<Worker<N, A>>,
+    member: &mut Member<Maker<N, A>>,
     way: Way,
     budget: &Budget,
 ) {
-    let mut hand = Hand::new(Maker::Worker(&mut member.player), way);
-    hand.work(rt, store, &mut member.part, budget);
-}
-
-/// Has each client work in a thread of its own.
-fn clients_at_once<
-    N: Name + Send + Sync,
-    A: Allocator + Copy + Send + Sync,
-    R: Threads + Wait + Clock + Sync,
->(rt: &R, store: &Store<N, A>, crew: &mut [Member<Client<N, A>>], way: Way, budget: &Budget) {
-    thread::scope(thread::scope_env(), rt, |scope| {
-        for member in crew.iter_mut() {
-            let _ = scope.spawn(move || client_works(rt, store, member, way, budget));
-        }
-    });
-}
-
-/// Has a client make its part.
-fn client_works<N: Name, A: Allocator + Copy, R: Wait + Clock>(
-    rt: &R,
-    store: &Store<N, A>,
-    member: &mut Member<Client<N, A>>,
-    way: Way,
-    budget: &Budget,
-) {
-    let mut hand = Hand::new(Maker::Client(&mut member.player), way);
+    let mut hand = Hand::new(&mut member.player, way);
     hand.work(rt, store, &mut member.part, budget);
 }
 

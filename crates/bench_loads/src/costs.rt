@@ -102,10 +102,7 @@ pub(crate) fn tell_rounds<R: Runtime>(rt: &R, alloc: Global, rounds: Rounds) -> 
             println!(rt; "{done}")?;
             Ok(true)
         }
-        Err(fault) => {
-            eprintln!(rt; "{fault:?}")?;
-            Ok(false)
-        }
+        Err(fault) => tell_fault(rt, fault),
     }
 }
 
@@ -125,27 +122,29 @@ pub(crate) fn tell_all<R: Runtime>(rt: &R, alloc: Global) -> io::Result<bool> {
 fn tell<R: Runtime>(rt: &R, alloc: Global, load: Load, ending: Ending) -> io::Result<bool> {
     let (name, by) = (load.name(), ending.name());
     match counted(alloc, load.shape(), ending) {
-        Ok(
-            Cost {
-                transactions,
-                committed,
-                requests,
-                bytes,
-            },
-        ) => {
-            println!(rt;
-                "{name} by {by}: {committed} of {transactions} commit, {requests} requests, {bytes} bytes stay"
-            )?;
-            Ok(true)
+        Ok(cost) => {
+            print!(rt; "{name} by {by}: ")?;
+            tell_cost(rt, cost)
         }
-        Err(fault) => {
-            eprintln!(rt; "{fault:?}")?;
-            Ok(false)
-        }
+        Err(fault) => tell_fault(rt, fault),
     }
 }
 
+fn tell_cost<R: Runtime>(rt: &R, cost: Cost) -> io::Result<bool> {
+    let (committed, transactions) = (cost.committed, cost.transactions);
+    print!(rt; "{committed} of {transactions} commit, ")?;
+    let (requests, bytes) = (cost.requests, cost.bytes);
+    println!(rt; "{requests} requests, {bytes} bytes stay")?;
+    Ok(true)
+}
+
+fn tell_fault<R: Runtime>(rt: &R, fault: Fault) -> io::Result<bool> {
+    eprintln!(rt; "{fault:?}")?;
+    Ok(false)
+}
+
 /// What some transactions of a load cost together.
+#[derive(Clone, Copy)]
 struct Cost {
     transactions: u64,
     committed: u64,
@@ -153,10 +152,26 @@ struct Cost {
     bytes: u64,
 }
 
+/// What the rounds where memory is counted cost.
 fn counted(alloc: Global, shape: Shape, ending: Ending) -> Result<Cost, Fault> {
     let lent = Refusing::new(alloc, Plan::Nothing);
     let rows = shape.rows.min(COUNTED_ROWS);
-    let mut owner = Owner::open(&lent, Shape { rows, ..shape })?;
+    counted_by(&lent, Shape { rows, ..shape }, ending)
+}
+
+/// The same by an allocator that counts.
+fn counted_by(lent: &Refusing<Global>, shape: Shape, ending: Ending) -> Result<Cost, Fault> {
+    let mut owner = Owner::open(lent, shape)?;
+    played(lent, &mut owner, shape, ending)
+}
+
+/// The same by an owner whose core has its rows.
+fn played<A: Allocator + Copy>(
+    lent: &Refusing<Global>,
+    owner: &mut Owner<A>,
+    shape: Shape,
+    ending: Ending,
+) -> Result<Cost, Fault> {
     let (requests, bytes) = (lent.requests(), lent.bytes_out());
     let committed = owner.play(ending, COUNTED, false)?;
     Ok(Cost {

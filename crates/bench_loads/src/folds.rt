@@ -31,13 +31,21 @@ impl Folds {
         if !self.due {
             return Ok(());
         }
-        match store.checkpoint(rt) {
+        match fold(rt, store) {
             Err(Fault::StoreBusy) => Ok(()),
-            Err(fault) => Err(fault),
-            Ok(_folded) => {
+            folded => {
                 self.due = false;
-                Ok(())
+                folded
             }
         }
     }
+}
+
+/// Makes a checkpoint.
+pub(crate) fn fold<N: Name, A: Allocator + Copy, R: Wait>(
+    rt: &R,
+    store: &Store<N, A>,
+) -> Result<(), Fault> {
+    let _folded = store.checkpoint(rt)?;
+    Ok(())
 }

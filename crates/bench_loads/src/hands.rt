@@ -3,9 +3,9 @@ use crate::budgets::Budget;
 use crate::by_lanes::Client;
 use crate::folds::Folds;
 use crate::outcomes::Part;
-use crate::tasks::Way;
+use crate::tasks::{By, Way};
 use crate::turns::Turn;
-use occ_store::{Lease, Name, Store, Worker};
+use occ_store::{Body, Ended, Lease, Name, Store, Worker};
 use occ_types::Fault;
 use std::alloc::Allocator;
 use std::sync::Wait;
@@ -17,21 +17,29 @@ const TRIES: usize = 1_000;
 
 /// What makes transactions.
 #[derive(Drop)]
-pub(crate) enum Maker<'a, N: Name, A: Allocator + Copy> {
-    Client(&'a mut Client<N, A>),
-    Worker(&'a mut Worker<N, A>),
+pub(crate) enum Maker<N: Name, A: Allocator + Copy> {
+    Client(Client<N, A>),
+    Worker(Worker<N, A>),
 }
 
 /// What makes the transactions of one thread on a store, in leases or not, and the checkpoints that are due after them.
 #[derive(Drop)]
 pub(crate) struct Hand<'a, N: Name, A: Allocator + Copy> {
-    maker: Maker<'a, N, A>,
+    maker: &'a mut Maker<N, A>,
     leased: bool,
     at_a_time: u64,
     folds: Folds,
 }
 
-impl<N: Name, A: Allocator + Copy> Maker<'_, N, A> {
+impl<N: Name, A: Allocator + Copy> Maker<N, A> {
+    /// A worker, or its session and lane, for transactions that are made by this.
+    pub(crate) fn new(alloc: A, worker: Worker<N, A>, by: By) -> Maker<N, A> {
+        match by {
+            By::Worker => Maker::Worker(worker),
+            _ => Maker::Client(Client::new(alloc, worker, by)),
+        }
+    }
+
     /// Tries a transaction, within a lease where there is one. Its transaction number; none where it was backed up.
     fn transact<R: Wait>(
         &mut self,
@@ -48,23 +56,34 @@ impl<N: Name, A: Allocator + Copy> Maker<'_, N, A> {
 }
 
 /// Has a worker try a transaction, within a lease where there is one. Its transaction number; none where it was backed up each time.
-fn transact<N: Name, A: Allocator + Copy, R: Wait>(
+pub(crate) fn transact<N: Name, A: Allocator + Copy, R: Wait>(
     rt: &R,
     store: &Store<N, A>,
     worker: &mut Worker<N, A>,
     lease: Option<&Lease<'_, N>>,
     turn: &mut Turn,
 ) -> Result<Option<u64>, Fault> {
-    let ended = match lease {
-        Some(lease) => worker.transact_within(rt, store, lease, TRIES, turn)?,
-        None => worker.transact(rt, store, TRIES, turn)?,
-    };
+    let ended = tried(rt, store, worker, lease, turn)?;
     Ok(ended.tn())
+}
+
+/// Has a worker try what a body does, within a lease where there is one.
+fn tried<N: Name, A: Allocator + Copy, R: Wait, B: Body<N, A, R>>(
+    rt: &R,
+    store: &Store<N, A>,
+    worker: &mut Worker<N, A>,
+    lease: Option<&Lease<'_, N>>,
+    body: &mut B,
+) -> Result<Ended, Fault> {
+    match lease {
+        Some(lease) => worker.transact_within(rt, store, lease, TRIES, body),
+        None => worker.transact(rt, store, TRIES, body),
+    }
 }
 
 impl<'a, N: Name, A: Allocator + Copy> Hand<'a, N, A> {
     /// That of a thread which makes transactions in this way.
-    pub(crate) fn new(maker: Maker<'a, N, A>, way: Way) -> Hand<'a, N, A> {
+    pub(crate) fn new(maker: &'a mut Maker<N, A>, way: Way) -> Hand<'a, N, A> {
         Hand {
             maker,
             leased: way.leased,

@@ -21,6 +21,7 @@ mod by_lanes;
 mod by_lock;
 mod by_owner;
 mod by_stores;
+mod calls;
 mod costs;
 mod crews;
 mod dice;

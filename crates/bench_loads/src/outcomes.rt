@@ -39,6 +39,8 @@ pub(crate) struct Told {
     pub(crate) micros: u64,
     /// The sum of all rows at the end.
     pub(crate) sum: i64,
+    /// Whether each call of a worker came before the load as is due, on a store.
+    pub(crate) called: bool,
     /// What was done before the load, on a store.
     pub(crate) before: Option<Done>,
 }
@@ -51,6 +53,15 @@ impl Done {
         numbers: 0,
         fault: None,
     };
+
+    /// The first commits of a store, so many, whose numbers begin at 1.
+    pub(crate) fn first(many: u64) -> Done {
+        Done {
+            committed: many,
+            numbers: many.saturating_mul(many.saturating_add(1)) / 2,
+            ..Done::NOTHING
+        }
+    }
 
     /// A transaction that committed under a number, after so many tries that were backed up.
     pub(crate) fn one(tn: u64, backed_up: u64) -> Done {
@@ -113,6 +124,7 @@ impl Told {
             least: u64::MAX,
             micros,
             sum: 0,
+            called: true,
             before: None,
         }
     }
@@ -123,13 +135,14 @@ impl Told {
         self.least = self.least.min(done.committed);
     }
 
-    /// Whether no thread met a fault, each transaction committed, under a number of its own, and the rows add up.
+    /// Whether each call before it came as is due, no thread met a fault, each transaction committed, under a number of its own, and the rows
+    /// add up.
     pub(crate) fn is_right(&self, until: Until) -> bool {
         let all = match until {
             Until::Count(count) => self.all.committed == count,
             Until::Seconds(_) => true,
         };
-        all && self.all.fault.is_none() && self.is_numbered() && self.adds_up()
+        all && self.called && self.all.fault.is_none() && self.is_numbered() && self.adds_up()
     }
 
     /// Whether the numbers of all commits of a store add up to what those from 1 on do.
@@ -137,10 +150,7 @@ impl Told {
         match self.before {
             Some(before) => {
                 let all = before.and(self.all);
-                let twice = all
-                    .committed
-                    .saturating_mul(all.committed.saturating_add(1));
-                all.numbers == twice / 2
+                all.numbers == Done::first(all.committed).numbers
             }
             None => true,
         }

@@ -3,7 +3,7 @@ use crate::loads::{Shape, amount};
 use crate::rows::TABLE;
 use occ_sets::RangeRows;
 use occ_store::{Body, Name, Session, Store, Transaction};
-use occ_types::{Fault, Row};
+use occ_types::{Fault, Key, Row};
 use std::alloc::Allocator;
 use std::sync::Wait;
 
@@ -23,15 +23,14 @@ impl<N: Name, A: Allocator + Copy> Draft<'_, N, A> {
         }
     }
 
-    /// The rows from a key on and below another.
+    /// The rows from one end on and below another.
     fn rows<R: Wait>(
         &self,
         rt: &R,
         store: &Store<N, A>,
-        lower: u64,
-        upper: u64,
+        lower: Option<Key<A>>,
+        upper: Option<Key<A>>,
     ) -> Result<RangeRows<A>, Fault> {
-        let (lower, upper) = (Some(lower.into()), Some(upper.into()));
         match self {
             Draft::Session(session) => session.scan(rt, store, TABLE, lower, upper),
             Draft::Worker(transaction) => transaction.scan(rt, store, TABLE, lower, upper),
@@ -53,6 +52,8 @@ pub(crate) struct Turn {
     pub(crate) shape: Shape,
     pub(crate) first: u64,
     runs: u64,
+    // How many rows it found, where it counts all of them.
+    counted: Option<usize>,
 }
 
 impl Turn {
@@ -62,7 +63,21 @@ impl Turn {
             shape,
             first,
             runs: 0,
+            counted: None,
         }
+    }
+
+    /// The one that counts all rows and puts their number under key 0. A worker's deletes key 1 before.
+    pub(crate) fn counting(shape: Shape) -> Turn {
+        Turn {
+            counted: Some(0),
+            ..Turn::new(shape, 0)
+        }
+    }
+
+    /// How many rows it found, where it counts them.
+    pub(crate) fn counted(&self) -> Option<usize> {
+        self.counted
     }
 
     /// How many of its runs were backed up, where the last one committed.
@@ -78,6 +93,31 @@ impl Turn {
         draft: &mut Draft<'_, N, A>,
     ) -> Result<(), Fault> {
         self.runs = self.runs.saturating_add(1);
+        if self.counted.is_some() {
+            return self.count(rt, store, draft);
+        }
+        self.read_and_write(rt, store, draft)
+    }
+
+    /// Counts all rows, and puts their number.
+    fn count<N: Name, A: Allocator + Copy, R: Wait>(
+        &mut self,
+        rt: &R,
+        store: &Store<N, A>,
+        draft: &mut Draft<'_, N, A>,
+    ) -> Result<(), Fault> {
+        let rows = draft.rows(rt, store, None, None)?.len();
+        self.counted = Some(rows);
+        draft.write(0, rows as i64)
+    }
+
+    /// Reads and writes as the load does.
+    fn read_and_write<N: Name, A: Allocator + Copy, R: Wait>(
+        &self,
+        rt: &R,
+        store: &Store<N, A>,
+        draft: &mut Draft<'_, N, A>,
+    ) -> Result<(), Fault> {
         let mut number = self.scan(rt, store, draft)?;
         for place in 0..self.shape.reads.max(self.shape.writes) {
             let key = self.shape.key(self.first, place);
@@ -103,7 +143,8 @@ impl Turn {
             return Ok(0);
         }
         let upper = self.first.saturating_add(self.shape.span);
-        let rows = draft.rows(rt, store, self.first, upper)?;
+        let (lower, upper) = (Some(self.first.into()), Some(upper.into()));
+        let rows = draft.rows(rt, store, lower, upper)?;
         let first = rows.as_slice().first();
         Ok(first.and_then(|(_, row)| row.int(0)).unwrap_or(0))
     }
@@ -116,6 +157,17 @@ impl<N: Name, A: Allocator + Copy, R: Wait> Body<N, A, R> for Turn {
         store: &Store<N, A>,
         transaction: &mut Transaction<N, A>,
     ) -> Result<(), Fault> {
+        if self.counted.is_some() {
+            delete(transaction, 1)?;
+        }
         self.run_in(rt, store, &mut Draft::Worker(transaction))
     }
+}
+
+/// Deletes the row under a key.
+fn delete<N: Name, A: Allocator + Copy>(
+    transaction: &mut Transaction<N, A>,
+    key: u64,
+) -> Result<(), Fault> {
+    Ok(transaction.delete(TABLE, key.into())?)
 }
