@@ -1,5 +1,6 @@
 //! Clients that do what a seed says.
 use crate::desks::seven;
+use occ_model::Verdict;
 use occ_store::{Name, Op, Session, Store};
 use occ_types::{Cell, Fault, Key, Row};
 use std::alloc::Allocator;
@@ -69,7 +70,7 @@ fn close<N: Name, A: Allocator + Copy, R: Wait>(
     serving: &AtomicU64,
 ) -> Result<u64, Fault> {
     for _ in rt.forever() {
-        let closed = session.close(rt);
+        let closed = close_once(rt, session);
         if closed != Err(Fault::QueueFull) || is_over(serving) {
             return closed;
         }
@@ -95,7 +96,7 @@ fn run_one<N: Name, A: Allocator + Copy, R: Wait>(
         0 => add_alone(rt, alloc, session, random),
         1 => fold(rt, store),
         kind => {
-            let _begun = session.begin()?;
+            let _start = begin(session)?;
             ask(rt, store, session, random, kind)?;
             if kind == 2 {
                 let _forgotten = session.abandon(rt, store)?;
@@ -124,16 +125,35 @@ fn ask<N: Name, A: Allocator + Copy, R: Wait>(
         let rows = session.scan(rt, store, 0, lower, None)?;
         return put(session, key, rows.len() as i64);
     }
-    let found = session.get(rt, store, 0, Key::Num(key))?;
+    let found = number(rt, store, session, key)?;
     if kind <= 5 {
         session.delete(0, Key::Num(key))?;
         return Ok(());
     }
-    let number = found.as_ref().and_then(|row| row.int(0)).unwrap_or(0);
-    put(session, key, number.saturating_add(1))
+    put(session, key, found.unwrap_or(0).saturating_add(1))
 }
 
-fn put<N: Name, A: Allocator + Copy>(
+/// A session begins a transaction. Its start.
+pub(crate) fn begin<N: Name, A: Allocator + Copy>(
+    session: &mut Session<N, A>,
+) -> Result<u64, Fault> {
+    let (_number, start) = session.begin()?;
+    Ok(start)
+}
+
+/// The number that the open transaction finds under a key.
+pub(crate) fn number<N: Name, A: Allocator + Copy, R: Wait>(
+    rt: &R,
+    store: &Store<N, A>,
+    session: &Session<N, A>,
+    key: u64,
+) -> Result<Option<i64>, Fault> {
+    let row = session.get(rt, store, 0, Key::Num(key))?;
+    Ok(row.as_ref().and_then(|row| row.int(0)))
+}
+
+/// The open transaction puts a number under a key.
+pub(crate) fn put<N: Name, A: Allocator + Copy>(
     session: &mut Session<N, A>,
     key: u64,
     number: i64,
@@ -161,22 +181,49 @@ fn add_alone<N: Name, A: Allocator + Copy, R: Wait>(
         key: Key::Num(key),
         amount: 1,
     })?;
-    match session.alone(rt, operations) {
-        Ok(_number) => Ok(()),
-        Err(refused) => unless_full(refused.fault),
+    match hand_in_alone(rt, session, operations) {
+        Ok(_) | Err(Fault::QueueFull) => Ok(()),
+        Err(fault) => Err(fault),
     }
 }
 
-fn unless_full(fault: Fault) -> Result<(), Fault> {
-    if fault == Fault::QueueFull {
-        return Ok(());
-    }
-    Err(fault)
+/// A session hands in operations to run alone. Their number.
+pub(crate) fn hand_in_alone<N: Name, A: Allocator + Copy, R: Wait>(
+    rt: &R,
+    session: &mut Session<N, A>,
+    operations: Vec<Op<A>, A>,
+) -> Result<u64, Fault> {
+    let number = session.alone(rt, operations)?;
+    Ok(number)
+}
+
+/// A session hands in the open transaction. Its number.
+pub(crate) fn hand_in<N: Name, A: Allocator + Copy, R: Wait>(
+    rt: &R,
+    session: &mut Session<N, A>,
+) -> Result<u64, Fault> {
+    session.submit(rt)
+}
+
+/// A session closes. The number of its mark.
+pub(crate) fn close_once<N: Name, A: Allocator + Copy, R: Wait>(
+    rt: &R,
+    session: &mut Session<N, A>,
+) -> Result<u64, Fault> {
+    session.close(rt)
+}
+
+/// A checkpoint. How many rows it folds.
+pub(crate) fn checkpoint<N: Name, A: Allocator + Copy, R: Wait>(
+    rt: &R,
+    store: &Store<N, A>,
+) -> Result<usize, Fault> {
+    store.checkpoint(rt)
 }
 
 // Folds what can be folded, unless a row is open.
 fn fold<N: Name, A: Allocator + Copy, R: Wait>(rt: &R, store: &Store<N, A>) -> Result<(), Fault> {
-    match store.checkpoint(rt) {
+    match checkpoint(rt, store) {
         Ok(_) | Err(Fault::StoreBusy) => Ok(()),
         Err(fault) => Err(fault),
     }
@@ -189,7 +236,7 @@ fn submit<N: Name, A: Allocator + Copy, R: Wait>(
     serving: &AtomicU64,
 ) -> Result<u64, Fault> {
     for _ in rt.forever() {
-        let submitted = session.submit(rt);
+        let submitted = hand_in(rt, session);
         if submitted != Err(Fault::QueueFull) || is_over(serving) {
             return submitted;
         }
@@ -207,11 +254,19 @@ fn wait<N: Name, A: Allocator + Copy, R: Wait>(
 ) -> u64 {
     for _ in rt.forever() {
         let all_over = is_over(serving);
-        let last = session.poll().number;
+        let (last, _, _) = poll(session);
         if all_over || last >= number {
             return last;
         }
         thread::yield_now();
     }
     unreachable!()
+}
+
+/// The last transaction of a session that is over: its number, how it ended, and the counter of the last commit.
+pub(crate) fn poll<N: Name, A: Allocator + Copy>(
+    session: &mut Session<N, A>,
+) -> (u64, Option<Verdict>, u64) {
+    let last = session.poll();
+    (last.number, last.status, last.tn)
 }

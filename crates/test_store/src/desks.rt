@@ -1,6 +1,7 @@
 //! A store with its sessions and lanes, on which scenarios and loads are played.
 ghost use Rattle.std.specs.Prelude.{◌≡◌};
 
+use crate::clients::{begin, close_once, hand_in, hand_in_alone, put};
 use crate::plays::{Scene, play};
 use occ_audit::audit_rows;
 use occ_store::{AlwaysGo, Frame, Gate, Group, Lane, Name, Op, Served, Session, Store};
@@ -211,11 +212,11 @@ impl<N: Name, A: Allocator + Copy> Desk<N, A> {
         last: u64,
     ) -> Result<u64, Fault> {
         let session = self.session(session)?;
-        let _begun = session.begin()?;
+        let _start = begin(session)?;
         for key in first..=last {
-            session.put(0, Key::Num(key), seven())?;
+            put(session, key, 7)?;
         }
-        session.submit(rt)
+        hand_in(rt, session)
     }
 
     /// A session hands in one operation, which puts 7 under a key, to run alone. Its number.
@@ -231,13 +232,12 @@ impl<N: Name, A: Allocator + Copy> Desk<N, A> {
             key: Key::Num(key),
             row: seven(),
         })?;
-        let number = self.session(session)?.alone(rt, operations)?;
-        Ok(number)
+        hand_in_alone(rt, self.session(session)?, operations)
     }
 
     /// A session closes. The number of its mark.
     pub(crate) fn close<R: Wait>(&mut self, rt: &R, session: usize) -> Result<u64, Fault> {
-        self.session(session)?.close(rt)
+        close_once(rt, self.session(session)?)
     }
 
     /// Serves the lane of a session once.

@@ -4,12 +4,13 @@ use crate::answers::{
     account_text, last_text, looked_text, number_text, or_fault, queued_text, reading_text,
     row_text, served_text, word_text,
 };
+use crate::clients::{begin, checkpoint, number, poll};
 use crate::desks::{Desk, lane_of};
 use crate::gates::{Looks, StopOnce, Together};
 use crate::loads::play_load;
 use crate::steps::Step;
 use occ_store::{AlwaysGo, Lane, Name, Point, Served, Store, run_validators};
-use occ_types::{Fault, Key};
+use occ_types::Fault;
 use std::alloc::{AllocError, Allocator, Global};
 use std::sync::Wait;
 use std::thread::Threads;
@@ -104,7 +105,7 @@ fn take<N: Name + Send + Sync, A: Allocator + Copy + Send + Sync, R: Threads + W
         Step::Row(session, number) => row_text(texts, desk.store.row(rt, session, number)),
         Step::Lane(session) => lane(desk, texts, session),
         Step::Judged(session) => judged(desk, texts, session),
-        Step::Poll(session) => poll(desk, texts, session),
+        Step::Poll(session) => last(desk, texts, session),
         Step::Read(session, key) => read(rt, desk, texts, session, key),
         Step::Fold => fold(rt, desk, texts),
         Step::Audit => right_text(texts, desk.is_right(rt)),
@@ -205,13 +206,13 @@ fn judged<N: Name, A: Allocator + Copy>(
     number_text(texts, judged)
 }
 
-fn poll<N: Name, A: Allocator + Copy>(
+fn last<N: Name, A: Allocator + Copy>(
     desk: &mut Desk<N, A>,
     texts: Global,
     session: usize,
 ) -> Result<String, Fault> {
-    let last = desk.session(session)?.poll();
-    last_text(texts, last.number, last.status, last.tn)
+    let (number, status, tn) = poll(desk.session(session)?);
+    last_text(texts, number, status, tn)
 }
 
 // Begins a transaction, and reads a key in it.
@@ -222,12 +223,11 @@ fn read<N: Name, A: Allocator + Copy, R: Wait>(
     session: usize,
     key: u64,
 ) -> Result<String, Fault> {
-    let (_number, begun) = desk.session(session)?.begin()?;
-    let row = match desk.sessions.get(session.wrapping_sub(1)) {
-        Some(session) => session.get(rt, &desk.store, 0, Key::Num(key))?,
+    let begun = begin(desk.session(session)?)?;
+    let number = match desk.sessions.get(session.wrapping_sub(1)) {
+        Some(session) => number(rt, &desk.store, session, key)?,
         None => None,
     };
-    let number = row.as_ref().and_then(|row| row.int(0));
     reading_text(texts, number, begun)
 }
 
@@ -236,7 +236,7 @@ fn fold<N: Name, A: Allocator + Copy, R: Wait>(
     desk: &Desk<N, A>,
     texts: Global,
 ) -> Result<String, Fault> {
-    let rows = desk.store.checkpoint(rt)?;
+    let rows = checkpoint(rt, &desk.store)?;
     number_text(texts, rows as u64)
 }
 
