@@ -11,9 +11,12 @@ const NAMES_APART: u64 = 100;
 
 const NAMES: u64 = 1600;
 
-const STYLE: &str = "<style>
+const TEXTS: &str = "<style>
 text{font:10px sans-serif;fill:#333}.axis,.number{font-size:9px;text-anchor:middle}.number{text-anchor:end}.paper{fill:#fff}.lane{fill:#f3f3f3}
-path{fill:none;stroke-width:1.5}.end{stroke-width:6}.open .end,.writing .end{stroke-dasharray:6 3}.open .end{stroke-width:2}
+";
+
+pub(crate) const COLOURS: &str =
+    "path{fill:none;stroke-width:1.5}.end{stroke-width:6}.open .end,.writing .end{stroke-dasharray:6 3}.open .end{stroke-width:2}
 .done{stroke:#0072b2;color:#0072b2}.conflict,.met,.perhaps{stroke:#c74f00;color:#c74f00}.tooold{stroke:#a3357a;color:#a3357a}
 .writing{stroke:#007a5a;color:#007a5a}.open{stroke:#666;color:#666}.folded,.closed{stroke:#666;color:#666}
 .full{fill:currentColor}.hollow{fill:#fff}.folded{fill:none;stroke-dasharray:2 2}text{stroke:none}
@@ -24,7 +27,7 @@ path{fill:none;stroke-width:1.5}.end{stroke-width:6}.open .end,.writing .end{str
 </style>
 ";
 
-const SYMBOLS: &str = "<defs>
+pub(crate) const SYMBOLS: &str = "<defs>
 <path id=\"start\" d=\"M0-4V4\"/>
 <circle id=\"done\" class=\"full\" r=\"4\"/>
 <path id=\"conflict\" d=\"M-5-5L5 5M-5 5L5-5\" stroke-width=\"2.5\"/>
@@ -60,17 +63,12 @@ impl<A: Allocator> Sheet<A> {
         end: u64,
     ) -> Result<(), AllocError> {
         let height = y_of(lanes.sessions().len() as u64, 12);
-        self.put(
-            "<svg xmlns=\"http://www.w3.org/2000/svg\" width=\"",
-            width(end),
-        )?;
-        self.put("\" height=\"", height)?;
-        self.put("\" viewBox=\"0 0 ", width(end))?;
-        self.put(" ", height)?;
-        self.put("\">\n<title>A history of ", book.log.len() as u64)?;
+        self.draw_size(width(end), height)?;
+        self.put("<title>A history of ", book.log.len() as u64)?;
         self.put(" transactions in ", lanes.sessions().len() as u64)?;
         self.say(" sessions</title>\n")?;
-        self.say(STYLE)?;
+        self.say(TEXTS)?;
+        self.say(COLOURS)?;
         self.say(SYMBOLS)?;
         self.say(LEGEND)?;
         for (lane, session) in lanes.sessions().iter().enumerate() {
@@ -88,20 +86,28 @@ impl<A: Allocator> Sheet<A> {
         end: u64,
     ) -> Result<(), AllocError> {
         if lane % 2 == 0 {
-            self.put("<rect class=\"lane\" y=\"", y_of(lane, 0))?;
-            self.say("\" width=\"100%\" height=\"52\"/>\n")?;
+            self.draw_ground(y_of(lane, 0))?;
         }
         if let Some(number) = book.base.last(session) {
-            self.put("<rect class=\"folded\" x=\"6\" y=\"", y_of(lane, 24))?;
-            self.say("\" width=\"82\" height=\"18\"/>\n")?;
-            self.put("<text x=\"10\" y=\"", y_of(lane, 37))?;
-            self.put("\">folded: 1 to ", number)?;
-            self.say("</text>\n")?;
+            self.draw_first(lane, number)?;
         }
         match book.marks.get(session) {
             Some(_) => self.draw_symbol("closed", (x_of(end).saturating_add(20), y_of(lane, 36))),
             None => Ok(()),
         }
+    }
+
+    fn draw_ground(&mut self, y: u64) -> Result<(), AllocError> {
+        self.put("<rect class=\"lane\" y=\"", y)?;
+        self.say("\" width=\"100%\" height=\"52\"/>\n")
+    }
+
+    fn draw_first(&mut self, lane: u64, number: u64) -> Result<(), AllocError> {
+        self.put("<rect class=\"folded\" x=\"6\" y=\"", y_of(lane, 24))?;
+        self.say("\" width=\"82\" height=\"18\"/>\n")?;
+        self.put("<text x=\"10\" y=\"", y_of(lane, 37))?;
+        self.put("\">folded: 1 to ", number)?;
+        self.say("</text>\n")
     }
 
     /// Appends the names of the axis and the lanes, at the left and again wherever one may have scrolled to, and the end of the picture.
@@ -115,21 +121,33 @@ impl<A: Allocator> Sheet<A> {
             "<g id=\"names\">\n<text x=\"6\" y=\"112\">place</text><text x=\"6\" y=\"126\">counter</text>\n",
         )?;
         for (lane, session) in lanes.sessions().iter().enumerate() {
-            self.put("<text x=\"6\" y=\"", y_of(lane as u64, 13))?;
-            self.put("\">session ", *session as u64)?;
-            self.say("</text>\n")?;
+            self.draw_name(lane as u64, *session)?;
         }
         self.say("</g>\n")?;
-        for count in 1..(end / NAMES_APART).saturating_add(1) {
-            self.draw_symbol("names", (count.saturating_mul(NAMES), 0))?;
-        }
-        if place > 0 {
-            self.put(
-                "<text x=\"6\" y=\"97\">folded: rows before place ",
-                place as u64,
-            )?;
-            self.say("</text>\n")?;
-        }
+        self.draw_names_again(end / NAMES_APART)?;
+        self.draw_folded(place as u64)?;
         self.say("</svg>\n")
+    }
+
+    fn draw_names_again(&mut self, times: u64) -> Result<(), AllocError> {
+        for count in 0..times {
+            let x = count.saturating_add(1).saturating_mul(NAMES);
+            self.draw_symbol("names", (x, 0))?;
+        }
+        Ok(())
+    }
+
+    fn draw_name(&mut self, lane: u64, session: usize) -> Result<(), AllocError> {
+        self.put("<text x=\"6\" y=\"", y_of(lane, 13))?;
+        self.put("\">session ", session as u64)?;
+        self.say("</text>\n")
+    }
+
+    fn draw_folded(&mut self, place: u64) -> Result<(), AllocError> {
+        if place == 0 {
+            return Ok(());
+        }
+        self.put("<text x=\"6\" y=\"97\">folded: rows before place ", place)?;
+        self.say("</text>\n")
     }
 }

@@ -31,6 +31,20 @@ impl<A: Allocator> Meetings<A> {
         }
     }
 
+    /// The class of the lines to them.
+    pub(crate) fn class(&self) -> &'static str {
+        if self.are_certain { "met" } else { "perhaps" }
+    }
+
+    /// What is said of one of them.
+    pub(crate) fn met(&self) -> &'static str {
+        if self.are_certain {
+            "met session "
+        } else {
+            "may have met session "
+        }
+    }
+
     fn add(&mut self, row: usize) -> Result<(), AllocError> {
         if self.rows.len() < SHOWN {
             self.rows.push(row)?;

@@ -13,7 +13,7 @@ use occ_types::Schema;
 use std::alloc::{AllocError, Allocator};
 
 /// How many reads, and how many writes, are told of a row.
-const TOLD: usize = 8;
+pub(crate) const TOLD: usize = 8;
 /// Where the places stand.
 const PLACES: u64 = 112;
 /// Where the counter stands.
@@ -41,7 +41,7 @@ impl<A: Allocator, O> Drawn<'_, A, O> {
 }
 
 /// The name of the symbol and of the class of a standing.
-fn name_of<O>(standing: &Standing<O>) -> &'static str {
+pub(crate) fn name_of<O>(standing: &Standing<O>) -> &'static str {
     match standing {
         Standing::Open(_) => "open",
         Standing::Writing(_) => "writing",
@@ -72,11 +72,22 @@ impl<A: Allocator + Copy> Sheet<A> {
         self.draw_axis(&drawn.times, row, at)?;
         let meetings = meetings_of(alloc, drawn.log, row, at)?;
         self.draw_meetings(drawn, row, at, &meetings)?;
+        self.tell_all(drawn, at, &meetings)?;
+        self.draw_phases(drawn, row, at)
+    }
+
+    /// Appends the beginning of the group of a row, and its title.
+    pub(crate) fn tell_all<O>(
+        &mut self,
+        drawn: &Drawn<'_, A, O>,
+        at: &LogRow<A, O>,
+        meetings: &Meetings<A>,
+    ) -> Result<(), AllocError> {
         self.tell_row(at)?;
-        self.tell_meetings(drawn.log, &meetings)?;
+        self.tell_meetings(drawn.log, meetings)?;
         self.tell_reads(drawn.schema, &at.reads)?;
         self.tell_writes(drawn.schema, &at.writes)?;
-        self.draw_phases(drawn, row, at)
+        self.say("</title>\n")
     }
 
     // Appends the place over the entry, and the number over the finish.
@@ -107,11 +118,7 @@ impl<A: Allocator + Copy> Sheet<A> {
         at: &LogRow<A, O>,
         meetings: &Meetings<A>,
     ) -> Result<(), AllocError> {
-        let class = if meetings.are_certain {
-            "met"
-        } else {
-            "perhaps"
-        };
+        let class = meetings.class();
         let entry = drawn.times.entry(row);
         for place in &meetings.rows {
             if let Some(other) = drawn.log.get(*place) {
@@ -132,10 +139,14 @@ impl<A: Allocator + Copy> Sheet<A> {
         self.put(": place ", at.place as u64)?;
         self.put(", start ", at.start)?;
         self.put(", finish ", at.finish)?;
-        match at.standing {
+        self.tell_standing(&at.standing)
+    }
+
+    fn tell_standing<O>(&mut self, standing: &Standing<O>) -> Result<(), AllocError> {
+        match standing {
             Standing::Open(_) => self.say(", open"),
-            Standing::Writing(count) => self.put(", writing, writes done: ", count as u64),
-            Standing::Done(number) => self.put(", done with number ", number),
+            Standing::Writing(count) => self.put(", writing, writes done: ", *count as u64),
+            Standing::Done(number) => self.put(", done with number ", *number),
             Standing::Back(Cause::Conflict) => self.say(", backed up for a conflict"),
             Standing::Back(Cause::TooOld) => self.say(", backed up as too old"),
         }
@@ -147,23 +158,34 @@ impl<A: Allocator + Copy> Sheet<A> {
         meetings: &Meetings<A>,
     ) -> Result<(), AllocError> {
         for row in &meetings.rows {
-            if let Some(other) = log.get(*row) {
-                self.say(if meetings.are_certain {
-                    "\nmet"
-                } else {
-                    "\nmay have met"
-                })?;
-                self.put(" session ", other.session as u64)?;
-                self.put(", number ", other.number)?;
-            }
+            self.tell_meeting(log, meetings.met(), *row)?;
         }
-        if meetings.more > 0 {
-            self.put("\nand others: ", meetings.more)?;
+        self.tell_further(meetings.more, meetings.are_all)
+    }
+
+    fn tell_meeting<O>(
+        &mut self,
+        log: &[LogRow<A, O>],
+        met: &str,
+        row: usize,
+    ) -> Result<(), AllocError> {
+        let Some(other) = log.get(row) else {
+            return Ok(());
+        };
+        self.say("\n")?;
+        self.put(met, other.session as u64)?;
+        self.put(", number ", other.number)
+    }
+
+    fn tell_further(&mut self, more: u64, are_all: bool) -> Result<(), AllocError> {
+        if more > 0 {
+            self.put("\nand others: ", more)?;
         }
-        if !meetings.are_all {
-            self.say("\nrows further back were not searched")?;
-        }
-        Ok(())
+        self.say(if are_all {
+            ""
+        } else {
+            "\nrows further back were not searched"
+        })
     }
 
     fn tell_reads(&mut self, schema: &Schema<A>, reads: &ReadSet<A>) -> Result<(), AllocError> {
@@ -177,11 +199,23 @@ impl<A: Allocator + Copy> Sheet<A> {
 
     fn tell_writes(&mut self, schema: &Schema<A>, writes: &WriteSet<A>) -> Result<(), AllocError> {
         self.put("\nwrites: ", writes.len() as u64)?;
-        for (object, row) in writes.iter().take(TOLD) {
-            write_line(&mut self.line, schema, object, row)?;
-            self.tell_line()?;
+        for place in 0..writes.len().min(TOLD) {
+            self.tell_write(schema, writes, place)?;
         }
         self.tell_more(writes.len())
+    }
+
+    fn tell_write(
+        &mut self,
+        schema: &Schema<A>,
+        writes: &WriteSet<A>,
+        place: usize,
+    ) -> Result<(), AllocError> {
+        let Some((object, row)) = writes.write_at(place) else {
+            return Ok(());
+        };
+        write_line(&mut self.line, schema, object, row)?;
+        self.tell_line()
     }
 
     // Tells that there are more than are told.
@@ -189,7 +223,7 @@ impl<A: Allocator + Copy> Sheet<A> {
         self.say(if count > TOLD { "\n..." } else { "" })
     }
 
-    // Appends the end of the title of a row, its phases, its number and its symbol.
+    // Appends the phases of a row, its number and its symbol.
     fn draw_phases<O>(
         &mut self,
         drawn: &Drawn<'_, A, O>,
@@ -199,7 +233,6 @@ impl<A: Allocator + Copy> Sheet<A> {
         let start = drawn.point(at, drawn.times.start(row, at.start));
         let entry = drawn.point(at, drawn.times.entry(row));
         let end = drawn.point(at, drawn.times.end_of(row, &at.standing));
-        self.say("</title>\n")?;
         self.draw_symbol("start", start)?;
         self.draw_line("read", start, entry)?;
         self.draw_line("end", entry, end)?;

@@ -16,6 +16,16 @@ pub(crate) struct Sheet<A: Allocator> {
     pub(crate) line: String<A>,
 }
 
+impl<A: Allocator + Copy> Sheet<A> {
+    /// An empty sheet.
+    pub(crate) fn new(alloc: A) -> Sheet<A> {
+        Sheet {
+            text: String::new(alloc),
+            line: String::new(alloc),
+        }
+    }
+}
+
 impl<A: Allocator> Sheet<A> {
     /// Appends words.
     pub(crate) fn say(&mut self, words: &str) -> Result<(), AllocError> {
@@ -31,13 +41,71 @@ impl<A: Allocator> Sheet<A> {
     /// Appends a line feed and the beginning of the line, with the signs of XML as it spells them.
     pub(crate) fn tell_line(&mut self) -> Result<(), AllocError> {
         self.say("\n")?;
-        for byte in self.line.as_bytes().iter().take(LINE) {
-            put_byte(&mut self.text, *byte)?;
-        }
+        spell(&mut self.text, self.line.as_bytes(), LINE)?;
         if self.line.len() > LINE {
             self.say("...")?;
         }
         Ok(())
+    }
+
+    /// Appends the beginning of a picture of a width and a height.
+    pub(crate) fn draw_size(&mut self, width: u64, height: u64) -> Result<(), AllocError> {
+        self.put("<svg xmlns=\"http://www.w3.org/2000/svg\" width=\"", width)?;
+        self.put("\" height=\"", height)?;
+        self.put("\" viewBox=\"0 0 ", width)?;
+        self.put(" ", height)?;
+        self.say("\">\n")
+    }
+
+    /// Appends words, with the signs of XML as it spells them.
+    pub(crate) fn tell(&mut self, words: &[u8]) -> Result<(), AllocError> {
+        spell(&mut self.text, words, usize::MAX)
+    }
+
+    /// Appends words of a class at a point, with the signs of XML as it spells them.
+    pub(crate) fn draw_words(
+        &mut self,
+        class: &str,
+        words: &[u8],
+        at: Point,
+    ) -> Result<(), AllocError> {
+        self.begin_words(class, at)?;
+        self.tell(words)?;
+        self.say("</text>\n")
+    }
+
+    /// Appends so many letters of the line, as words of a class at a point.
+    pub(crate) fn draw_told(
+        &mut self,
+        class: &str,
+        most: usize,
+        at: Point,
+    ) -> Result<(), AllocError> {
+        self.begin_words(class, at)?;
+        spell(&mut self.text, self.line.as_bytes(), most)?;
+        self.say("</text>\n")
+    }
+
+    fn begin_words(&mut self, class: &str, at: Point) -> Result<(), AllocError> {
+        self.say("<text class=\"")?;
+        self.say(class)?;
+        self.put_at(at)?;
+        self.say("\">")
+    }
+
+    /// Appends a box of a class from a point on, of a width and a height.
+    pub(crate) fn draw_box(
+        &mut self,
+        class: &str,
+        at: Point,
+        size: Point,
+    ) -> Result<(), AllocError> {
+        self.say("<rect class=\"")?;
+        self.say(class)?;
+        self.put_at(at)?;
+        self.put("\" width=\"", size.0)?;
+        self.put("\" height=\"", size.1)?;
+        self.say("\"/>\n")
     }
 
     // Appends the coordinates of a point as attributes.
@@ -61,10 +129,8 @@ impl<A: Allocator> Sheet<A> {
         number: u64,
         at: Point,
     ) -> Result<(), AllocError> {
-        self.say("<text class=\"")?;
-        self.say(class)?;
-        self.put_at(at)?;
-        self.put("\">", number)?;
+        self.begin_words(class, at)?;
+        write_number(&mut self.text, number)?;
         self.say("</text>\n")
     }
 
@@ -75,14 +141,41 @@ impl<A: Allocator> Sheet<A> {
         from: Point,
         to: Point,
     ) -> Result<(), AllocError> {
-        self.say("<path class=\"")?;
-        self.say(class)?;
-        self.put("\" d=\"M", from.0)?;
-        self.put(" ", from.1)?;
+        self.begin_path(class, from)?;
         self.put("L", to.0)?;
         self.put(" ", to.1)?;
         self.say("\"/>\n")
     }
+
+    /// Appends a line of a class that goes to the side, up or down, and to the side again.
+    pub(crate) fn draw_turns(
+        &mut self,
+        class: &str,
+        from: Point,
+        turn: u64,
+        to: Point,
+    ) -> Result<(), AllocError> {
+        self.begin_path(class, from)?;
+        self.put("H", turn)?;
+        self.put("V", to.1)?;
+        self.put("H", to.0)?;
+        self.say("\"/>\n")
+    }
+
+    fn begin_path(&mut self, class: &str, from: Point) -> Result<(), AllocError> {
+        self.say("<path class=\"")?;
+        self.say(class)?;
+        self.put("\" d=\"M", from.0)?;
+        self.put(" ", from.1)
+    }
+}
+
+// Appends at most so many bytes of words, with the signs of XML as it spells them.
+fn spell<A: Allocator>(text: &mut String<A>, words: &[u8], most: usize) -> Result<(), AllocError> {
+    for byte in words.iter().take(most) {
+        put_byte(text, *byte)?;
+    }
+    Ok(())
 }
 
 // Lines of a book have no byte above 126.
@@ -91,7 +184,13 @@ fn put_byte<A: Allocator>(text: &mut String<A>, byte: u8) -> Result<(), AllocErr
         b'&' => text.push_str("&amp;"),
         b'<' => text.push_str("&lt;"),
         b'>' => text.push_str("&gt;"),
-        32..=126 => text.push(char::from(byte)),
-        _ => text.push('?'),
+        _ => text.push(sign(byte)),
+    }
+}
+
+fn sign(byte: u8) -> char {
+    match byte {
+        32..=126 => char::from(byte),
+        _ => '?',
     }
 }

@@ -8,7 +8,7 @@ use std::alloc::Global;
 use std::{fs, io};
 
 /// The books, each in a file `NAME.book` with its picture in `NAME.svg`.
-const BOOKS: [&str; 2] = ["pictures/all-standings", "pictures/forged"];
+const BOOKS: [&str; 3] = ["pictures/all-standings", "pictures/forged", "pictures/long"];
 
 /// Prints of each book whether its picture is the one that lies beside it.
 pub(crate) fn tell_pictures(rt: &HostRuntime) -> io::Result<()> {
