@@ -3,6 +3,7 @@ ghost use Rattle.std.specs.Prelude.{◌≡◌};
 
 use crate::bank::hired;
 use crate::budgets::Budget;
+use crate::by_lanes::Client;
 use crate::calls::{CALLS, are_right, run_list};
 use crate::crews::{Member, told};
 use crate::folds::fold;
@@ -10,7 +11,7 @@ use crate::hands::{Hand, Maker};
 use crate::loads::Shape;
 use crate::outcomes::{Done, Told};
 use crate::rows::{PUTS, TABLE, puts, schema, write};
-use crate::tasks::{Task, Way};
+use crate::tasks::{By, Task, Way};
 use occ_store::{Frame, Lane, Name, Session, Store, Worker};
 use occ_types::{Fault, Key, Row};
 use std::alloc::Allocator;
@@ -61,8 +62,11 @@ fn play<N: Name + Send + Sync, A: Allocator + Copy + Send + Sync, R: Threads + W
 ) -> Result<Told, Fault> {
     let mut workers = hired(alloc, sessions, lanes)?;
     let (called, before) = prepare(rt, alloc, store, &mut workers, task.load.shape)?;
-    let mut crew = crew(alloc, workers, task)?;
-    let mut told = play_by(rt, store, &mut crew, task);
+    let mut told = if task.way.by == By::Worker {
+        play_by_workers(rt, alloc, store, workers, task)?
+    } else {
+        play_by_clients(rt, alloc, store, workers, task)?
+    };
     (told.called, told.before) = (called, before);
     told.sum = total(rt, store);
     Ok(told)
@@ -85,30 +89,49 @@ fn prepare<N: Name, A: Allocator + Copy, R: Wait>(
     Ok((called, Some(filled)))
 }
 
-/// The workers, or their sessions and lanes, each with its part.
-fn crew<N: Name, A: Allocator + Copy>(
-    alloc: A,
-    workers: Vec<Worker<N, A>, A>,
-    task: Task,
-) -> Result<Vec<Member<Maker<N, A>>, A>, Fault> {
-    let mut crew = Vec::new(alloc);
-    for worker in workers {
-        let place = crew.len();
-        let maker = Maker::new(alloc, worker, task.way.by);
-        crew.push(Member::new(maker, task, place))?;
-    }
-    Ok(crew)
-}
-
-/// Does a task by a crew. What came of it, but the sum of the rows.
-fn play_by<
+/// Does a task by workers; the sum of the rows is left out.
+fn play_by_workers<
     N: Name + Send + Sync,
     A: Allocator + Copy + Send + Sync,
     R: Threads + Wait + Clock + Sync,
->(rt: &R, store: &Store<N, A>, crew: &mut [Member<Maker<N, A>>], task: Task) -> Told {
+>(
+    rt: &R,
+    alloc: A,
+    store: &Store<N, A>,
+    workers: Vec<Worker<N, A>, A>,
+    task: Task,
+) -> Result<Told, Fault> {
+    let mut crew = Vec::new(alloc);
+    for worker in workers {
+        let place = crew.len();
+        crew.push(Member::new(worker, task, place))?;
+    }
     let budget = Budget::begin(rt, task.until);
-    work_at_once(rt, store, crew, task.way, &budget);
-    told(rt, crew, task, &budget)
+    workers_at_once(rt, store, &mut crew, task.way, &budget);
+    Ok(told(rt, &crew, task, &budget))
+}
+
+/// Does a task by the sessions and lanes of workers; the sum of the rows is left out.
+fn play_by_clients<
+    N: Name + Send + Sync,
+    A: Allocator + Copy + Send + Sync,
+    R: Threads + Wait + Clock + Sync,
+>(
+    rt: &R,
+    alloc: A,
+    store: &Store<N, A>,
+    workers: Vec<Worker<N, A>, A>,
+    task: Task,
+) -> Result<Told, Fault> {
+    let mut crew = Vec::new(alloc);
+    for worker in workers {
+        let place = crew.len();
+        let client = Client::new(alloc, worker, task.way.by);
+        crew.push(Member::new(client, task, place))?;
+    }
+    let budget = Budget::begin(rt, task.until);
+    clients_at_once(rt, store, &mut crew, task.way, &budget);
+    Ok(told(rt, &crew, task, &budget))
 }
 
 /// Puts so many rows of 0, and behind them one of 1, which is deleted again; and folds all. What was done on the store until then.
@@ -135,28 +158,53 @@ fn fill<N: Name, A: Allocator + Copy, R: Wait>(
     Ok(done)
 }
 
-/// Has each member work in a thread of its own.
-fn work_at_once<
+/// Has each worker work in a thread of its own.
+fn workers_at_once<
     N: Name + Send + Sync,
     A: Allocator + Copy + Send + Sync,
     R: Threads + Wait + Clock + Sync,
->(rt: &R, store: &Store<N, A>, crew: &mut [Member<Maker<N, A>>], way: Way, budget: &Budget) {
+>(rt: &R, store: &Store<N, A>, crew: &mut [Member<Worker<N, A>>], way: Way, budget: &Budget) {
     thread::scope(thread::scope_env(), rt, |scope| {
         for member in crew.iter_mut() {
-            let _ = scope.spawn(move || work(rt, store, member, way, budget));
+            let _ = scope.spawn(move || worker_works(rt, store, member, way, budget));
         }
     });
 }
 
-/// Has a member make its part.
-fn work<N: Name, A: Allocator + Copy, R: Wait + Clock>(
+/// Has a worker make its part.
+fn worker_works<N: Name, A: Allocator + Copy, R: Wait + Clock>(
     rt: &R,
     store: &Store<N, A>,
-    member: &mut Member<Maker<N, A>>,
+    member: &mut Member<Worker<N, A>>,
     way: Way,
     budget: &Budget,
 ) {
-    let mut hand = Hand::new(&mut member.player, way);
+    let mut hand = Hand::new(Maker::Worker(&mut member.player), way);
+    hand.work(rt, store, &mut member.part, budget);
+}
+
+/// Has each client work in a thread of its own.
+fn clients_at_once<
+    N: Name + Send + Sync,
+    A: Allocator + Copy + Send + Sync,
+    R: Threads + Wait + Clock + Sync,
+>(rt: &R, store: &Store<N, A>, crew: &mut [Member<Client<N, A>>], way: Way, budget: &Budget) {
+    thread::scope(thread::scope_env(), rt, |scope| {
+        for member in crew.iter_mut() {
+            let _ = scope.spawn(move || client_works(rt, store, member, way, budget));
+        }
+    });
+}
+
+/// Has a client make its part.
+fn client_works<N: Name, A: Allocator + Copy, R: Wait + Clock>(
+    rt: &R,
+    store: &Store<N, A>,
+    member: &mut Member<Client<N, A>>,
+    way: Way,
+    budget: &Budget,
+) {
+    let mut hand = Hand::new(Maker::Client(&mut member.player), way);
     hand.work(rt, store, &mut member.part, budget);
 }
 

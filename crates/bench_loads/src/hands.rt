@@ -3,7 +3,7 @@ use crate::budgets::Budget;
 use crate::by_lanes::Client;
 use crate::folds::Folds;
 use crate::outcomes::Part;
-use crate::tasks::{By, Way};
+use crate::tasks::Way;
 use crate::turns::Turn;
 use occ_store::{Body, Ended, Lease, Name, Store, Worker};
 use occ_types::Fault;
@@ -17,29 +17,21 @@ const TRIES: usize = 1_000;
 
 /// What makes transactions.
 #[derive(Drop)]
-pub(crate) enum Maker<N: Name, A: Allocator + Copy> {
-    Client(Client<N, A>),
-    Worker(Worker<N, A>),
+pub(crate) enum Maker<'a, N: Name, A: Allocator + Copy> {
+    Client(&'a mut Client<N, A>),
+    Worker(&'a mut Worker<N, A>),
 }
 
 /// What makes the transactions of one thread on a store, in leases or not, and the checkpoints that are due after them.
 #[derive(Drop)]
 pub(crate) struct Hand<'a, N: Name, A: Allocator + Copy> {
-    maker: &'a mut Maker<N, A>,
+    maker: Maker<'a, N, A>,
     leased: bool,
     at_a_time: u64,
     folds: Folds,
 }
 
-impl<N: Name, A: Allocator + Copy> Maker<N, A> {
-    /// A worker, or its session and lane, for transactions that are made by this.
-    pub(crate) fn new(alloc: A, worker: Worker<N, A>, by: By) -> Maker<N, A> {
-        match by {
-            By::Worker => Maker::Worker(worker),
-            _ => Maker::Client(Client::new(alloc, worker, by)),
-        }
-    }
-
+impl<N: Name, A: Allocator + Copy> Maker<'_, N, A> {
     /// Tries a transaction, within a lease where there is one. Its transaction number; none where it was backed up.
     fn transact<R: Wait>(
         &mut self,
@@ -83,7 +75,7 @@ fn tried<N: Name, A: Allocator + Copy, R: Wait, B: Body<N, A, R>>(
 
 impl<'a, N: Name, A: Allocator + Copy> Hand<'a, N, A> {
     /// That of a thread which makes transactions in this way.
-    pub(crate) fn new(maker: &'a mut Maker<N, A>, way: Way) -> Hand<'a, N, A> {
+    pub(crate) fn new(maker: Maker<'a, N, A>, way: Way) -> Hand<'a, N, A> {
         Hand {
             maker,
             leased: way.leased,
