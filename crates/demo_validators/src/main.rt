@@ -1,4 +1,4 @@
-//! Validators in threads: four clients read, write to private copies and submit; two threads validate what they submit. Each client moves
+//! Validators in threads: four clients read, write to private copies and submit; others validate what they submit. Each client moves
 //! money and sums all accounts, and a sum that commits is what was paid in.
 #![tactic(auto)]
 
@@ -19,15 +19,22 @@ const ACCOUNTS: usize = 0;
 /// How often a client tries a transaction.
 const TRIES: usize = 1_000;
 
-/// The balance of an account, which is 0 where there is none.
-fn balance<N: Name, A: Allocator + Copy, R: Wait>(
+/// Adds to the balance of an account, in the client's open transaction.
+fn add<N: Name, A: Allocator + Copy, R: Wait>(
     rt: &R,
     store: &Store<N, A>,
-    client: &Session<N, A>,
+    client: &mut Session<N, A>,
     account: u64,
-) -> Result<i64, Fault> {
+    amount: i64,
+) -> Result<(), Fault> {
     let row = client.get(rt, store, ACCOUNTS, account.into())?;
-    Ok(row.as_ref().and_then(|row| row.int(0)).unwrap_or(0))
+    let balance = row.as_ref().and_then(|row| row.int(0)).unwrap_or(0);
+    client.put(
+        ACCOUNTS,
+        account.into(),
+        balance.saturating_add(amount).into(),
+    )?;
+    Ok(())
 }
 
 /// Submits the open transaction and waits until it is over. Whether it committed.
@@ -46,18 +53,17 @@ fn commits<N: Name, A: Allocator + Copy, R: Wait>(
     unreachable!()
 }
 
-/// One transaction, which moves 1 from an account to the next. Whether it committed.
+/// One transaction, which moves 1 from an account to another. Whether it committed.
 fn moves<N: Name, A: Allocator + Copy, R: Wait>(
     rt: &R,
     store: &Store<N, A>,
     client: &mut Session<N, A>,
-    account: u64,
+    from: u64,
+    to: u64,
 ) -> Result<bool, Fault> {
     client.begin()?;
-    let from = balance(rt, store, client, account)?;
-    let to = balance(rt, store, client, account + 1)?;
-    client.put(ACCOUNTS, account.into(), from.saturating_sub(1).into())?;
-    client.put(ACCOUNTS, (account + 1).into(), to.saturating_add(1).into())?;
+    add(rt, store, client, from, -1)?;
+    add(rt, store, client, to, 1)?;
     commits(rt, client)
 }
 
@@ -84,7 +90,7 @@ fn work<N: Name, A: Allocator + Copy, R: Wait>(
 ) -> Result<(), Fault> {
     for round in 0..100u64 {
         for _ in 0..TRIES {
-            if moves(rt, store, client, round % 7)? {
+            if moves(rt, store, client, round % 7, round % 10)? {
                 break;
             }
         }
@@ -131,21 +137,18 @@ fn serve<
     right.load(Ordering::SeqCst)
 }
 
-/// Two groups of lanes, dealt in turn.
-fn grouped<N: Name, A: Allocator + Copy>(
+/// A validator for each lane.
+fn validators<N: Name, A: Allocator + Copy>(
     alloc: A,
     lanes: Vec<Lane<N, A>, A>,
 ) -> Result<Vec<Group<N, A>, A>, Fault> {
-    let (mut even, mut odd) = (Vec::new(alloc), Vec::new(alloc));
+    let mut validators = Vec::new(alloc);
     for lane in lanes {
-        let group = if lane.session() % 2 == 0 {
-            &mut even
-        } else {
-            &mut odd
-        };
-        group.push(lane)?;
+        let mut own = Vec::new(alloc);
+        own.push(lane)?;
+        validators.push(Group::new(own))?;
     }
-    Ok(vec![in alloc; Group::new(even), Group::new(odd)]?)
+    Ok(validators)
 }
 
 /// A store of this frame, its clients and its validators. How many sums were right.
@@ -159,7 +162,7 @@ fn run<N: Name + Send + Sync, A: Allocator + Copy + Send + Sync, R: Threads + Wa
     let Ok((store, mut sessions, lanes)) = Store::<N, A>::open(frame) else {
         return Err(Fault::Memory);
     };
-    let mut groups = grouped(alloc, lanes)?;
+    let mut groups = validators(alloc, lanes)?;
     Ok(serve(rt, &store, &mut sessions, &mut groups))
 }
 
