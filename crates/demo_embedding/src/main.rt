@@ -91,7 +91,7 @@ fn owner(
     client.begin(store)?;
     let row = client.get(store, OWNERS, carol)?;
     let account = row.as_ref().and_then(|row| row.int(0)).unwrap_or(0);
-    let balance = balance(client, store, account as u64)?;
+    let balance = balance(client, store, account.unsigned_abs())?;
     client.commit(store)?;
     Ok(writeln!(lines, "{end:?}, carol has account {account} with {balance}")?)
 }
