@@ -75,11 +75,16 @@ fn shell<'a>(alloc: Global) -> Result<Command<'a>, AllocError> {
         .arg(file(alloc, "A schedule whose header and steps stand first").required(false))
 }
 
-/// `occ_lab run [--json] [--book OUT] [--picture OUT] FILE`.
+/// `occ_lab run [--workers] [--json] [--book OUT] [--picture OUT] FILE`.
 fn run<'a>(alloc: Global) -> Result<Command<'a>, AllocError> {
     let run = Command::new(alloc, "run")
         .about("Runs a workload, and tells its time, commits, back-ups and memory")
         .after_help(STATUSES)
+        .arg(flag(
+            alloc,
+            "workers",
+            "Each session's thread serves itself, in place of validators",
+        ))?
         .arg(flag(alloc, "json", "Writes one object of JSON"))?;
     with_outputs(alloc, run)?.arg(file(alloc, "A workload"))
 }

@@ -74,6 +74,7 @@ fn serve<H: Threads + Wait + Clock + Sync>(
         return Ok(0);
     };
     let wanted = running::Wanted {
+        way: running::way_of(found.get_flag("workers")),
         json: found.get_flag("json"),
         book: found.get_str("book"),
         picture: found.get_str("picture"),

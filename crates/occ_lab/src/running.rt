@@ -6,7 +6,7 @@ use crate::memory::peak_memory;
 use crate::picture::draw_book;
 use crate::watching::Watcher;
 use anyhow::{Context, Result};
-use occ_run::{PATIENCE, Ran, run_watched};
+use occ_run::{PATIENCE, Ran, Way, run_watched};
 use occ_text::trouble::Trouble;
 use occ_words::run_summaries::{Summary, ends_of};
 use occ_words::telling::{Style, Told};
@@ -16,9 +16,11 @@ use std::sync::Wait;
 use std::thread::Threads;
 use std::time::Clock;
 
-/// What is wanted of a run beside what is told of it.
+/// What is wanted of a run.
 #[derive(Clone, Copy, Debug)]
 pub(crate) struct Wanted<'w> {
+    /// Who serves its lanes.
+    pub(crate) way: Way,
     /// Whether what is told is an object of JSON.
     pub(crate) json: bool,
     /// Where the book is written.
@@ -41,6 +43,15 @@ struct Asked {
     transactions: u64,
     /// How many of them the tables refuse.
     refused: u64,
+}
+
+/// Who serves the lanes of a run, by whether workers are wanted.
+pub(crate) fn way_of(workers: bool) -> Way {
+    if workers {
+        Way::Workers
+    } else {
+        Way::Validators
+    }
 }
 
 /// Runs a workload, and tells what it came to.
@@ -94,6 +105,7 @@ fn run_text<H: Threads + Wait + Clock + Sync>(
         &mut reader,
         &mut book,
         true,
+        wanted.way,
         PATIENCE,
         &watcher,
     );

@@ -10,10 +10,10 @@ ghost use Rattle.occ_run.specs.declared.ends.End.TheVariants as ends;
 
 use crate::ends::{End, Stop};
 use crate::loads::{Job, Load};
-use crate::rounds::Round;
-use crate::trying::{run_plan, wait};
+use crate::trying::run_plan;
+use crate::waiting::Waiting;
 use crate::workloads::Plan;
-use occ_store::{Name, Session, Store};
+use occ_store::{Lane, Name, Session, Store};
 use std::alloc::Allocator;
 use std::marker::{Model, PhantomData};
 use std::sync::Wait;
@@ -85,12 +85,14 @@ impl<N: Name, L: Load, A: Allocator + Copy> Client<N, L, A> {
     }
 
     /// Runs the transactions of its session in their order, and then closes the session. Where it gives up, it abandons what is open and
-    /// closes the session; for want of memory it tells all others to give up too. It runs once.
-    pub(crate) fn run<R: Wait>(&mut self, rt: &R, job: &Job<N, L, A>) {
+    /// closes the session; for want of memory it tells all others to give up too. It runs once. Where it is given the lane of its session,
+    /// it serves that itself.
+    pub(crate) fn run<R: Wait>(&mut self, rt: &R, job: &Job<N, L, A>, lane: Option<Lane<N, A>>) {
         let End::Unstarted = self.end else {
             return;
         };
-        let (end, refused) = ended(play(rt, &mut self.session, job));
+        let mut waiting = Waiting::new(&job.store, &job.round, lane);
+        let (end, refused) = ended(play(rt, &mut self.session, &mut waiting, job));
         self.refused = refused;
         self.end = end;
         job.round.client_ended();
@@ -109,22 +111,24 @@ fn ended(played: Result<u64, Stop>) -> (End, u64)
     }
 }
 
-// Runs the transactions of a session, and closes it, also where it gives up. How many of them had an operation that was refused.
+// Runs a session's transactions, and closes it, also where it gives up; then its lane is served out. How many had a refused operation.
 fn play<N: Name, L: Load, A: Allocator + Copy, R: Wait>(
     rt: &R,
     session: &mut Session<N, A>,
+    waiting: &mut Waiting<'_, N, A>,
     job: &Job<N, L, A>,
 ) -> Result<u64, Stop>
     requires { session.old.sender.pushed ≡ [] }
     ensures { IfOk result (λ refused. HasPlayed L.retries L.plans session.new.session refused session.new.sender.pushed) }
 {
-    let ran = run_plans(rt, session, job);
+    let ran = run_plans(rt, session, waiting, job);
     if ran == Err(Stop::Memory) {
         job.round.stop();
     }
-    let left = leave(rt, session, &job.store, &job.round);
+    let left = leave(rt, session, waiting);
     let refused = ran?;
     left?;
+    waiting.finish(rt)?;
     Ok(refused)
 }
 
@@ -132,17 +136,19 @@ fn play<N: Name, L: Load, A: Allocator + Copy, R: Wait>(
 fn run_plans<N: Name, L: Load, A: Allocator + Copy, R: Wait>(
     rt: &R,
     session: &mut Session<N, A>,
+    waiting: &mut Waiting<'_, N, A>,
     job: &Job<N, L, A>,
 ) -> Result<u64, Stop>
     ensures { IfOk result (λ refused. Played L.retries (own session.old.session L.plans) refused session.old session.new) }
 {
-    run_each(rt, session, job, job.plans.as_slice())
+    run_each(rt, session, waiting, job, job.plans.as_slice())
 }
 
 // Runs those of some transactions that are the session's. How many of them had an operation that was refused.
 fn run_each<N: Name, L: Load, A: Allocator + Copy, R: Wait>(
     rt: &R,
     session: &mut Session<N, A>,
+    waiting: &mut Waiting<'_, N, A>,
     job: &Job<N, L, A>,
     plans: &[Plan<A>],
 ) -> Result<u64, Stop>
@@ -151,7 +157,7 @@ fn run_each<N: Name, L: Load, A: Allocator + Copy, R: Wait>(
     let number = session.session();
     let mut refused = 0;
     for plan in plans {
-        let denied = run_own(rt, session, job, number, plan)?;
+        let denied = run_own(rt, session, waiting, job, number, plan)?;
         refused = counted(refused, denied);
     }
     Ok(refused)
@@ -169,6 +175,7 @@ fn counted(count: u64, more: bool) -> u64
 fn run_own<N: Name, L: Load, A: Allocator + Copy, R: Wait>(
     rt: &R,
     session: &mut Session<N, A>,
+    waiting: &mut Waiting<'_, N, A>,
     job: &Job<N, L, A>,
     number: usize,
     plan: &Plan<A>,
@@ -181,9 +188,8 @@ fn run_own<N: Name, L: Load, A: Allocator + Copy, R: Wait>(
     run_plan(
         rt,
         job.alloc,
-        &job.store,
         session,
-        &job.round,
+        waiting,
         job.retries,
         plan.operations.as_slice(),
     )
@@ -200,13 +206,12 @@ fn is_own<A: Allocator>(plan: &Plan<A>, session: usize) -> bool
 fn leave<N: Name, A: Allocator + Copy, R: Wait>(
     rt: &R,
     session: &mut Session<N, A>,
-    store: &Store<N, A>,
-    round: &Round,
+    waiting: &mut Waiting<'_, N, A>,
 ) -> Result<(), Stop>
     ensures { OnOk result (session.new ≡ handed_in session.old (Close (due session.old))) }
 {
-    abandon_open(rt, session, store)?;
-    close(rt, session, round)
+    abandon_open(rt, session, waiting.store)?;
+    close(rt, session, waiting)
 }
 
 // Abandons the open transaction, where there is one.
@@ -228,14 +233,14 @@ fn abandon_open<N: Name, A: Allocator + Copy, R: Wait>(
 fn close<N: Name, A: Allocator + Copy, R: Wait>(
     rt: &R,
     session: &mut Session<N, A>,
-    round: &Round,
+    waiting: &mut Waiting<'_, N, A>,
 ) -> Result<(), Stop>
     ensures { OnOk result (session.new ≡ handed_in session.old (Close (due session.old))) }
 {
-    for _ in 0..round.patience() {
+    for _ in 0..waiting.round.patience() {
         match session.close(rt) {
             Ok(_mark) => return Ok(()),
-            Err(fault) => wait(fault, round)?,
+            Err(fault) => waiting.turn_after(rt, fault)?,
         }
     }
     Err(Stop::Patience)

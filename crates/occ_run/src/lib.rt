@@ -16,8 +16,10 @@ mod runs;
 mod session_lines;
 mod transaction_lines;
 mod trying;
+mod waiting;
+mod workers;
 pub mod workloads;
 
 pub use observers::{Observer, Progress, Unwatched};
 pub use occ_text::trouble::{Trouble, status_of};
-pub use runs::{PATIENCE, Ran, run_text, run_watched};
+pub use runs::{PATIENCE, Ran, Way, run_text, run_watched};

@@ -13,6 +13,7 @@ use crate::loads::{Job, Load};
 use crate::observers::{Observer, Unwatched};
 use crate::outcomes::{are_starved, given_up, has_starved, report};
 use crate::rounds::Round;
+use crate::workers::{Worker, into_clients, workers_of};
 use crate::workloads::{Plan, Settings, Workload, read_workload};
 use occ_store::{Frame, Lane, Name, Session, Store};
 use occ_text::faults::ReadFault;
@@ -39,6 +40,15 @@ pub enum Ran<A: Allocator> {
     GaveUp(Vec<usize, A>),
 }
 
+/// Who serves the lanes of a run.
+#[derive(Clone, Copy, Debug, PartialEq, Eq)]
+pub enum Way {
+    /// Validators: threads that each serve a group of lanes, as many as the workload says.
+    Validators,
+    /// Workers: the thread of each session serves its lane, files no case, and ends a request serially where it can.
+    Workers,
+}
+
 /// Runs a workload. It is read whole, then each session runs its transactions in a thread of its own, beside the threads of the
 /// validators; and once all have ended, what became of each session is written, or the book where `book` is true, and behind it what
 /// the audit says.
@@ -59,10 +69,19 @@ pub fn run_text<
     ensures { RunGives book (Appends (W.contents writer.old) (W.contents writer.new)) (AppendsFront (W.contents writer.old) (W.contents writer.new))
         (R.remaining reader.old) result (R.remaining reader.new) }
 {
-    run_watched(rt, alloc, reader, writer, book, PATIENCE, &Unwatched)
+    run_watched(
+        rt,
+        alloc,
+        reader,
+        writer,
+        book,
+        Way::Validators,
+        PATIENCE,
+        &Unwatched,
+    )
 }
 
-/// The same with another patience than 2^28 polls, and for an observer to see how far it has come.
+/// The same by validators or by workers, with another patience than 2^28 polls, and for an observer to see how far it has come.
 pub fn run_watched<
     R: Read,
     W: Write,
@@ -75,6 +94,7 @@ pub fn run_watched<
     reader: &mut R,
     writer: &mut W,
     book: bool,
+    way: Way,
     patience: u64,
     observer: &O,
 ) -> Result<Ran<A>, Trouble>
@@ -82,7 +102,7 @@ pub fn run_watched<
         (R.remaining reader.old) result (R.remaining reader.new) }
 {
     let workload = workload_from(alloc, reader)?;
-    run_workload(rt, alloc, writer, workload, book, patience, observer)
+    run_workload(rt, alloc, writer, workload, book, way, patience, observer)
 }
 
 // Reads a workload from a reader.
@@ -108,6 +128,7 @@ fn run_workload<
     writer: &mut W,
     workload: Workload<A>,
     book: bool,
+    way: Way,
     patience: u64,
     observer: &O,
 ) -> Result<Ran<A>, Trouble>
@@ -124,7 +145,7 @@ fn run_workload<
         return Err(Trouble::Memory);
     };
     run_named::<Brand, Brand, W, H, A, O>(
-        rt, alloc, writer, frame, settings, plans, patience, book, observer,
+        rt, alloc, writer, frame, settings, plans, way, patience, book, observer,
     )
 }
 
@@ -143,6 +164,7 @@ fn run_named<
     frame: Frame<A>,
     settings: Settings,
     plans: Vec<Plan<A>, A>,
+    way: Way,
     patience: u64,
     book: bool,
     observer: &O,
@@ -160,11 +182,47 @@ fn run_named<
     };
     let round = Round::new(sessions.len(), patience);
     let job = Job::new(alloc, store, round, plans, settings.retries);
-    run_opened::<N, L, W, H, A, O>(rt, writer, &job, sessions, lanes, settings, book, observer)
+    run_opened::<N, L, W, H, A, O>(
+        rt, writer, &job, sessions, lanes, settings, way, book, observer,
+    )
 }
 
 // Runs a workload with these sessions and lanes of its store.
 fn run_opened<
+    N: Name + Send + Sync,
+    L: Load + Send + Sync,
+    W: Write,
+    H: Threads + Wait + Clock + Sync,
+    A: Allocator + Copy + Send + Sync,
+    O: Observer,
+>(
+    rt: &H,
+    writer: &mut W,
+    job: &Job<N, L, A>,
+    sessions: Vec<Session<N, A>, A>,
+    lanes: Vec<Lane<N, A>, A>,
+    settings: Settings,
+    way: Way,
+    book: bool,
+    observer: &O,
+) -> Result<Ran<A>, Trouble>
+    requires sessions { N.named.settings.sessions ≡ settings.limits.sessions }
+    requires fresh { All (λ (session : SessionView). session.sender.pushed ≡ []) sessions.items }
+    ensures { RunEnds book (Appends (W.contents writer.old) (W.contents writer.new)) (AppendsFront (W.contents writer.old) (W.contents writer.new))
+        N.named.settings L.retries L.plans settings.limits result }
+{
+    match way {
+        Way::Validators => by_validators::<N, L, W, H, A, O>(
+            rt, writer, job, sessions, lanes, settings, book, observer,
+        ),
+        Way::Workers => by_workers::<N, L, W, H, A, O>(
+            rt, writer, job, sessions, lanes, settings, book, observer,
+        ),
+    }
+}
+
+// Runs it with a thread for each session, beside the threads of the validators.
+fn by_validators<
     N: Name + Send + Sync,
     L: Load + Send + Sync,
     W: Write,
@@ -200,6 +258,36 @@ fn run_opened<
     )
 }
 
+// Runs it with a thread for each session, which serves its lane too.
+fn by_workers<
+    N: Name + Send + Sync,
+    L: Load + Send + Sync,
+    W: Write,
+    H: Threads + Wait + Clock + Sync,
+    A: Allocator + Copy + Send + Sync,
+    O: Observer,
+>(
+    rt: &H,
+    writer: &mut W,
+    job: &Job<N, L, A>,
+    sessions: Vec<Session<N, A>, A>,
+    lanes: Vec<Lane<N, A>, A>,
+    settings: Settings,
+    book: bool,
+    observer: &O,
+) -> Result<Ran<A>, Trouble>
+    requires sessions { N.named.settings.sessions ≡ settings.limits.sessions }
+    requires fresh { All (λ (session : SessionView). session.sender.pushed ≡ []) sessions.items }
+    ensures { RunEnds book (Appends (W.contents writer.old) (W.contents writer.new)) (AppendsFront (W.contents writer.old) (W.contents writer.new))
+        N.named.settings L.retries L.plans settings.limits result }
+{
+    let clients = clients_of::<N, L, A>(job.alloc, sessions)?;
+    let mut workers = workers_of(job.alloc, clients, lanes)?;
+    run_workers(rt, job, &mut workers, observer);
+    let clients = into_clients(job.alloc, workers)?;
+    tell(rt, writer, job, &clients, settings.limits, book)
+}
+
 // Runs clients and groups to their end, and writes what became of them.
 fn run_clients<
     N: Name + Send + Sync,
@@ -224,10 +312,27 @@ fn run_clients<
     ensures order { OrderGives clients.new result }
 {
     run_threads(rt, job, clients, groups, observer);
-    if are_starved(clients) {
+    if has_starved(groups) {
         return Err(Trouble::Memory);
     }
-    if has_starved(groups) {
+    tell(rt, writer, job, clients, limits, book)
+}
+
+// Writes what became of clients that ran to their end.
+fn tell<N: Name, L: Load, W: Write, H: Wait, A: Allocator + Copy>(
+    rt: &H,
+    writer: &mut W,
+    job: &Job<N, L, A>,
+    clients: &[Client<N, L, A>],
+    limits: Limits,
+    book: bool,
+) -> Result<Ran<A>, Trouble>
+    requires sessions { N.named.settings.sessions ≡ limits.sessions }
+    ensures ends { RunEnds book (Appends (W.contents writer.old) (W.contents writer.new)) (AppendsFront (W.contents writer.old) (W.contents writer.new))
+        N.named.settings L.retries L.plans limits result }
+    ensures order { OrderGives clients.now result }
+{
+    if are_starved(clients) {
         return Err(Trouble::Memory);
     }
     let given_up = given_up(job.alloc, clients)?;
@@ -276,7 +381,25 @@ fn run_threads<
             }
         }
         for client in clients.iter_mut() {
-            if scope.spawn(move || client.run(rt, job)).is_err() {
+            if scope.spawn(move || client.run(rt, job, None)).is_err() {
+                job.round.stop();
+            }
+        }
+        job.round.watch(rt, observer);
+    });
+}
+
+// Runs workers, each in a thread of its own, until all have ended. Where a thread can't be started, all are told to give up.
+fn run_workers<
+    N: Name + Send + Sync,
+    L: Load + Send + Sync,
+    H: Threads + Wait + Clock + Sync,
+    A: Allocator + Copy + Send + Sync,
+    O: Observer,
+>(rt: &H, job: &Job<N, L, A>, workers: &mut [Worker<N, L, A>], observer: &O) {
+    thread::scope(thread::scope_env(), rt, |scope| {
+        for worker in workers.iter_mut() {
+            if scope.spawn(move || worker.run(rt, job)).is_err() {
                 job.round.stop();
             }
         }

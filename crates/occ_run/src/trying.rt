@@ -9,55 +9,52 @@ ghost use Rattle.occ_run.specs.declared.ends.Try.TheVariants as tries;
 
 use crate::ends::{Stop, Try, tried};
 use crate::performing::{copied, perform_all};
-use crate::rounds::Round;
+use crate::waiting::Waiting;
 use occ_model::Verdict;
 use occ_sets::Op;
 use occ_store::{Name, Session, Store};
 use occ_types::{Fault, Refused};
 use std::alloc::Allocator;
 use std::sync::Wait;
-use std::thread;
 
 /// Tries a transaction until it commits or an operation of it is refused; after as many tries as there may be it runs alone. Whether an
 /// operation was refused.
 pub(crate) fn run_plan<N: Name, A: Allocator + Copy, R: Wait>(
     rt: &R,
     alloc: A,
-    store: &Store<N, A>,
     session: &mut Session<N, A>,
-    round: &Round,
+    waiting: &mut Waiting<'_, N, A>,
     retries: u64,
     operations: &[Op<A>],
 ) -> Result<bool, Stop>
     ensures { IfOk result (λ refused. PlanGives retries (ops_of operations.now) refused session.old session.new) }
 {
-    match try_up_to(rt, store, session, round, retries, operations)? {
+    match try_up_to(rt, session, waiting, retries, operations)? {
         Try::Refused => return Ok(true),
         Try::Committed => return Ok(false),
         Try::BackedUp => {}
     }
-    run_alone(rt, alloc, session, round, operations)?;
+    run_alone(rt, alloc, session, waiting, operations)?;
     Ok(false)
 }
 
 // Tries a transaction, and where it is backed up tries it again, so often. What came of the last try.
 fn try_up_to<N: Name, A: Allocator + Copy, R: Wait>(
     rt: &R,
-    store: &Store<N, A>,
     session: &mut Session<N, A>,
-    round: &Round,
+    waiting: &mut Waiting<'_, N, A>,
     retries: u64,
     operations: &[Op<A>],
 ) -> Result<Try, Stop>
     ensures { IfOk result (λ tried. LastTry retries tried session.old session.new) }
 {
-    let mut last = try_once(rt, store, session, round, operations)?;
+    let mut last = try_once(rt, session, waiting, operations)?;
     for count in 0..retries {
         if !is_backed_up(last) {
             return Ok(last);
         }
-        round.retried();
-        last = try_once(rt, store, session, round, operations)?;
+        waiting.round.retried();
+        last = try_once(rt, session, waiting, operations)?;
     }
     Ok(last)
 }
@@ -75,19 +72,18 @@ fn is_backed_up(last: Try) -> bool
 // Performs the operations in a transaction, hands it in, and polls until it is over.
 fn try_once<N: Name, A: Allocator + Copy, R: Wait>(
     rt: &R,
-    store: &Store<N, A>,
     session: &mut Session<N, A>,
-    round: &Round,
+    waiting: &mut Waiting<'_, N, A>,
     operations: &[Op<A>],
 ) -> Result<Try, Stop>
     ensures { IfOk result (λ tried. Tries 0 tried session.old session.new) }
 {
-    let performed = perform(rt, store, session, operations)?;
+    let performed = perform(rt, waiting.store, session, operations)?;
     if !performed {
         return Ok(Try::Refused);
     }
-    let (number, polls) = submit(rt, session, round)?;
-    let verdict = settled(session, number, polls, round)?;
+    let (number, polls) = submit(rt, session, waiting)?;
+    let verdict = settled(rt, session, number, polls, waiting)?;
     Ok(tried(verdict))
 }
 
@@ -115,15 +111,15 @@ fn perform<N: Name, A: Allocator + Copy, R: Wait>(
 fn submit<N: Name, A: Allocator + Copy, R: Wait>(
     rt: &R,
     session: &mut Session<N, A>,
-    round: &Round,
+    waiting: &mut Waiting<'_, N, A>,
 ) -> Result<(u64, u64), Stop>
     ensures { IfOk result (λ done. Submits session.old done.0 session.new) }
 {
-    let polls = round.patience();
+    let polls = waiting.round.patience();
     for polled in 0..polls {
         match session.submit(rt) {
             Ok(number) => return Ok((number, polls - polled)),
-            Err(fault) => wait(fault, round)?,
+            Err(fault) => waiting.turn_after(rt, fault)?,
         }
     }
     Err(Stop::Patience)
@@ -134,14 +130,14 @@ fn run_alone<N: Name, A: Allocator + Copy, R: Wait>(
     rt: &R,
     alloc: A,
     session: &mut Session<N, A>,
-    round: &Round,
+    waiting: &mut Waiting<'_, N, A>,
     operations: &[Op<A>],
 ) -> Result<(), Stop>
     ensures { OnOk result (RunsAlone (ops_of operations.now) session.old session.new) }
 {
     let copies = copied(alloc, operations)?;
-    let (number, polls) = alone(rt, session, round, copies)?;
-    let verdict = settled(session, number, polls, round)?;
+    let (number, polls) = alone(rt, session, waiting, copies)?;
+    let verdict = settled(rt, session, number, polls, waiting)?;
     if let Verdict::Commit = verdict {
         return Ok(());
     }
@@ -152,43 +148,45 @@ fn run_alone<N: Name, A: Allocator + Copy, R: Wait>(
 fn alone<N: Name, A: Allocator + Copy, R: Wait>(
     rt: &R,
     session: &mut Session<N, A>,
-    round: &Round,
+    waiting: &mut Waiting<'_, N, A>,
     operations: Vec<Op<A>, A>,
 ) -> Result<(u64, u64), Stop>
     ensures { IfOk result (λ done. (done.0 ≡ due session.old) × (session.new ≡ handed_in session.old (Alone done.0 (ops_of operations.items)))) }
 {
-    let polls = round.patience();
+    let polls = waiting.round.patience();
     let mut operations = operations;
     for polled in 0..polls {
         match session.alone(rt, operations) {
             Ok(number) => {
-                round.alone();
+                waiting.round.alone();
                 return Ok((number, polls - polled));
             }
-            Err(refused) => operations = operations_back(refused, round)?,
+            Err(refused) => operations = operations_back(rt, refused, waiting)?,
         }
     }
     Err(Stop::Patience)
 }
 
 // The operations of a call that a full queue refused, to be handed in again. An error where another refusal came, or all are to give up.
-fn operations_back<A: Allocator>(
+fn operations_back<N: Name, A: Allocator + Copy, R: Wait>(
+    rt: &R,
     refused: Refused<Vec<Op<A>, A>>,
-    round: &Round,
+    waiting: &mut Waiting<'_, N, A>,
 ) -> Result<Vec<Op<A>, A>, Stop>
     ensures { IfOk result (λ operations. operations ≡ refused.value) }
 {
     let Refused { value, fault } = refused;
-    wait(fault, round)?;
+    waiting.turn_after(rt, fault)?;
     Ok(value)
 }
 
 // Polls until the transaction with a number is over, at most so often.
-fn settled<N: Name, A: Allocator + Copy>(
+fn settled<N: Name, A: Allocator + Copy, R: Wait>(
+    rt: &R,
     session: &mut Session<N, A>,
     number: u64,
     polls: u64,
-    round: &Round,
+    waiting: &mut Waiting<'_, N, A>,
 ) -> Result<Verdict, Stop>
     ensures told { IfOk result (λ verdict. (session.new.seat.last.number ≡ number) × (session.new.seat.last.status ≡ Some verdict)) }
     ensures same { session.new ≡ record session.old { seat = session.new.seat } }
@@ -198,22 +196,10 @@ fn settled<N: Name, A: Allocator + Copy>(
         if last.number == number
             && let Some(verdict) = last.status
         {
-            round.settled(verdict);
+            waiting.round.settled(verdict);
             return Ok(verdict);
         }
-        if round.is_stopped() {
-            return Err(Stop::Patience);
-        }
-        thread::yield_now();
+        waiting.turn(rt)?;
     }
     Err(Stop::Patience)
-}
-
-/// Lets others run, after a call that a full queue refused. An error where another refusal came, or all are to give up.
-pub(crate) fn wait(fault: Fault, round: &Round) -> Result<(), Stop> {
-    if fault != Fault::QueueFull || round.is_stopped() {
-        return Err(Stop::Patience);
-    }
-    thread::yield_now();
-    Ok(())
 }

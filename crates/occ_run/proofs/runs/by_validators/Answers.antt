@@ -1,5 +1,5 @@
 use Rattle.occ_run.proofs.Ending.{refused_ends}
-use Rattle.occ_run.proofs.runs.run_opened.Goals as goal
+use Rattle.occ_run.proofs.runs.by_validators.Goals as goal
 
 pub returns-in_err-clients : goal.returns-in_err-clients
 returns-in_err-clients g c = refused_ends c.args.book _ _ _ _ _ c.from_residual.result c.from_residual.ensures.1
