@@ -1,8 +1,8 @@
 //! What is checked of each run.
 
 use occ_cli::audit_text;
-use occ_run::{Ran, Trouble, run_text};
-use std::alloc::{AllocError, Global};
+use occ_run::{PATIENCE, Ran, Trouble, Unwatched, Way, run_watched};
+use std::alloc::{AllocError, Allocator, Global};
 use std::sync::Wait;
 use std::thread::Threads;
 use std::time::Clock;
@@ -30,7 +30,7 @@ impl fmt::Display for Sums {
     }
 }
 
-/// Runs a workload twice, once with its book, and adds what came of it.
+/// Runs a workload twice by validators and twice by workers, once each with its book, and adds what came of it.
 pub(crate) fn check<H: Threads + Wait + Clock + Sync>(
     threads: &H,
     alloc: Global,
@@ -45,20 +45,53 @@ pub(crate) fn check<H: Threads + Wait + Clock + Sync>(
     Ok(())
 }
 
-// Whether all is as it has to be of a run without the book, and of one with it.
+// Whether all is as it has to be of the runs of a workload.
 fn is_right<H: Threads + Wait + Clock + Sync>(
     threads: &H,
     alloc: Global,
     text: &str,
 ) -> Result<bool, Trouble> {
-    let mut told = Vec::new(alloc);
-    let mut book = Vec::new(alloc);
-    let ran = run_text(threads, alloc, &mut text.as_bytes(), &mut told, false)?;
-    let again = run_text(threads, alloc, &mut text.as_bytes(), &mut book, true)?;
+    let by_validators = is_right_by(threads, alloc, text, Way::Validators)?;
+    let by_workers = is_right_by(threads, alloc, text, Way::Workers)?;
+    Ok(by_validators && by_workers)
+}
+
+// Whether it is, of a run without the book, and of one with it, with lanes that are served so.
+fn is_right_by<H: Threads + Wait + Clock + Sync>(
+    threads: &H,
+    alloc: Global,
+    text: &str,
+    way: Way,
+) -> Result<bool, Trouble> {
+    let (mut told, mut book) = (Vec::new(alloc), Vec::new(alloc));
+    let ran = run_by(threads, alloc, text, &mut told, false, way)?;
+    let again = run_by(threads, alloc, text, &mut book, true, way)?;
     let mut audit = Vec::new(alloc);
     let audited = audit_text(alloc, &mut book.as_slice(), &mut audit)?;
     let ended = matches!((ran, again), (Ran::Audit(true), Ran::Audit(true)));
     Ok(ended && audited && adds_up(text, str::from_utf8(told.as_slice()).unwrap_or("")))
+}
+
+/// Runs a workload with lanes that are served so.
+pub(crate) fn run_by<H: Threads + Wait + Clock + Sync, A: Allocator + Copy + Send + Sync>(
+    threads: &H,
+    alloc: A,
+    text: &str,
+    written: &mut Vec<u8>,
+    book: bool,
+    way: Way,
+) -> Result<Ran<A>, Trouble> {
+    let mut reader = text.as_bytes();
+    run_watched(
+        threads,
+        alloc,
+        &mut reader,
+        written,
+        book,
+        way,
+        PATIENCE,
+        &Unwatched,
+    )
 }
 
 // Whether what a run told has a committed row or a refusal for each transaction of its text, and a mark for each session.

@@ -1,6 +1,7 @@
 //! Runs in which clients give up, and runs in which memory is refused.
 
-use occ_run::{Observer, Progress, Ran, Trouble, Unwatched, run_text, run_watched};
+use crate::checks::run_by;
+use occ_run::{Observer, Progress, Ran, Trouble, Unwatched, Way, run_watched};
 use std::io;
 use std::sync::Wait;
 use std::sync::atomic::{AtomicU64, Ordering};
@@ -43,6 +44,7 @@ pub(crate) fn tell_patience<H: Threads + Wait + Clock + Sync>(
         &mut reader,
         &mut written,
         false,
+        Way::Validators,
         0,
         &Unwatched,
     );
@@ -66,6 +68,7 @@ pub(crate) fn tell_patience<H: Threads + Wait + Clock + Sync>(
         &mut reader,
         &mut written,
         false,
+        Way::Validators,
         1 << 28,
         &observer,
     );
@@ -84,17 +87,31 @@ pub(crate) fn tell<H: Threads + Wait + Clock + Sync>(
 ) -> io::Result<()> {
     let mut flaws = 0u64;
     for text in SMALL {
-        for place in 0..10_000u64 {
-            let refusing = Refusing::new(rt.alloc(), Plan::Once(place));
-            if is_flawed(rt, threads, &refusing, text) {
-                flaws = flaws.saturating_add(1);
-            }
-            if refusing.refused() == 0 {
-                break;
-            }
+        for way in [Way::Validators, Way::Workers] {
+            flaws = flaws.saturating_add(flaws_of(rt, threads, text, way));
         }
     }
     println!(rt; "memory refused in turn: {flaws} flaws")
+}
+
+// Refuses each request for memory of runs of a workload in turn, and answers how many runs were flawed.
+fn flaws_of<H: Threads + Wait + Clock + Sync>(
+    rt: &HostRuntime,
+    threads: &H,
+    text: &str,
+    way: Way,
+) -> u64 {
+    let mut flaws = 0u64;
+    for place in 0..10_000u64 {
+        let refusing = Refusing::new(rt.alloc(), Plan::Once(place));
+        if is_flawed(rt, threads, &refusing, text, way) {
+            flaws = flaws.saturating_add(1);
+        }
+        if refusing.refused() == 0 {
+            break;
+        }
+    }
+    flaws
 }
 
 // Whether a run with a refused request ends otherwise than without memory or as ever, or keeps memory, or writes where it may not.
@@ -103,10 +120,10 @@ fn is_flawed<H: Threads + Wait + Clock + Sync>(
     threads: &H,
     refusing: &Refusing<std::alloc::Global>,
     text: &str,
+    way: Way,
 ) -> bool {
     let mut written = Vec::new(rt.alloc());
-    let mut reader = text.as_bytes();
-    let right = match run_text(threads, refusing, &mut reader, &mut written, false) {
+    let right = match run_by(threads, refusing, text, &mut written, false, way) {
         Ok(Ran::Audit(true)) => written.ends_with(b"audit yes\n"),
         Err(Trouble::Memory) => written.is_empty(),
         Ok(_) | Err(_) => false,
