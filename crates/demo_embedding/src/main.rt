@@ -2,7 +2,7 @@
 //! refusals.
 #![tactic(auto)]
 
-use occ_client::{Client, Core, Fault, Key, KeyKind, Kind, Schema};
+use occ_client::{Client, Core, End, Fault, Key, KeyKind, Kind, Schema};
 use std::alloc::Global;
 use std::process::ExitCode;
 
@@ -46,11 +46,22 @@ fn open(alloc: Global) -> Result<Box<Store>, Fault> {
 /// What two clients do with a store, told line by line.
 fn tell(alloc: Global, store: &mut Store, lines: &mut String) -> Result<(), Fault> {
     let (mut alice, mut bob) = (Client::new(alloc, 1), Client::new(alloc, 2));
-    pay(&mut alice, &mut bob, store, lines)?;
-    owner(alloc, &mut bob, store, lines)?;
-    count(&mut alice, &mut bob, store, lines)?;
-    range(&mut alice, store, lines)?;
-    refusals(alloc, &mut alice, store, lines)
+    play(alloc, &mut alice, &mut bob, store, lines)
+}
+
+/// What they do, one after another.
+fn play(
+    alloc: Global,
+    alice: &mut One,
+    bob: &mut One,
+    store: &mut Store,
+    lines: &mut String,
+) -> Result<(), Fault> {
+    pay(alice, bob, store, lines)?;
+    owner(alloc, bob, store, lines)?;
+    count(alice, bob, store, lines)?;
+    range(alice, store, lines)?;
+    refusals(alloc, alice, store, lines)
 }
 
 /// Both read the balance, and the second one to end is backed up: it tries again, three times at most.
@@ -72,28 +83,47 @@ fn add(client: &mut One, store: &mut Store, account: u64, amount: i64) -> Result
 
 /// The balance of an account, which is 0 where there is none.
 fn balance(client: &mut One, store: &mut Store, account: u64) -> Result<i64, Fault> {
-    let row = client.get(store, ACCOUNTS, account.into())?;
+    number(client, store, ACCOUNTS, account.into())
+}
+
+/// The number in the row under a key, or 0 where there is none.
+fn number(
+    client: &mut One,
+    store: &mut Store,
+    table: usize,
+    key: Key<Global>,
+) -> Result<i64, Fault> {
+    let row = client.get(store, table, key)?;
     Ok(row.as_ref().and_then(|row| row.int(0)).unwrap_or(0))
 }
 
-/// Carol opens the account 9 with 40: one transaction writes to both tables, and another finds the account by its owner.
+/// Carol opens an account, and another transaction finds it by its owner.
 fn owner(
     alloc: Global,
     client: &mut One,
     store: &mut Store,
     lines: &mut String,
 ) -> Result<(), Fault> {
-    let carol = Key::text(alloc, "carol")?;
+    let end = enter(client, store, Key::text(alloc, "carol")?)?;
+    let (account, balance) = find(client, store, Key::text(alloc, "carol")?)?;
+    Ok(writeln!(lines, "{end:?}, carol has account {account} with {balance}")?)
+}
+
+/// Enters the account 9 with 40: one transaction writes to both tables.
+fn enter(client: &mut One, store: &mut Store, owner: Key<Global>) -> Result<End, Fault> {
     client.begin(store)?;
-    client.put(store, OWNERS, carol.clone()?, 9.into())?;
+    client.put(store, OWNERS, owner, 9.into())?;
     add(client, store, 9, 40)?;
-    let end = client.commit(store)?;
+    client.commit(store)
+}
+
+/// The account of an owner, and its balance.
+fn find(client: &mut One, store: &mut Store, owner: Key<Global>) -> Result<(i64, i64), Fault> {
     client.begin(store)?;
-    let row = client.get(store, OWNERS, carol)?;
-    let account = row.as_ref().and_then(|row| row.int(0)).unwrap_or(0);
+    let account = number(client, store, OWNERS, owner)?;
     let balance = balance(client, store, account.unsigned_abs())?;
     client.commit(store)?;
-    Ok(writeln!(lines, "{end:?}, carol has account {account} with {balance}")?)
+    Ok((account, balance))
 }
 
 /// Two sessions count on one account in turn, and the log is folded after every thousand commits.
