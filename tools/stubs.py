@@ -56,7 +56,7 @@ def owner_of(line, module, homes):
 def body_of(lines, head, indent):
     """The lines that open and close the body of the function that begins at `head`."""
     start = head
-    while not re.fullmatch(rf"{indent}\{{|.*\{{\}}|{indent}\).* \{{", lines[start]) and not (start == head and lines[head].endswith(" {")):
+    while not re.fullmatch(rf"{indent}\{{|.*\{{\}}|{indent}[)>].* \{{", lines[start]) and not (start == head and lines[head].endswith(" {")):
         start += 1
     return start, start if lines[start].endswith("{}") else lines.index(f"{indent}}}", start)
 
