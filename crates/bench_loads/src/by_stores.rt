@@ -12,10 +12,10 @@ use crate::loads::Shape;
 use crate::outcomes::{Done, Told};
 use crate::rows::{PUTS, TABLE, puts, schema, write};
 use crate::tasks::{By, Task, Way};
+use occ_book::TableRows;
 use occ_store::{Frame, Lane, Name, Session, Store, Worker};
-use occ_types::{Fault, Key, Row};
+use occ_types::Fault;
 use std::alloc::Allocator;
-use std::collections::BTreeMap;
 use std::marker::Brand;
 use std::sync::Wait;
 use std::thread::{self, Threads};
@@ -218,7 +218,7 @@ fn total<N: Name, A: Allocator + Copy, R: Wait>(rt: &R, store: &Store<N, A>) -> 
 }
 
 /// The sum of the numbers in some rows.
-fn sum<A: Allocator>(rows: &BTreeMap<Key<A>, Row<A>, A>) -> i64 {
+fn sum<A: Allocator>(rows: TableRows<'_, A>) -> i64 {
     let mut sum = 0i64;
     for (_, row) in rows {
         sum = sum.wrapping_add(row.int(0).unwrap_or(0));

@@ -1,10 +1,11 @@
 -- Two iterators that are compared by `eq`, and the lists that they give.
 use Rattle.std.proofs.Common.{◌≡◌, ℕ, suc, ◌≤◌, Bool, true, false, ◌&&◌, List, [], ◌∷◌, length, Option, None, Some, refl, sym, ap, ◌∙◌, arith, map, slice_get, Decides, MatchOption, IfSome, option_map, Bor}
-use Rattle.occ_audit.proofs.Common.{AllZip, YieldsList, YieldsList-end, deref_pair, Decides-and, Row, key_same, key_same-decides, row_same, row_same-decides, key_of, clash, seen}
+use Rattle.occ_audit.proofs.Common.{AllZip, YieldsList, YieldsList-end, Decides-and, Row, key_same, key_same-decides, row_same, row_same-decides, clash, map-id, row_lent}
 use Rattle.std.specs.Iterator.{YieldsThen}
 use Rattle.std.proofs.lemmas.Iterator.Consumers.{nth_from_yields_List}
 use Rattle.std.proofs.lemmas.Option.{slice_get-map}
-use Rattle.occ_types.specs.declared.keys.Key as code_key
+use Rattle.occ_book.specs.KeyRefs.{key_lent}
+use Rattle.occ_book.specs.declared.key_refs.KeyRef as refs
 
 -- whatever was answered, as many items came before as there are
 reached : {A : Type 0} (n : ℕ) (o : Option A) → MatchOption o (n ≤ n) (λ _. n ≡ n)
@@ -56,10 +57,14 @@ module _ {A B C : Type 0} (v : A → B) (f : B → C) (eq : A → A → Bool) (s
       (λ d e. sym (ap (map f) (sym (YieldsList-end road ps left.0 left.1 o u d left.2).0) ∙ z.1 ∙ ap (map f) (YieldsList-end other qs right.0 right.1 p w e right.2).0))
       (λ same. next road ps o u left ∙ (λ i. slice_get (sym same i) (z.0 i)) ∙ sym (next other qs p w right))
 
--- the test of two keys and their rows
-pub entries-decide : {Z : Type 0} (x y : Bor (code_key.Key Z) × Bor Row) → Decides (key_same (key_of x.0.now) (key_of y.0.now) && row_same x.1.now y.1.now) (seen (deref_pair x) ≡ seen (deref_pair y))
+-- the test of two lent keys and their rows
+pub entries-decide : {Z : Type 0} (x y : refs.KeyRef Z × Bor Row) → Decides (key_same (key_lent x.0) (key_lent y.0) && row_same x.1.now y.1.now) (row_lent x ≡ row_lent y)
 entries-decide x y =
-    let d = Decides-and _ _ (key_same-decides (key_of x.0.now) (key_of y.0.now)) (row_same-decides x.1.now y.1.now) in (
+    let d = Decides-and _ _ (key_same-decides (key_lent x.0) (key_lent y.0)) (row_same-decides x.1.now y.1.now) in (
       λ e. let f = d.0 e in λ i. (f.0 i, f.1 i),
       λ e. d.1 (ap (λ p. p.0) e, ap (λ p. p.1) e),
     )
+
+-- lists that go through a function that changes nothing
+pub plain-decides : {r : Bool} {X : Type 0} (xs ys : List X) → Decides r (map (λ x. x) ys ≡ map (λ x. x) xs) → Decides r (ys ≡ xs)
+plain-decides xs ys d = (λ e. sym (map-id ys) ∙ d.0 e ∙ map-id xs, λ e. d.1 (map-id ys ∙ e ∙ sym (map-id xs)))

@@ -1,58 +1,62 @@
 -- What a state answers to a range, from the entries of the range's table.
 use Rattle.std.proofs.Common.{true, ◌≡◌, ℕ, Bool, false, List, [], ◌∷◌, length, Option, None, Some, refl, sym, ap, ◌∙◌, arith, Decides, ◌==◌, Bor, option_copied, Less, is_gt}
-use Rattle.occ_audit.proofs.Common.{answers_range, AllByRecursion, IsStrictlySortedBy, keys_of, deref_pair, option_eq, Bound, entries_between, on, get, Decides-eqb, Key, key_cmp, Object, Question, One, Span, Row, row_same, row_same-decides, key_of, end_of, rows_of, State, Answer, Found, Rows, answer, is_within, is_backward, lower_bound, upper_bound, entries_within, kept-filtered, all_within, answer-within, lent, row_under, IsInOrder}
+use Rattle.occ_audit.proofs.Common.{answers_range, AllByRecursion, IsStrictlySortedBy, keys_of, option_eq, Bound, entries_between, on, get, Decides-eqb, Key, key_cmp, Object, Question, One, Span, Row, row_same, row_same-decides, State, Answer, Found, Rows, answer, is_within, is_backward, lower_bound, upper_bound, kept-filtered, lent, row_lent, end_lent, row_under, IsInOrder}
 use Rattle.std.specs.Range.Bound.{IsForward}
-use Rattle.occ_types.specs.declared.keys.Key as code_key
+use Rattle.occ_book.specs.KeyRefs.{key_lent}
+use Rattle.occ_book.specs.Table.{rows_within}
+use Rattle.occ_book.specs.declared.key_refs.KeyRef as refs
+use Rattle.occ_book.proofs.TableEntries.{answer-rows}
+use Rattle.occ_book.proofs.Views.{all-within}
 
--- references in order show keys in order
+-- lent keys in order are keys in order
 
-all-lent : {Z : Type 0} (P : code_key.Key Z → Type 0) (es : List (Bor (code_key.Key Z) × Bor Row)) → AllByRecursion (λ b. P b.now) (keys_of es) → AllByRecursion P (keys_of (lent es))
+all-lent : {Z : Type 0} (P : Key → Type 0) (es : List (refs.KeyRef Z × Bor Row)) → AllByRecursion (λ b. P (key_lent b)) (keys_of es) → AllByRecursion P (keys_of (lent es))
 all-lent P [] h = h
 all-lent P (e ∷ es) h = (h.0, all-lent P es h.1)
 
-sorted-lent : {Z : Type 0} (es : List (Bor (code_key.Key Z) × Bor Row)) → IsInOrder es → IsStrictlySortedBy (on key_of key_cmp) (keys_of (lent es))
+sorted-lent : {Z : Type 0} (es : List (refs.KeyRef Z × Bor Row)) → IsInOrder es → IsStrictlySortedBy key_cmp (keys_of (lent es))
 unfolding IsStrictlySortedBy
 sorted-lent [] h = h
-sorted-lent (e ∷ es) h = (all-lent (λ y. key_cmp (key_of e.0.now) (key_of y) ≡ Less) es h.0, sorted-lent es h.1)
+sorted-lent (e ∷ es) h = (all-lent (λ y. key_cmp (key_lent e.0) y ≡ Less) es h.0, sorted-lent es h.1)
 
 module _ {Z : Type 0} where
   -- the answer of a table: what lies between the ends
-  pub answer-between : (state : State) (t : ℕ) (a b : Option Key) (es : List (Bor (code_key.Key Z) × Bor Row)) → IsInOrder es → ((k : Key) → get state (t, k) ≡ row_under (lent es) k) → answer (Span t a b) state ≡ Rows (rows_of (entries_within a b (lent es)))
-  answer-between state t a b es ordered is = answer-within state t a b (lent es) (sorted-lent es ordered) is
+  pub answer-between : (state : State) (t : ℕ) (a b : Option Key) (es : List (refs.KeyRef Z × Bor Row)) → IsInOrder es → ((k : Key) → get state (t, k) ≡ row_under (lent es) k) → answer (Span t a b) state ≡ Rows (rows_within a b (lent es))
+  answer-between state t a b es ordered is = answer-rows state t a b (lent es) (sorted-lent es ordered) is
 
   -- all of it where there are no ends
-  pub answer-all : (state : State) (t : ℕ) (es : List (Bor (code_key.Key Z) × Bor Row)) → IsInOrder es → ((k : Key) → get state (t, k) ≡ row_under (lent es) k) → answer (Span t None None) state ≡ Rows (rows_of (lent es))
+  pub answer-all : (state : State) (t : ℕ) (es : List (refs.KeyRef Z × Bor Row)) → IsInOrder es → ((k : Key) → get state (t, k) ≡ row_under (lent es) k) → answer (Span t None None) state ≡ Rows (lent es)
   answer-all state t es ordered is =
-      answer-between state t None None es ordered is ∙ ap (λ fs. Rows (rows_of fs)) (all_within (lent es))
+      answer-between state t None None es ordered is ∙ ap Rows (all-within (lent es))
 
   -- what a map has between two bounds
-  pub lent-between : (lower upper : Option (Bor (code_key.Key Z))) (lo hi : Bound (Bor (code_key.Key Z))) (es : List (Bor (code_key.Key Z) × Bor Row)) → lo ≡ lower_bound lower → hi ≡ upper_bound upper
-      → lent (entries_between (λ a b. key_cmp (key_of a.now) (key_of b.now)) lo hi es) ≡ entries_within (end_of (option_copied lower)) (end_of (option_copied upper)) (lent es)
+  pub lent-between : (lower upper : Option (refs.KeyRef Z)) (lo hi : Bound (refs.KeyRef Z)) (es : List (refs.KeyRef Z × Bor Row)) → lo ≡ lower_bound lower → hi ≡ upper_bound upper
+      → lent (entries_between (on key_lent key_cmp) lo hi es) ≡ rows_within (end_lent lower) (end_lent upper) (lent es)
   lent-between lower upper lo hi es p q =
-      (λ i. lent (entries_between (λ a b. key_cmp (key_of a.now) (key_of b.now)) (p i) (q i) es)) ∙ by lower upper
+      (λ i. lent (entries_between (on key_lent key_cmp) (p i) (q i) es)) ∙ by lower upper
     where
-      by : (l u : Option (Bor (code_key.Key Z))) → lent (entries_between (λ a b. key_cmp (key_of a.now) (key_of b.now)) (lower_bound l) (upper_bound u) es) ≡ entries_within (end_of (option_copied l)) (end_of (option_copied u)) (lent es)
-      by None None = kept-filtered deref_pair (λ e. is_within None None (key_of e.0)) es
-      by None (Some b) = kept-filtered deref_pair (λ e. is_within None (Some (key_of b.now)) (key_of e.0)) es
-      by (Some a) None = kept-filtered deref_pair (λ e. is_within (Some (key_of a.now)) None (key_of e.0)) es
-      by (Some a) (Some b) = kept-filtered deref_pair (λ e. is_within (Some (key_of a.now)) (Some (key_of b.now)) (key_of e.0)) es
+      by : (l u : Option (refs.KeyRef Z)) → lent (entries_between (on key_lent key_cmp) (lower_bound l) (upper_bound u) es) ≡ rows_within (end_lent l) (end_lent u) (lent es)
+      by None None = kept-filtered row_lent (λ e. is_within None None e.0) es
+      by None (Some b) = kept-filtered row_lent (λ e. is_within None (Some (key_lent b)) e.0) es
+      by (Some a) None = kept-filtered row_lent (λ e. is_within (Some (key_lent a)) None e.0) es
+      by (Some a) (Some b) = kept-filtered row_lent (λ e. is_within (Some (key_lent a)) (Some (key_lent b)) e.0) es
 
   -- two ends that don't run backwards may be asked for
-  pub forward : (lower upper : Option (Bor (code_key.Key Z))) (lo hi : Bound (Bor (code_key.Key Z))) → lo ≡ lower_bound lower → hi ≡ upper_bound upper → is_backward (end_of (option_copied lower)) (end_of (option_copied upper)) ≡ false
-      → IsForward (λ a b. is_gt (key_cmp (key_of a.now) (key_of b.now)) ≡ false) (λ a b. key_cmp (key_of a.now) (key_of b.now) ≡ Less) lo hi
+  pub forward : (lower upper : Option (refs.KeyRef Z)) (lo hi : Bound (refs.KeyRef Z)) → lo ≡ lower_bound lower → hi ≡ upper_bound upper → is_backward (end_lent lower) (end_lent upper) ≡ false
+      → IsForward (λ a b. is_gt (key_cmp (key_lent a) (key_lent b)) ≡ false) (λ a b. key_cmp (key_lent a) (key_lent b) ≡ Less) lo hi
   forward lower upper lo hi p q e = rw (p, q) (by lower upper e)
     where
-      by : (l u : Option (Bor (code_key.Key Z))) → is_backward (end_of (option_copied l)) (end_of (option_copied u)) ≡ false
-          → IsForward (λ a b. is_gt (key_cmp (key_of a.now) (key_of b.now)) ≡ false) (λ a b. key_cmp (key_of a.now) (key_of b.now) ≡ Less) (lower_bound l) (upper_bound u)
+      by : (l u : Option (refs.KeyRef Z)) → is_backward (end_lent l) (end_lent u) ≡ false
+          → IsForward (λ a b. is_gt (key_cmp (key_lent a) (key_lent b)) ≡ false) (λ a b. key_cmp (key_lent a) (key_lent b) ≡ Less) (lower_bound l) (upper_bound u)
       by None None e = tt
       by None (Some b) e = tt
       by (Some a) None e = tt
       by (Some a) (Some b) e = e
 
-  -- whether there is no row
-  pub none-decides : (es : List (code_key.Key Z × Row)) (n : ℕ) (r : Bool) → n ≡ length es → r ≡ (n == 0) → Decides r (rows_of es ≡ [])
-  none-decides [] n r e is = (λ _. refl, λ _. is ∙ (Decides-eqb n 0).1 e)
-  none-decides (x ∷ xs) n r e is = (λ h. let z = (Decides-eqb n 0).0 (sym is ∙ h) in absurd (omega arith), λ h. cc)
+-- whether there is no row
+pub none-decides : (rows : List (Key × Row)) (n : ℕ) (r : Bool) → n ≡ length rows → r ≡ (n == 0) → Decides r (rows ≡ [])
+none-decides [] n r e is = (λ _. refl, λ _. is ∙ (Decides-eqb n 0).1 e)
+none-decides (x ∷ xs) n r e is = (λ h. let z = (Decides-eqb n 0).0 (sym is ∙ h) in absurd (omega arith), λ h. cc)
 
 -- a test decides the same of equal values
 

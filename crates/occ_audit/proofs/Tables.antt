@@ -1,7 +1,6 @@
 -- States table by table: two that have the same rows in each, and one that gets the tables of another one after another.
 use Rattle.std.proofs.Common.{◌≡◌, ℕ, ◌+◌, ◌<◌, ◌≤◌, nat_eq, nat_lt, Bool, true, false, cond, List, [], ◌∷◌, Option, None, Some, refl, sym, ap, subst, ◌∙◌, arith, nat_cmp, is_eq}
-use Rattle.occ_audit.proofs.Common.{nat_tests, lookup, unsigned_tied, unsigned_Decides, empty, get, get-empty, Object, object_cmp, Key, Row, rows_of, State, Rows, Span, answer, answers_range, same_state, decided, row-answered, row_at-plain, IsPlaced, IsTaken, SameTable, row_under}
-use Rattle.occ_types.specs.declared.keys.Key as code_key
+use Rattle.occ_audit.proofs.Common.{nat_tests, lookup, unsigned_tied, unsigned_Decides, empty, get, get-empty, IsStrictlySortedBy, keys_of, key_cmp, Object, object_cmp, Key, Row, State, Rows, Span, answer, answers_range, same_state, decided, row-answered, IsPlaced, IsTaken, SameTable, row_under}
 
 same_tables : (s t : State) → ((u : ℕ) → SameTable u s t) → s ≡ t
 same_tables s t same = same_state s t (λ object.
@@ -59,12 +58,19 @@ filled-all first count taken state all no_more filled = same_state state taken (
     let past : count ≤ object.0 = grind (arith, nat_tests) in
     ap (λ b. cond b (get taken object) None) e ∙ sym (no_more object past)))
 
-module _ {Z : Type 0} where
-  -- rows of a table that another state has there
-  pub table-taken : (table : ℕ) (rows kept : List (code_key.Key Z × Row)) (taken old new : State) → IsPlaced table rows old new → Rows (rows_of kept) ≡ answer (Span table None None) taken → ((k : Key) → row_under rows k ≡ row_under kept k) → IsTaken table taken old new
-  table-taken table rows kept taken old new placed answers are object = placed object ∙ by object.0 object.1 (nat_eq object.0 table) refl
-    where
-      by : (u : ℕ) (k : Key) (b : Bool) → nat_eq u table ≡ b → cond b (row_under rows k) (get old (u, k)) ≡ cond b (get taken (u, k)) (get old (u, k))
-      by u k true e =
-          are k ∙ sym (row-answered taken table (rows_of kept) answers k ∙ row_at-plain kept k) ∙ ap (λ t. get taken (t, k)) (sym ((unsigned_Decides u table).0 e))
-      by u k false e = refl
+-- rows of a table that another state has there
+pub table-taken : (table : ℕ) (rows kept : List (Key × Row)) (taken old new : State) → IsPlaced table rows old new → Rows kept ≡ answer (Span table None None) taken → ((k : Key) → row_under rows k ≡ row_under kept k) → IsTaken table taken old new
+table-taken table rows kept taken old new placed answers are object = placed object ∙ by object.0 object.1 (nat_eq object.0 table) refl
+  where
+    by : (u : ℕ) (k : Key) (b : Bool) → nat_eq u table ≡ b → cond b (row_under rows k) (get old (u, k)) ≡ cond b (get taken (u, k)) (get old (u, k))
+    by u k true e =
+        are k ∙ sym (row-answered taken table kept answers k) ∙ ap (λ t. get taken (t, k)) (sym ((unsigned_Decides u table).0 e))
+    by u k false e = refl
+
+-- rows that a table answers are in order
+pub answered-sorted : (state : State) (table : ℕ) (kept : List (Key × Row)) → Rows kept ≡ answer (Span table None None) state → IsStrictlySortedBy key_cmp (keys_of kept)
+answered-sorted state table kept is =
+    let range = answers_range state table None None in
+    let answers : Rows kept ≡ Rows range.0 = is ∙ range.1.answered in
+    let same : kept ≡ range.0 = cc in
+    subst (λ rows. IsStrictlySortedBy key_cmp (keys_of rows)) (sym same) range.1.in_order

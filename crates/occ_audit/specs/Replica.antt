@@ -2,17 +2,18 @@
 use Rattle.std.specs.Prelude.{◌≡◌, ℕ, nat_eq, not, cond, List, [], ◌∷◌, map, Option, None}
 use Rattle.std.specs.Borrow.{Bor}
 use Rattle.std.specs.List.Sorted.{IsStrictlySortedBy}
-use Rattle.std.specs.Map.{keys_of, lookup}
-use Rattle.std.specs.Map.Iter.{deref_pair}
+use Rattle.std.specs.Map.{keys_of}
+use Rattle.std.specs.Option.{option_map}
+use Rattle.std.specs.Ordering.{on}
 use Rattle.std.specs.BTreeMap.{BTreeMap}
 use Rattle.std.specs.FinMap.{empty, get, insert, retain_keys}
 use Rattle.occ_types.specs.Key.{Key, key_cmp}
 use Rattle.occ_types.specs.Object.{Object}
 use Rattle.occ_types.specs.Question.{Span}
 use Rattle.occ_types.specs.Row.{Row}
-use Rattle.occ_types.specs.Same.{key_same}
-use Rattle.occ_types.specs.PlainData.{key_of}
-use Rattle.occ_types.specs.declared.keys.Key as code_key
+use Rattle.occ_book.specs.KeyRefs.{key_lent}
+use Rattle.occ_book.specs.Table.{row_under}
+use Rattle.occ_book.specs.declared.key_refs.KeyRef as refs
 use Rattle.occ_model.specs.State.{State, answer}
 
 -- a table has the same rows in two states
@@ -23,29 +24,33 @@ SameTable table s t = answer (Span table None None) s ≡ answer (Span table Non
 abbrev pub IsTaken : ℕ → State → State → State → Type 0
 IsTaken table taken old new = (object : Object) → get new object ≡ cond (nat_eq object.0 table) (get taken object) (get old object)
 
+-- a state gets these rows of a table, and has elsewhere those that it had
+abbrev pub IsPlaced : ℕ → List (Key × Row) → State → State → Type 0
+IsPlaced table rows old new = (object : Object) → get new object ≡ cond (nat_eq object.0 table) (row_under rows object.1) (get old object)
+
+-- a state with these rows of a table in place of those that it has there
+abbrev pub with_table : ℕ → List (Key × Row) → State → State
+with_table table [] state = retain_keys state (λ object. not (nat_eq object.0 table))
+with_table table (e ∷ es) state = insert (with_table table es state) (table, e.0) e.1
+
 module _ {Z : Type 0} where
-  -- the row under a key, among some rows of one table
-  abbrev pub row_under : List (code_key.Key Z × Row) → Key → Option Row
-  row_under rows key = lookup (λ x. key_same key (key_of x)) rows
+  -- the plain key and row of those that are lent
+  abbrev pub row_lent : refs.KeyRef Z × Bor Row → Key × Row
+  row_lent e = (key_lent e.0, e.1.now)
 
-  -- the keys and rows behind references
-  abbrev pub lent : List (Bor (code_key.Key Z) × Bor Row) → List (code_key.Key Z × Row)
-  lent = map deref_pair
+  -- the plain keys and rows of those that are lent
+  abbrev pub lent : List (refs.KeyRef Z × Bor Row) → List (Key × Row)
+  lent = map row_lent
 
-  -- a state gets these rows of a table, and has elsewhere those that it had
-  abbrev pub IsPlaced : ℕ → List (code_key.Key Z × Row) → State → State → Type 0
-  IsPlaced table rows old new = (object : Object) → get new object ≡ cond (nat_eq object.0 table) (row_under rows object.1) (get old object)
+  -- the plain end of a range that is lent
+  abbrev pub end_lent : Option (refs.KeyRef Z) → Option Key
+  end_lent = option_map key_lent
 
   -- the keys of lent rows are in order
-  abbrev pub IsInOrder : List (Bor (code_key.Key Z) × Bor Row) → Type 0
-  IsInOrder es = IsStrictlySortedBy (λ a b. key_cmp (key_of a.now) (key_of b.now)) (keys_of es)
-
-  -- a state with these rows of a table in place of those that it has there
-  abbrev pub with_table : ℕ → List (code_key.Key Z × Row) → State → State
-  with_table table [] state = retain_keys state (λ object. not (nat_eq object.0 table))
-  with_table table (e ∷ es) state = insert (with_table table es state) (table, key_of e.0) e.1
+  abbrev pub IsInOrder : List (refs.KeyRef Z × Bor Row) → Type 0
+  IsInOrder es = IsStrictlySortedBy (on key_lent key_cmp) (keys_of es)
 
   -- the state of some tables, each with its map
-  unfoldable pub state_of : List (ℕ × BTreeMap (Bor (code_key.Key Z)) (Bor Row)) → State
+  unfoldable pub state_of : List (ℕ × BTreeMap (refs.KeyRef Z) (Bor Row)) → State
   state_of [] = empty
   state_of (e ∷ es) = with_table e.0 (lent e.1.entries) (state_of es)

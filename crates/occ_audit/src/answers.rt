@@ -7,7 +7,8 @@ ghost use Rattle.occ_sets.specs.PlainSets.{answer_of, rows_of};
 ghost use Rattle.occ_model.specs.State.{answer, Rows};
 ghost use Rattle.occ_audit.specs.Replica.{lent};
 
-use crate::replica::{Replica, is_backward, lower_bound, upper_bound};
+use crate::replica::{Replica, end_lent, is_backward, lower_bound, upper_bound};
+use occ_book::KeyRef;
 use occ_sets::{Answer, RangeRows};
 use occ_types::{Key, Question, Row};
 use std::alloc::{AllocError, Allocator};
@@ -47,10 +48,14 @@ impl<'a, A: Allocator + Copy> Replica<'a, A> {
     {
         match self.rows(table) {
             // a map may not be asked for a range that runs backwards
-            Some(rows) if !is_backward(lower, upper) => copies(
-                alloc,
-                rows.range((lower_bound(lower.as_ref()), upper_bound(upper.as_ref()))),
-            ),
+            Some(rows) if !is_backward(lower, upper) => {
+                let lower = end_lent(lower);
+                let upper = end_lent(upper);
+                copies(
+                    alloc,
+                    rows.range((lower_bound(lower.as_ref()), upper_bound(upper.as_ref()))),
+                )
+            }
             _ => Ok(Vec::new(alloc)),
         }
     }
@@ -69,13 +74,13 @@ pub fn copied<A: Allocator + Copy>(row: Option<&Row<A>>) -> Result<Option<Row<A>
 // Copies of lent keys and rows, in their order.
 fn copies<'a, A: Allocator + Copy>(
     alloc: A,
-    rows: Range<'_, &'a Key<A>, &'a Row<A>>,
+    rows: Range<'_, KeyRef<'a, A>, &'a Row<A>>,
 ) -> Result<Vec<(Key<A>, Row<A>), A>, AllocError>
-    ensures { IfOk result (λ copies. rows_of copies.items ≡ rows_of (lent rows.entry)) }
+    ensures { IfOk result (λ copies. rows_of copies.items ≡ lent rows.entry) }
 {
     let mut copies = Vec::new(alloc);
     for (key, row) in rows {
-        copies.push(((*key).clone()?, (*row).clone()?))?;
+        copies.push((key.to_key()?, (*row).clone()?))?;
     }
     Ok(copies)
 }

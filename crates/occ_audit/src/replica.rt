@@ -1,19 +1,24 @@
 //! A state that is replayed. It has no row of its own: the log and the tables lend it theirs.
-ghost use Rattle.std.specs.Prelude.{◌≡◌, ◌<◌, ◌≤◌, ◌+◌, ℕ, None, drop, IfOk, MatchOption, OnOk};
+ghost use Rattle.std.specs.Prelude.{◌≡◌, ◌<◌, ◌≤◌, ◌+◌, ℕ, [], None, drop, IfOk, MatchOption, OnOk};
 ghost use Rattle.std.specs.Bool.{Decides};
+ghost use Rattle.std.specs.List.Sorted.{IsStrictlySortedBy};
+ghost use Rattle.std.specs.Map.{keys_of};
 ghost use Rattle.std.specs.Option.{option_copied};
 ghost use Rattle.std.specs.FinMap as finite;
 ghost use Rattle.std.specs.Range.Bound.{bound_map};
 ghost use Rattle.occ_types.specs.Key as keys;
+ghost use Rattle.occ_types.specs.Key.{key_cmp};
 ghost use Rattle.occ_types.specs.Object as objects;
 ghost use Rattle.occ_types.specs.Question.{Span};
 ghost use Rattle.occ_types.specs.PlainData.{end_of, object_of, question_of};
 ghost use Rattle.occ_sets.specs.PlainSets.{answer_of, rows_of};
 ghost use Rattle.occ_book.specs.Content.{is_backward, lower_bound, upper_bound};
+ghost use Rattle.occ_book.specs.KeyRefs.{key_lent};
+ghost use Rattle.occ_book.specs.Table.{row_under};
 ghost use Rattle.occ_model.specs.State.{put, apply, answer, Rows};
-ghost use Rattle.occ_audit.specs.Replica.{lent, IsInOrder, SameTable, IsPlaced, IsTaken, row_under, state_of};
+ghost use Rattle.occ_audit.specs.Replica.{lent, IsInOrder, SameTable, IsPlaced, IsTaken, end_lent, state_of};
 
-use occ_book::{Base, FoldedWrites, Tables};
+use occ_book::{Base, FoldedWrites, KeyRef, TableRows, Tables};
 use occ_sets::{Answer, WriteSet};
 use occ_types::{Key, Object, Question, Row};
 use std::alloc::{AllocError, Allocator};
@@ -23,7 +28,7 @@ use std::marker::Model;
 use std::ops::Bound;
 
 /// The rows of one table under their keys, all of them lent.
-pub type LentRows<'a, A> = BTreeMap<&'a Key<A>, &'a Row<A>, A>;
+pub type LentRows<'a, A> = BTreeMap<KeyRef<'a, A>, &'a Row<A>, A>;
 
 /// A state with a map for each table that was ever written. Tables may have any place, also one that no schema has. Clauses see the state of the model.
 pub struct Replica<'a, A: Allocator> {
@@ -134,7 +139,7 @@ impl<'a, A: Allocator + Copy> Replica<'a, A> {
         ensures { option_copied result ≡ finite.get self.now (object_of object.now) }
     {
         let rows = self.rows(object.table)?;
-        rows.get(&&object.key).copied()
+        rows.get(&KeyRef::of(&object.key)).copied()
     }
 
     /// Does one write.
@@ -155,11 +160,11 @@ impl<'a, A: Allocator + Copy> Replica<'a, A> {
         ensures { OnOk result (self.new ≡ put self.old (object_of object.now, Some row.now)) }
     {
         if let Some(rows) = self.tables.get_mut(&object.table) {
-            rows.insert(&object.key, row)?;
+            rows.insert(KeyRef::of(&object.key), row)?;
             return Ok(());
         }
         let mut rows = BTreeMap::new(self.alloc);
-        rows.insert(&object.key, row)?;
+        rows.insert(KeyRef::of(&object.key), row)?;
         self.place(object.table, rows)
     }
 
@@ -168,7 +173,7 @@ impl<'a, A: Allocator + Copy> Replica<'a, A> {
         ensures { self.new ≡ put self.old (object_of object.now, None) }
     {
         if let Some(rows) = self.tables.get_mut(&object.table) {
-            let _deleted = rows.remove(&&object.key);
+            let _deleted = rows.remove(&KeyRef::of(&object.key));
         }
     }
 
@@ -248,6 +253,8 @@ impl<'a, A: Allocator + Copy> Replica<'a, A> {
         match self.rows(table) {
             // a map may not be asked for a range that runs backwards
             Some(rows) if !is_backward(lower, upper) => {
+                let lower = end_lent(lower);
+                let upper = end_lent(upper);
                 are_given(
                     rows.range((lower_bound(lower.as_ref()), upper_bound(upper.as_ref()))),
                     given,
@@ -292,7 +299,7 @@ impl<'a, A: Allocator + Copy> Replica<'a, A> {
         let _count = tables.count();
         match (tables.table(table), self.rows(table)) {
             (Some(kept), Some(rows)) => are_kept(rows, kept),
-            (Some(kept), None) => kept.len() == 0,
+            (Some(kept), None) => is_none_left(kept),
             (None, Some(rows)) => rows.len() == 0,
             (None, None) => true,
         }
@@ -302,13 +309,12 @@ impl<'a, A: Allocator + Copy> Replica<'a, A> {
 // The rows of a table, lent.
 fn lend<'a, A: Allocator + Copy>(
     alloc: A,
-    kept: &'a BTreeMap<Key<A>, Row<A>, A>,
+    kept: TableRows<'a, A>,
 ) -> Result<LentRows<'a, A>, AllocError>
-    ensures { IfOk result (λ rows. (key : keys.Key) → row_under (lent rows.entries) key ≡ row_under kept.now.entries key) }
+    requires { IsStrictlySortedBy key_cmp (keys_of kept) }
+    ensures { IfOk result (λ rows. (key : keys.Key) → row_under (lent rows.entries) key ≡ row_under kept.entry key) }
 {
     let mut rows = BTreeMap::new(alloc);
-    // `len` tells that the keys are in order
-    let _rows = kept.len();
     for (key, row) in kept {
         rows.insert(key, row)?;
     }
@@ -317,21 +323,41 @@ fn lend<'a, A: Allocator + Copy>(
 
 // Whether rows are those that were given, in their order.
 fn are_given<'a, A: Allocator>(
-    rows: Range<'_, &'a Key<A>, &'a Row<A>>,
+    rows: Range<'_, KeyRef<'a, A>, &'a Row<A>>,
     given: &'a [(Key<A>, Row<A>)],
 ) -> bool
-    ensures { Decides result (rows_of given.now ≡ rows_of (lent rows.entry)) }
+    ensures { Decides result (rows_of given.now ≡ lent rows.entry) }
 {
     rows.map(|(key, row)| (*key, *row))
-        .eq(given.iter().map(|(key, row)| (key, row)))
+        .eq(given.iter().map(|(key, row)| (KeyRef::of(key), row)))
 }
 
 // Whether rows are those of a table.
-fn are_kept<'a, A: Allocator>(rows: &LentRows<'a, A>, kept: &'a BTreeMap<Key<A>, Row<A>, A>) -> bool
-    ensures same { Decides result (rows_of kept.now.entries ≡ rows_of (lent rows.now.entries)) }
+fn are_kept<'a, A: Allocator>(rows: &LentRows<'a, A>, kept: TableRows<'a, A>) -> bool
+    ensures same { Decides result (kept.entry ≡ lent rows.now.entries) }
     ensures ordered { IsInOrder rows.now.entries }
 {
     rows.iter().map(|(key, row)| (*key, *row)).eq(kept)
+}
+
+// Whether a table has no row.
+fn is_none_left<A: Allocator>(mut kept: TableRows<'_, A>) -> bool
+    ensures { Decides result (kept.entry ≡ []) }
+{
+    match kept.next() {
+        Some(_) => false,
+        None => true,
+    }
+}
+
+// An end of a range, lent.
+pub(crate) fn end_lent<'a, A: Allocator>(end: Option<&'a Key<A>>) -> Option<KeyRef<'a, A>>
+    ensures { end_lent result ≡ end_of (option_copied end.entry) }
+{
+    match end {
+        Some(key) => Some(KeyRef::of(key)),
+        None => None,
+    }
 }
 
 // Whether both ends of a range are there, and the lower one is above the upper one.

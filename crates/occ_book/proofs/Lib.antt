@@ -9,3 +9,5 @@ pub mod Parted
 pub mod Sizes
 pub mod Undoing
 pub mod Views
+pub mod TableWrites
+pub mod TableRanges

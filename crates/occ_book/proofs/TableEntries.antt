@@ -1,6 +1,7 @@
 -- The entries of one table in the order of their keys, and what a state that has them answers to a range.
 use Rattle.std.proofs.Common.{◌≡◌, ℕ, Bool, true, false, not, ◌&&◌, cond, List, [], ◌∷◌, map, filter, Option, None, Some, Ordering, Less, Equal, Greater, is_gt, is_le, refl, sym, ap, subst, ◌∙◌}
-use Rattle.occ_book.proofs.Common.{IsStrictlySortedBy, IsStrictlySortedBy-filter, IsDistinct-from_sorted, Contains-from_lookup, lookup-from_Contains, lookup-filter-keys, keys_of, lookup, on, ordering_reverse, Equal-is, unsigned_Decides, get, Key, Num, KeyText, Pair, key_cmp, key_cmp_total, key_cmp-IsAntisymmetric, key_same, key_same-decides, key_same_equiv, InRange, Span, asks-Span, Row, key_of, rows_of, answer_of_entries, State, Rows, answer, answers_range, is_within, is_backward, entries_within}
+use Rattle.occ_book.proofs.Common.{AllByRecursion, IsStrictlySortedBy, IsStrictlySortedBy-filter, IsDistinct-from_sorted, Contains-from_lookup, lookup-from_Contains, lookup-filter-keys, keys_of, lookup, on, ordering_reverse, Equal-is, unsigned_Decides, get, Key, Num, KeyText, Pair, key_cmp, key_cmp_total, key_cmp-IsAntisymmetric, key_same, key_same-decides, key_same_equiv, InRange, Span, asks-Span, Row, key_of, rows_of, answer_of_entries, State, Rows, answer, answers_range, is_within, is_backward, entries_within}
+use Rattle.occ_book.specs.Table.{row_under, rows_within}
 use Rattle.occ_types.specs.declared.keys.Key as code_key
 use Rattle.occ_types.specs.declared.keys.Key.TheVariants as keys
 
@@ -95,6 +96,44 @@ module _ {Z : Type 0} where
       (subst (IsStrictlySortedBy (on key_of key_cmp)) (sym (kept-filtered (λ (e : code_key.Key Z × Row). e.0) within es)) sorted) (λ k.
       lookup-filter-keys (λ x. key_same k (key_of x)) within (is_within a b k) (λ x e. ap (is_within a b) (sym (key_cmp-IsAntisymmetric k (key_of x) ((Equal-is (key_cmp k (key_of x))).0 e)))) es
       ∙ ap (λ r. cond (is_within a b k) r None) (sym (is k)))
+
+module _ {Z : Type 0} where
+  -- keys in order are plain keys in order, and the other way round
+  all-plain : (k : Key) (es : List (code_key.Key Z × Row)) → AllByRecursion (λ y. key_cmp k (key_of y) ≡ Less) (keys_of es) → AllByRecursion (λ y. key_cmp k y ≡ Less) (keys_of (rows_of es))
+  all-plain k [] all = tt
+  all-plain k (e ∷ es) all = (all.0, all-plain k es all.1)
+
+  all-code : (k : Key) (es : List (code_key.Key Z × Row)) → AllByRecursion (λ y. key_cmp k y ≡ Less) (keys_of (rows_of es)) → AllByRecursion (λ y. key_cmp k (key_of y) ≡ Less) (keys_of es)
+  all-code k [] all = tt
+  all-code k (e ∷ es) all = (all.0, all-code k es all.1)
+
+  pub sorted-plain : (es : List (code_key.Key Z × Row)) → IsStrictlySortedBy (on key_of key_cmp) (keys_of es) → IsStrictlySortedBy key_cmp (keys_of (rows_of es))
+  unfolding IsStrictlySortedBy
+  sorted-plain [] sorted = tt
+  sorted-plain (e ∷ es) sorted = (all-plain (key_of e.0) es sorted.0, sorted-plain es sorted.1)
+
+  sorted-code : (es : List (code_key.Key Z × Row)) → IsStrictlySortedBy key_cmp (keys_of (rows_of es)) → IsStrictlySortedBy (on key_of key_cmp) (keys_of es)
+  unfolding IsStrictlySortedBy
+  sorted-code [] sorted = tt
+  sorted-code (e ∷ es) sorted = (all-code (key_of e.0) es sorted.0, sorted-code es sorted.1)
+
+-- plain rows under keys of the code
+abbrev coded : List (Key × Row) → List (code_key.Key ⊥ × Row)
+coded [] = []
+coded (e ∷ es) = ((code_of {Z = ⊥} e.0).0, e.1) ∷ coded es
+
+coded-is : (rows : List (Key × Row)) → rows_of (coded rows) ≡ rows
+coded-is [] = refl
+coded-is (e ∷ es) = λ i. ((code_of {Z = ⊥} e.0).1 i, e.1) ∷ coded-is es i
+
+-- what lies within a range, of the rows of a table
+pub answer-rows : (state : State) (t : ℕ) (a b : Option Key) (rows : List (Key × Row)) → IsStrictlySortedBy key_cmp (keys_of rows) → ((k : Key) → get state (t, k) ≡ row_under rows k) → answer (Span t a b) state ≡ Rows (rows_within a b rows)
+answer-rows state t a b rows sorted is =
+    let es = coded rows in
+    answer-within state t a b es
+    (sorted-code es (subst (λ rs. IsStrictlySortedBy key_cmp (keys_of rs)) (sym (coded-is rows)) sorted))
+    (λ k. is k ∙ ap (λ rs. row_under rs k) (sym (coded-is rows)) ∙ row_at-plain es k)
+    ∙ ap Rows (kept-filtered (λ (e : code_key.Key ⊥ × Row). (key_of e.0, e.1)) (λ e. is_within a b e.0) es ∙ ap (rows_within a b) (coded-is rows))
 
 -- the answer where no row is in the range
 

@@ -1,18 +1,16 @@
 -- What is kept of the rows that are put, and how it brings them back.
-use Rattle.std.proofs.Common.{◌≡◌, ◌<◌, ℕ, cond, List, [], ◌∷◌, ◌++◌, length, Option, None, Some, IsSome, true≢false, refl, sym, ap, subst, ◌∙◌, arith, Bor, slice_index_or, BTreeMap, is_eq}
-use Rattle.occ_book.proofs.Common.{map-append, slice_get_read, tied_itself, on, key_cmp, Object, object_cmp_total, Row, key_of, object_of, State, Write, put, same, same_object, same_state, get-put, decided, Content, content_of, Replaced, kept_write, kept_writes}
-use Rattle.std.specs.BTreeMap.{get}
+use Rattle.std.proofs.Common.{◌≡◌, ◌<◌, ℕ, cond, List, [], ◌∷◌, ◌++◌, length, Option, None, Some, IsSome, true≢false, refl, sym, ap, subst, ◌∙◌, arith, Bor, slice_index_or, is_eq}
+use Rattle.occ_book.proofs.Common.{map-append, slice_get_read, tied_itself, Key, Object, object_cmp_total, Row, object_of, State, Write, put, same, same_object, same_state, get-put, decided, Content, content_of, Replaced, kept_write, kept_writes}
 use Rattle.std.specs.FinMap as finite
-use Rattle.occ_types.specs.declared.keys.Key as code_key
+use Rattle.occ_book.specs.Table.{row_under}
 use Rattle.occ_types.specs.declared.objects.Object as code_object
 use Rattle.occ_book.proofs.Views.{row-found}
 
-module _ {Z : Type 0} where
-  -- the map of a table has at a key what the tables have at the object
-  pub map-has : (maps : List (BTreeMap (code_key.Key Z) Row)) (t : ℕ) (m : BTreeMap (code_key.Key Z) Row) (key : code_key.Key Z) (old : Content) → content_of maps ≡ old → t < old.tables → m ≡ slice_index_or maps t m → get (on key_of key_cmp) m key ≡ finite.get old.state (t, key_of key)
-  map-has maps t m key old view h at =
-      let inside : t < length maps = subst (λ (c : Content). t < c.tables) (sym view) h in
-      row-found maps t (key_of key) old (Some m) view (slice_get_read maps (length maps) t m refl inside at)
+-- a table has at a key what the tables have at the object
+pub table-has : (tables : List (List (Key × Row))) (t : ℕ) (rows : List (Key × Row)) (key : Key) (old : Content) → content_of tables ≡ old → t < old.tables → rows ≡ slice_index_or tables t rows → row_under rows key ≡ finite.get old.state (t, key)
+table-has tables t rows key old view h at =
+    let inside : t < length tables = subst (λ (c : Content). t < c.tables) (sym view) h in
+    row-found tables t key old (Some rows) view (slice_get_read tables (length tables) t rows refl inside at)
 
 -- nothing stands where there is none
 pub none_there : {X : Type 0} (P : Type 0) (o : Option X) → o ≡ None → IsSome o → P

@@ -53,6 +53,23 @@ abbrev pub upper_bound : {K : Type 0} → Option K → Bound K
 upper_bound None = Unbounded
 upper_bound (Some end) = Excluded end
 
+-- the rows of the table at a place, under their objects
+abbrev pub placed : ℕ → List (Key × Row) → List (Object × Row)
+placed place = map (λ e. ((place, e.0), e.1))
+
+-- the rows of all tables, of which the first one stands at a place
+abbrev pub placed_from : ℕ → List (List (Key × Row)) → List (Object × Row)
+placed_from place [] = []
+placed_from place (rows ∷ others) = placed place rows ++ placed_from (suc place) others
+
+-- the state of some tables
+unfoldable pub state_of : List (List (Key × Row)) → State
+state_of tables = finite.from_entries (placed_from 0 tables)
+
+-- what some tables hold
+abbrev pub content_of : List (List (Key × Row)) → Content
+content_of tables = record { tables = length tables; state = state_of tables }
+
 module _ {Z : Type 0} where
   -- the key and the row of an entry
   abbrev pub seen : code_key.Key Z × Row → Key × Row
@@ -62,32 +79,10 @@ module _ {Z : Type 0} where
   abbrev pub entries_within : Option Key → Option Key → List (code_key.Key Z × Row) → List (code_key.Key Z × Row)
   entries_within lower upper = filter (λ e. is_within lower upper (key_of e.0))
 
-  -- copies of all entries where they are at most so many, and none where they are more
-  abbrev pub IsAllUpTo : ℕ → List (code_key.Key Z × Row) → Option (Vec (code_key.Key Z × Row) Z) → Type 0
-  IsAllUpTo most es None = most < length es
-  IsAllUpTo most es (Some rows) = (length es ≤ most) × (rows.items ≡ es)
-
   -- the rows of an answer where they are at most so many, and none where they are more
   abbrev pub AnswersUpTo : ℕ → Answer → Option (Vec (code_key.Key Z × Row) Z) → Type 0
   AnswersUpTo most given None = most < answer_size given
   AnswersUpTo most given (Some rows) = (answer_size given ≤ most) × (Rows (map seen rows.items) ≡ given)
-
-  -- the rows of the table at a place, under their objects
-  abbrev pub placed : ℕ → List (code_key.Key Z × Row) → List (Object × Row)
-  placed place = map (λ e. ((place, key_of e.0), e.1))
-
-  -- the rows of all tables, of which the first one stands at a place
-  abbrev pub placed_from : ℕ → List (BTreeMap (code_key.Key Z) Row) → List (Object × Row)
-  placed_from place [] = []
-  placed_from place (m ∷ ms) = placed place m.entries ++ placed_from (suc place) ms
-
-  -- the state of some tables
-  unfoldable pub state_of : List (BTreeMap (code_key.Key Z) Row) → State
-  state_of maps = finite.from_entries (placed_from 0 maps)
-
-  -- what some tables hold
-  abbrev pub content_of : List (BTreeMap (code_key.Key Z) Row) → Content
-  content_of maps = record { tables = length maps; state = state_of maps }
 
   -- n has the row, or none, at the key, and elsewhere what m has
   abbrev pub IsPut : BTreeMap (code_key.Key Z) Row → code_key.Key Z → Option Row → BTreeMap (code_key.Key Z) Row → Type 0

@@ -2,6 +2,8 @@ pub mod Base
 pub mod Content
 pub mod Folded
 pub mod Kept
+pub mod KeyRefs
 pub mod LastWrites
 pub mod Marks
+pub mod Table
 pub mod Undo

@@ -1,29 +1,24 @@
-//! The tables of a store, with one map for each.
+//! The tables of a store, each of which keeps its rows.
 ghost use Rattle.std.specs.Prelude.{◌≡◌, ◌<◌, ◌≤◌, ◌-◌, ◌^◌, min, map, length, true, false, [], IfOk, OnOk, OnErr, IsOk, IsSome, MatchOption, IsOkUnless, Some, None};
 ghost use Rattle.std.specs.Option.{option_copied};
-ghost use Rattle.std.specs.Ordering.{on};
-ghost use Rattle.std.specs.Range.Bound.{bound_map};
-ghost use Rattle.std.specs.BTreeMap.{IsOrdered};
 ghost use Rattle.std.specs.FinMap as finite;
 ghost use Rattle.occ_types.specs.declared.fault.Fault.TheVariants.{Memory};
-ghost use Rattle.occ_types.specs.Key.{key_cmp};
 ghost use Rattle.occ_types.specs.Object as objects;
 ghost use Rattle.occ_types.specs.Question.{Span};
 ghost use Rattle.occ_types.specs.PlainData.{key_of, end_of};
 ghost use Rattle.occ_model.specs.State.{put, answer, Rows, answer_size};
-ghost use Rattle.occ_book.specs.Content.{seen, entries_within, is_backward, lower_bound, upper_bound, IsAllUpTo, AnswersUpTo};
+ghost use Rattle.occ_book.specs.Content.{seen, AnswersUpTo};
 
-use crate::maps::{delete_row, exchange_row, put_row, set_back_row};
+use crate::table::Table;
+use crate::table_rows::TableRows;
 use occ_types::{Fault, Key, Row};
 use std::alloc::{AllocError, Allocator};
-use std::collections::BTreeMap;
 use std::marker::Model;
-use std::ops::Bound;
 
 /// The tables of a store, named by their places from 0 on, and the rows in each of them under their keys.
 #[derive(Drop)]
 pub struct Tables<A: Allocator> {
-    maps: Vec<BTreeMap<Key<A>, Row<A>, A>, A>,
+    tables: Vec<Table<A>, A>,
 }
 
 impl<A: Allocator> Model for Tables<A> {
@@ -33,7 +28,7 @@ impl<A: Allocator> Model for Tables<A> {
 
     ghost coded = { content_code };
 
-    ghost view = { λ tables. content_of tables.maps.items };
+    ghost view = { λ tables. content_of tables.tables.items };
 }
 
 impl<A: Allocator + Clone> Tables<A> {
@@ -42,11 +37,11 @@ impl<A: Allocator + Clone> Tables<A> {
         ensures empty { IfOk result (λ tables. tables ≡ record { tables = count; state = finite.empty }) }
         ensures memory { IsOkUnless result Memory }
     {
-        let mut maps = Vec::with_capacity(alloc.clone()?, count)?;
+        let mut tables = Vec::with_capacity(alloc.clone()?, count)?;
         for _ in 0..count {
-            maps.push(BTreeMap::new(alloc.clone()?))?;
+            tables.push(Table::new(alloc.clone()?)?)?;
         }
-        Ok(Tables { maps })
+        Ok(Tables { tables })
     }
 
     /// How many tables there are. No row stands in a table that is not there.
@@ -54,15 +49,15 @@ impl<A: Allocator + Clone> Tables<A> {
         ensures value { result ≡ self.now.tables }
         ensures no_more { (object : objects.Object) → self.now.tables ≤ object.0 → finite.get self.now.state object ≡ None }
     {
-        self.maps.len()
+        self.tables.len()
     }
 
     /// The row under a key of a table, or none where it is not there or there is no such table.
     pub fn row(&self, table: usize, key: &Key<A>) -> Option<&Row<A>>
         ensures { option_copied result ≡ finite.get self.now.state (table, key_of key.now) }
     {
-        match self.maps.get(table) {
-            Some(map) => map.get(key),
+        match self.tables.get(table) {
+            Some(rows) => rows.get(key),
             None => None,
         }
     }
@@ -81,7 +76,7 @@ impl<A: Allocator + Clone> Tables<A> {
             self.delete(table, key);
             return Ok(());
         };
-        put_row(&mut self.maps[table], key, row)
+        self.tables[table].put(key, row)
     }
 
     // Puts a row under a key of a table, and hands out the one that stood there. Refused with `Memory` at a new key alone, which leaves the tables as they were.
@@ -97,7 +92,7 @@ impl<A: Allocator + Clone> Tables<A> {
         ensures err { OnErr result (self.new ≡ self.old) }
         ensures memory { IsOkUnless result Memory }
     {
-        exchange_row(&mut self.maps[table], key, row)
+        self.tables[table].exchange(key, row)
     }
 
     /// Copies of the rows of a table from the lower end on and below the upper one, with their keys and in the order of the keys. Either end may be missing, and a table that is not there has no rows.
@@ -112,14 +107,14 @@ impl<A: Allocator + Clone> Tables<A> {
         ensures memory { IsOkUnless result Memory }
         ensures answered { IfOk result (λ rows. Rows (map seen rows.items) ≡ answer (Span table (end_of (option_copied lower.entry)) (end_of (option_copied upper.entry))) self.now.state) }
     {
-        let alloc = self.maps.allocator().clone()?;
-        match self.maps.get(table) {
-            Some(map) => copy_between(alloc, map, lower, upper),
+        let alloc = self.tables.allocator().clone()?;
+        match self.tables.get(table) {
+            Some(rows) => rows.rows(alloc, lower, upper),
             None => Ok(Vec::new(alloc)),
         }
     }
 
-    /// Copies of the rows as `rows` gives them, where they are at most `most`, and none where they are more. It goes over the rows once, with room for `most` of them, of which it gives back what is not needed.
+    /// Copies of the rows as `rows` gives them, where they are at most `most`, and none where they are more. It counts them first, so that they take no more room than they need.
     ///
     /// Refused with `Memory` where there is none for the copies, however many they would be.
     pub fn rows_up_to(
@@ -132,9 +127,9 @@ impl<A: Allocator + Clone> Tables<A> {
         ensures memory { IsOkUnless result Memory }
         ensures answered { IfOk result (AnswersUpTo most (answer (Span table (end_of (option_copied lower.entry)) (end_of (option_copied upper.entry))) self.now.state)) }
     {
-        let alloc = self.maps.allocator().clone()?;
-        match self.maps.get(table) {
-            Some(map) => copy_up_to(alloc, most, map, lower, upper),
+        let alloc = self.tables.allocator().clone()?;
+        match self.tables.get(table) {
+            Some(rows) => rows.rows_up_to(alloc, most, lower, upper),
             None => Ok(Some(Vec::new(alloc))),
         }
     }
@@ -143,8 +138,8 @@ impl<A: Allocator + Clone> Tables<A> {
     pub fn count_rows(&self, table: usize, lower: Option<&Key<A>>, upper: Option<&Key<A>>) -> usize
         ensures { result ≡ answer_size (answer (Span table (end_of (option_copied lower.entry)) (end_of (option_copied upper.entry))) self.now.state) }
     {
-        match self.maps.get(table) {
-            Some(map) => count_between(map, lower, upper),
+        match self.tables.get(table) {
+            Some(rows) => rows.count(lower, upper),
             None => 0,
         }
     }
@@ -155,7 +150,7 @@ impl<A: Allocator + Clone> Clone for Tables<A> {
 
     fn clone(&self) -> Result<Tables<A>, AllocError> {
         Ok(Tables {
-            maps: self.maps.clone()?,
+            tables: self.tables.clone()?,
         })
     }
 }
@@ -163,7 +158,7 @@ impl<A: Allocator + Clone> Clone for Tables<A> {
 impl<A: Allocator + Copy> Tables<A> {
     // What the tables take memory from.
     pub(crate) fn allocator(&self) -> A {
-        *self.maps.allocator()
+        *self.tables.allocator()
     }
 }
 
@@ -173,8 +168,8 @@ impl<A: Allocator> Tables<A> {
         ensures tables { self.new.tables ≡ self.old.tables }
         ensures state { IsSome (finite.get self.old.state (table, key_of key.now)) → self.new.state ≡ put self.old.state ((table, key_of key.now), row) }
     {
-        if table < self.maps.len() {
-            set_back_row(&mut self.maps[table], key, row);
+        if table < self.tables.len() {
+            self.tables[table].set_back(key, row);
         }
     }
 
@@ -183,7 +178,7 @@ impl<A: Allocator> Tables<A> {
         requires { table < self.old.tables }
         ensures { self.new ≡ record { tables = self.old.tables; state = put self.old.state ((table, key_of key.now), None) } }
     {
-        delete_row(&mut self.maps[table], key);
+        self.tables[table].delete(key);
     }
 
     /// How many rows stand in all tables, or the greatest `usize` where they are more. It takes no memory.
@@ -191,131 +186,19 @@ impl<A: Allocator> Tables<A> {
         ensures { result ≡ min (finite.len self.now.state) (2 ^ 64 - 1) }
     {
         let mut rows: usize = 0;
-        for map in self.maps.iter() {
-            rows = rows.saturating_add(map.len());
+        for table in self.tables.iter() {
+            rows = rows.saturating_add(table.len());
         }
         rows
     }
 
-    /// The rows of a table under their keys, or none where there is no such table. It takes no memory.
-    pub fn table(&self, table: usize) -> Option<&BTreeMap<Key<A>, Row<A>, A>>
-        ensures { MatchOption result (self.now.tables ≤ table) (λ rows. Rows (map seen rows.now.entries) ≡ answer (Span table None None) self.now.state) }
+    /// The rows of a table under their keys, one after another in the order of the keys, or none where there is no such table. It takes no memory.
+    pub fn table(&self, table: usize) -> Option<TableRows<'_, A>>
+        ensures { MatchOption result (self.now.tables ≤ table) (λ rows. Rows rows ≡ answer (Span table None None) self.now.state) }
     {
-        match self.maps.get(table) {
-            Some(map) => {
-                // as in `has_none_between`
-                let _rows = map.len();
-                Some(map)
-            }
+        match self.tables.get(table) {
+            Some(rows) => Some(rows.iter()),
             None => None,
         }
-    }
-}
-
-// Copies of the entries between two ends.
-fn copy_between<A: Allocator + Clone>(
-    alloc: A,
-    map: &BTreeMap<Key<A>, Row<A>, A>,
-    lower: Option<&Key<A>>,
-    upper: Option<&Key<A>>,
-) -> Result<Vec<(Key<A>, Row<A>), A>, Fault>
-    ensures memory { IsOkUnless result Memory }
-    ensures rows { IfOk result (λ rows. rows.items ≡ entries_within (end_of (option_copied lower.entry)) (end_of (option_copied upper.entry)) map.now.entries) }
-    ensures ordered { IsOrdered (on key_of key_cmp) map.now }
-{
-    let mut rows = Vec::new(alloc);
-    if has_none_between(map, lower, upper) {
-        return Ok(rows);
-    }
-    for (key, row) in map.range((lower_bound(lower), upper_bound(upper))) {
-        rows.push((key.clone()?, row.clone()?))?;
-    }
-    Ok(rows)
-}
-
-// Copies of the entries between two ends, where they are at most `most`.
-fn copy_up_to<A: Allocator + Clone>(
-    alloc: A,
-    most: usize,
-    map: &BTreeMap<Key<A>, Row<A>, A>,
-    lower: Option<&Key<A>>,
-    upper: Option<&Key<A>>,
-) -> Result<Option<Vec<(Key<A>, Row<A>), A>>, Fault>
-    ensures memory { IsOkUnless result Memory }
-    ensures rows { IfOk result (IsAllUpTo most (entries_within (end_of (option_copied lower.entry)) (end_of (option_copied upper.entry)) map.now.entries)) }
-    ensures ordered { IsOrdered (on key_of key_cmp) map.now }
-{
-    if has_none_between(map, lower, upper) {
-        return Ok(Some(Vec::new(alloc)));
-    }
-    let mut rows = Vec::with_capacity(alloc, most)?;
-    for (key, row) in map.range((lower_bound(lower), upper_bound(upper))) {
-        if rows.len() >= most {
-            return Ok(None);
-        }
-        rows.push_reserved((key.clone()?, row.clone()?));
-    }
-    rows.shrink_to_fit();
-    Ok(Some(rows))
-}
-
-// How many entries lie between two ends.
-fn count_between<A: Allocator>(
-    map: &BTreeMap<Key<A>, Row<A>, A>,
-    lower: Option<&Key<A>>,
-    upper: Option<&Key<A>>,
-) -> usize
-    ensures count { result ≡ length (entries_within (end_of (option_copied lower.entry)) (end_of (option_copied upper.entry)) map.now.entries) }
-    ensures ordered { IsOrdered (on key_of key_cmp) map.now }
-{
-    if has_none_between(map, lower, upper) {
-        return 0;
-    }
-    map.range((lower_bound(lower), upper_bound(upper))).count()
-}
-
-// Whether no entry lies between two ends since the map is empty or the range runs backwards. A map may not be asked for a range that does. `len`, unlike `is_empty`, tells that the keys are in order.
-fn has_none_between<A: Allocator>(
-    map: &BTreeMap<Key<A>, Row<A>, A>,
-    lower: Option<&Key<A>>,
-    upper: Option<&Key<A>>,
-) -> bool
-    ensures none { result ≡ true → entries_within (end_of (option_copied lower.entry)) (end_of (option_copied upper.entry)) map.now.entries ≡ [] }
-    ensures forward { result ≡ false → is_backward (end_of (option_copied lower.entry)) (end_of (option_copied upper.entry)) ≡ false }
-    ensures ordered { IsOrdered (on key_of key_cmp) map.now }
-{
-    if map.len() == 0 {
-        return true;
-    }
-    is_backward(lower, upper)
-}
-
-// Whether both ends are there, and the lower one is above the upper one.
-fn is_backward<A: Allocator>(lower: Option<&Key<A>>, upper: Option<&Key<A>>) -> bool
-    ensures { result ≡ is_backward (end_of (option_copied lower.entry)) (end_of (option_copied upper.entry)) }
-{
-    match (lower, upper) {
-        (Some(lower), Some(upper)) => lower > upper,
-        _ => false,
-    }
-}
-
-// A lower end, which lies within the range.
-fn lower_bound<A: Allocator>(lower: Option<&Key<A>>) -> Bound<&Key<A>>
-    ensures { bound_map (λ end. end.now) result ≡ lower_bound (option_copied lower.entry) }
-{
-    match lower {
-        Some(end) => Bound::Included(end),
-        None => Bound::Unbounded,
-    }
-}
-
-// An upper end, which lies outside of the range.
-fn upper_bound<A: Allocator>(upper: Option<&Key<A>>) -> Bound<&Key<A>>
-    ensures { bound_map (λ end. end.now) result ≡ upper_bound (option_copied upper.entry) }
-{
-    match upper {
-        Some(end) => Bound::Excluded(end),
-        None => Bound::Unbounded,
     }
 }

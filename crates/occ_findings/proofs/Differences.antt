@@ -8,7 +8,8 @@ use Rattle.std.specs.FinMap.{nat_cmp-IsAntisymmetric}
 use Rattle.occ_types.specs.Key.{key_cmp-IsAntisymmetric, key_cmp_total}
 use Rattle.occ_audit.proofs.Common.{IsInOrder, IsStrictlySortedBy, Key, Object, Row, State, get, key_cmp, key_of, key_same, keys_of, lent, lookup, object_cmp, object_cmp-IsAntisymmetric, object_cmp_total, row_under, same_state, state_of}
 use Rattle.occ_audit.proofs.Lent.{Lent, get-in, row_under-lent, table_at}
-use Rattle.occ_types.specs.declared.keys.Key as code_key
+use Rattle.occ_book.specs.KeyRefs.{key_lent}
+use Rattle.occ_book.specs.declared.key_refs.KeyRef as refs
 use Rattle.occ_findings.specs.declared.first_difference.Spot as spots
 use Rattle.occ_findings.specs.Differences.{AgreeIn, AgreeOn, FirstGives, IsEarlier, IsFirstIn, IsFirstOf, spot_of}
 use Rattle.occ_findings.specs.Findings.{IsFirstApart}
@@ -96,34 +97,34 @@ module _ {Z : Type 0} (one other : State) where
 
 module _ {Z : Type 0} (table : ℕ) (other : State) where
   -- of lent rows these are left, and a state has all others
-  abbrev pub KeysWalked : List (Bor (code_key.Key Z) × Bor Row) → List (Bor (code_key.Key Z) × Bor Row) → Type 0
-  KeysWalked = Walked key_cmp key_cmp_total key_cmp-IsAntisymmetric (λ (b : Bor (code_key.Key Z)). key_of b.now) (λ k (v : Bor Row). get other (table, k) ≡ Some v.now)
+  abbrev pub KeysWalked : List (refs.KeyRef Z × Bor Row) → List (refs.KeyRef Z × Bor Row) → Type 0
+  KeysWalked = Walked key_cmp key_cmp_total key_cmp-IsAntisymmetric (λ (b : refs.KeyRef Z). key_lent b) (λ k (v : Bor Row). get other (table, k) ≡ Some v.now)
 
-  pub keys-none : (whole left : List (Bor (code_key.Key Z) × Bor Row)) → left ≡ whole → IsInOrder whole → KeysWalked whole left
-  keys-none = walked-none key_cmp key_cmp_total key_cmp-IsAntisymmetric (λ (b : Bor (code_key.Key Z)). key_of b.now) (λ k (v : Bor Row). get other (table, k) ≡ Some v.now)
+  pub keys-none : (whole left : List (refs.KeyRef Z × Bor Row)) → left ≡ whole → IsInOrder whole → KeysWalked whole left
+  keys-none = walked-none key_cmp key_cmp_total key_cmp-IsAntisymmetric (λ (b : refs.KeyRef Z). key_lent b) (λ k (v : Bor Row). get other (table, k) ≡ Some v.now)
 
-  pub keys-more : (whole more : List (Bor (code_key.Key Z) × Bor Row)) (e : Bor (code_key.Key Z) × Bor Row) → KeysWalked whole (e ∷ more) → get other (table, key_of e.0.now) ≡ Some e.1.now → KeysWalked whole more
-  keys-more = walked-more key_cmp key_cmp_total key_cmp-IsAntisymmetric (λ (b : Bor (code_key.Key Z)). key_of b.now) (λ k (v : Bor Row). get other (table, k) ≡ Some v.now)
+  pub keys-more : (whole more : List (refs.KeyRef Z × Bor Row)) (e : refs.KeyRef Z × Bor Row) → KeysWalked whole (e ∷ more) → get other (table, key_lent e.0) ≡ Some e.1.now → KeysWalked whole more
+  keys-more = walked-more key_cmp key_cmp_total key_cmp-IsAntisymmetric (λ (b : refs.KeyRef Z). key_lent b) (λ k (v : Bor Row). get other (table, k) ≡ Some v.now)
 
   -- what is found among rows is found among those that they lend
-  lent-found : (es : List (Bor (code_key.Key Z) × Bor Row)) (k : Key) (row : Row) (P : Type 0) → row_under (lent es) k ≡ Some row → ((v : Bor Row) → lookup (λ x. key_same k (key_of x.now)) es ≡ Some v → v.now ≡ row → P) → P
-  lent-found es k row P f then_so = by (lookup (λ x. key_same k (key_of x.now)) es) refl
+  lent-found : (es : List (refs.KeyRef Z × Bor Row)) (k : Key) (row : Row) (P : Type 0) → row_under (lent es) k ≡ Some row → ((v : Bor Row) → lookup (λ x. key_same k (key_lent x)) es ≡ Some v → v.now ≡ row → P) → P
+  lent-found es k row P f then_so = by (lookup (λ x. key_same k (key_lent x)) es) refl
     where
-      by : (o : Option (Bor Row)) → lookup (λ x. key_same k (key_of x.now)) es ≡ o → P
+      by : (o : Option (Bor Row)) → lookup (λ x. key_same k (key_lent x)) es ≡ o → P
       by None e = let none : None ≡ Some row = sym (ap option_copied e) ∙ sym (row_under-lent es k) ∙ f in cc
       by (Some v) e = let one : Some v.now ≡ Some row = sym (ap option_copied e) ∙ sym (row_under-lent es k) ∙ f in then_so v e (cc)
 
-  pub keys-agree : (whole left : List (Bor (code_key.Key Z) × Bor Row)) → left ≡ [] → KeysWalked whole left → AgreeIn (lent whole) table other
+  pub keys-agree : (whole left : List (refs.KeyRef Z × Bor Row)) → left ≡ [] → KeysWalked whole left → AgreeIn (lent whole) table other
   keys-agree whole left nothing w k row f =
       lent-found whole k row (get other (table, k) ≡ Some row) f
-      (λ v at is. walked-all key_cmp key_cmp_total key_cmp-IsAntisymmetric (λ (b : Bor (code_key.Key Z)). key_of b.now) (λ k (v : Bor Row). get other (table, k) ≡ Some v.now) whole left nothing w k v at ∙ ap Some is)
+      (λ v at is. walked-all key_cmp key_cmp_total key_cmp-IsAntisymmetric (λ (b : refs.KeyRef Z). key_lent b) (λ k (v : Bor Row). get other (table, k) ≡ Some v.now) whole left nothing w k v at ∙ ap Some is)
 
-  pub keys-first : (whole more : List (Bor (code_key.Key Z) × Bor Row)) (e : Bor (code_key.Key Z) × Bor Row) → KeysWalked whole (e ∷ more) → get other (table, key_of e.0.now) ≢ Some e.1.now → IsFirstIn (lent whole) table other e.0
+  pub keys-first : (whole more : List (refs.KeyRef Z × Bor Row)) (e : refs.KeyRef Z × Bor Row) → KeysWalked whole (e ∷ more) → get other (table, key_lent e.0) ≢ Some e.1.now → IsFirstIn (lent whole) table other e.0
   keys-first whole more e w apart =
-      let here = walked-here key_cmp key_cmp_total key_cmp-IsAntisymmetric (λ (b : Bor (code_key.Key Z)). key_of b.now) (λ k (v : Bor Row). get other (table, k) ≡ Some v.now) whole more e w in (
-        subst (λ o. IsSomeAnd o (λ row. get other (table, key_of e.0.now) ≢ Some row)) (sym (row_under-lent whole (key_of e.0.now) ∙ ap option_copied here)) apart,
+      let here = walked-here key_cmp key_cmp_total key_cmp-IsAntisymmetric (λ (b : refs.KeyRef Z). key_lent b) (λ k (v : Bor Row). get other (table, k) ≡ Some v.now) whole more e w in (
+        subst (λ o. IsSomeAnd o (λ row. get other (table, key_lent e.0) ≢ Some row)) (sym (row_under-lent whole (key_lent e.0) ∙ ap option_copied here)) apart,
         λ k row less f. lent-found whole k row (get other (table, k) ≡ Some row) f
-            (λ v at is. walked-to key_cmp key_cmp_total key_cmp-IsAntisymmetric (λ (b : Bor (code_key.Key Z)). key_of b.now) (λ k (v : Bor Row). get other (table, k) ≡ Some v.now) whole more e w k v less at ∙ ap Some is),
+            (λ v at is. walked-to key_cmp key_cmp_total key_cmp-IsAntisymmetric (λ (b : refs.KeyRef Z). key_lent b) (λ k (v : Bor Row). get other (table, k) ≡ Some v.now) whole more e w k v less at ∙ ap Some is),
       )
 
 module _ {Z : Type 0} (state other : State) where
@@ -158,7 +159,7 @@ module _ {Z : Type 0} (state other : State) where
   )
     where
       key : Key
-      key = key_of spot.key.now
+      key = key_lent spot.key
 
       here : table_at whole e.0 ≡ Some e.1
       here = walked-here nat_cmp nat_cmp_total nat_cmp-IsAntisymmetric (λ u. u) (λ u (m : Lent Z). AgreeIn (lent m.entries) u other) whole more e w

@@ -1,16 +1,15 @@
 -- What the parts of the search for the first difference of two states answer.
 use Rattle.std.specs.Prelude.{◌≡◌, ◌≢◌, ℕ, cond, List, Option, None, Some, MatchOption, IsSomeAnd}
-use Rattle.std.specs.Borrow.{Bor}
 use Rattle.std.specs.declared.cmp.Ordering.TheVariants.{Less}
 use Rattle.std.specs.Ordering.{is_lt}
 use Rattle.std.specs.FinMap.{get}
 use Rattle.occ_types.specs.Key.{Key, key_cmp}
 use Rattle.occ_types.specs.Object.{Object, object_cmp}
 use Rattle.occ_types.specs.Row.{Row}
-use Rattle.occ_types.specs.PlainData.{key_of}
-use Rattle.occ_types.specs.declared.keys.Key as code_key
+use Rattle.occ_book.specs.KeyRefs.{key_lent}
+use Rattle.occ_book.specs.Table.{row_under}
+use Rattle.occ_book.specs.declared.key_refs.KeyRef as refs
 use Rattle.occ_model.specs.State.{State}
-use Rattle.occ_audit.specs.Replica.{row_under}
 use Rattle.occ_findings.specs.Findings.{IsFirstApart}
 use Rattle.occ_findings.specs.declared.first_difference.Spot as spots
 
@@ -18,20 +17,20 @@ use Rattle.occ_findings.specs.declared.first_difference.Spot as spots
 abbrev pub AgreeOn : State → State → Type 0
 AgreeOn state other = (p : Object) (row : Row) → get state p ≡ Some row → get other p ≡ Some row
 
+-- a state has each of these rows of a table
+abbrev pub AgreeIn : List (Key × Row) → ℕ → State → Type 0
+AgreeIn rows table other = (k : Key) (row : Row) → row_under rows k ≡ Some row → get other (table, k) ≡ Some row
+
 module _ {Z : Type 0} where
   -- the plain object of a name
   abbrev pub spot_of : spots.Spot Z → Object
-  spot_of spot = (spot.table, key_of spot.key.now)
-
-  -- a state has each of these rows of a table
-  abbrev pub AgreeIn : List (code_key.Key Z × Row) → ℕ → State → Type 0
-  AgreeIn rows table other = (k : Key) (row : Row) → row_under rows k ≡ Some row → get other (table, k) ≡ Some row
+  spot_of spot = (spot.table, key_lent spot.key)
 
   -- the first of these rows of a table that a state has not
-  abbrev pub IsFirstIn : List (code_key.Key Z × Row) → ℕ → State → Bor (code_key.Key Z) → Type 0
+  abbrev pub IsFirstIn : List (Key × Row) → ℕ → State → refs.KeyRef Z → Type 0
   IsFirstIn rows table other key =
-      IsSomeAnd (row_under rows (key_of key.now)) (λ row. get other (table, key_of key.now) ≢ Some row)
-      × ((k : Key) (row : Row) → key_cmp k (key_of key.now) ≡ Less → row_under rows k ≡ Some row → get other (table, k) ≡ Some row)
+      IsSomeAnd (row_under rows (key_lent key)) (λ row. get other (table, key_lent key) ≢ Some row)
+      × ((k : Key) (row : Row) → key_cmp k (key_lent key) ≡ Less → row_under rows k ≡ Some row → get other (table, k) ≡ Some row)
 
   -- the first row of a state that another one has not
   abbrev pub IsFirstOf : State → State → spots.Spot Z → Type 0

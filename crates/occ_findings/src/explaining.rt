@@ -131,7 +131,7 @@ fn object_apart<'a, A: Allocator + Copy>(
     let Spot { table, key } = spot;
     let settled = copied(row_at(settled, table, key))?;
     let replayed = copied(row_at(replayed, table, key))?;
-    let key = key.clone()?;
+    let key = key.to_key()?;
     Ok(ObjectApart {
         object: Object { table, key },
         settled,

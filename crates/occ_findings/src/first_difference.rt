@@ -4,12 +4,13 @@ ghost use Rattle.std.specs.Ordering.{is_lt};
 ghost use Rattle.std.specs.Option.{option_copied};
 ghost use Rattle.std.specs.FinMap as finite;
 ghost use Rattle.occ_types.specs.Object.{object_cmp};
-ghost use Rattle.occ_types.specs.PlainData.{key_of};
+ghost use Rattle.occ_book.specs.KeyRefs.{key_lent};
 ghost use Rattle.occ_audit.specs.Replica.{lent};
 ghost use Rattle.occ_findings.specs.Differences.{AgreeIn, AgreeOn, FirstGives, IsEarlier, IsFirstIn, IsFirstOf, spot_of};
 
 use occ_audit::replica::{LentRows, Replica};
-use occ_types::{Key, Row};
+use occ_book::KeyRef;
+use occ_types::Row;
 use std::alloc::Allocator;
 use std::cmp::Ordering;
 
@@ -19,7 +20,7 @@ pub(crate) struct Spot<'a, A: Allocator> {
     /// The place of the table.
     pub(crate) table: usize,
     /// The key.
-    pub(crate) key: &'a Key<A>,
+    pub(crate) key: KeyRef<'a, A>,
 }
 
 // The first object of which two states have different rows, or none where they are the same.
@@ -57,7 +58,7 @@ fn first_key_apart<'a, A: Allocator + Copy>(
     rows: &LentRows<'a, A>,
     other: &Replica<'a, A>,
     table: usize,
-) -> Option<&'a Key<A>>
+) -> Option<KeyRef<'a, A>>
     ensures { MatchOption result (AgreeIn (lent rows.now.entries) table other.now) (IsFirstIn (lent rows.now.entries) table other.now) }
 {
     // `len` tells that the keys are in order
@@ -74,9 +75,9 @@ fn first_key_apart<'a, A: Allocator + Copy>(
 pub(crate) fn row_at<'a, A: Allocator + Copy>(
     state: &Replica<'a, A>,
     table: usize,
-    key: &'a Key<A>,
+    key: KeyRef<'a, A>,
 ) -> Option<&'a Row<A>>
-    ensures { option_copied result ≡ finite.get state.now (table, key_of key.now) }
+    ensures { option_copied result ≡ finite.get state.now (table, key_lent key.entry) }
 {
     match state.rows(table) {
         Some(rows) => rows.get(&key).copied(),
@@ -114,7 +115,7 @@ fn compare<A: Allocator>(one: &Spot<'_, A>, other: &Spot<'_, A>) -> Ordering
 {
     match one.table.cmp(&other.table) {
         Ordering::Less => Ordering::Less,
-        Ordering::Equal => one.key.cmp(other.key),
+        Ordering::Equal => one.key.cmp(&other.key),
         Ordering::Greater => Ordering::Greater,
     }
 }

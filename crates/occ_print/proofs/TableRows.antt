@@ -18,9 +18,11 @@ use Rattle.occ_types.specs.Row.{Row}
 use Rattle.occ_types.proofs.Asked.{asks-Span}
 use Rattle.occ_model.specs.State.{State, Answer, Found, Rows, answer}
 use Rattle.occ_model.proofs.States.{same_state}
-use Rattle.occ_types.specs.PlainData.{key_of}
-use Rattle.occ_types.specs.declared.keys.Key as code_key
-use Rattle.occ_book.specs.Content.{placed, seen}
+use Rattle.std.specs.Borrow.{Bor}
+use Rattle.std.specs.Iterator.{Yields, YieldsFirstBy}
+use Rattle.occ_book.specs.KeyRefs.{key_lent}
+use Rattle.occ_book.specs.declared.key_refs.KeyRef as refs
+use Rattle.occ_book.specs.Content.{placed}
 use Rattle.occ_print.specs.Books.{rows_at}
 
 abbrev Entries : Type 0
@@ -157,29 +159,30 @@ rows_in (Found row) = []
 rows_in (Rows rows) = rows
 
 -- rows that a table answers are its rows
-rows_at-is : (place : ℕ) (state : State) (rows : List (Key × Row)) → Rows rows ≡ answer (Span place None None) state → map (under place) rows ≡ rows_at place state
-rows_at-is place state rows is =
+pub placed-is : (place : ℕ) (state : State) (rows : List (Key × Row)) → Rows rows ≡ answer (Span place None None) state → placed place rows ≡ rows_at place state
+placed-is place state rows is =
     let same : rows ≡ map (λ e. (e.0.1, e.1)) (rows_at place state) = ap rows_in (is ∙ rows_at-answer place state) in
-    ap (map (under place)) same ∙ placed_back place (entries state)
+    ap (placed place) same ∙ placed_back place (entries state)
+
+placed-append : (place : ℕ) (xs ys : List (Key × Row)) → placed place (xs ++ ys) ≡ placed place xs ++ placed place ys
+placed-append place xs ys = map-append (under place) xs ys
 
 module _ {Z : Type 0} where
-  placed-seen : (place : ℕ) (es : List (code_key.Key Z × Row)) → map (under place) (map seen es) ≡ placed place es
-  placed-seen place [] = refl
-  placed-seen place (e ∷ es) = ap (λ l. ((place, key_of e.0), e.1) ∷ l) (placed-seen place es)
+  -- the key and the row that are lent
+  abbrev pub shown : refs.KeyRef Z × Bor Row → Key × Row
+  shown e = (key_lent e.0, e.1.now)
 
-  -- the entries that a table answers are its rows
-  pub placed-is : (place : ℕ) (state : State) (es : List (code_key.Key Z × Row)) → Rows (map seen es) ≡ answer (Span place None None) state → placed place es ≡ rows_at place state
-  placed-is place state es is = sym (placed-seen place es) ∙ rows_at-is place state (map seen es) is
+  -- those that were yielded stand before those that are left
+  pub so-far : (xs : List (refs.KeyRef Z × Bor Row)) (s t : List (Key × Row)) → Yields (YieldsFirstBy shown (λ rest. rest)) s xs t → s ≡ map shown xs ++ t
+  so-far [] s t y = y
+  so-far (x ∷ xs) s t y = y.1 ∙ ap (λ es. shown x ∷ es) (so-far xs y.0 t y.2)
 
-  placed-append : (place : ℕ) (xs ys : List (code_key.Key Z × Row)) → placed place (xs ++ ys) ≡ placed place xs ++ placed place ys
-  placed-append place xs ys = map-append (λ (e : code_key.Key Z × Row). ((place, key_of e.0), e.1)) xs ys
+  -- one more row
+  pub placed_more : (place : ℕ) (xs : List (refs.KeyRef Z × Bor Row)) (x : refs.KeyRef Z × Bor Row) → placed place (map shown (xs ++ x ∷ [])) ≡ placed place (map shown xs) ++ ((place, key_lent x.0), x.1.now) ∷ []
+  placed_more place xs x = ap (placed place) (map-append shown xs (x ∷ [])) ∙ placed-append place (map shown xs) (shown x ∷ [])
 
-  -- one more entry
-  pub placed_more : {A : Type 0} (shows : A → code_key.Key Z × Row) (place : ℕ) (xs : List A) (x : A) → placed place (map shows (xs ++ x ∷ [])) ≡ placed place (map shows xs) ++ ((place, key_of (shows x).0), (shows x).1) ∷ []
-  placed_more shows place xs x = ap (placed place) (map-append shows xs (x ∷ [])) ∙ placed-append place (map shows xs) (shows x ∷ [])
-
-  -- an entry, with those before it and those behind it
-  pub placed_amid : {A : Type 0} (shows : A → code_key.Key Z × Row) (place : ℕ) (es s t u : List (code_key.Key Z × Row)) (xs : List A) (x : A) → s ≡ es → s ≡ map shows xs ++ t → t ≡ shows x ∷ u
-      → placed place es ≡ placed place (map shows xs) ++ ((((place, key_of (shows x).0), (shows x).1) ∷ []) ++ placed place u)
-  placed_amid shows place es s t u xs x start so_far more =
-      ap (placed place) (sym start ∙ so_far ∙ ap (λ l. map shows xs ++ l) more) ∙ placed-append place (map shows xs) (shows x ∷ u)
+  -- a row, with those before it and those behind it
+  pub placed_amid : (place : ℕ) (es s t u : List (Key × Row)) (xs : List (refs.KeyRef Z × Bor Row)) (x : refs.KeyRef Z × Bor Row) → s ≡ es → s ≡ map shown xs ++ t → t ≡ shown x ∷ u
+      → placed place es ≡ placed place (map shown xs) ++ ((((place, key_lent x.0), x.1.now) ∷ []) ++ placed place u)
+  placed_amid place es s t u xs x start so_far more =
+      ap (placed place) (sym start ∙ so_far ∙ ap (λ l. map shown xs ++ l) more) ∙ placed-append place (map shown xs) (shown x ∷ u)

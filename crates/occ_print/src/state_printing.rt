@@ -4,6 +4,7 @@ ghost use Rattle.std.specs.Prelude.{◌≡◌, ◌<◌, ◌∷◌, [], true, map
 ghost use Rattle.std.specs.FinMap as finite;
 ghost use Rattle.occ_types.specs.PlainData.{key_of};
 ghost use Rattle.occ_book.specs.Content.{placed};
+ghost use Rattle.occ_book.specs.KeyRefs.{key_lent};
 ghost use Rattle.occ_book.specs.Marks.{mark_at};
 ghost use Rattle.occ_text.specs.Line.{lines_text};
 ghost use Rattle.occ_text.specs.Printing.{PrintGives};
@@ -13,12 +14,11 @@ ghost use Rattle.occ_print.specs.Books.{number_line, mark_lines, entry_line, row
 use crate::books::{print_count, push_line};
 use crate::lines::{entry_line, number_line};
 use crate::sections::Section;
-use occ_book::{Marks, Tables};
+use occ_book::{KeyRef, Marks, TableRows, Tables};
 use occ_text::faults::WriteFault;
 use occ_text::output::Output;
 use occ_types::{Key, Row, Schema};
 use std::alloc::Allocator;
-use std::collections::BTreeMap;
 use std::io::Write;
 
 fn print_number<W: Write, A: Allocator>(
@@ -100,20 +100,43 @@ fn print_entry<W: Write, A: Allocator>(
     push_line(output, writer, line)
 }
 
-fn print_map<W: Write, A: Allocator>(
+// A number that is lent is made a key for the while.
+fn print_lent<W: Write, A: Allocator>(
     output: &mut Output<A>,
     writer: &mut W,
     line: &mut String<A>,
     section: Section,
     schema: &Schema<A>,
     place: usize,
-    rows: &BTreeMap<Key<A>, Row<A>, A>,
+    key: KeyRef<'_, A>,
+    row: &Row<A>,
 ) -> Result<(), WriteFault>
-    ensures printed { PrintGives result (W.contents writer.old) (W.contents writer.new) output.old.held output.new.held (lines_text (map (entry_line section schema.now) (placed place rows.now.entries))) }
+    ensures printed { PrintGives result (W.contents writer.old) (W.contents writer.new) output.old.held output.new.held (lines_text (entry_line section schema.now ((place, key_lent key.entry), row.now) ∷ [])) }
+    ensures cause { IfErr result (λ fault. fault ≡ write_faults.Write → output.new.failed ≡ true) }
+{
+    match key {
+        KeyRef::Num(number) => {
+            let key = Key::Num(number);
+            print_entry(output, writer, line, section, schema, place, &key, row)
+        }
+        KeyRef::Other(key) => print_entry(output, writer, line, section, schema, place, key, row),
+    }
+}
+
+fn print_table<W: Write, A: Allocator>(
+    output: &mut Output<A>,
+    writer: &mut W,
+    line: &mut String<A>,
+    section: Section,
+    schema: &Schema<A>,
+    place: usize,
+    rows: TableRows<'_, A>,
+) -> Result<(), WriteFault>
+    ensures printed { PrintGives result (W.contents writer.old) (W.contents writer.new) output.old.held output.new.held (lines_text (map (entry_line section schema.now) (placed place rows.entry))) }
     ensures cause { IfErr result (λ fault. fault ≡ write_faults.Write → output.new.failed ≡ true) }
 {
     for (key, row) in rows {
-        print_entry(output, writer, line, section, schema, place, key, row)?;
+        print_lent(output, writer, line, section, schema, place, key, row)?;
     }
     Ok(())
 }
@@ -132,7 +155,7 @@ fn print_rows_at<W: Write, A: Allocator>(
     ensures cause { IfErr result (λ fault. fault ≡ write_faults.Write → output.new.failed ≡ true) }
 {
     match tables.table(place) {
-        Some(rows) => print_map(output, writer, line, section, schema, place, rows),
+        Some(rows) => print_table(output, writer, line, section, schema, place, rows),
         None => Ok(()),
     }
 }

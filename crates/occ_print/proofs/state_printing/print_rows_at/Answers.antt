@@ -6,7 +6,7 @@ use Rattle.occ_print.proofs.state_printing.print_rows_at.Goals as goal
 
 pub returns-in-Some-clause-printed : goal.returns-in-Some-clause-printed
 returns-in-Some-clause-printed g c =
-    lines_same c.print_map.result _ _ _ _ _ _ (ap (map (entry_line c.args.section c.args.schema.now)) (placed-is c.args.place c.args.tables.now.state c.in-Some.rows.now.entries c.in-Some.ensures)) c.print_map.ensures.printed
+    lines_same c.print_table.result _ _ _ _ _ _ (ap (map (entry_line c.args.section c.args.schema.now)) (placed-is c.args.place c.args.tables.now.state c.in-Some.rows c.in-Some.ensures)) c.print_table.ensures.printed
 
 pub returns-in-None-clause-printed : goal.returns-in-None-clause-printed
 returns-in-None-clause-printed g c =

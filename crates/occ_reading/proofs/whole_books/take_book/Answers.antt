@@ -88,3 +88,6 @@ returns-clause-led g c =
     and (c.in_ok-table.ensures.taken s.sessions).0
     and (next_taken Counter c.in_ok-counts.counts c.in_ok-counts.ensures.taken).0 in
     ended so_far c.in_ok-take_end.ensures.taken
+
+pub returns-clause-base_sizes : goal.returns-clause-base_sizes
+returns-clause-base_sizes g c = c.in_ok-front.ensures.sizes

@@ -1,6 +1,6 @@
 use Rattle.std.proofs.Common.{◌≡◌, [], sym, ap, ◌∙◌, option_copied}
 use Rattle.std.proofs.lemmas.Result.{IfOk-weaker}
-use Rattle.occ_audit.proofs.Common.{end_of, rows_of, Rows, Span, answer, lower_bound, upper_bound, entries_within, lent, answer-backward, answer-nowhere}
+use Rattle.occ_audit.proofs.Common.{end_of, rows_of, Rows, Span, answer, lower_bound, upper_bound, rows_within, lent, answer-backward, answer-nowhere}
 use Rattle.occ_audit.proofs.Ranges.{answer-between, lent-between}
 use Rattle.occ_audit.proofs.replica.Replica.rows_between.Goals as goal
 use Rattle.occ_audit.proofs.replica.Replica.rows_between.Goals.{in_default-via-in-Some+else-not-is_backward, in_default-via-in_default}
@@ -10,13 +10,14 @@ returns-in-Some g c =
     let rows = c.in-Some.rows.now in
     let a = end_of (option_copied c.args.lower) in
     let b = end_of (option_copied c.args.upper) in
-    let within : lent c.range.result ≡ entries_within a b (lent rows.entries) =
+    let within : lent c.range.result ≡ rows_within a b (lent rows.entries) =
     ap lent (c.range.ensures.between tt)
-    ∙ lent-between c.args.lower c.args.upper _ _ rows.entries
+    ∙ lent-between c.end_lent-lower.result c.end_lent-upper.result _ _ rows.entries
     (c.lower_bound.ensures ∙ ap lower_bound c.as_ref.ensures.value)
-    (c.upper_bound.ensures ∙ ap upper_bound c.as_ref-in-Some.ensures.value) in
+    (c.upper_bound.ensures ∙ ap upper_bound c.as_ref-in-Some.ensures.value)
+    ∙ (λ i. rows_within (c.end_lent-lower.ensures i) (c.end_lent-upper.ensures i) (lent rows.entries)) in
     IfOk-weaker c.copies.result _ _
-    (λ copies same. ap Rows (same ∙ ap rows_of within) ∙ sym (answer-between c.args.self.now c.args.table a b rows.entries c.range.ensures.ordered c.in-Some.ensures))
+    (λ copies same. ap Rows (same ∙ within) ∙ sym (answer-between c.args.self.now c.args.table a b rows.entries c.range.ensures.ordered c.in-Some.ensures))
     c.copies.ensures
 
 pub returns-in_default : goal.returns-in_default

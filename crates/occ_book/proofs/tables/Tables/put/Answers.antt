@@ -11,9 +11,9 @@ returns-in_default-clause-ok g c =
 pub returns-clause-ok : goal.returns-clause-ok
 returns-clause-ok g c =
     let after : Option (Bor Row) → Content = λ row. record { tables = c.args.self.now.tables; state = put c.args.self.now.state ((c.args.table, key_of c.args.key.now), option_copied row) } in
-    on_ok_weaker c.put_row.result (λ is.
-    content-put c.self.inside.maps.items c.args.table c.index_mut.result.now c.put_row.new.map c.args.key.now (Some c.in-Some.row.now) c.args.self.now c.self.view_is c.requires c.index_mut.ensures.value is ∙ ap after (sym c.in-Some.is)) c.put_row.ensures.ok
+    on_ok_weaker c.put.result (λ is.
+    content-put c.self.inside.tables.items c.args.table c.index_mut.result.now c.put.new.self (key_of c.args.key.now) (Some c.in-Some.row.now) c.args.self.now c.self.view_is c.requires c.index_mut.ensures.value is ∙ ap after (sym c.in-Some.is)) c.put.ensures.ok
 
 pub returns-clause-err : goal.returns-clause-err
 returns-clause-err g c =
-    on_err_weaker c.put_row.result (content-unchanged c.self.inside.maps.items c.args.table c.index_mut.result.now c.put_row.new.map c.args.self.now c.self.view_is c.requires c.index_mut.ensures.value) c.put_row.ensures.err
+    on_err_weaker c.put.result (content-unchanged c.self.inside.tables.items c.args.table c.index_mut.result.now c.put.new.self c.args.self.now c.self.view_is c.requires c.index_mut.ensures.value) c.put.ensures.err

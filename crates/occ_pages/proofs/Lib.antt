@@ -1,0 +1,9 @@
+pub mod Changes
+pub mod Copied
+pub mod Cuts
+pub mod Halves
+pub mod Laws
+pub mod RangePages
+pub mod ReadPages
+pub mod Shelves
+pub mod Zipped

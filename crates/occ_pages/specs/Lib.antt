@@ -1,0 +1,4 @@
+pub mod Copies
+pub mod Entries
+pub mod Page
+pub mod Pages
