@@ -4,7 +4,10 @@ ghost use Rattle.std.specs.Result.{result_err};
 ghost use Rattle.occ_types.specs.PlainData.{key_of, end_of};
 ghost use Rattle.occ_types.specs.Question.{Span};
 ghost use Rattle.occ_types.specs.declared.fault.Fault.TheVariants as faults;
-ghost use Rattle.occ_model.specs.Event.{Enter, Close, Refused as refused};
+ghost use Rattle.occ_model.specs.Event.{Enter, Close, RunAlone, Refused as refused};
+ghost use Rattle.occ_model.specs.Replies.{replied_back};
+ghost use Rattle.occ_core.specs.Replies.{ran};
+ghost use Rattle.occ_sets.specs.Operations.{ops_of};
 ghost use Rattle.occ_model.specs.Step.{Step};
 ghost use Rattle.occ_client.specs.Clients.{begin_refusal, close_refusal, closing, ending, Commits, StaysOrStops, after_end, spent};
 ghost use Rattle.occ_client.specs.Ends.{Ends, WritesOut};
@@ -15,8 +18,8 @@ use crate::by_steps::write_out;
 use crate::ending::{End, Handed, close_session, end_request};
 use occ_core::Core;
 use occ_open::KeptTransaction;
-use occ_sets::{RangeRows, Write};
-use occ_types::{Fault, Key, Refused, Row};
+use occ_sets::{Answer, Op, RangeRows, Write};
+use occ_types::{Fault, Key, Refused, Row, Schema};
 use std::alloc::Allocator;
 use std::marker::Model;
 
@@ -117,7 +120,24 @@ impl<A: Allocator + Copy> Client<A> {
         ensures handed_back { IfErr result (λ refused. refused.value ≡ (record { table = table; key = key }, Some row)) }
         ensures fault { IfErr result (λ refused. (self.old.returned ≡ true) ⊎ IsRefusedBy (write_fault store.now.world.settings.schema (table, key_of key) (Some row) self.old.current) (WantsRoom (table, key_of key) self.old.current) refused.fault) }
     {
-        self.kept.put(store.schema(), table, key, row)
+        self.put_by(store.schema(), table, key, row)
+    }
+
+    /// As `put`, by the tables of the store alone, for a caller that has no store at hand.
+    pub fn put_by(
+        &mut self,
+        schema: &Schema<A>,
+        table: usize,
+        key: Key<A>,
+        row: Row<A>,
+    ) -> Result<(), Refused<Write<A>>>
+        ensures ok { OnOk result (self.new ≡ record self.old { current = written self.old.current (table, key_of key) (Some row); returned = self.new.returned }) }
+        ensures err { OnErr result (self.new ≡ record self.old { returned = self.new.returned }) }
+        ensures handed_back { IfErr result (λ refused. refused.value ≡ (record { table = table; key = key }, Some row)) }
+        ensures fault { IfErr result (λ refused. (self.old.returned ≡ true) ⊎ IsRefusedBy (write_fault schema.now (table, key_of key) (Some row) self.old.current) (WantsRoom (table, key_of key) self.old.current) refused.fault) }
+        ensures fits { OnOk result (write_fault schema.now (table, key_of key) (Some row) self.old.current ≡ None) }
+    {
+        self.kept.put(schema, table, key, row)
     }
 
     /// Deletes the row under a key of a table, which is a write also where the table has no such row. Refused as `put`.
@@ -132,7 +152,23 @@ impl<A: Allocator + Copy> Client<A> {
         ensures handed_back { IfErr result (λ refused. refused.value ≡ (record { table = table; key = key }, None)) }
         ensures fault { IfErr result (λ refused. (self.old.returned ≡ true) ⊎ IsRefusedBy (write_fault store.now.world.settings.schema (table, key_of key) None self.old.current) (WantsRoom (table, key_of key) self.old.current) refused.fault) }
     {
-        self.kept.delete(store.schema(), table, key)
+        self.delete_by(store.schema(), table, key)
+    }
+
+    /// As `delete`, by the tables of the store alone.
+    pub fn delete_by(
+        &mut self,
+        schema: &Schema<A>,
+        table: usize,
+        key: Key<A>,
+    ) -> Result<(), Refused<Write<A>>>
+        ensures ok { OnOk result (self.new ≡ record self.old { current = written self.old.current (table, key_of key) None; returned = self.new.returned }) }
+        ensures err { OnErr result (self.new ≡ record self.old { returned = self.new.returned }) }
+        ensures handed_back { IfErr result (λ refused. refused.value ≡ (record { table = table; key = key }, None)) }
+        ensures fault { IfErr result (λ refused. (self.old.returned ≡ true) ⊎ IsRefusedBy (write_fault schema.now (table, key_of key) None self.old.current) (WantsRoom (table, key_of key) self.old.current) refused.fault) }
+        ensures fits { OnOk result (write_fault schema.now (table, key_of key) None self.old.current ≡ None) }
+    {
+        self.kept.delete(schema, table, key)
     }
 
     /// The row under a key of a table: its own write of the key, and else what the store answers, which notes the question. Refused, the
@@ -237,6 +273,49 @@ impl<A: Allocator + Copy> Client<A> {
                 Err(fault)
             }
         }
+    }
+
+    /// Runs a whole transaction in one step, as a list of operations, under the session's next number: it reads, writes and commits, and is
+    /// never backed up. It answers the transaction number that it took, and what its questions were answered, in their order. Refused
+    /// with `Closed`, with `ReadOpen` where a transaction is open, and as `Core::run_alone`. The list is handed back then, and nothing
+    /// changes.
+    pub fn run_alone(
+        &mut self,
+        store: &mut Core<A>,
+        operations: Vec<Op<A>, A>,
+    ) -> Result<(u64, Vec<Answer<A>, A>), Refused<Vec<Op<A>, A>>>
+        ensures step { Unless (close_refusal self.old) store.old.world (replied_back ran result) store.new.world
+            (Step store.old.world (RunAlone self.old.session self.old.next (ops_of operations.items)) (replied_back ran result) store.new.world) }
+        ensures ok { OnOk result (self.new ≡ record self.old { next = self.old.next + 1 }) }
+        ensures err { OnErr result (self.new ≡ self.old) }
+        ensures handed_back { IfErr result (λ refused. refused.value ≡ operations) }
+    {
+        if let Err(fault) = self.check_closed() {
+            return Err(Refused {
+                value: operations,
+                fault,
+            });
+        }
+        match store.run_alone(self.session, self.next, operations) {
+            Ok(ran) => {
+                self.next += 1;
+                Ok(ran)
+            }
+            Err(refused) => Err(refused),
+        }
+    }
+
+    // Whether the session is closed, or a transaction is open.
+    fn check_closed(&self) -> Result<(), Fault>
+        ensures { result_err result ≡ close_refusal self.now }
+    {
+        if self.closed {
+            return Err(Fault::Closed);
+        }
+        if self.kept.is_open() {
+            return Err(Fault::ReadOpen);
+        }
+        Ok(())
     }
 
     /// Closes the session: its closing mark enters, and nothing is begun behind it. Refused with `Closed`, with `ReadOpen` where a

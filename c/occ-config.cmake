@@ -1,0 +1,17 @@
+# find_package(occ) gives occ::occ, the shared library, and occ::static.
+get_filename_component(_occ "${CMAKE_CURRENT_LIST_DIR}/../../.." ABSOLUTE)
+find_package(Threads REQUIRED)
+foreach(_kind shared static)
+  if(_kind STREQUAL shared)
+    set(_name occ::occ)
+    set(_file "${_occ}/lib/libocc.so")
+    add_library(${_name} SHARED IMPORTED)
+  else()
+    set(_name occ::static)
+    set(_file "${_occ}/lib/libocc.a")
+    add_library(${_name} STATIC IMPORTED)
+  endif()
+  set_target_properties(${_name} PROPERTIES IMPORTED_LOCATION "${_file}" INTERFACE_INCLUDE_DIRECTORIES "${_occ}/include"
+    INTERFACE_LINK_LIBRARIES Threads::Threads)
+endforeach()
+set(occ_FOUND TRUE)

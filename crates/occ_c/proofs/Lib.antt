@@ -1,0 +1,4 @@
+mod AsBox
+mod Holdings
+mod Parts
+mod Refusals

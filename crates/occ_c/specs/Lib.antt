@@ -1,0 +1,5 @@
+pub mod Codes
+pub mod Desks
+pub mod Handles
+pub mod Kept
+pub mod Texts

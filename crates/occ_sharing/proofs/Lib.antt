@@ -1,0 +1,3 @@
+mod Copies
+mod Holdings
+mod Kept
