@@ -16,10 +16,6 @@ pub refused : {D X : Type 0} (Why : ℤ → Type 0) (old new : D) (code : ℤ) (
 refused Why old new code (Ok x) is why same = absurd is
 refused Why old new code (Err told) is why same = record { code = told; why = subst Why (sym is) why; answer = refl; same = same }
 
-pub why_refused : {X : Type 0} (Why : ℤ → Type 0) (code : ℤ) (result : Result X ℤ) → IsErrAnd result (λ told. told ≡ code) → Why code → elim result [ Ok x ↦ Unit {0} | Err told ↦ Why told ]
-why_refused Why code (Ok x) is why = absurd is
-why_refused Why code (Err told) is why = subst Why (sym is) why
-
 pub key_at : (schema : Schema) (table : ℕ) (def : Table) (bytes : List ℕ) (key : Key) → slice_get schema table ≡ Some def → bytes ≡ key_bytes key → IsKey def.key key → IsKeyAt schema table bytes key
 key_at schema table def bytes key there is fits = record {
   is = is;
