@@ -5,6 +5,8 @@ use Rattle.std.specs.Borrow.{Bor}
 use Rattle.std.specs.Option.{option_map}
 use Rattle.occ_types.specs.declared.cells.Cell as code_cell
 use Rattle.occ_types.specs.declared.cells.Cell.TheVariants as cells
+use Rattle.occ_types.specs.declared.cells.CellRef as code_cell_ref
+use Rattle.occ_types.specs.declared.cells.CellRef.TheVariants as lent
 use Rattle.occ_types.specs.declared.key_parts.KeyPart as code_part
 use Rattle.occ_types.specs.declared.key_parts.KeyPart.TheVariants as code_parts
 use Rattle.occ_types.specs.declared.keys.Key as code_key
@@ -40,10 +42,21 @@ module _ {Z : Type 0} where
   cell_of (cells.Int z) = Int z
   cell_of (cells.Text t) = CellText t
 
+  -- the plain cell that a row lends
+  abbrev pub cell_lent : code_cell_ref.CellRef Z → Cell
+  cell_lent (lent.Int z) = Int z
+  cell_lent (lent.Text t) = CellText t.now
+
   -- the plain part of a key
   abbrev pub part_of : code_part.KeyPart Z → KeyPart
   part_of (code_parts.Num n) = parts.Num n
   part_of (code_parts.Text t) = parts.Text t
+
+  -- the plain parts of a key of two parts
+  abbrev pub both_parts : List (code_part.KeyPart Z) → KeyPart × KeyPart
+  both_parts [] = (parts.Num 0, parts.Num 0)
+  both_parts (first ∷ []) = (part_of first, parts.Num 0)
+  both_parts (first ∷ second ∷ _) = (part_of first, part_of second)
 
   -- the plain key
   abbrev pub key_of : code_key.Key Z → Key
@@ -55,14 +68,15 @@ module _ {Z : Type 0} where
   abbrev pub object_of : code_object.Object Z → Object
   object_of o = (o.table, key_of o.key)
 
-  -- what a row keeps, as a list
-  abbrev pub cells_in : code_cells.Cells Z → List (code_cell.Cell Z)
-  cells_in (kept.One cell) = cell ∷ []
-  cells_in (kept.List cells) = cells.value.items
-
   -- the plain cells, in their order
   abbrev pub row_of : List (code_cell.Cell Z) → Row
   row_of = map cell_of
+
+  -- the plain cells that a row keeps
+  abbrev pub row_in : code_cells.Cells Z → Row
+  row_in (kept.Int z) = Int z ∷ []
+  row_in (kept.Text t) = CellText t ∷ []
+  row_in (kept.List cells) = row_of cells.value.items
 
   -- the plain end of a range
   abbrev pub end_of : Option (code_key.Key Z) → Option Key

@@ -16,7 +16,7 @@ pub mod spelling;
 mod tables;
 mod texts;
 
-pub use cells::Cell;
+pub use cells::{Cell, CellRef};
 pub use fault::{Fault, Refused};
 pub use key_parts::KeyPart;
 pub use keys::Key;

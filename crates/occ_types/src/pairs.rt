@@ -1,5 +1,5 @@
 //! Keys of two parts, which are seen as both.
-ghost use Rattle.std.specs.Prelude.{◌≡◌, ◌++◌, Some, MatchResult, refl};
+ghost use Rattle.std.specs.Prelude.{◌≡◌, ◌++◌, [], ◌∷◌, Some, MatchResult, refl};
 ghost use Rattle.std.specs.Ordering.{eq_by_cmp, as_partial_cmp};
 ghost use Rattle.std.specs.Cmp.{partial_equiv_from_equiv};
 ghost use Rattle.occ_types.specs.declared.fault.Fault.TheVariants.{Memory};
@@ -11,7 +11,7 @@ ghost use Rattle.occ_types.specs.Spelling.{key_text};
 
 use crate::fault::{Fault, Refused};
 use crate::key_parts::KeyPart;
-use std::alloc::{AllocError, AllocFailed, Allocator};
+use std::alloc::{AllocError, Allocator};
 use std::cmp::Ordering;
 use std::fmt;
 use std::hash::{Hash, Hasher};
@@ -23,7 +23,7 @@ use std::sync::Arc;
 #[derive(Drop)]
 #[derive_where(Debug)]
 pub struct Pair<A: Allocator> {
-    parts: Arc<(KeyPart<A>, KeyPart<A>), A>,
+    parts: Arc<[KeyPart<A>; 2], A>,
 }
 
 impl<A: Allocator> Model for Pair<A> {
@@ -31,9 +31,9 @@ impl<A: Allocator> Model for Pair<A> {
 
     ghost Value = { Plain × Plain };
 
-    ghost use Rattle.occ_types.specs.PlainData.{part_of};
+    ghost use Rattle.occ_types.specs.PlainData.{both_parts};
 
-    ghost view = { λ pair. (part_of pair.parts.value.0, part_of pair.parts.value.1) };
+    ghost view = { λ pair. both_parts pair.parts.value };
 }
 
 impl<A: Allocator> Pair<A> {
@@ -47,12 +47,13 @@ impl<A: Allocator> Pair<A> {
             (λ pair. pair ≡ (part_of first, part_of second))
             (λ refused. (refused.fault ≡ Memory) × (refused.value.0 ≡ first) × (refused.value.1 ≡ second)) }
     {
-        match Arc::new(alloc, (first, second)) {
+        let parts = [first, second];
+        match Arc::new(alloc, parts) {
             Ok(parts) => Ok(Pair { parts }),
-            Err(AllocFailed { value, .. }) => Err(Refused {
-                value,
-                fault: Fault::Memory,
-            }),
+            Err(refused) => {
+                let parts = refused.value;
+                Err(no_memory(parts))
+            }
         }
     }
 
@@ -60,16 +61,28 @@ impl<A: Allocator> Pair<A> {
     pub fn first(&self) -> &KeyPart<A>
         ensures { part_of result.now ≡ self.now.0 }
     {
-        let parts: &(KeyPart<A>, KeyPart<A>) = &self.parts;
-        &parts.0
+        let [first, _] = &*self.parts;
+        first
     }
 
     /// The second part.
     pub fn second(&self) -> &KeyPart<A>
         ensures { part_of result.now ≡ self.now.1 }
     {
-        let parts: &(KeyPart<A>, KeyPart<A>) = &self.parts;
-        &parts.1
+        let [_, second] = &*self.parts;
+        second
+    }
+}
+
+// There is no memory for the key of two parts, which are handed back.
+fn no_memory<A: Allocator>(parts: [KeyPart<A>; 2]) -> Refused<(KeyPart<A>, KeyPart<A>)>
+    ensures parts { parts ≡ result.value.0 ∷ result.value.1 ∷ [] }
+    ensures fault { result.fault ≡ Memory }
+{
+    let [first, second] = parts;
+    Refused {
+        value: (first, second),
+        fault: Fault::Memory,
     }
 }
 

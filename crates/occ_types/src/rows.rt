@@ -1,31 +1,35 @@
 //! Rows of a table, which are seen as their cells.
 ghost use Rattle.std.specs.Prelude.{◌≡◌, ◌==◌, List, [], ◌∷◌, length, slice_get, Some, IsOk, MatchResult};
 ghost use Rattle.std.specs.Cmp.{partial_equiv_from_equiv};
+ghost use Rattle.std.specs.Fmt.{WritesOnOk};
 ghost use Rattle.std.specs.Option.{option_map};
-ghost use Rattle.occ_types.specs.Row.{Int, int_at, text_at};
+ghost use Rattle.occ_types.specs.Row.{Int, Text as PlainText, int_at, text_at};
 ghost use Rattle.occ_types.specs.Same.{row_same, row_same_equiv};
-ghost use Rattle.occ_types.specs.PlainData.{cell_of, row_of};
+ghost use Rattle.occ_types.specs.PlainData.{cell_of, cell_lent, row_of};
 ghost use Rattle.occ_types.specs.Spelling.{row_text};
 
-use crate::cells::Cell;
+use crate::cells::{Cell, CellRef};
+use crate::texts::Text;
 use std::alloc::{AllocError, AllocFailed, Allocator};
+use std::fmt;
 use std::marker::Model;
 use std::sync::Arc;
-use std::{fmt, slice};
 
 /// A row of a table, which clauses see as its cells in the order of the columns. A row of one number has no memory of its own, and the
-/// copies of a longer one share its cells, so that a copy takes no memory. `Display` writes it as the text formats do.
+/// copies of another one share its cells, so that a copy takes no memory. `Display` writes it as the text formats do.
 #[derive(Drop)]
 #[derive_where(Debug)]
 pub struct Row<A: Allocator> {
     cells: Cells<A>,
 }
 
-// What a row keeps: one cell in the row itself, or a list that its copies share.
+// What a row keeps: one cell in the row itself, or a list that its copies share. The kind of the one cell stands here and not in a `Cell`,
+// since an enum in an enum is eight bytes longer.
 #[derive(Drop)]
 #[derive_where(Debug)]
 pub(crate) enum Cells<A: Allocator> {
-    One(Cell<A>),
+    Int(i64),
+    Text(Text<A>),
     List(Arc<Vec<Cell<A>, A>, A>),
 }
 
@@ -34,9 +38,9 @@ impl<A: Allocator> Model for Row<A> {
 
     ghost Value = { Plain };
 
-    ghost use Rattle.occ_types.specs.PlainData.{row_of, cells_in};
+    ghost use Rattle.occ_types.specs.PlainData.{row_in};
 
-    ghost view = { λ row. row_of (cells_in row.cells) };
+    ghost view = { λ row. row_in row.cells };
 }
 
 impl<A: Allocator> Row<A> {
@@ -44,19 +48,25 @@ impl<A: Allocator> Row<A> {
     pub fn from_cell(cell: Cell<A>) -> Row<A>
         ensures { result ≡ cell_of cell ∷ [] }
     {
-        Row {
-            cells: Cells::One(cell),
-        }
+        let cells = match cell {
+            Cell::Int(number) => Cells::Int(number),
+            Cell::Text(text) => Cells::Text(text),
+        };
+        Row { cells }
     }
 
     /// The cell at a place of the row, where it has so many.
-    pub fn cell(&self, place: usize) -> Option<&Cell<A>>
-        ensures { option_map (λ cell. cell_of cell.now) result ≡ slice_get self.now place }
+    pub fn cell(&self, place: usize) -> Option<CellRef<'_, A>>
+        ensures { option_map cell_lent result ≡ slice_get self.now place }
     {
         match &self.cells {
-            Cells::One(cell) if place == 0 => Some(cell),
-            Cells::One(_) => None,
-            Cells::List(cells) => cells.as_slice().get(place),
+            Cells::Int(number) if place == 0 => Some(CellRef::Int(*number)),
+            Cells::Text(text) if place == 0 => Some(CellRef::Text(text)),
+            Cells::Int(_) | Cells::Text(_) => None,
+            Cells::List(cells) => match cells.as_slice().get(place) {
+                Some(cell) => Some(cell.as_ref()),
+                None => None,
+            },
         }
     }
 
@@ -80,22 +90,12 @@ impl<A: Allocator> Row<A> {
         }
     }
 
-    /// The cells, in the order of the columns: `cells().iter()` goes over them, and `cells().to_vec(alloc)` copies them.
-    pub fn cells(&self) -> &[Cell<A>]
-        ensures { row_of result.now ≡ self.now }
-    {
-        match &self.cells {
-            Cells::One(cell) => slice::from_ref(cell),
-            Cells::List(cells) => cells.as_slice(),
-        }
-    }
-
     /// How many cells the row has.
     pub fn len(&self) -> usize
         ensures { result ≡ length self.now }
     {
         match &self.cells {
-            Cells::One(_) => 1,
+            Cells::Int(_) | Cells::Text(_) => 1,
             Cells::List(cells) => cells.len(),
         }
     }
@@ -154,7 +154,12 @@ impl<A: Allocator> Clone for Row<A> {
 
     fn clone(&self) -> Result<Row<A>, AllocError> {
         match &self.cells {
-            Cells::One(cell) => Ok(Row::from_cell(cell.clone()?)),
+            Cells::Int(number) => Ok(Row {
+                cells: Cells::Int(*number),
+            }),
+            Cells::Text(text) => Ok(Row {
+                cells: Cells::Text(text.clone()?),
+            }),
             Cells::List(cells) => Ok(Row {
                 cells: Cells::List(Arc::try_clone(cells)?),
             }),
@@ -166,14 +171,28 @@ impl<A: Allocator> fmt::Display for Row<A> {
     ghost output = { λ row. Some (row_text row) };
 
     fn fmt<W: fmt::Write>(&self, f: &mut fmt::Formatter<W>) -> fmt::Result {
-        if let [first, rest @ ..] = self.cells() {
-            f.write(first)?;
-            for cell in rest {
-                write!(f, ",{cell}")?;
-            }
+        match &self.cells {
+            Cells::Int(number) => f.write(*number),
+            Cells::Text(text) => f.write(text),
+            Cells::List(cells) => write_cells(f, cells.as_slice()),
         }
-        Ok(())
     }
+}
+
+// Writes cells with one comma between two of them.
+fn write_cells<A: Allocator, W: fmt::Write>(
+    f: &mut fmt::Formatter<W>,
+    cells: &[Cell<A>],
+) -> fmt::Result
+    ensures { WritesOnOk W.write_str_gives f.old result (row_text (row_of cells.now)) f.new }
+{
+    if let [first, rest @ ..] = cells {
+        f.write(first)?;
+        for cell in rest {
+            write!(f, ",{cell}")?;
+        }
+    }
+    Ok(())
 }
 
 impl<A: Allocator> PartialEq for Row<A> {
@@ -183,16 +202,24 @@ impl<A: Allocator> PartialEq for Row<A> {
 
     fn eq(&self, other: &Row<A>) -> bool {
         match (&self.cells, &other.cells) {
-            (Cells::One(cell), Cells::One(another)) => cell == another,
+            (Cells::Int(number), Cells::Int(another)) => number == another,
+            (Cells::Text(text), Cells::Text(another)) => text == another,
             (Cells::List(cells), Cells::List(others)) => {
                 same_cells(cells.as_slice(), others.as_slice())
             }
-            (Cells::One(cell), Cells::List(others)) => {
-                matches!(others.as_slice(), [other] if cell == other)
+            (Cells::Int(number), Cells::List(others)) => {
+                matches!(others.as_slice(), [Cell::Int(other)] if number == other)
             }
-            (Cells::List(cells), Cells::One(other)) => {
-                matches!(cells.as_slice(), [cell] if cell == other)
+            (Cells::Text(text), Cells::List(others)) => {
+                matches!(others.as_slice(), [Cell::Text(other)] if text == other)
             }
+            (Cells::List(cells), Cells::Int(other)) => {
+                matches!(cells.as_slice(), [Cell::Int(number)] if number == other)
+            }
+            (Cells::List(cells), Cells::Text(other)) => {
+                matches!(cells.as_slice(), [Cell::Text(text)] if text == other)
+            }
+            _ => false,
         }
     }
 }

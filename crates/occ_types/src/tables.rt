@@ -5,9 +5,9 @@ ghost use Rattle.std.specs.Option.{option_copied};
 ghost use Rattle.std.specs.Result.{result_err};
 ghost use Rattle.std.specs.Cmp.Lexicographic.{pointwise};
 ghost use Rattle.occ_types.specs.Schema.{check_key_in, check_row_in, check_cell, check_cells, fits_before, check_end, part_has_kind, part_is_too_long, key_has_kind, key_is_too_long, is_name, is_letter};
-ghost use Rattle.occ_types.specs.PlainData.{cell_of, part_of, key_of, end_of, table_of, tables_of};
+ghost use Rattle.occ_types.specs.PlainData.{cell_lent, part_of, key_of, end_of, table_of, tables_of};
 
-use crate::cells::Cell;
+use crate::cells::CellRef;
 use crate::fault::Fault;
 use crate::key_parts::KeyPart;
 use crate::keys::Key;
@@ -149,13 +149,13 @@ fn is_letter(byte: u8) -> bool
 }
 
 // Whether a cell fits its column.
-fn check_cell<A: Allocator>(kind: Kind, cell: &Cell<A>) -> Result<(), Fault>
-    ensures { result_err result ≡ check_cell kind (cell_of cell.now) }
+fn check_cell<A: Allocator>(kind: Kind, cell: &CellRef<'_, A>) -> Result<(), Fault>
+    ensures { result_err result ≡ check_cell kind (cell_lent cell.now) }
 {
     match (kind, cell) {
-        (Kind::Int, Cell::Int(_)) => Ok(()),
-        (Kind::Text, Cell::Text(text)) if text.len() <= MAX_CELL_BYTES => Ok(()),
-        (Kind::Text, Cell::Text(_)) => Err(Fault::TooLong),
+        (Kind::Int, CellRef::Int(_)) => Ok(()),
+        (Kind::Text, CellRef::Text(text)) if text.len() <= MAX_CELL_BYTES => Ok(()),
+        (Kind::Text, CellRef::Text(_)) => Err(Fault::TooLong),
         _ => Err(Fault::WrongKind),
     }
 }
@@ -167,7 +167,7 @@ fn check_cells<A: Allocator>(kinds: &[Kind], row: &Row<A>) -> Result<(), Fault>
 {
     for (place, kind) in kinds.iter().enumerate() {
         match row.cell(place) {
-            Some(cell) => check_cell(*kind, cell)?,
+            Some(cell) => check_cell(*kind, &cell)?,
             None => return Ok(()),
         }
     }
