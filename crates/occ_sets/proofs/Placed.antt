@@ -141,6 +141,20 @@ module _ {Z : Type 0} where
       ∙ ap (λ w. put_at (writes_of es) i (w.0, row)) (sym (get_map es i d))
       ∙ sym (set_placed (writes_of es) (object_of o) row i (write_of d) h)
 
+  -- the same of the only write, and of each of two
+  pub set_one : (a : code.Object Z × Option Row) (o : code.Object Z) (row : Option Row) (i : ℕ) → place_in (writes_of (a ∷ [])) (object_of o) ≡ Some i → writes_of ((a.0, row) ∷ []) ≡ set (writes_of (a ∷ [])) (object_of o) row
+  set_one a o row zero h = set_at (a ∷ []) o row zero a h
+  set_one a o row (suc i) h = absurd (omega (arith, placed_within (writes_of (a ∷ [])) (object_of o) (suc i) (write_of a) h))
+
+  pub set_first : (a b : code.Object Z × Option Row) (o : code.Object Z) (row : Option Row) (i : ℕ) → place_in (writes_of (a ∷ b ∷ [])) (object_of o) ≡ Some i → i ≡ 0 → writes_of ((a.0, row) ∷ b ∷ []) ≡ set (writes_of (a ∷ b ∷ [])) (object_of o) row
+  set_first a b o row zero h e = set_at (a ∷ b ∷ []) o row zero a h
+  set_first a b o row (suc i) h e = absurd (omega (arith, e))
+
+  pub set_second : (a b : code.Object Z × Option Row) (o : code.Object Z) (row : Option Row) (i : ℕ) → place_in (writes_of (a ∷ b ∷ [])) (object_of o) ≡ Some i → (i ≡ 0 → ⊥) → writes_of (a ∷ (b.0, row) ∷ []) ≡ set (writes_of (a ∷ b ∷ [])) (object_of o) row
+  set_second a b o row zero h e = absurd (e refl)
+  set_second a b o row (suc zero) h e = set_at (a ∷ b ∷ []) o row 1 a h
+  set_second a b o row (suc (suc i)) h e = absurd (omega (arith, placed_within (writes_of (a ∷ b ∷ [])) (object_of o) (suc (suc i)) (write_of a) h))
+
   cond_from : (es : List (code.Object Z × Option Row)) (o : Object) (i : ℕ) → position_from (λ e. eq_by_cmp object_cmp o (object_of e.0)) i es ≡ position_from (is_of o) i (writes_of es)
   cond_from [] o i = refl
   cond_from (e ∷ es) o i = ap (cond (eq_by_cmp object_cmp o (object_of e.0)) (Some i)) (cond_from es o (i + 1))

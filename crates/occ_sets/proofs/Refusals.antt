@@ -1,6 +1,6 @@
 -- Refusals for memory, where there is room.
-use Rattle.std.proofs.Common.{◌≡◌, Bool, false, cond, Result, Ok, Err, ◌∙◌, sym, ap}
-use Rattle.std.specs.Prelude.{IfErr, IsOk, OnOk, MatchResult}
+use Rattle.std.proofs.Common.{◌≡◌, Bool, false, cond, Result, Ok, Err, refl, ◌∙◌, sym, ap}
+use Rattle.std.specs.Prelude.{IfErr, IsOk, OnErr, OnOk, MatchResult}
 use Rattle.occ_types.specs.declared.fault.Fault.TheVariants.{SetFull, Memory}
 use Rattle.occ_types.specs.declared.fault.Refused.{Refused}
 
@@ -14,3 +14,13 @@ module _ {X Y : Type 0} where
 pub when_ok : {X Y P : Type 0} (r : Result X Y) → IsOk r → OnOk r P → P
 when_ok (Ok x) ok h = h
 when_ok (Err y) ok h = cc
+
+-- and what holds where there is none holds
+pub when_err : {X Y P : Type 0} (r : Result X Y) (y : Y) → r ≡ Err y → OnErr r P → P
+when_err (Ok x) y is h = cc
+when_err (Err z) y is h = h
+
+-- a result is one
+pub told_ok : {X Y : Type 0} (r : Result X Y) (x : X) → r ≡ Ok x → IsOk r
+told_ok (Ok x) z is = refl
+told_ok (Err y) z is = cc

@@ -1,14 +1,12 @@
 -- A range of which nothing is written is seen as the table answers it.
 use Rattle.std.proofs.Common.{◌≡◌, Bool, true, false, ◌||◌, List, [], ◌∷◌, map, refl, sym, ap, ◌∙◌}
 use Rattle.std.specs.List.Sorted.{IsStrictlySortedBy}
-use Rattle.std.specs.Ordering.{on}
 use Rattle.occ_types.specs.declared.keys.Key as code_key
-use Rattle.occ_types.specs.Key.{Key, key_cmp}
+use Rattle.occ_types.specs.Key.{Key}
 use Rattle.occ_types.specs.Question.{Question, asks}
 use Rattle.occ_types.specs.Row.{Row}
-use Rattle.occ_types.specs.PlainData.{key_of}
 use Rattle.occ_model.specs.State.{State, Write, Rows, answer, apply, meets_question, put}
-use Rattle.occ_sets.specs.Merging.{Led, LedFurther, merged}
+use Rattle.occ_sets.specs.Merging.{Led}
 use Rattle.occ_sets.specs.Overlays.{rows_over}
 use Rattle.occ_sets.specs.PlainSets.{rows_of}
 use Rattle.occ_sets.proofs.Agreement.{key_back, key_of-key_back}

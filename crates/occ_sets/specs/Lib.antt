@@ -1,3 +1,5 @@
+pub mod Entries
+pub mod Handles
 pub mod InOrder
 pub mod LogRows
 pub mod Merging
@@ -7,4 +9,4 @@ pub mod OwnWrites
 pub mod PlainSets
 pub mod RangeRows
 pub mod Sets
-pub mod Shareable
+pub mod ShortList

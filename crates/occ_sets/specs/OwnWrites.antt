@@ -4,9 +4,10 @@ use Rattle.occ_model.specs.State.{Write}
 use Rattle.occ_sets.specs.declared.own_writes.Content as code
 use Rattle.occ_sets.specs.declared.own_writes.Content.TheVariants.{Few, Many}
 use Rattle.occ_sets.specs.PlainSets.{writes_of}
+use Rattle.occ_sets.specs.ShortList.{values}
 
 module _ {Z : Type 0} where
   -- all writes
   abbrev pub written : code.Content Z → List Write
-  written (Few list) = writes_of list.items
+  written (Few list) = writes_of (values list)
   written (Many many) = many.value

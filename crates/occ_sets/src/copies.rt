@@ -8,12 +8,14 @@ ghost use Rattle.occ_model.specs.Overlay.{set, own, overlay};
 ghost use Rattle.occ_model.specs.State.{State, Rows as SeenRows, answer, meets_question};
 ghost use Rattle.occ_types.specs.Key as keys;
 ghost use Rattle.occ_types.specs.Row as rows;
+ghost use Rattle.occ_sets.specs.Handles.{kept};
 ghost use Rattle.occ_sets.specs.Overlays.{rows_over};
 ghost use Rattle.occ_sets.specs.PlainSets.{answer_of};
 ghost use Rattle.occ_sets.specs.Sets.{IsWriteSet, is_full_for};
 
+use crate::handles::Handle;
 use crate::overlays::{over_range, over_row};
-use crate::own_writes::{OwnWrites, Write};
+use crate::own_writes::Write;
 use crate::reads::Answer;
 use crate::request_writes::RequestWrites;
 use occ_types::{Fault, Key, Object, Question, Refused, Row};
@@ -26,7 +28,9 @@ use std::marker::Model;
 pub struct PrivateCopy<A: Allocator> {
     number: u64,
     start: u64,
-    writes: OwnWrites<A>,
+    #[derive_where(skip)]
+    alloc: A,
+    writes: Handle<A>,
 }
 
 impl<A: Allocator> Model for PrivateCopy<A> {
@@ -36,9 +40,11 @@ impl<A: Allocator> Model for PrivateCopy<A> {
 
     ghost Value = { Copied };
 
-    ghost view = { λ copy. record { number = copy.number; start = copy.start; writes = copy.writes } };
+    ghost use Rattle.occ_sets.specs.Handles.{kept, IsOwn};
 
-    ghost invariant = { λ copy. length copy.writes ≤ MAX_WRITES };
+    ghost view = { λ copy. record { number = copy.number; start = copy.start; writes = kept copy.writes } };
+
+    ghost invariant = { λ copy. (length (kept copy.writes) ≤ MAX_WRITES) × IsOwn copy.writes };
 }
 
 impl<A: Allocator + Copy> PrivateCopy<A> {
@@ -49,12 +55,14 @@ impl<A: Allocator + Copy> PrivateCopy<A> {
         PrivateCopy {
             number,
             start,
-            writes: OwnWrites::new(alloc),
+            alloc,
+            writes: Handle::Empty,
         }
     }
 
-    /// The copy that a request was made of, as it was. It takes no memory for writes that nobody else shares, as those that
-    /// `into_request` gave; others are copied first. Refused with `Memory`, and the writes handed back, where there is none for that copy.
+    /// The copy that a request was made of, as it was. It takes no memory for writes that were never shared, as those that
+    /// `into_request` gave; others are taken out of what their owners share, or copied. Refused with `Memory`, and the writes handed
+    /// back, where there is none for that.
     pub fn from_request(
         number: u64,
         start: u64,
@@ -65,9 +73,10 @@ impl<A: Allocator + Copy> PrivateCopy<A> {
         ensures memory { IfErr result (λ refused. refused.fault ≡ Memory) }
     {
         match writes.into_own() {
-            Ok(writes) => Ok(PrivateCopy {
+            Ok((alloc, writes)) => Ok(PrivateCopy {
                 number,
                 start,
+                alloc,
                 writes,
             }),
             Err(writes) => Err(Refused {
@@ -91,7 +100,7 @@ impl<A: Allocator + Copy> PrivateCopy<A> {
             Question::One(object) => over_row(&self.writes, object, given),
             Question::Span { .. } => match given {
                 Answer::Found(row) => Ok(Answer::Found(row)),
-                Answer::Rows(rows) => over_range(&self.writes, question, rows),
+                Answer::Rows(rows) => over_range(self.alloc, &self.writes, question, rows),
             },
         }
     }
@@ -120,9 +129,17 @@ impl<A: Allocator> PrivateCopy<A> {
         self.start
     }
 
+    // What takes the memory of the writes.
+    pub(crate) fn allocator(&self) -> A
+    where
+        A: Copy,
+    {
+        self.alloc
+    }
+
     // The writes so far.
-    pub(crate) fn writes(&self) -> &OwnWrites<A>
-        ensures { result.now ≡ self.now.writes }
+    pub(crate) fn writes(&self) -> &Handle<A>
+        ensures { kept result.now ≡ self.now.writes }
     {
         &self.writes
     }
@@ -167,9 +184,10 @@ impl<A: Allocator> PrivateCopy<A> {
         let PrivateCopy {
             number,
             start,
+            alloc,
             writes,
         } = self;
-        (number, start, RequestWrites::from_own(writes))
+        (number, start, RequestWrites::from_own(alloc, writes))
     }
 }
 
@@ -186,7 +204,8 @@ impl<A: Allocator + Copy> PrivateCopy<A> {
             (λ refused. refused.fault ≡ cond (is_full_for self.old.writes (table, key_of key)) SetFull Memory) }
         ensures only_new { OnErr result (own self.old.writes (table, key_of key) ≡ None) }
     {
-        self.writes.set(Object { table, key }, Some(row))
+        let object = Object { table, key };
+        self.writes.set_own(self.alloc, (object, Some(row)))
     }
 
     /// Deletes an object of a table, which is a write also where the table has no such row, and refuses as `put` does.
@@ -201,6 +220,7 @@ impl<A: Allocator + Copy> PrivateCopy<A> {
             (λ refused. refused.fault ≡ cond (is_full_for self.old.writes (table, key_of key)) SetFull Memory) }
         ensures only_new { OnErr result (own self.old.writes (table, key_of key) ≡ None) }
     {
-        self.writes.set(Object { table, key }, None)
+        let object = Object { table, key };
+        self.writes.set_own(self.alloc, (object, None))
     }
 }

@@ -1,17 +1,18 @@
 //! A write done on those of one transaction, which go from a list into a map where they are no longer few.
-ghost use Rattle.std.specs.Prelude.{◌≡◌, ◌<◌, ◌≤◌, ◌+◌, [], length, true, false, None, is_some, not, IfOk, IfErr, OnOk, OnErr};
+ghost use Rattle.std.specs.Prelude.{◌≡◌, ◌<◌, ◌≤◌, ◌+◌, [], length, true, false, None, Some, is_some, not, IfOk, IfErr, OnOk, OnErr};
 ghost use Rattle.indexmap.specs.IndexMap.{spare};
 ghost use Rattle.occ_types.specs.declared.fault.Fault.TheVariants.{Memory};
 ghost use Rattle.occ_types.specs.PlainData.{object_of};
 ghost use Rattle.occ_model.specs.Overlay.{set, own};
 ghost use Rattle.occ_sets.specs.OwnWrites.{written};
 ghost use Rattle.occ_sets.specs.PlainSets.{writes_of};
-ghost use Rattle.occ_sets.specs.Sets.{WritesOnce};
+ghost use Rattle.occ_sets.specs.Sets.{WritesOnce, place_in};
+ghost use Rattle.occ_sets.specs.ShortList.{values};
 
-use crate::appending::append;
 use crate::few_writes::{is_new, place_of};
 use crate::many_writes::{ManyWrites, WriteMap};
 use crate::own_writes::{Content, FEW, Write};
+use crate::short_list::ShortList;
 use occ_types::{Fault, Object, Refused, Row};
 use std::alloc::{AllocError, AllocFailed, Allocator};
 use std::mem;
@@ -19,6 +20,7 @@ use std::mem;
 /// Does a write. It is refused, and handed back, where there is no memory, which leaves the writes as they were.
 pub(crate) fn insert_in<A: Allocator + Copy>(
     content: &mut Content<A>,
+    alloc: A,
     write: Write<A>,
 ) -> Result<(), Refused<Write<A>>>
     requires { WritesOnce (written content.old) }
@@ -28,11 +30,11 @@ pub(crate) fn insert_in<A: Allocator + Copy>(
     ensures memory { IfErr result (λ refused. refused.fault ≡ Memory) }
     ensures only_new { OnErr result (own (written content.old) (object_of write.0) ≡ None) }
 {
-    if is_list_full_for(content, &write.0) && move_into_map(content).is_err() {
+    if is_list_full_for(content, &write.0) && move_into_map(content, alloc).is_err() {
         return Err(memory(write));
     }
     match content {
-        Content::Few(list) => insert_in_list(list, write),
+        Content::Few(list) => insert_in_list(list, alloc, write),
         Content::Many(many) => many.insert(write),
     }
 }
@@ -42,7 +44,7 @@ fn is_list_full_for<A: Allocator>(content: &Content<A>, object: &Object<A>) -> b
     ensures { result ≡ true → is_some (own (written content.now) (object_of object.now)) ≡ false }
 {
     match content {
-        Content::Few(list) if list.len() >= FEW => is_new(list.as_slice(), object),
+        Content::Few(list) if list.len() >= FEW => is_new(list, object),
         _ => false,
     }
 }
@@ -50,21 +52,20 @@ fn is_list_full_for<A: Allocator>(content: &Content<A>, object: &Object<A>) -> b
 // Moves the writes of a list into a map. An error, where there is no memory for it, leaves them in the list.
 #[cold]
 #[inline(never)]
-fn move_into_map<A: Allocator + Copy>(content: &mut Content<A>) -> Result<(), AllocError>
+fn move_into_map<A: Allocator + Copy>(content: &mut Content<A>, alloc: A) -> Result<(), AllocError>
     requires { WritesOnce (written content.old) }
     ensures { written content.new ≡ written content.old }
 {
-    let Content::Few(list) = content else {
+    let Content::Few(ShortList::Many(list)) = content else {
         return Ok(());
     };
-    let empty = Vec::new(*list.allocator());
-    match into_map(mem::replace(list, empty)) {
+    match into_map(mem::replace(list, Vec::new(alloc))) {
         Ok(many) => {
             *content = Content::Many(many);
             Ok(())
         }
         Err(list) => {
-            *content = Content::Few(list);
+            *content = Content::Few(ShortList::Many(list));
             Err(AllocError)
         }
     }
@@ -72,25 +73,55 @@ fn move_into_map<A: Allocator + Copy>(content: &mut Content<A>) -> Result<(), Al
 
 // Does a write on those of a list. It is refused, and handed back, where there is no memory.
 fn insert_in_list<A: Allocator + Copy>(
-    list: &mut Vec<Write<A>, A>,
+    list: &mut ShortList<Write<A>, A>,
+    alloc: A,
     write: Write<A>,
 ) -> Result<(), Refused<Write<A>>>
-    ensures ok { OnOk result (writes_of list.new.items ≡ set (writes_of list.old.items) (object_of write.0) write.1) }
-    ensures err { OnErr result (writes_of list.new.items ≡ writes_of list.old.items) }
+    ensures ok { OnOk result (writes_of (values list.new) ≡ set (writes_of (values list.old)) (object_of write.0) write.1) }
+    ensures err { OnErr result (writes_of (values list.new) ≡ writes_of (values list.old)) }
     ensures handed_back { IfErr result (λ refused. refused.value ≡ write) }
     ensures memory { IfErr result (λ refused. refused.fault ≡ Memory) }
-    ensures only_new { OnErr result (own (writes_of list.old.items) (object_of write.0) ≡ None) }
+    ensures only_new { OnErr result (own (writes_of (values list.old)) (object_of write.0) ≡ None) }
 {
-    match place_of(list.as_slice(), &write.0) {
+    match place_of(list, &write.0) {
         Some(place) => {
-            list[place].1 = write.1;
+            set_row(list, place, write);
             Ok(())
         }
-        None => match append(list, write) {
+        None => match list.push(alloc, write) {
             Ok(()) => Ok(()),
             Err(AllocFailed { value }) => Err(memory(value)),
         },
     }
+}
+
+// Gives the write at a place, which is of the same object, its new row.
+fn set_row<A: Allocator>(list: &mut ShortList<Write<A>, A>, place: usize, write: Write<A>)
+    requires { place_in (writes_of (values list.old)) (object_of write.0) ≡ Some place }
+    ensures { writes_of (values list.new) ≡ set (writes_of (values list.old)) (object_of write.0) write.1 }
+{
+    match list {
+        ShortList::Empty => {}
+        ShortList::Few(first, _) if place == 0 => give(first, write.1),
+        ShortList::Few(_, Some(second)) => give(second, write.1),
+        ShortList::Few(_, None) => {}
+        ShortList::Many(list) => set_row_among(list, place, write),
+    }
+}
+
+// Gives a write its new row.
+fn give<A: Allocator>(write: &mut Write<A>, row: Option<Row<A>>)
+    ensures { write.new ≡ (write.old.0, row) }
+{
+    write.1 = row;
+}
+
+// Gives the write at a place of a list, which is of the same object, its new row.
+fn set_row_among<A: Allocator>(list: &mut Vec<Write<A>, A>, place: usize, write: Write<A>)
+    requires { place_in (writes_of list.old.items) (object_of write.0) ≡ Some place }
+    ensures { writes_of list.new.items ≡ set (writes_of list.old.items) (object_of write.0) write.1 }
+{
+    list[place].1 = write.1;
 }
 
 // There is no memory for a write.

@@ -94,6 +94,11 @@ impl<A: Allocator> ManyWrites<A> {
         &self.map
     }
 
+    /// Whether the objects are in order.
+    pub(crate) fn is_in_order(&self) -> bool {
+        self.in_order.is_some()
+    }
+
     /// Whether the question, which asks for a range of a table from a lower end on, asks for some object that is written: a search where these are in order, and else one pass.
     pub(crate) fn meets_range(
         &self,

@@ -8,12 +8,13 @@ ghost use Rattle.occ_types.specs.PlainData.{key_of, object_of, question_of, tabl
 ghost use Rattle.occ_model.specs.Overlay as model;
 ghost use Rattle.occ_model.specs.Overlay.{own};
 ghost use Rattle.occ_model.specs.State.{Write, Rows};
+ghost use Rattle.occ_sets.specs.Handles.{kept};
 ghost use Rattle.occ_sets.specs.Overlays.{Agrees, FollowsWrite, FollowsWrites, over_row, rows_over};
 ghost use Rattle.occ_sets.specs.PlainSets.{answer_of, rows_of};
 ghost use Rattle.occ_sets.specs.declared.reads.Answer.TheVariants as answers;
 ghost use Rattle.occ_types.specs.declared.fault.Fault.TheVariants.{Memory};
 
-use crate::own_writes::OwnWrites;
+use crate::handles::Handle;
 use crate::range_rows::RangeRows;
 use crate::reads::Answer;
 use occ_types::{Fault, Key, Object, Question, Refused, Row};
@@ -22,11 +23,11 @@ use std::collections::BTreeMap;
 
 // The answer for a single key, from the own write where there is one. A refusal hands back what was given.
 pub(crate) fn over_row<A: Allocator + Clone>(
-    writes: &OwnWrites<A>,
+    writes: &Handle<A>,
     object: &Object<A>,
     given: Answer<A>,
 ) -> Result<Answer<A>, Refused<Answer<A>>>
-    ensures seen { IfOk result (λ seen. answer_of seen ≡ over_row (own writes.now (object_of object.now)) (answer_of given)) }
+    ensures seen { IfOk result (λ seen. answer_of seen ≡ over_row (own (kept writes.now) (object_of object.now)) (answer_of given)) }
     ensures refused { IfErr result (λ refused. refused ≡ record { value = given; fault = Memory }) }
 {
     match writes.own(object) {
@@ -44,14 +45,15 @@ pub(crate) fn over_row<A: Allocator + Clone>(
 
 // The answer for a range, with the own writes over its rows. A refusal hands back the rows that were given.
 pub(crate) fn over_range<A: Allocator + Copy>(
-    writes: &OwnWrites<A>,
+    alloc: A,
+    writes: &Handle<A>,
     question: &Question<A>,
     rows: RangeRows<A>,
 ) -> Result<Answer<A>, Refused<Answer<A>>>
-    ensures seen { IfOk result (λ seen. answer_of seen ≡ Rows (rows_over (question_of question.now) writes.now rows)) }
+    ensures seen { IfOk result (λ seen. answer_of seen ≡ Rows (rows_over (question_of question.now) (kept writes.now) rows)) }
     ensures refused { IfErr result (λ refused. refused ≡ record { value = answers.Rows rows; fault = Memory }) }
 {
-    match over_rows(writes, question, &rows) {
+    match over_rows(alloc, writes, question, &rows) {
         Ok(seen) => Ok(Answer::Rows(seen)),
         Err(_refused) => Err(Refused {
             value: Answer::Rows(rows),
@@ -62,13 +64,13 @@ pub(crate) fn over_range<A: Allocator + Copy>(
 
 // Copies of the rows of a range, with the own writes over them.
 fn over_rows<A: Allocator + Copy>(
-    writes: &OwnWrites<A>,
+    alloc: A,
+    writes: &Handle<A>,
     question: &Question<A>,
     rows: &RangeRows<A>,
 ) -> Result<RangeRows<A>, Fault>
-    ensures { IfOk result (λ seen. seen ≡ rows_over (question_of question.now) writes.now rows.now) }
+    ensures { IfOk result (λ seen. seen ≡ rows_over (question_of question.now) (kept writes.now) rows.now) }
 {
-    let alloc = writes.allocator();
     let mut seen = rows_asked(alloc, question, rows.to_vec()?)?;
     write_all(&mut seen, question, writes)?;
     let laid = in_order(alloc, seen)?;
@@ -110,9 +112,9 @@ fn put<A: Allocator + Copy>(
 fn write_all<A: Allocator + Copy>(
     seen: &mut BTreeMap<Key<A>, Row<A>, A>,
     question: &Question<A>,
-    writes: &OwnWrites<A>,
+    writes: &Handle<A>,
 ) -> Result<(), AllocError>
-    ensures { OnOk result (FollowsWrites (question_of question.now) seen.old.entries seen.new.entries writes.now) }
+    ensures { OnOk result (FollowsWrites (question_of question.now) seen.old.entries seen.new.entries (kept writes.now)) }
 {
     for place in 0..writes.len() {
         write(seen, question, writes, place)?;
@@ -124,10 +126,10 @@ fn write_all<A: Allocator + Copy>(
 fn write<A: Allocator + Copy>(
     seen: &mut BTreeMap<Key<A>, Row<A>, A>,
     question: &Question<A>,
-    writes: &OwnWrites<A>,
+    writes: &Handle<A>,
     place: usize,
 ) -> Result<(), AllocError>
-    ensures { OnOk result ((write : Write) → slice_get writes.now place ≡ Some write → FollowsWrite (question_of question.now) seen.old.entries seen.new.entries write) }
+    ensures { OnOk result ((write : Write) → slice_get (kept writes.now) place ≡ Some write → FollowsWrite (question_of question.now) seen.old.entries seen.new.entries write) }
 {
     let Some((object, row)) = writes.write_at(place) else {
         return Ok(());

@@ -14,6 +14,7 @@ ghost use Rattle.occ_sets.specs.Sets.{WritesOnce, is_full_for};
 use crate::few_writes::{meets_few, own_in};
 use crate::inserting::insert_in;
 use crate::many_writes::{ManyWrites, WriteMap};
+use crate::short_list::ShortList;
 use occ_types::limits::MAX_WRITES;
 use occ_types::{Fault, Object, Question, Refused, Row};
 use std::alloc::{AllocError, AllocFailed, Allocator};
@@ -37,7 +38,7 @@ pub(crate) struct OwnWrites<A: Allocator> {
 #[derive_where(Debug)]
 pub(crate) enum Content<A: Allocator> {
     /// A few, in a list that is searched from its beginning.
-    Few(Vec<Write<A>, A>),
+    Few(ShortList<Write<A>, A>),
     /// More, in a map behind a handle, so that they are short to move.
     Many(Box<ManyWrites<A>, A>),
 }
@@ -57,15 +58,6 @@ impl<A: Allocator> Model for OwnWrites<A> {
 }
 
 impl<A: Allocator + Copy> OwnWrites<A> {
-    /// No writes, which take no memory.
-    pub(crate) fn new(alloc: A) -> OwnWrites<A>
-        ensures { result ≡ [] }
-    {
-        OwnWrites {
-            content: Content::Few(Vec::new(alloc)),
-        }
-    }
-
     /// No writes, with room for `count` of them. An error where there is no memory for it.
     pub(crate) fn with_capacity(alloc: A, count: usize) -> Result<OwnWrites<A>, AllocError>
         ensures { IfOk result (λ writes. writes ≡ []) }
@@ -73,17 +65,18 @@ impl<A: Allocator + Copy> OwnWrites<A> {
         let content = content_for(alloc, count)?;
         Ok(OwnWrites { content })
     }
-
-    /// What takes the memory of the writes.
-    pub(crate) fn allocator(&self) -> A {
-        match &self.content {
-            Content::Few(list) => *list.allocator(),
-            Content::Many(many) => *many.as_map().allocator(),
-        }
-    }
 }
 
 impl<A: Allocator> OwnWrites<A> {
+    /// No writes, which take no memory.
+    pub(crate) fn new() -> OwnWrites<A>
+        ensures { result ≡ [] }
+    {
+        OwnWrites {
+            content: Content::Few(ShortList::Empty),
+        }
+    }
+
     /// The writes, where they stand.
     pub(crate) fn content(&self) -> &Content<A>
         ensures { written result.now ≡ self.now }
@@ -115,7 +108,7 @@ impl<A: Allocator> OwnWrites<A> {
         ensures { option_map option_copied result ≡ own self.now (object_of object.now) }
     {
         match &self.content {
-            Content::Few(list) => own_in(list.as_slice(), object),
+            Content::Few(list) => own_in(list, object),
             Content::Many(many) => many.as_map().get(object).map(|row| row.as_ref()),
         }
     }
@@ -153,7 +146,7 @@ impl<A: Allocator> OwnWrites<A> {
         ensures { result ≡ meets_question self.now (question_of question.now) }
     {
         match (&self.content, question) {
-            (Content::Few(list), _) => meets_few(list.as_slice(), question),
+            (Content::Few(list), _) => meets_few(list, question),
             (Content::Many(_), Question::One(object)) => self.writes(object),
             (Content::Many(many), Question::Span { table, lower, .. }) => many.meets_range(
                 *table,
@@ -165,6 +158,14 @@ impl<A: Allocator> OwnWrites<A> {
 }
 
 impl<A: Allocator + Copy> OwnWrites<A> {
+    /// Whether ranges are searched for by halves, where there are more writes than a few.
+    pub(crate) fn is_in_order(&self) -> bool {
+        match &self.content {
+            Content::Few(_) => true,
+            Content::Many(many) => many.is_in_order(),
+        }
+    }
+
     /// Puts the writes in order for searches, where they are more than a few. An error where there is no memory for it. The writes stay as they were either way.
     pub(crate) fn put_in_order(&mut self) -> Result<(), AllocError>
         ensures { self.new ≡ self.old }
@@ -175,45 +176,37 @@ impl<A: Allocator + Copy> OwnWrites<A> {
         }
     }
 
-    /// Writes an object, or deletes it where `row` is none. A new object goes last; one that is there keeps its place and takes the new row, which needs no memory. A new one is refused with `Memory` where there is none for it. That leaves the writes as they were and hands the write back.
-    pub(crate) fn insert(
-        &mut self,
-        object: Object<A>,
-        row: Option<Row<A>>,
-    ) -> Result<(), Refused<Write<A>>>
-        ensures ok { OnOk result (self.new ≡ set self.old (object_of object) row) }
+    /// Writes an object, or deletes it where its row is none. A new object goes last; one that is there keeps its place and takes the new row, which needs no memory. A new one is refused with `Memory` where there is none for it. That leaves the writes as they were and hands the write back.
+    pub(crate) fn insert(&mut self, alloc: A, write: Write<A>) -> Result<(), Refused<Write<A>>>
+        ensures ok { OnOk result (self.new ≡ set self.old (object_of write.0) write.1) }
         ensures err { OnErr result (self.new ≡ self.old) }
-        ensures handed_back { IfErr result (λ refused. refused.value ≡ (object, row)) }
+        ensures handed_back { IfErr result (λ refused. refused.value ≡ write) }
         ensures memory { IfErr result (λ refused. refused.fault ≡ Memory) }
-        ensures only_new { OnErr result (own self.old (object_of object) ≡ None) }
+        ensures only_new { OnErr result (own self.old (object_of write.0) ≡ None) }
     {
-        insert_in(&mut self.content, (object, row))
+        insert_in(&mut self.content, alloc, write)
     }
 
     /// Writes an object as `insert` does, for a transaction. A new object is refused with `SetFull` where there are 256 writes or more, and else with `Memory` where there is none for it; both leave the writes as they were and hand the write back.
-    pub(crate) fn set(
-        &mut self,
-        object: Object<A>,
-        row: Option<Row<A>>,
-    ) -> Result<(), Refused<Write<A>>>
-        ensures ok { OnOk result (self.new ≡ set self.old (object_of object) row) }
+    pub(crate) fn set(&mut self, alloc: A, write: Write<A>) -> Result<(), Refused<Write<A>>>
+        ensures ok { OnOk result (self.new ≡ set self.old (object_of write.0) write.1) }
         ensures err { OnErr result (self.new ≡ self.old) }
-        ensures handed_back { IfErr result (λ refused. refused.value ≡ (object, row)) }
+        ensures handed_back { IfErr result (λ refused. refused.value ≡ write) }
 
         // `Memory` comes only where there is room for the write, and neither comes to an object that is there.
         ensures fault { MatchResult result
-            (λ _. is_full_for self.old (object_of object) ≡ false)
-            (λ refused. refused.fault ≡ cond (is_full_for self.old (object_of object)) SetFull Memory) }
-        ensures only_new { OnErr result (own self.old (object_of object) ≡ None) }
+            (λ _. is_full_for self.old (object_of write.0) ≡ false)
+            (λ refused. refused.fault ≡ cond (is_full_for self.old (object_of write.0)) SetFull Memory) }
+        ensures only_new { OnErr result (own self.old (object_of write.0) ≡ None) }
         ensures few { length self.old ≤ limit.MAX_WRITES → length self.new ≤ limit.MAX_WRITES }
     {
-        if self.is_full_for(&object) {
+        if self.is_full_for(&write.0) {
             return Err(Refused {
-                value: (object, row),
+                value: write,
                 fault: Fault::SetFull,
             });
         }
-        self.insert(object, row)
+        self.insert(alloc, write)
     }
 }
 
@@ -222,7 +215,7 @@ fn content_for<A: Allocator + Copy>(alloc: A, count: usize) -> Result<Content<A>
     ensures { IfOk result (λ content. written content ≡ []) }
 {
     if count <= FEW {
-        return Ok(Content::Few(Vec::with_capacity(alloc, count)?));
+        return Ok(Content::Few(ShortList::with_capacity(alloc, count)?));
     }
     let map = WriteMap::with_capacity(alloc, count)?;
     in_a_box(alloc, map)

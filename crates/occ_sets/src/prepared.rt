@@ -11,11 +11,12 @@ ghost use Rattle.occ_types.specs.Key.{key_cmp};
 ghost use Rattle.occ_types.specs.PlainData.{key_of, question_of};
 ghost use Rattle.occ_model.specs.State.{State, Write, Rows, answer, apply};
 ghost use Rattle.occ_sets.specs.Overlays.{rows_over};
+ghost use Rattle.occ_sets.specs.Handles.{kept};
 ghost use Rattle.occ_sets.specs.Merging.{LaysFirst, LaysRow, Led, LedFurther, first_to, merged, rows_put};
 ghost use Rattle.occ_sets.specs.PlainSets.{rows_of};
 
 use crate::copies::PrivateCopy;
-use crate::own_writes::OwnWrites;
+use crate::handles::Handle;
 use crate::range_rows::RangeRows;
 use occ_types::limits::MAX_ANSWER_ROWS;
 use occ_types::{Fault, Key, Question, Row};
@@ -28,7 +29,7 @@ use std::marker::Model;
 #[derive(Drop)]
 pub struct Prepared<'a, A: Allocator> {
     question: &'a Question<A>,
-    writes: &'a OwnWrites<A>,
+    writes: &'a Handle<A>,
     own: BTreeMap<Key<A>, Option<Row<A>>, A>,
     room: Box<Vec<(Key<A>, Row<A>), A>, A>,
 }
@@ -40,14 +41,15 @@ impl<'a, A: Allocator> Model for Prepared<'a, A> {
     ghost use Rattle.occ_types.specs.PlainData.{question_of};
     ghost use Rattle.occ_model.specs.State.{State, apply};
     ghost use Rattle.occ_sets.specs.Overlays.{Overlaid};
+    ghost use Rattle.occ_sets.specs.Handles.{kept};
     ghost use Rattle.occ_sets.specs.Merging.{Led};
 
     ghost Value = { Overlaid };
 
-    ghost view = { λ p. record { question = question_of p.question.now; writes = p.writes.now } };
+    ghost view = { λ p. record { question = question_of p.question.now; writes = kept p.writes.now } };
 
     // The own writes do among the keys that are asked for what all writes do, and there is room for them and for the most rows of an answer.
-    ghost invariant = { λ p. ((state : State) → Led (question_of p.question.now) p.own.entries state (apply state p.writes.now))
+    ghost invariant = { λ p. ((state : State) → Led (question_of p.question.now) p.own.entries state (apply state (kept p.writes.now)))
         × (p.room.value.items ≡ []) × (vec_len p.room.value ≡ 0) × (MAX_ANSWER_ROWS + btree_map_len p.own ≤ vec_capacity p.room.value) };
 }
 
@@ -58,7 +60,7 @@ impl<A: Allocator + Copy> PrivateCopy<A> {
         ensures memory { IsOkUnless result Memory }
     {
         let writes = self.writes();
-        let alloc = writes.allocator();
+        let alloc = self.allocator();
         let own = own_asked(alloc, question, writes)?;
         let room = Vec::with_capacity(alloc, MAX_ANSWER_ROWS + own.len())?;
         let room = Box::new(alloc, room)?;
@@ -169,9 +171,9 @@ fn first_to<A: Allocator>(own: &BTreeMap<Key<A>, Option<Row<A>>, A>, key: &Key<A
 pub(crate) fn own_asked<A: Allocator + Copy>(
     alloc: A,
     question: &Question<A>,
-    writes: &OwnWrites<A>,
+    writes: &Handle<A>,
 ) -> Result<BTreeMap<Key<A>, Option<Row<A>>, A>, AllocError>
-    ensures { IfOk result (λ own. (state : State) → Led (question_of question.now) own.entries state (apply state writes.now)) }
+    ensures { IfOk result (λ own. (state : State) → Led (question_of question.now) own.entries state (apply state (kept writes.now))) }
 {
     let mut own = BTreeMap::new(alloc);
     for place in 0..writes.len() {
@@ -184,10 +186,10 @@ pub(crate) fn own_asked<A: Allocator + Copy>(
 fn note_write<A: Allocator + Copy>(
     own: &mut BTreeMap<Key<A>, Option<Row<A>>, A>,
     question: &Question<A>,
-    writes: &OwnWrites<A>,
+    writes: &Handle<A>,
     place: usize,
 ) -> Result<(), AllocError>
-    ensures { OnOk result ((write : Write) → slice_get writes.now place ≡ Some write → LedFurther (question_of question.now) own.old.entries own.new.entries write) }
+    ensures { OnOk result ((write : Write) → slice_get (kept writes.now) place ≡ Some write → LedFurther (question_of question.now) own.old.entries own.new.entries write) }
 {
     let Some((object, row)) = writes.write_at(place) else {
         return Ok(());

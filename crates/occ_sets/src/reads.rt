@@ -1,18 +1,22 @@
 //! The read set of a transaction.
-ghost use Rattle.std.specs.Prelude.{◌≡◌, ◌==◌, ◌<◌, ◌^◌, ◌++◌, [], ◌∷◌, false, cond, length, IfErr, IfOk, OnOk, OnErr, MatchResult, IsOkUnless};
+ghost use Rattle.std.specs.Prelude.{◌≡◌, ◌==◌, ◌<◌, ◌^◌, ◌++◌, [], ◌∷◌, false, cond, length, map, slice_get, IfErr, IfOk, IfSome, OnOk, OnErr, MatchResult, IsOkUnless};
+ghost use Rattle.std.specs.Arc.{arc_value};
+ghost use Rattle.std.specs.Option.{option_map};
 ghost use Rattle.occ_types.specs.declared.fault.Fault.TheVariants.{SetFull, Memory};
 ghost use Rattle.occ_types.specs.PlainData.{question_of};
-ghost use Rattle.occ_sets.specs.PlainSets.{answer_of, observation_of, observations_of};
+ghost use Rattle.occ_sets.specs.Entries.{observation_lent, noted, seen, whole};
+ghost use Rattle.occ_sets.specs.PlainSets.{answer_of, observation_of};
 ghost use Rattle.occ_sets.specs.Sets.{is_full};
-ghost use Rattle.occ_sets.specs.Shareable.{held};
+ghost use Rattle.occ_sets.specs.ShortList.{values};
 
-use crate::appending::append;
+use crate::entries::{Entry, ObservationRef};
 use crate::range_rows::RangeRows;
-use crate::shareable::Shareable;
+use crate::short_list::ShortList;
 use occ_types::limits::MAX_QUESTIONS;
 use occ_types::{Fault, Question, Refused, Row};
 use std::alloc::{AllocError, AllocFailed, Allocator};
 use std::marker::Model;
+use std::sync::Arc;
 
 /// What a question is answered.
 #[derive(Drop)]
@@ -56,11 +60,16 @@ impl<A: Allocator + Clone> Clone for Observation<A> {
     }
 }
 
-/// What a transaction read: each question with the table's answer, in the order asked. One owner has it by itself, or several share it, also across threads. Clauses see the list of the plain observations.
+/// What a set has noted. Its owners share it.
+type Entries<A> = Arc<ShortList<Entry<A>, A>, A>;
+
+/// What a transaction read: each question with the table's answer, in the order asked. A clone of it is one more owner, which copies nothing, also across threads: what others own is copied before it is changed. Clauses see the list of the plain observations.
 #[derive(Drop)]
 #[derive_where(Debug)]
 pub struct ReadSet<A: Allocator> {
-    content: Shareable<Vec<Observation<A>, A>, A>,
+    #[derive_where(skip)]
+    alloc: A,
+    entries: Option<Entries<A>>,
 }
 
 impl<A: Allocator> Model for ReadSet<A> {
@@ -69,10 +78,9 @@ impl<A: Allocator> Model for ReadSet<A> {
 
     ghost Value = { List Seen };
 
-    ghost use Rattle.occ_sets.specs.PlainSets.{observations_of};
-    ghost use Rattle.occ_sets.specs.Shareable.{held};
+    ghost use Rattle.occ_sets.specs.Entries.{noted};
 
-    ghost view = { λ s. observations_of (held s.content).items };
+    ghost view = { λ s. noted s.entries };
 }
 
 impl<A: Allocator> ReadSet<A> {
@@ -81,18 +89,9 @@ impl<A: Allocator> ReadSet<A> {
         ensures { result ≡ [] }
     {
         ReadSet {
-            content: Shareable::Plain(Vec::new(alloc)),
+            alloc,
+            entries: None,
         }
-    }
-
-    /// A set without an observation, with room for `count` of them. Refused with `Memory` where there is none for it.
-    pub fn with_capacity(alloc: A, count: usize) -> Result<ReadSet<A>, Fault>
-        ensures empty { IfOk result (λ reads. reads ≡ []) }
-        ensures memory { IsOkUnless result Memory }
-    {
-        Ok(ReadSet {
-            content: Shareable::Plain(Vec::with_capacity(alloc, count)?),
-        })
     }
 
     /// How many questions were asked.
@@ -100,7 +99,10 @@ impl<A: Allocator> ReadSet<A> {
         ensures value { result ≡ length self.now }
         ensures small { result < 2 ^ 63 }
     {
-        self.content.get().len()
+        match &self.entries {
+            None => 0,
+            Some(entries) => entries.len(),
+        }
     }
 
     /// Whether no question was asked.
@@ -110,23 +112,36 @@ impl<A: Allocator> ReadSet<A> {
         self.len() == 0
     }
 
-    /// What was noted, in the order asked.
-    pub fn observations(&self) -> &[Observation<A>]
-        ensures { observations_of result.now ≡ self.now }
+    /// What was noted at a place, in the order asked, or none where fewer questions were asked.
+    pub fn at(&self, place: usize) -> Option<ObservationRef<'_, A>>
+        ensures value { option_map observation_lent result ≡ slice_get self.now place }
+        ensures small { IfSome result (λ _. place < 2 ^ 63) }
     {
-        self.content.get().as_slice()
+        if place >= self.len() {
+            return None;
+        }
+        let Some(entries) = &self.entries else {
+            return None;
+        };
+        match entries.get(place) {
+            None => None,
+            Some(entry) => Some(entry.as_ref()),
+        }
     }
 }
 
 impl<A: Allocator + Copy> ReadSet<A> {
-    /// From now on a clone of the set is one more owner of it, and copies nothing. Refused with `Memory` where there is none for the handle. The set has its observations either way.
-    pub fn share(&mut self) -> Result<(), Fault>
-        ensures kept { self.new ≡ self.old }
+    /// A set without an observation, with room for `count` of them. Refused with `Memory` where there is none for it.
+    pub fn with_capacity(alloc: A, count: usize) -> Result<ReadSet<A>, Fault>
+        ensures empty { IfOk result (λ reads. reads ≡ []) }
         ensures memory { IsOkUnless result Memory }
     {
-        let alloc = *self.content.get().allocator();
-        self.content.share(alloc, Vec::new(alloc))?;
-        Ok(())
+        let entries = ShortList::with_capacity(alloc, count)?;
+        let entries = Arc::new(alloc, entries)?;
+        Ok(ReadSet {
+            alloc,
+            entries: Some(entries),
+        })
     }
 
     /// Notes a question and the table's answer after the others. What others share is copied first. Refused with `SetFull` where 256 or more are noted, and else with `Memory` where the set cannot grow or be copied; both leave the set as it was and hand back what was to be noted.
@@ -166,30 +181,50 @@ impl<A: Allocator + Copy> ReadSet<A> {
         ensures handed_back { IfErr result (λ refused. refused.value ≡ record { question = question; answer = answer }) }
         ensures memory { IfErr result (λ refused. refused.fault ≡ Memory) }
     {
-        note_in(&mut self.content, Observation { question, answer })
+        match Entry::new(self.alloc, question, answer) {
+            Ok(entry) => note_in(&mut self.entries, self.alloc, entry),
+            Err(value) => Err(memory(value)),
+        }
     }
 }
 
 // Notes an observation. It is refused, and handed back, where there is no memory.
 fn note_in<A: Allocator + Copy>(
-    content: &mut Shareable<Vec<Observation<A>, A>, A>,
-    seen: Observation<A>,
+    entries: &mut Option<Entries<A>>,
+    alloc: A,
+    entry: Entry<A>,
 ) -> Result<(), Refused<Observation<A>>>
-    ensures ok { OnOk result (observations_of (held content.new).items ≡ observations_of (held content.old).items ++ observation_of seen ∷ []) }
-    ensures err { OnErr result (observations_of (held content.new).items ≡ observations_of (held content.old).items) }
-    ensures handed_back { IfErr result (λ refused. refused.value ≡ seen) }
-    ensures memory { IfErr result (λ refused. refused.fault ≡ Memory) }
+    ensures ok { OnOk result (noted entries.new ≡ noted entries.old ++ seen entry ∷ []) }
+    ensures err { OnErr result (noted entries.new ≡ noted entries.old) }
+    ensures refused { IfErr result (λ refused. refused ≡ record { value = whole entry; fault = Memory }) }
 {
-    let empty = Vec::new(*content.get().allocator());
-    if content.unshare(empty).is_err() {
-        return Err(memory(seen));
+    if let Some(entries) = entries {
+        return note_behind(entries, alloc, entry);
     }
-    match content {
-        Shareable::Plain(observations) => match append(observations, seen) {
-            Ok(()) => Ok(()),
-            Err(AllocFailed { value }) => Err(memory(value)),
-        },
-        Shareable::Shared(_) => unreachable!(),
+    let Ok(mut first) = Arc::new(alloc, ShortList::Empty) else {
+        return Err(memory(entry.into_observation()));
+    };
+    note_behind(&mut first, alloc, entry)?;
+    *entries = Some(first);
+    Ok(())
+}
+
+// Notes an observation behind a handle. What others own is copied first.
+fn note_behind<A: Allocator + Copy>(
+    entries: &mut Entries<A>,
+    alloc: A,
+    entry: Entry<A>,
+) -> Result<(), Refused<Observation<A>>>
+    ensures ok { OnOk result (map seen (values (arc_value entries.new)) ≡ map seen (values (arc_value entries.old)) ++ seen entry ∷ []) }
+    ensures err { OnErr result (map seen (values (arc_value entries.new)) ≡ map seen (values (arc_value entries.old))) }
+    ensures refused { IfErr result (λ refused. refused ≡ record { value = whole entry; fault = Memory }) }
+{
+    let Ok(list) = Arc::make_mut(entries) else {
+        return Err(memory(entry.into_observation()));
+    };
+    match list.push(alloc, entry) {
+        Ok(()) => Ok(()),
+        Err(AllocFailed { value }) => Err(memory(value.into_observation())),
     }
 }
 
@@ -206,10 +241,15 @@ fn memory<A: Allocator>(value: Observation<A>) -> Refused<Observation<A>>
 impl<A: Allocator + Clone> Clone for ReadSet<A> {
     ghost is_clone = { λ source copy. copy ≡ source };
 
-    // One more owner of a set that is shared, and else a copy.
+    // One more owner.
     fn clone(&self) -> Result<ReadSet<A>, AllocError> {
+        let entries = match &self.entries {
+            None => None,
+            Some(entries) => Some(Arc::try_clone(entries)?),
+        };
         Ok(ReadSet {
-            content: self.content.clone()?,
+            alloc: self.alloc.clone()?,
+            entries,
         })
     }
 }

@@ -2,9 +2,10 @@
 ghost use Rattle.std.specs.Prelude.{◌≡◌, ◌≤◌, ◌<◌, [], length, IfOk, IfErr, MatchResult};
 ghost use Rattle.occ_types.specs.declared.fault.Fault.TheVariants.{SetFull};
 ghost use Rattle.occ_types.specs.declared.limits.TheConstants as limit;
+ghost use Rattle.occ_sets.specs.Handles.{kept, IsOwn};
 ghost use Rattle.occ_sets.specs.Sets.{IsWriteSet};
 
-use crate::own_writes::OwnWrites;
+use crate::handles::Handle;
 use crate::writes::WriteSet;
 use occ_types::limits::MAX_WRITES;
 use occ_types::{Fault, Refused};
@@ -60,12 +61,12 @@ impl<A: Allocator> RequestWrites<A> {
     }
 
     // The writes of a private copy.
-    pub(crate) fn from_own(writes: OwnWrites<A>) -> RequestWrites<A>
-        requires { length writes ≤ limit.MAX_WRITES }
-        ensures { result ≡ writes }
+    pub(crate) fn from_own(alloc: A, writes: Handle<A>) -> RequestWrites<A>
+        requires { length (kept writes) ≤ limit.MAX_WRITES }
+        ensures { result ≡ kept writes }
     {
         RequestWrites {
-            set: WriteSet::from_own(writes),
+            set: WriteSet::from_handle(alloc, writes),
         }
     }
 
@@ -88,14 +89,14 @@ impl<A: Allocator> RequestWrites<A> {
     }
 
     // The writes for one owner alone, as `WriteSet::into_own` gives them.
-    pub(crate) fn into_own(self) -> Result<OwnWrites<A>, RequestWrites<A>>
+    pub(crate) fn into_own(self) -> Result<(A, Handle<A>), RequestWrites<A>>
     where
         A: Copy,
-        ensures ok { IfOk result (λ writes. (writes ≡ self) × (length writes ≤ limit.MAX_WRITES)) }
+        ensures ok { IfOk result (λ own. (kept own.1 ≡ self) × IsOwn own.1 × (length (kept own.1) ≤ limit.MAX_WRITES)) }
         ensures handed_back { IfErr result (λ writes. writes ≡ self) }
     {
         match self.set.into_own() {
-            Ok(writes) => Ok(writes),
+            Ok(own) => Ok(own),
             Err(set) => Err(RequestWrites { set }),
         }
     }

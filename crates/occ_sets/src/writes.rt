@@ -8,21 +8,24 @@ ghost use Rattle.occ_model.specs.Overlay.{set, own};
 ghost use Rattle.occ_sets.specs.Overlays.{rows_over};
 ghost use Rattle.occ_sets.specs.PlainSets.{rows_of};
 ghost use Rattle.occ_sets.specs.Sets.{WritesOnce, is_full_for};
-ghost use Rattle.occ_sets.specs.Shareable.{held};
+ghost use Rattle.occ_sets.specs.Handles.{kept, IsOwn};
 
+use crate::handles::Handle;
 use crate::own_writes::{OwnWrites, Write};
 use crate::prepared::{merge, own_asked};
 use crate::range_rows::RangeRows;
-use crate::shareable::Shareable;
 use occ_types::{Fault, Key, Object, Question, Refused, Row};
 use std::alloc::{AllocError, Allocator};
 use std::marker::Model;
+use std::sync::Arc;
 
 /// What a transaction writes: each object with its new row, or with none where it is deleted, in the order of the first writes. One owner has it by itself, or several share it, also across threads. Clauses see the list of the plain writes.
 #[derive(Drop)]
 #[derive_where(Debug)]
 pub struct WriteSet<A: Allocator> {
-    content: Shareable<OwnWrites<A>, A>,
+    #[derive_where(skip)]
+    alloc: A,
+    handle: Handle<A>,
 }
 
 impl<A: Allocator> Model for WriteSet<A> {
@@ -31,9 +34,9 @@ impl<A: Allocator> Model for WriteSet<A> {
 
     ghost Value = { List Write };
 
-    ghost use Rattle.occ_sets.specs.Shareable.{held};
+    ghost use Rattle.occ_sets.specs.Handles.{kept, IsOwn};
 
-    ghost view = { λ s. held s.content };
+    ghost view = { λ s. kept s.handle };
 }
 
 impl<A: Allocator + Copy> WriteSet<A> {
@@ -41,7 +44,10 @@ impl<A: Allocator + Copy> WriteSet<A> {
     pub fn new(alloc: A) -> WriteSet<A>
         ensures { result ≡ [] }
     {
-        WriteSet::from_own(OwnWrites::new(alloc))
+        WriteSet {
+            alloc,
+            handle: Handle::Empty,
+        }
     }
 
     /// A set without a write, with room for `count` of them. Refused with `Memory` where there is none for it.
@@ -50,37 +56,40 @@ impl<A: Allocator + Copy> WriteSet<A> {
         ensures memory { IsOkUnless result Memory }
     {
         let writes = OwnWrites::with_capacity(alloc, count)?;
-        Ok(WriteSet::from_own(writes))
+        let writes = Arc::new(alloc, writes)?;
+        Ok(WriteSet {
+            alloc,
+            handle: Handle::Shared(writes),
+        })
     }
 }
 
 impl<A: Allocator> WriteSet<A> {
     // The set of some writes, which takes no memory.
-    pub(crate) fn from_own(writes: OwnWrites<A>) -> WriteSet<A>
-        ensures { result ≡ writes }
+    pub(crate) fn from_handle(alloc: A, handle: Handle<A>) -> WriteSet<A>
+        ensures { result ≡ kept handle }
     {
-        WriteSet {
-            content: Shareable::Plain(writes),
-        }
+        WriteSet { alloc, handle }
     }
 
     // The writes.
-    pub(crate) fn own_writes(&self) -> &OwnWrites<A>
-        ensures { result.now ≡ self.now }
+    pub(crate) fn handle(&self) -> &Handle<A>
+        ensures { kept result.now ≡ self.now }
     {
-        self.content.get()
+        &self.handle
     }
 
-    // The writes for one owner alone: themselves where nobody else shares them, and else a copy. The set is handed back where there is no memory for that copy.
-    pub(crate) fn into_own(self) -> Result<OwnWrites<A>, WriteSet<A>>
+    // The writes for one owner alone: themselves where nobody else has them, and else a copy. The set is handed back where there is no memory for that.
+    pub(crate) fn into_own(self) -> Result<(A, Handle<A>), WriteSet<A>>
     where
         A: Copy,
-        ensures ok { IfOk result (λ writes. writes ≡ self) }
+        ensures ok { IfOk result (λ own. (kept own.1 ≡ self) × IsOwn own.1) }
         ensures handed_back { IfErr result (λ set. set ≡ self) }
     {
-        match self.content.into_plain() {
-            Ok(writes) => Ok(writes),
-            Err(content) => Err(WriteSet { content }),
+        let WriteSet { alloc, handle } = self;
+        match handle.into_own(alloc) {
+            Ok(handle) => Ok((alloc, handle)),
+            Err(handle) => Err(WriteSet { alloc, handle }),
         }
     }
 
@@ -89,7 +98,7 @@ impl<A: Allocator> WriteSet<A> {
         ensures value { result ≡ length self.now }
         ensures once { WritesOnce self.now }
     {
-        self.own_writes().len()
+        self.handle.len()
     }
 
     /// Whether no object is written.
@@ -103,14 +112,14 @@ impl<A: Allocator> WriteSet<A> {
     pub fn own(&self, object: &Object<A>) -> Option<Option<&Row<A>>>
         ensures { option_map option_copied result ≡ own self.now (object_of object.now) }
     {
-        self.own_writes().own(object)
+        self.handle.own(object)
     }
 
     /// Whether an object is written.
     pub fn writes(&self, object: &Object<A>) -> bool
         ensures { result ≡ is_some (own self.now (object_of object.now)) }
     {
-        self.own_writes().writes(object)
+        self.handle.writes(object)
     }
 
     /// The write at a place, in the order of the first writes.
@@ -118,14 +127,14 @@ impl<A: Allocator> WriteSet<A> {
         ensures value { option_map (λ w. (object_of w.0.now, option_copied w.1)) result ≡ slice_get self.now place }
         ensures small { IfSome result (λ _. place < 2 ^ 63) }
     {
-        self.own_writes().write_at(place)
+        self.handle.write_at(place)
     }
 
     /// Whether the set writes what the question asks for: one look-up for a single key, one pass for a range.
     pub fn meets(&self, question: &Question<A>) -> bool
         ensures { result ≡ meets_question self.now (question_of question.now) }
     {
-        self.own_writes().meets(question)
+        self.handle.meets(question)
     }
 }
 
@@ -140,8 +149,8 @@ impl<A: Allocator + Copy> WriteSet<A> {
         ensures seen { IfOk result (λ seen. rows_of seen.items ≡ rows_over (question_of question.now) self.now (rows_of rows.items)) }
         ensures handed_back { IfErr result (λ refused. (refused.value ≡ rows) × (refused.fault ≡ Memory)) }
     {
-        let alloc = self.own_writes().allocator();
-        let Ok(own) = own_asked(alloc, question, self.own_writes()) else {
+        let alloc = self.alloc;
+        let Ok(own) = own_asked(alloc, question, &self.handle) else {
             return Err(no_memory(rows));
         };
         if own.len() == 0 {
@@ -173,14 +182,12 @@ impl<A: Allocator + Copy> WriteSet<A> {
         Ok(shared)
     }
 
-    /// From now on a clone of the set is one more owner of it, and copies nothing. Refused with `Memory` where there is none for the handle, or for the order in which many writes are searched. The set has its writes either way.
+    /// From now on a clone of the set is one more owner of it, and copies nothing, and ranges are searched for by halves where there are many writes. Refused with `Memory` where there is none for that; it takes none where neither a private copy gave the few writes nor there are many of them. The set has its writes either way.
     pub fn share(&mut self) -> Result<(), Fault>
         ensures kept { self.new ≡ self.old }
         ensures memory { IsOkUnless result Memory }
     {
-        let alloc = self.own_writes().allocator();
-        put_in_order(&mut self.content)?;
-        self.content.share(alloc, OwnWrites::new(alloc))?;
+        self.handle.share(self.alloc)?;
         Ok(())
     }
 
@@ -203,7 +210,7 @@ impl<A: Allocator + Copy> WriteSet<A> {
             (λ refused. refused.fault ≡ cond (is_full_for self.old (table, key_of key)) SetFull Memory) }
     {
         let object = Object { table, key };
-        if self.own_writes().is_full_for(&object) {
+        if self.handle.is_full_for(&object) {
             return Err(Refused {
                 value: (object, row),
                 fault: Fault::SetFull,
@@ -227,19 +234,7 @@ impl<A: Allocator + Copy> WriteSet<A> {
         ensures handed_back { IfErr result (λ refused. refused.value ≡ (record { table = table; key = key }, row)) }
         ensures memory { IfErr result (λ refused. refused.fault ≡ Memory) }
     {
-        insert_in(&mut self.content, (Object { table, key }, row))
-    }
-}
-
-// Puts writes that nobody shares in order for searches. An error, where there is no memory for it, leaves them too.
-fn put_in_order<A: Allocator + Copy>(
-    content: &mut Shareable<OwnWrites<A>, A>,
-) -> Result<(), AllocError>
-    ensures { held content.new ≡ held content.old }
-{
-    match content {
-        Shareable::Plain(writes) => writes.put_in_order(),
-        Shareable::Shared(_) => Ok(()),
+        self.handle.insert(self.alloc, (Object { table, key }, row))
     }
 }
 
@@ -253,39 +248,14 @@ fn no_memory<T>(value: T) -> Refused<T>
     }
 }
 
-// Does a write. It is refused, and handed back, where there is no memory.
-fn insert_in<A: Allocator + Copy>(
-    content: &mut Shareable<OwnWrites<A>, A>,
-    write: Write<A>,
-) -> Result<(), Refused<Write<A>>>
-    ensures ok { OnOk result (held content.new ≡ set (held content.old) (object_of write.0) write.1) }
-    ensures err { OnErr result (held content.new ≡ held content.old) }
-    ensures handed_back { IfErr result (λ refused. refused.value ≡ write) }
-    ensures memory { IfErr result (λ refused. refused.fault ≡ Memory) }
-{
-    let empty = OwnWrites::new(content.get().allocator());
-    if content.unshare(empty).is_err() {
-        return Err(Refused {
-            value: write,
-            fault: Fault::Memory,
-        });
-    }
-    match content {
-        Shareable::Plain(writes) => {
-            let (object, row) = write;
-            writes.insert(object, row)
-        }
-        Shareable::Shared(_) => unreachable!(),
-    }
-}
-
 impl<A: Allocator + Clone> Clone for WriteSet<A> {
     ghost is_clone = { λ source copy. copy ≡ source };
 
     // One more owner of a set that is shared, and else a copy.
     fn clone(&self) -> Result<WriteSet<A>, AllocError> {
         Ok(WriteSet {
-            content: self.content.clone()?,
+            alloc: self.alloc.clone()?,
+            handle: self.handle.clone()?,
         })
     }
 }

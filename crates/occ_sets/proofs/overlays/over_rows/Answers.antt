@@ -2,6 +2,7 @@ use Rattle.std.proofs.Common.{sym, ap, ◌∙◌}
 use Rattle.occ_types.specs.PlainData.{question_of, table_asked}
 use Rattle.occ_model.specs.State.{apply}
 use Rattle.occ_model.specs.Overlay as model
+use Rattle.occ_sets.specs.Handles.{kept}
 use Rattle.occ_sets.specs.PlainSets.{rows_of}
 use Rattle.occ_sets.specs.Overlays.{rows_over}
 use Rattle.occ_sets.proofs.Agreement.{answer_of_entries}
@@ -15,5 +16,5 @@ returns g c =
     let given = model.rows_of (table_asked q) copied in
     c.in_ok-rows.ensures
     ∙ ap rows_of c.in_ok-laid.ensures.rows
-    ∙ sym (answer_of_entries q _ (apply given c.args.writes.now) (c.in_ok-write_all.ensures given c.in_ok-seen.ensures) c.in_ok-laid.ensures.sorted)
-    ∙ ap (λ rows. rows_over q c.args.writes.now rows) c.in_ok-to_vec.ensures
+    ∙ sym (answer_of_entries q _ (apply given (kept c.args.writes.now)) (c.in_ok-write_all.ensures given c.in_ok-seen.ensures) c.in_ok-laid.ensures.sorted)
+    ∙ ap (λ rows. rows_over q (kept c.args.writes.now) rows) c.in_ok-to_vec.ensures

@@ -4,6 +4,7 @@ use Rattle.std.specs.Prelude.{IfOk}
 use Rattle.occ_types.specs.Row.{Row}
 use Rattle.occ_sets.specs.OwnWrites.{written}
 use Rattle.occ_sets.specs.PlainSets.{writes_of}
+use Rattle.occ_sets.specs.ShortList.{values}
 use Rattle.occ_sets.proofs.own_writes.copied.Goals as goal
 
 -- a copy of an entry is the same, whatever tells copies of rows apart from none
@@ -20,7 +21,7 @@ same_entry first no_row no_copy rows (x, Some row) (y, Some copy) h =
 -- a copy of the list has its writes
 pub returns-in_ok-clone-in-Few : goal.returns-in_ok-clone-in-Few
 returns-in_ok-clone-in-Few g c =
-    let same = same_from_all_zip _ c.in-Few.list.items c.in_ok-clone-in-Few.field-0.items c.in_ok-clone-in-Few.ensures.cases.0 (same_entry (λ e copy h. h.0) (λ x y row h. absurd h.1) (λ x y row h. absurd h.1) (λ x y row copy h. h.1)) in
+    let same = same_from_all_zip _ (values c.in-Few.list) (values c.in_ok-clone-in-Few.field-0) c.in_ok-clone-in-Few.ensures.cases (same_entry (λ e copy h. h.0) (λ x y row h. absurd h.1) (λ x y row h. absurd h.1) (λ x y row copy h. h.1)) in
     ap writes_of same ∙ ap written (sym c.in-Few.is)
 
 -- and one of the map its entries

@@ -5,6 +5,7 @@ use Rattle.occ_types.specs.Question.{asks}
 use Rattle.occ_types.specs.Row.{Row}
 use Rattle.occ_types.specs.PlainData.{key_of, object_of, question_of}
 use Rattle.occ_model.specs.State.{Write}
+use Rattle.occ_sets.specs.Handles.{kept}
 use Rattle.occ_sets.specs.Merging.{LedFurther}
 use Rattle.occ_sets.proofs.Leading.{led-asked, led-unasked, led_found}
 use Rattle.occ_sets.proofs.prepared.note_write.Goals as goal
@@ -23,7 +24,7 @@ returns-in_ok-insert g c = λ there f.
     let within : asks q (o.table, key_of key) ≡ true = ap (λ k. asks q (o.table, key_of k)) same_key ∙ sym c.asks.ensures ∙ c.if-asks.true in
     let leads = led-asked q old new o.table key copy within c.in_ok-insert.ensures.updates.0 in
     let here : Write = (object_of o, option_copied {T = Row} c.in-Some.row) in
-    led_found q old new here there (slice_get c.args.writes.now c.args.place) c.in-Some.ensures.value (subst (λ (w : Write). LedFurther q old new w) (λ i. ((o.table, key_of (same_key i)), same_row i)) leads) f
+    led_found q old new here there (slice_get (kept c.args.writes.now) c.args.place) c.in-Some.ensures.value (subst (λ (w : Write). LedFurther q old new w) (λ i. ((o.table, key_of (same_key i)), same_row i)) leads) f
 
 -- and another one changes nothing
 pub returns-else-asks : goal.returns-else-asks
@@ -32,4 +33,4 @@ returns-else-asks g c = λ there f.
     let own = c.args.own.now.entries in
     let o = object_of c.in-Some.object.now in
     let row = option_copied {T = Row} c.in-Some.row in
-    led_found q own own (o, row) there (slice_get c.args.writes.now c.args.place) c.in-Some.ensures.value (led-unasked q own o row (sym c.asks.ensures ∙ c.if-asks.false)) f
+    led_found q own own (o, row) there (slice_get (kept c.args.writes.now) c.args.place) c.in-Some.ensures.value (led-unasked q own o row (sym c.asks.ensures ∙ c.if-asks.false)) f

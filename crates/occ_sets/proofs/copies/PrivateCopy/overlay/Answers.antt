@@ -3,6 +3,7 @@ use Rattle.std.proofs.lemmas.Result.{IfOk-weaker}
 use Rattle.occ_types.specs.PlainData.{end_of, question_of}
 use Rattle.occ_model.specs.State.{Rows}
 use Rattle.occ_model.specs.Overlay.{overlay}
+use Rattle.occ_sets.specs.Handles.{kept}
 use Rattle.occ_sets.specs.Overlays.{rows_over}
 use Rattle.occ_sets.specs.PlainSets.{answer_of}
 use Rattle.occ_sets.proofs.Agreement.{overlay-Span}
@@ -11,7 +12,7 @@ use Rattle.occ_sets.proofs.copies.PrivateCopy.overlay.Goals as goal
 -- the rows of a range have the own writes over them
 pub returns-in-Rows-clause-seen : goal.returns-in-Rows-clause-seen
 returns-in-Rows-clause-seen g c =
-    let writes = c.self.inside.writes in
+    let writes = kept c.self.inside.writes in
     let rows = c.in-Rows.rows in
     let same =
     ap (λ q. Rows (rows_over (question_of q) writes rows)) c.in-Span.is

@@ -7,4 +7,4 @@ use Rattle.occ_sets.proofs.own_writes.OwnWrites.insert.Goals as goal
 pub invariant_of-self : goal.invariant_of-self
 invariant_of-self g c =
     let done = c.insert_in in
-    once_after done.result (written c.self.inside.content) (written done.new.content) (object_of c.args.object) c.args.row done.ensures.ok done.ensures.err c.self.invariant
+    once_after done.result (written c.self.inside.content) (written done.new.content) (object_of c.args.write.0) c.args.write.1 done.ensures.ok done.ensures.err c.self.invariant

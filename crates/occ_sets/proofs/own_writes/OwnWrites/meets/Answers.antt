@@ -1,4 +1,4 @@
-use Rattle.std.proofs.Common.{◌≡◌, ◌∙◌, sym, ap, subst, refl}
+use Rattle.std.proofs.Common.{◌∙◌, sym, ap}
 use Rattle.occ_types.specs.PlainData.{key_of, question_of}
 use Rattle.occ_model.specs.State.{meets_question}
 use Rattle.occ_sets.specs.OwnWrites.{written}

@@ -9,5 +9,5 @@ use Rattle.occ_sets.proofs.writes.WriteSet.set.Goals as goal
 pub returns-clause-fault : goal.returns-clause-fault
 returns-clause-fault g c =
     let o : Object = (c.args.table, key_of c.args.key) in
-    let room = sym (c.is_full_for.ensures ∙ ap (λ ws. is_full_for ws o) c.own_writes.ensures) ∙ c.if-is_full_for.false in
+    let room = sym (c.is_full_for.ensures ∙ ap (λ ws. is_full_for ws o) c.self.view_is) ∙ c.if-is_full_for.false in
     told_memory c.insert.result (is_full_for c.args.self.now o) room c.insert.ensures.memory

@@ -5,7 +5,7 @@ use Rattle.std.specs.List.{list_any}
 use Rattle.occ_types.specs.Question.{asks}
 use Rattle.occ_types.specs.PlainData.{object_of, question_of}
 use Rattle.occ_sets.proofs.Meetings.{meets_question-entries}
-use Rattle.occ_sets.proofs.few_writes.meets_few.Goals as goal
+use Rattle.occ_sets.proofs.few_writes.meets_some.Goals as goal
 
 -- each write is tested
 pub returns : goal.returns

@@ -5,7 +5,7 @@ use Rattle.std.specs.List.{find}
 use Rattle.std.specs.Option.{option_map}
 use Rattle.occ_sets.proofs.WriteEntries.{tied}
 use Rattle.occ_sets.proofs.Placed.{own_found}
-use Rattle.occ_sets.proofs.few_writes.own_in.Goals as goal
+use Rattle.occ_sets.proofs.few_writes.own_among.Goals as goal
 
 -- no entry is of the object
 pub returns-in-None : goal.returns-in-None

@@ -4,7 +4,7 @@ use Rattle.std.proofs.Common.{◌≡◌, ◌∙◌, rules, tests}
 use Rattle.std.specs.List.{position}
 use Rattle.occ_sets.proofs.WriteEntries.{tied}
 use Rattle.occ_sets.proofs.Placed.{place_of_entry}
-use Rattle.occ_sets.proofs.few_writes.place_of.Goals as goal
+use Rattle.occ_sets.proofs.few_writes.place_among.Goals as goal
 
 -- the first entry of the object
 pub returns : goal.returns
