@@ -1,12 +1,11 @@
 //! What the verdict on a transaction depends on.
-ghost use Rattle.std.specs.Prelude.{◌≡◌, map, IfOk, MatchResult};
+ghost use Rattle.std.specs.Prelude.{◌≡◌, drop, map, take, MatchResult};
 ghost use Rattle.occ_types.specs.declared.fault.Fault.TheVariants.{Memory};
 
 use occ_sets::{ReadSet, WriteSet};
 use occ_types::{Fault, Refused};
 use std::alloc::{AllocError, AllocFailed, Allocator};
 use std::marker::Model;
-use std::sync::Arc;
 
 /// What the verdict on a transaction depends on, fixed at its entry: its own start, reads and writes, the lower end of the window,
 /// and the write sets of its opponents, those that had finished apart from those that were active. Clauses see the plain case.
@@ -16,12 +15,13 @@ pub struct Case<A: Allocator> {
     pub(crate) low: u64,
     pub(crate) reads: ReadSet<A>,
     pub(crate) writes: WriteSet<A>,
-    pub(crate) finished: Vec<WriteSet<A>, A>,
-    pub(crate) active: Vec<WriteSet<A>, A>,
+    // Those that had finished come first: so many of them.
+    pub(crate) opponents: Vec<WriteSet<A>, A>,
+    pub(crate) finished: usize,
 }
 
 impl<A: Allocator> Model for Case<A> {
-    ghost use Rattle.std.specs.Prelude.{map};
+    ghost use Rattle.std.specs.Prelude.{drop, map, take};
     ghost use Rattle.occ_model.specs.Log.{Case as PlainCase};
 
     ghost Value = { PlainCase };
@@ -31,28 +31,29 @@ impl<A: Allocator> Model for Case<A> {
       low = c.low;
       reads = map (λ o. o.0) c.reads;
       writes = c.writes;
-      finished = c.finished.items;
-      active = c.active.items;
+      finished = take c.finished c.opponents.items;
+      active = drop c.finished c.opponents.items;
     } };
 }
 
 impl<A: Allocator> Case<A> {
-    /// The case of a transaction that began at `start`, while the window begins above `low`.
+    /// The case of a transaction that began at `start`, while the window begins above `low`. Of its opponents the first `finished` had
+    /// finished, and the others were active.
     pub fn new(
         start: u64,
         low: u64,
         reads: ReadSet<A>,
         writes: WriteSet<A>,
-        finished: Vec<WriteSet<A>, A>,
-        active: Vec<WriteSet<A>, A>,
+        opponents: Vec<WriteSet<A>, A>,
+        finished: usize,
     ) -> Case<A>
         ensures { result ≡ record {
           start = start;
           low = low;
           reads = map (λ o. o.0) reads;
           writes = writes;
-          finished = finished.items;
-          active = active.items;
+          finished = take finished opponents.items;
+          active = drop finished opponents.items;
         } }
     {
         Case {
@@ -60,65 +61,34 @@ impl<A: Allocator> Case<A> {
             low,
             reads,
             writes,
+            opponents,
             finished,
-            active,
         }
     }
 }
 
-/// One owner of a case that several own, also across threads: the row that is open, and the file of cases. None of them changes it.
-/// Clauses see the plain case.
-#[derive(Drop)]
-pub struct SharedCase<A: Allocator> {
-    case: Arc<Case<A>, A>,
-}
+impl<A: Allocator + Clone> Clone for Case<A> {
+    ghost is_clone = { λ source copy. copy ≡ source };
 
-impl<A: Allocator> Model for SharedCase<A> {
-    ghost use Rattle.occ_model.specs.Log.{Case as PlainCase};
-
-    ghost Value = { PlainCase };
-
-    ghost view = { λ s. s.case.value };
-}
-
-impl<A: Allocator> SharedCase<A> {
-    /// A case behind a handle. Refused with `Memory`, and the case handed back, where there is no memory for it.
-    pub fn new(alloc: A, case: Case<A>) -> Result<SharedCase<A>, Refused<Case<A>>>
-        ensures { MatchResult result (λ made. made ≡ case) (λ refused. (refused.value ≡ case) × (refused.fault ≡ Memory)) }
-    {
-        match Arc::new(alloc, case) {
-            Ok(case) => Ok(SharedCase { case }),
-            Err(AllocFailed { value, .. }) => Err(Refused {
-                value,
-                fault: Fault::Memory,
-            }),
-        }
-    }
-
-    /// The case.
-    pub fn case(&self) -> &Case<A>
-        ensures { result.now ≡ self.now }
-    {
-        &self.case
-    }
-
-    /// One more owner of the same case. An error where it has too many owners to be counted. It copies nothing.
-    pub fn share(&self) -> Result<SharedCase<A>, AllocError>
-        ensures { IfOk result (λ shared. shared ≡ self.now) }
-    {
-        Ok(SharedCase {
-            case: Arc::try_clone(&self.case)?,
+    // One more owner of each set. No set is copied.
+    fn clone(&self) -> Result<Case<A>, AllocError> {
+        Ok(Case {
+            start: self.start,
+            low: self.low,
+            reads: self.reads.clone()?,
+            writes: self.writes.clone()?,
+            opponents: self.opponents.clone()?,
+            finished: self.finished,
         })
     }
 }
 
 /// The case of a transaction that is not decided yet, with the index that names it. The case stands behind a handle, so that the
-/// row of the log that has it is short, also when it is decided, and that others may own it too. Clauses see the index and the
-/// plain case.
+/// row of the log that has it is short, also when it is decided. Clauses see the index and the plain case.
 #[derive(Drop)]
 pub struct OpenCase<A: Allocator> {
     index: u64,
-    case: SharedCase<A>,
+    case: Box<Case<A>, A>,
 }
 
 impl<A: Allocator> Model for OpenCase<A> {
@@ -127,7 +97,7 @@ impl<A: Allocator> Model for OpenCase<A> {
 
     ghost Value = { ℕ × PlainCase };
 
-    ghost view = { λ o. (o.index, o.case) };
+    ghost view = { λ o. (o.index, o.case.value) };
 }
 
 impl<A: Allocator> OpenCase<A> {
@@ -135,8 +105,13 @@ impl<A: Allocator> OpenCase<A> {
     pub fn new(alloc: A, index: u64, case: Case<A>) -> Result<OpenCase<A>, Refused<Case<A>>>
         ensures { MatchResult result (λ made. made ≡ (index, case)) (λ refused. (refused.value ≡ case) × (refused.fault ≡ Memory)) }
     {
-        let case = SharedCase::new(alloc, case)?;
-        Ok(OpenCase { index, case })
+        match Box::new(alloc, case) {
+            Ok(case) => Ok(OpenCase { index, case }),
+            Err(AllocFailed { value }) => Err(Refused {
+                value,
+                fault: Fault::Memory,
+            }),
+        }
     }
 
     /// The index that names the case.
@@ -150,26 +125,23 @@ impl<A: Allocator> OpenCase<A> {
     pub fn case(&self) -> &Case<A>
         ensures { result.now ≡ self.now.1 }
     {
-        self.case.case()
-    }
-
-    /// One more owner of the case. An error where it has too many owners to be counted. It copies nothing.
-    pub fn share(&self) -> Result<SharedCase<A>, AllocError>
-        ensures { IfOk result (λ shared. shared ≡ self.now.1) }
-    {
-        let shared = self.case.share()?;
-        Ok(shared)
+        &self.case
     }
 }
 
-/// One more owner of the same case, under the same index. An error where it has too many owners to be counted. It copies nothing.
+/// The same case under the same index. Its sets are shared.
 impl<A: Allocator + Clone> Clone for OpenCase<A> {
     ghost is_clone = { λ source copy. copy ≡ source };
 
     fn clone(&self) -> Result<OpenCase<A>, AllocError> {
-        Ok(OpenCase {
-            index: self.index,
-            case: self.case.share()?,
-        })
+        let copy = self.case().clone()?;
+        let alloc = Box::allocator(&self.case).clone()?;
+        match Box::new(alloc, copy) {
+            Ok(case) => Ok(OpenCase {
+                index: self.index,
+                case,
+            }),
+            Err(AllocFailed { .. }) => Err(AllocError),
+        }
     }
 }

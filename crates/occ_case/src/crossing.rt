@@ -1,5 +1,5 @@
 //! What of cases may cross threads.
-use crate::cases::{Case, OpenCase, SharedCase};
+use crate::cases::{Case, OpenCase};
 use crate::file::{CaseFile, CaseToken};
 use crate::judged::Judged;
 use std::alloc::Allocator;
@@ -8,7 +8,6 @@ use std::alloc::Allocator;
 /// allocator may. It computes nothing: the check proves it of each of them.
 pub fn cases_cross_threads<A: Allocator + Send + Sync>() {
     crosses::<Case<A>>();
-    crosses::<SharedCase<A>>();
     crosses::<OpenCase<A>>();
     crosses::<CaseFile<A>>();
     crosses::<CaseToken<A>>();

@@ -3,7 +3,7 @@ ghost use Rattle.std.specs.Prelude.{◌≡◌, IfOk, IfErr, IfSome};
 ghost use Rattle.boxcar.specs.Table.{Shows};
 ghost use Rattle.occ_types.specs.declared.fault.Fault.TheVariants.{Memory};
 
-use crate::cases::SharedCase;
+use crate::cases::Case;
 use boxcar::Pushed;
 use occ_types::{Fault, Refused};
 use std::alloc::{AllocError, Allocator};
@@ -11,13 +11,13 @@ use std::marker::Model;
 use std::sync::Wait;
 
 /// What shows that a file of cases has a case at an index, for as long as the file lasts. Clauses see the index and the plain case.
-pub type CaseToken<A> = Pushed<SharedCase<A>, A>;
+pub type CaseToken<A> = Pushed<Case<A>, A>;
 
 /// The cases of a store, which threads share: each may push one and look at those that were pushed, with no lock. A case never
 /// changes and never leaves the file before the file itself goes, so an index names one case for good.
 #[derive(Drop)]
 pub struct CaseFile<A: Allocator> {
-    cases: boxcar::Vec<SharedCase<A>, A>,
+    cases: boxcar::Vec<Case<A>, A>,
 }
 
 impl<A: Allocator> Model for CaseFile<A> {
@@ -37,13 +37,8 @@ impl<A: Allocator + Clone> CaseFile<A> {
         Ok(CaseFile { cases })
     }
 
-    /// Puts a case into the file, and answers what shows that it is there, under an index of the file's own. It copies nothing of the
-    /// case. Refused with `Memory`, and the case handed back, where the file has no memory to grow, or no index is left.
-    pub fn push<R: Wait>(
-        &self,
-        rt: &R,
-        case: SharedCase<A>,
-    ) -> Result<CaseToken<A>, Refused<SharedCase<A>>>
+    /// Puts a case into the file, and answers what shows that it is there, under an index of the file's own. Refused with `Memory`, and the case handed back, where the file has no memory to grow, or no index is left.
+    pub fn push<R: Wait>(&self, rt: &R, case: Case<A>) -> Result<CaseToken<A>, Refused<Case<A>>>
         ensures ok { IfOk result (λ token. Shows self.now token × (token.value ≡ case)) }
         ensures handed_back { IfErr result (λ refused. (refused.value ≡ case) × (refused.fault ≡ Memory)) }
     {
@@ -66,7 +61,7 @@ impl<A: Allocator> CaseFile<A> {
     }
 
     /// The case that a token of this file shows.
-    pub fn case<'a>(&'a self, token: &CaseToken<A>) -> &'a SharedCase<A>
+    pub fn case<'a>(&'a self, token: &CaseToken<A>) -> &'a Case<A>
         requires { Shows self.now token.now }
         ensures { result.now ≡ token.now.value }
     {

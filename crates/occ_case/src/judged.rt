@@ -53,6 +53,6 @@ pub fn judge<A: Allocator>(file: &CaseFile<A>, token: CaseToken<A>) -> Judged<A>
     requires { Shows file.now token }
     ensures { result ≡ token }
 {
-    let verdict = verdicts::verdict(file.case(&token).case());
+    let verdict = verdicts::verdict(file.case(&token));
     Judged { token, verdict }
 }

@@ -8,7 +8,7 @@ mod file;
 mod judged;
 mod verdicts;
 
-pub use cases::{Case, OpenCase, SharedCase};
+pub use cases::{Case, OpenCase};
 pub use crossing::cases_cross_threads;
 pub use file::{CaseFile, CaseToken};
 pub use judged::{Judged, judge};

@@ -14,37 +14,39 @@ use std::alloc::Allocator;
 pub fn verdict<A: Allocator>(case: &Case<A>) -> Verdict
     ensures { result ≡ verdict case.now }
 {
-    let Case {
-        start,
-        low,
-        reads,
-        writes,
-        finished,
-        active,
-    } = case;
-    if *start < *low {
+    if case.start < case.low {
         return Verdict::BackUp(Cause::TooOld);
     }
-    if some_wrote(finished, reads) || some_may_write(active, reads, writes) {
+    let (finished, active) = opponents(case);
+    if some_wrote(finished, &case.reads) || some_may_write(active, &case.reads, &case.writes) {
         return Verdict::BackUp(Cause::Conflict);
     }
     Verdict::Commit
 }
 
+// The opponents of a case that had finished, and those that were active.
+fn opponents<A: Allocator>(case: &Case<A>) -> (&[WriteSet<A>], &[WriteSet<A>])
+    ensures finished { result.0.now ≡ case.now.finished }
+    ensures active { result.1.now ≡ case.now.active }
+{
+    let all = case.opponents.as_slice();
+    all.split_at(case.finished.min(all.len()))
+}
+
 // Whether some of the finished opponents wrote what was read.
-fn some_wrote<A: Allocator>(finished: &Vec<WriteSet<A>, A>, reads: &ReadSet<A>) -> bool
-    ensures { result ≡ list_any (λ theirs. meets_reads theirs (map (λ o. o.0) reads.now)) finished.now.items }
+fn some_wrote<A: Allocator>(finished: &[WriteSet<A>], reads: &ReadSet<A>) -> bool
+    ensures { result ≡ list_any (λ theirs. meets_reads theirs (map (λ o. o.0) reads.now)) finished.now }
 {
     finished.iter().any(|theirs| meets_reads(theirs, reads))
 }
 
 // Whether some of the active opponents writes what was read, or what is written.
 fn some_may_write<A: Allocator>(
-    active: &Vec<WriteSet<A>, A>,
+    active: &[WriteSet<A>],
     reads: &ReadSet<A>,
     writes: &WriteSet<A>,
 ) -> bool
-    ensures { result ≡ list_any (λ theirs. meets_reads theirs (map (λ o. o.0) reads.now) || meets_writes theirs writes.now) active.now.items }
+    ensures { result ≡ list_any (λ theirs. meets_reads theirs (map (λ o. o.0) reads.now) || meets_writes theirs writes.now) active.now }
 {
     active.iter().any(|theirs| may_write(theirs, reads, writes))
 }
