@@ -1,12 +1,11 @@
 -- What is found at a place of a page, and what a change there makes of all entries.
-use Rattle.std.proofs.Common.{◌≡◌, ◌<◌, ◌≤◌, ◌+◌, ◌-◌, ℕ, zero, suc, Bool, true, false, List, [], ◌∷◌, ◌++◌, length, take, drop, get_or, set, Option, None, Some, refl, sym, ap, subst, ◌∙◌, arith, append_assoc, take-append-drop, length-append}
+use Rattle.std.proofs.Common.{◌≡◌, ◌<◌, ◌+◌, ℕ, zero, suc, false, List, [], ◌∷◌, ◌++◌, length, take, drop, get_or, set, None, Some, refl, sym, ap, subst, ◌∙◌, arith, length-append}
 use Rattle.std.specs.List.{insert, remove}
-use Rattle.std.proofs.lemmas.List.{append-nil, length-set}
-use Rattle.occ_pages.specs.Entries.{AllBelow, AllFrom, Ascends, get, put, without}
+use Rattle.occ_pages.specs.Entries.{Ascends, get, put, without}
 use Rattle.occ_pages.specs.Page.{StandsAt}
-use Rattle.occ_pages.specs.Pages.{begins_with, BeginsAt, flatten, before, behind, AreUnder, IsShelf, IsPlace, IsGap, IsMap}
-use Rattle.occ_pages.proofs.Laws.{get-absent, get-present, put-new, put-old, without-old, without-absent, ascends-put, ascends-set, ascends-without, ascends-first}
-use Rattle.occ_pages.proofs.Shelves.{parted, changed, behind-next, under-long, page-begins, under-set, under-kept, under-push, flatten-push, under-remove, remove-set, flatten-remove, under-split, flatten-split}
+use Rattle.occ_pages.specs.Pages.{begins_with, BeginsAt, flatten, before, behind, AreUnder, IsShelf, IsPlace, IsGap}
+use Rattle.occ_pages.proofs.Laws.{get-absent, get-present, put-new, put-old, without-old, without-absent, ascends-put, ascends-set, ascends-without}
+use Rattle.occ_pages.proofs.Shelves.{parted, changed, behind-next, under-long, page-begins, under-set, under-kept, under-remove, remove-set, flatten-remove}
 
 module _ {T : Type 0} where
   abbrev page_at : List (List (ℕ × T)) → ℕ → List (ℕ × T)

@@ -1,5 +1,5 @@
 -- Copies of pages are pages of copies, in the same order and under the same first keys.
-use Rattle.std.proofs.Common.{◌≡◌, ◌≤◌, ℕ, suc, List, [], ◌∷◌, ◌++◌, length, refl, sym, ap, subst, ◌∙◌, arith}
+use Rattle.std.proofs.Common.{◌≡◌, ◌≤◌, ℕ, suc, List, [], ◌∷◌, ◌++◌, length, refl, sym, ap, subst, ◌∙◌}
 use Rattle.std.specs.List.{AllZip}
 use Rattle.occ_pages.specs.Copies.{AreCopies}
 use Rattle.occ_pages.specs.Entries.{AllFrom, Ascends}

@@ -4,7 +4,7 @@ use Rattle.std.specs.List.{insert}
 use Rattle.std.proofs.lemmas.List.{append-nil, length-set, length-take-le, length-drop, take-take, drop-append-le, drop-drop, drop_all}
 use Rattle.std.proofs.lemmas.List.Edits.{length-insert}
 use Rattle.occ_pages.specs.Entries.{AllBelow, AllFrom, Ascends, put}
-use Rattle.occ_pages.specs.Pages.{BeginsAt, flatten, before, behind, AreUnder, IsShelf, IsGap, cut}
+use Rattle.occ_pages.specs.Pages.{BeginsAt, flatten, before, behind, IsShelf, IsGap, cut}
 use Rattle.occ_pages.proofs.Laws.{put-new, ascends-put}
 use Rattle.occ_pages.proofs.Shelves.{parted, under-long, page-begins, under-push, flatten-push, under-split, flatten-split}
 

@@ -1,5 +1,5 @@
 -- A search by halves among keys that ascend.
-use Rattle.std.proofs.Common.{◌≡◌, ◌<◌, ◌≤◌, ◌+◌, ◌-◌, ℕ, List, length, get_or, ap, arith}
+use Rattle.std.proofs.Common.{◌≡◌, ◌<◌, ◌≤◌, ◌+◌, ℕ, List, length, get_or, ap, arith}
 use Rattle.occ_pages.specs.Pages.{Rises}
 
 -- a key that is below gives all before it

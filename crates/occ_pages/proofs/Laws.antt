@@ -1,10 +1,10 @@
 -- The laws of a map in pages: what it finds, what a row that is put or taken out does, which rows lie in a range, and that the keys ascend.
-use Rattle.std.proofs.Common.{◌≡◌, ◌<◌, ◌≤◌, ◌+◌, ◌-◌, ℕ, zero, suc, Bool, true, false, ◌&&◌, cond, nat_eq, nat_lt, nat_le, List, [], ◌∷◌, ◌++◌, length, take, drop, get_or, Option, None, Some, Ordering, Less, Equal, Greater, refl, sym, ap, subst, ◌∙◌, arith, append_assoc}
+use Rattle.std.proofs.Common.{◌≡◌, ◌<◌, ◌≤◌, ◌-◌, ℕ, zero, suc, Bool, true, false, ◌&&◌, cond, nat_eq, nat_lt, nat_le, List, [], ◌∷◌, ◌++◌, take, drop, Option, None, Some, Less, Equal, Greater, refl, sym, ap, ◌∙◌, arith}
 use Rattle.std.specs.Ordering.{nat_cmp, match_ordering}
-use Rattle.std.specs.Cmp.{nat_cmp_is, unsigned_Decides}
+use Rattle.std.specs.Cmp.{nat_cmp_is}
 use Rattle.std.proofs.lemmas.Bool.Decides.{nat_tests}
 use Rattle.occ_pages.specs.Entries.{is_from, is_below, is_within, AllBelow, AllFrom, Ascends, get, put, without, within}
-use Rattle.occ_pages.specs.Pages.{begins_with, IsSplit, IsStart, IsEnd}
+use Rattle.occ_pages.specs.Pages.{begins_with, IsStart, IsEnd}
 
 -- tests of numbers
 apart_above : (a b : ℕ) → b < a → nat_eq a b ≡ false

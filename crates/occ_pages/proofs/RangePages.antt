@@ -1,10 +1,10 @@
 -- The rows of a range: the pages in which they stand, and what each page has of them.
-use Rattle.std.proofs.Common.{◌≡◌, ◌<◌, ◌≤◌, ◌+◌, ◌-◌, ℕ, zero, suc, Bool, true, false, cond, List, [], ◌∷◌, ◌++◌, length, take, drop, get_or, Option, None, Some, max, refl, sym, ap, subst, ◌∙◌, arith, append_assoc, take-append-drop, length-append}
-use Rattle.std.proofs.lemmas.List.{append-nil, take_more, drop_all, drop-drop}
+use Rattle.std.proofs.Common.{◌≡◌, ◌<◌, ◌≤◌, ◌+◌, ◌-◌, ℕ, zero, suc, true, false, cond, List, [], ◌∷◌, ◌++◌, length, take, drop, get_or, Option, None, Some, refl, sym, ap, subst, ◌∙◌, arith, append_assoc, take-append-drop, length-append}
+use Rattle.std.proofs.lemmas.List.{append-nil, take_more, drop-drop}
 use Rattle.occ_pages.specs.Entries.{AllBelow, AllFrom, Ascends, is_within, within}
 use Rattle.occ_pages.specs.Pages.{IsRank, IsPageFor, flatten, before, AreUnder, IsShelf}
 use Rattle.occ_pages.proofs.Laws.{ascends-first, ascends-last, within-append, within-below, within-from}
-use Rattle.occ_pages.proofs.Shelves.{under-long, all-from, before-page, flatten-push}
+use Rattle.occ_pages.proofs.Shelves.{all-from, before-page, flatten-push}
 
 module _ {T : Type 0} where
   before-start : (pages : List (List (ℕ × T))) (page : ℕ) → before pages page 0 ≡ flatten (take page pages)

@@ -1,8 +1,8 @@
 -- What is read of a list of pages at a place.
-use Rattle.std.proofs.Common.{◌≡◌, ◌<◌, ◌≤◌, ◌+◌, ◌-◌, ℕ, zero, suc, Bool, true, false, nat_eq, List, [], ◌∷◌, length, take, drop, get_or, refl, sym, ap, subst, ◌∙◌, arith}
+use Rattle.std.proofs.Common.{◌≡◌, ◌<◌, ◌≤◌, ◌+◌, ◌-◌, ℕ, zero, suc, true, List, [], ◌∷◌, length, take, drop, get_or, sym, subst, ◌∙◌, arith}
 use Rattle.std.proofs.lemmas.List.{get_or_default}
 use Rattle.occ_pages.specs.Pages.{Rises, IsRank, IsPageFor, begins_with, IsSplit, IsShelf, IsPlace}
-use Rattle.occ_pages.proofs.Shelves.{under-long, firsts-rise, place-in}
+use Rattle.occ_pages.proofs.Shelves.{under-long, place-in}
 
 -- the page that a key belongs to: that of the first key itself, or the one before the first key that is above it
 pub page-here : (firsts : List ℕ) (key place : ℕ) → Rises firsts → IsRank firsts key place → place < length firsts → get_or firsts place 0 ≡ key → IsPageFor firsts key place

@@ -1,11 +1,10 @@
 -- Pages in order under their first keys: where a key belongs, and what a change of one page does to all entries.
-use Rattle.std.proofs.Common.{◌≡◌, ◌<◌, ◌≤◌, ◌+◌, ◌-◌, ℕ, zero, suc, add-one, Bool, true, false, nat_eq, List, [], ◌∷◌, ◌++◌, length, take, drop, get_or, set, refl, sym, ap, subst, ◌∙◌, arith, append_assoc, take-append-drop}
+use Rattle.std.proofs.Common.{◌≡◌, ◌<◌, ◌≤◌, ◌+◌, ℕ, zero, suc, List, [], ◌∷◌, ◌++◌, length, take, drop, get_or, set, refl, sym, ap, subst, ◌∙◌, arith, append_assoc, take-append-drop}
 use Rattle.std.specs.List.{insert, remove}
-use Rattle.std.specs.Cmp.{unsigned_Decides}
 use Rattle.std.proofs.lemmas.List.{append-nil}
 use Rattle.occ_pages.specs.Entries.{AllBelow, AllFrom, Ascends}
-use Rattle.occ_pages.specs.Pages.{Rises, IsRank, IsPageFor, zipped, begins_with, BeginsAt, flatten, before, behind, AreUnder, IsSplit, IsShelf, IsPlace, IsGap, IsMap}
-use Rattle.occ_pages.proofs.Laws.{below-append, from-append, from-first, from-last, from-weaker, ascends-first, ascends-last, below-first, from-next}
+use Rattle.occ_pages.specs.Pages.{Rises, IsPageFor, BeginsAt, flatten, before, behind, AreUnder, IsSplit, IsShelf, IsPlace}
+use Rattle.occ_pages.proofs.Laws.{below-append, from-append, from-last, from-weaker, ascends-first, ascends-last, below-first, from-next}
 
 -- what was set at a place is taken out
 pub remove-set : {X : Type 0} (xs : List X) (i : ℕ) (x : X) → remove (set xs i x) i ≡ remove xs i

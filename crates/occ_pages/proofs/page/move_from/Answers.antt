@@ -1,5 +1,5 @@
-use Rattle.std.proofs.Common.{◌≡◌, ◌≤◌, ◌<◌, ◌+◌, ℕ, List, [], ◌∷◌, ◌++◌, length, take, drop, reverse, vec_len, vec_capacity, refl, sym, ap, subst, ◌∙◌, arith, append_assoc}
-use Rattle.std.proofs.lemmas.List.{append-nil, append_cancel_left, take-append-drop, reverse-append, take-append-le, take_at, drop_at, take_all, length-take-le, length_push}
+use Rattle.std.proofs.Common.{◌≡◌, ◌≤◌, ℕ, List, [], ◌∷◌, ◌++◌, length, take, drop, reverse, refl, sym, ap, ◌∙◌, arith, append_assoc}
+use Rattle.std.proofs.lemmas.List.{append-nil, append_cancel_left, take-append-drop, reverse-append, take-append-le, take_all}
 use Rattle.occ_pages.proofs.page.move_from.Goals as goal
 
 -- one more item goes over

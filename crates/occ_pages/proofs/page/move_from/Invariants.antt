@@ -1,4 +1,4 @@
-use Rattle.std.proofs.Common.{◌≡◌, ◌≤◌, ◌+◌, ◌++◌, length, take, reverse, vec_len, vec_capacity}
+use Rattle.std.proofs.Common.{◌≡◌, ◌≤◌, ◌+◌, ◌++◌, take, reverse, vec_len, vec_capacity}
 use Rattle.occ_pages.proofs.page.move_from.Given as goal
 
 -- what was moved stands the other way round, behind what is left

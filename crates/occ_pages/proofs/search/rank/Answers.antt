@@ -1,7 +1,5 @@
-use Rattle.std.proofs.Common.{ℕ, ◌≡◌, ◌<◌, ◌≤◌, ◌+◌, ◌-◌, ◌/◌, length, get_or, arith}
+use Rattle.std.proofs.Common.{◌<◌, ◌+◌, ◌-◌, ◌/◌, length, arith}
 use Rattle.occ_pages.proofs.Halves.{all-below, none-below}
-use Rattle.occ_pages.proofs.Changes.{found}
-use Rattle.occ_pages.proofs.Cuts.{gap-upper}
 use Rattle.occ_pages.proofs.search.rank.Goals.{then-keys-base, else-keys-base}
 use Rattle.occ_pages.proofs.search.rank.Goals as goal
 

@@ -1,4 +1,4 @@
-use Rattle.std.proofs.Common.{◌≡◌, ◌<◌, ◌≤◌, ℕ, length, get_or, sym, ap, subst, ◌∙◌, arith}
+use Rattle.std.proofs.Common.{arith}
 use Rattle.occ_pages.proofs.ReadPages.{page-before}
 use Rattle.occ_pages.proofs.shelf.page_of.Goals.{else-below-firsts-via-then-below-firsts+else-firsts-below, else-below-firsts-via-else-below-firsts}
 use Rattle.occ_pages.proofs.shelf.page_of.Goals as goal

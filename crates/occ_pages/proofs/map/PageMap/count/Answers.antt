@@ -1,4 +1,4 @@
-use Rattle.std.proofs.Common.{length, sym, ap, ◌∙◌, arith}
+use Rattle.std.proofs.Common.{length, ap, ◌∙◌, arith}
 use Rattle.occ_pages.specs.Entries.{within}
 use Rattle.occ_pages.proofs.map.PageMap.count.Goals as goal
 

@@ -1,4 +1,4 @@
-use Rattle.std.proofs.Common.{length, ap, subst, sym, ◌∙◌, arith}
+use Rattle.std.proofs.Common.{subst, sym, ◌∙◌}
 use Rattle.occ_pages.specs.Copies.{AreCopies}
 use Rattle.occ_pages.specs.Pages.{flatten, IsShelf}
 use Rattle.occ_pages.proofs.Copied.{copies-flatten, copies-shelf, copies-long}

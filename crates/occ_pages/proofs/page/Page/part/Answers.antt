@@ -1,4 +1,4 @@
-use Rattle.std.proofs.Common.{rules, ◌≡◌, ◌≤◌, ◌-◌, ℕ, min, length, take, drop, sym, ap, subst, ◌∙◌, arith, length-take, length-drop}
+use Rattle.std.proofs.Common.{◌≡◌, ◌-◌, ℕ, min, length, take, drop, sym, ap, ◌∙◌, arith, length-take, length-drop}
 use Rattle.occ_pages.specs.Pages.{zipped}
 use Rattle.occ_pages.proofs.Zipped.{length-zipped, zipped-take, zipped-drop}
 use Rattle.occ_pages.proofs.page.Page.part.Goals as goal

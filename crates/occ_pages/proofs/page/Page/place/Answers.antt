@@ -1,4 +1,4 @@
-use Rattle.std.proofs.Common.{◌≤◌, length, take, drop, sym, ap, subst, ◌∙◌, arith}
+use Rattle.std.proofs.Common.{length, take, drop, sym, ap, subst, ◌∙◌, arith}
 use Rattle.occ_pages.specs.Entries.{Ascends}
 use Rattle.occ_pages.specs.Pages.{Rises, IsRank, IsSplit}
 use Rattle.occ_pages.proofs.Zipped.{length-zipped, split-rank, rises}

@@ -1,6 +1,5 @@
-use Rattle.std.proofs.Common.{◌≡◌, ◌<◌, ◌≤◌, ℕ, true, length, drop, sym, ap, subst, ◌∙◌, arith}
+use Rattle.std.proofs.Common.{◌≡◌, ◌<◌, ◌≤◌, true, length, drop, sym, ap, subst, ◌∙◌, arith}
 use Rattle.std.specs.List.{remove}
-use Rattle.std.proofs.lemmas.List.Edits.{length-remove}
 use Rattle.occ_pages.specs.Page.{StandsAt}
 use Rattle.occ_pages.specs.Pages.{zipped, begins_with}
 use Rattle.occ_pages.proofs.Zipped.{length-zipped, stands-at, zipped-remove}

@@ -1,4 +1,4 @@
-use Rattle.std.proofs.Common.{◌≡◌, ◌<◌, ℕ, true, length, drop, sym, ap, subst, ◌∙◌, arith}
+use Rattle.std.proofs.Common.{◌≡◌, ◌<◌, true, length, drop, sym, ap, subst, ◌∙◌, arith}
 use Rattle.occ_pages.specs.Page.{StandsAt}
 use Rattle.occ_pages.specs.Pages.{begins_with}
 use Rattle.occ_pages.proofs.Zipped.{length-zipped, stands-at}

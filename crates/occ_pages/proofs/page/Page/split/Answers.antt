@@ -1,4 +1,4 @@
-use Rattle.std.proofs.Common.{◌≡◌, ◌≤◌, ℕ, List, [], length, take, drop, sym, ap, subst, ◌∙◌, arith}
+use Rattle.std.proofs.Common.{◌≡◌, ℕ, List, [], length, take, drop, sym, ap, ◌∙◌, arith}
 use Rattle.std.proofs.lemmas.List.{nil_from_length, length-take-le, length-drop}
 use Rattle.occ_pages.specs.Pages.{zipped}
 use Rattle.occ_pages.proofs.Zipped.{length-zipped, zipped-take, zipped-drop}

@@ -1,4 +1,4 @@
-use Rattle.std.proofs.Common.{length, ap, subst, sym, ◌∙◌, arith}
+use Rattle.std.proofs.Common.{length, ap, subst, sym, arith}
 use Rattle.std.proofs.lemmas.Slice.Zip.{AllZip-long}
 use Rattle.occ_pages.specs.Copies.{AreCopies}
 use Rattle.occ_pages.specs.Pages.{zipped}

@@ -1,4 +1,4 @@
-use Rattle.std.proofs.Common.{◌≡◌, ◌<◌, ◌+◌, ◌∷◌, ◌++◌, [], length, sym, ap, ◌∙◌, arith}
+use Rattle.std.proofs.Common.{◌∷◌, ◌++◌, [], length, ap, ◌∙◌, arith}
 use Rattle.std.specs.List.{insert}
 use Rattle.occ_pages.specs.Pages.{flatten}
 use Rattle.occ_pages.proofs.Shelves.{same-shelf}

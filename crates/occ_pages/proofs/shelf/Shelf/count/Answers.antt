@@ -1,4 +1,4 @@
-use Rattle.std.proofs.Common.{◌≡◌, ◌≤◌, ◌<◌, ◌+◌, length, take, get_or, [], sym, ap, ◌∙◌, arith, length-append}
+use Rattle.std.proofs.Common.{◌≡◌, ◌<◌, ◌+◌, length, take, get_or, [], sym, ap, ◌∙◌, arith, length-append}
 use Rattle.occ_pages.specs.Entries.{within}
 use Rattle.occ_pages.specs.Pages.{flatten}
 use Rattle.occ_pages.proofs.RangePages.{one-more-page, all-counted, count-fits}

@@ -1,4 +1,4 @@
-use Rattle.std.proofs.Common.{◌≡◌, ◌<◌, ◌≤◌, true, drop, length, set, sym, ap, subst, ◌∙◌, arith}
+use Rattle.std.proofs.Common.{◌≡◌, ◌<◌, true, drop, length, set, sym, ap, subst, ◌∙◌, arith}
 use Rattle.occ_pages.specs.Page.{StandsAt}
 use Rattle.occ_pages.specs.Pages.{flatten, begins_with, IsShelf}
 use Rattle.occ_pages.proofs.ReadPages.{read, begins-inside}

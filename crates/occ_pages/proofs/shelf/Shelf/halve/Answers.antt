@@ -1,4 +1,4 @@
-use Rattle.std.proofs.Common.{◌≡◌, ◌<◌, length, take, drop, set, sym, ap, subst, ◌∙◌, arith}
+use Rattle.std.proofs.Common.{length, take, drop, set, ap, ◌∙◌, arith}
 use Rattle.occ_pages.proofs.ReadPages.{read}
 use Rattle.occ_pages.proofs.shelf.Shelf.halve.Goals as goal
 

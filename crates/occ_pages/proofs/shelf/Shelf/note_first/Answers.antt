@@ -1,4 +1,4 @@
-use Rattle.std.proofs.Common.{◌≡◌, ◌<◌, length, refl, sym, ap, subst, ◌∙◌, arith}
+use Rattle.std.proofs.Common.{◌<◌, length, refl, sym, subst, arith}
 use Rattle.occ_pages.specs.Pages.{BeginsAt}
 use Rattle.occ_pages.proofs.ReadPages.{read}
 use Rattle.occ_pages.proofs.shelf.Shelf.note_first.Goals as goal

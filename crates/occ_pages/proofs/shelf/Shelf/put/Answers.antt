@@ -1,8 +1,7 @@
-use Rattle.std.proofs.Common.{◌≡◌, ◌<◌, ◌≤◌, ◌+◌, [], length, get_or, set, sym, ap, subst, ◌∙◌, arith}
+use Rattle.std.proofs.Common.{[], length, get_or, set, sym, ap, subst, ◌∙◌, arith}
 use Rattle.std.specs.List.{insert}
 use Rattle.std.proofs.lemmas.List.{length-set, get_or-set_same}
 use Rattle.std.proofs.lemmas.List.Edits.{length-insert}
-use Rattle.occ_pages.specs.Entries.{put}
 use Rattle.occ_pages.specs.Pages.{flatten, BeginsAt, IsShelf}
 use Rattle.occ_pages.proofs.Shelves.{under-long}
 use Rattle.occ_pages.proofs.Changes.{put-is, put-shelf, put-long}

@@ -1,4 +1,4 @@
-use Rattle.std.proofs.Common.{◌≡◌, ◌<◌, ◌≤◌, length, sym, ap, subst, ◌∙◌, arith}
+use Rattle.std.proofs.Common.{◌<◌, length, sym, ap, subst, arith}
 use Rattle.occ_pages.specs.Entries.{Ascends}
 use Rattle.occ_pages.specs.Pages.{Rises, IsPageFor}
 use Rattle.occ_pages.proofs.Shelves.{under-long, firsts-rise, page-ascends}

@@ -1,7 +1,7 @@
-use Rattle.std.proofs.Common.{◌≡◌, ◌<◌, ◌≤◌, ◌+◌, [], suc, add-one, length, take, drop, get_or, set, sym, ap, subst, ◌∙◌, arith}
+use Rattle.std.proofs.Common.{[], add-one, length, take, drop, get_or, set, ap, subst, ◌∙◌, arith}
 use Rattle.std.specs.List.{insert}
 use Rattle.std.proofs.lemmas.List.{length-drop, length-set}
-use Rattle.occ_pages.specs.Pages.{BeginsAt, cut}
+use Rattle.occ_pages.specs.Pages.{BeginsAt}
 use Rattle.occ_pages.proofs.Shelves.{same-shelf, under-long}
 use Rattle.occ_pages.proofs.Cuts.{cut-shelf}
 use Rattle.occ_pages.proofs.shelf.Shelf.split.Goals as goal

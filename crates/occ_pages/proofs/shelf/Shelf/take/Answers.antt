@@ -1,7 +1,6 @@
-use Rattle.std.proofs.Common.{◌≡◌, ◌<◌, ◌≤◌, ◌+◌, [], length, get_or, set, sym, ap, subst, ◌∙◌, arith}
+use Rattle.std.proofs.Common.{◌+◌, [], length, get_or, set, sym, ap, subst, ◌∙◌, arith}
 use Rattle.std.specs.List.{remove}
 use Rattle.std.proofs.lemmas.List.{length-set, get_or-set_same, nil_from_length}
-use Rattle.occ_pages.specs.Entries.{without}
 use Rattle.occ_pages.specs.Pages.{flatten, BeginsAt, IsShelf}
 use Rattle.occ_pages.proofs.Shelves.{under-long}
 use Rattle.occ_pages.proofs.ReadPages.{begins-inside}
