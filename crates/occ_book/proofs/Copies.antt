@@ -1,5 +1,5 @@
 -- Copies of tables.
-use Rattle.std.proofs.Common.{◌≡◌, List, [], ◌∷◌, refl, ap, ◌∙◌, BTreeMap}
+use Rattle.std.proofs.Common.{◌≡◌, List, [], ◌∷◌, refl, ap, BTreeMap}
 use Rattle.occ_book.proofs.Common.{entries_from_clone, IsClone, AllZip, Key, Row, content_of}
 use Rattle.occ_types.specs.declared.keys.Key as code_key
 

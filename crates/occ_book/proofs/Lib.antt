@@ -4,6 +4,7 @@ pub mod TableEntries
 pub mod FoldedEntries
 pub mod Folding
 pub mod LastNotes
+pub mod LoadedRows
 pub mod MarkViews
 pub mod Parted
 pub mod Sizes

@@ -1,7 +1,8 @@
 -- Slots of sessions, seen as the marks by session.
-use Rattle.std.proofs.Common.{◌≡◌, ℕ, zero, suc, ◌+◌, ◌-◌, ◌<◌, ◌≤◌, true, false, cond, ◌&&◌, T, List, [], ◌∷◌, ◌++◌, Option, None, Some, is_some, length, nat_eq, count_by, refl, sym, ap, subst, ◌∙◌, arith, slice_get, slice_set, Less, nat_cmp, is_lt}
+use Rattle.std.proofs.Common.{◌≡◌, ℕ, zero, suc, ◌+◌, ◌-◌, ◌<◌, ◌≤◌, true, false, cond, ◌&&◌, T, List, [], ◌∷◌, ◌++◌, Option, None, Some, is_some, length, nat_eq, count_by, refl, sym, ap, subst, ◌∙◌, arith, slice_get, slice_set, replicate, take, length-append, Less, nat_cmp, is_lt}
 use Rattle.occ_book.proofs.Views.{slice_get-slice_set, both_hold}
 use Rattle.occ_book.proofs.Common.{unsigned_tied, nat_tests, length-set, nat_cmp_is, nat_cmp_total, FinMap, find, get, insert, empty, entries, from_entries, from_sorted, is_sorted, get-from_entries, get-from_sorted, get-insert, entries-from_sorted, len-entries, same_map, nat_cmp-IsAntisymmetric, below_all, Marked, mark_at, marks_from, marks_of, marked_of, marks_listed}
+use Rattle.std.proofs.lemmas.List.{length-replicate, take_all}
 use Rattle.std.proofs.lemmas.List.Recursion.{is_count_by}
 use Rattle.std.specs.FinMap as finite
 
@@ -64,6 +65,47 @@ marks_from-push s (slot ∷ slots) = ap (λ ms. mark_at s slot ++ ms) (marks_fro
 pub marked-none : (slots : List (Option ℕ)) (n : ℕ) → length slots ≡ n → marks_from 1 slots ≡ [] → marked_of slots ≡ record { sessions = n; marks = empty }
 unfolding marks_of
 marked-none slots n counted none = λ i. record { sessions = counted i; marks = from_entries (none i) }
+
+-- slots that have no mark
+replicated-none : (s n : ℕ) → marks_from s (replicate n None) ≡ []
+replicated-none s zero = refl
+replicated-none s (suc n) = replicated-none (suc s) n
+
+-- slots that lose their marks
+pub marked-cleared : (slots new : List (Option ℕ)) (n : ℕ) (old : Marked) → marked_of slots ≡ old → n ≡ length slots → new ≡ replicate n None → marked_of new ≡ record old { marks = empty }
+marked-cleared slots new n old view counted is =
+    let as_many : length new ≡ old.sessions = ap length is ∙ length-replicate n None ∙ counted ∙ ap (λ (m : Marked). m.sessions) view in
+    marked-none new old.sessions as_many (ap (marks_from 1) is ∙ replicated-none 1 n)
+
+-- slots without marks behind others add none
+more-none : (s n : ℕ) (slots : List (Option ℕ)) → marks_from s (slots ++ replicate n None) ≡ marks_from s slots
+more-none s n [] = replicated-none s n
+more-none s n (slot ∷ slots) = ap (λ ms. mark_at s slot ++ ms) (more-none (suc s) n slots)
+
+-- slots of more sessions
+pub marked-more : (slots new : List (Option ℕ)) (n : ℕ) (old : Marked) → marked_of slots ≡ old → length slots ≤ n → new ≡ slots ++ replicate (n - length slots) None → marked_of new ≡ record old { sessions = n }
+unfolding marks_of
+marked-more slots new n old view fewer is =
+    let more = n - length slots in
+    let filled : length (replicate {A = Option ℕ} more None) ≡ more = length-replicate more None in
+    let as_many : length new ≡ n = ap length is ∙ length-append slots (replicate more None) ∙ omega (arith, filled) in
+    let marks : marks_of new ≡ marks_of slots = ap (λ ss. from_entries (marks_from 1 ss)) is ∙ ap from_entries (more-none 1 more slots) in
+    let first : marked_of new ≡ record (marked_of slots) { sessions = n } = λ i. record { sessions = as_many i; marks = marks i } in
+    first ∙ ap (λ (m : Marked). record m { sessions = n }) view
+
+-- what is only a copy of nothing is nothing
+pub only-none : {X : Type 0} (IsCopy : Option X → Type 0) → ((x : X) → IsCopy (Some x) → ⊥) → (y : Option X) → IsCopy y → y ≡ None
+only-none IsCopy never None is = refl
+only-none IsCopy never (Some x) is = absurd (never x is)
+
+-- a list that took in some slots, and then was filled up
+pub filled-up : (slots nothing grown new : List (Option ℕ)) (n len : ℕ) → nothing ≡ [] → grown ≡ nothing ++ slots → len ≡ length grown → length slots ≤ n → new ≡ take n grown ++ replicate (n - len) None → new ≡ slots ++ replicate (n - length slots) None
+filled-up slots nothing grown new n len none is counted fewer filled =
+    let all : grown ≡ slots = is ∙ ap (λ xs. xs ++ slots) none in
+    let count : len ≡ length slots = counted ∙ ap length all in
+    filled
+    ∙ (λ i. take n (all i) ++ replicate (n - count i) None)
+    ∙ ap (λ xs. xs ++ replicate (n - length slots) None) (take_all n slots fewer)
 
 -- a slot that takes a mark
 slot-set : (slots : List (Option ℕ)) (n k mark : ℕ) → n < length slots → slot_of (slice_get (slice_set slots n (Some mark)) k) ≡ cond (nat_eq k n) (Some mark) (slot_of (slice_get slots k))

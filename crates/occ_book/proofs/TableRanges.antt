@@ -1,5 +1,5 @@
 -- The rows of one table that lie in a range, those under numbers and the others, and copies of a table.
-use Rattle.std.proofs.Common.{◌≡◌, ◌<◌, ◌≤◌, ℕ, Bool, true, false, not, ◌&&◌, cond, nat_eq, nat_lt, nat_le, List, [], ◌∷◌, ◌++◌, map, filter, Option, None, Some, Ordering, Less, Equal, Greater, is_le, refl, sym, ap, subst, ◌∙◌, arith, BTreeMap, ◌+◌, suc, length, length-append, append_assoc}
+use Rattle.std.proofs.Common.{◌≡◌, ◌<◌, ◌≤◌, ℕ, Bool, true, false, not, ◌&&◌, cond, nat_eq, nat_lt, nat_le, List, [], ◌∷◌, ◌++◌, map, filter, Option, None, Some, Less, Equal, Greater, is_le, refl, sym, ap, subst, ◌∙◌, arith, BTreeMap, ◌+◌, suc, length, length-append, append_assoc}
 use Rattle.std.proofs.lemmas.List.{append-nil}
 use Rattle.std.specs.BTreeMap.{IsClone}
 use Rattle.std.specs.Ordering.{nat_cmp}
@@ -7,7 +7,7 @@ use Rattle.std.specs.Cmp.{nat_cmp_is, unsigned_Decides}
 use Rattle.std.proofs.lemmas.Bool.Decides.{nat_tests}
 use Rattle.std.proofs.lemmas.List.Elements.{filter-append}
 use Rattle.occ_types.specs.Key.{Key, Num, Text as KeyText, Pair, key_cmp}
-use Rattle.occ_types.specs.Question.{is_from, is_below}
+use Rattle.occ_types.specs.Question.{is_below}
 use Rattle.occ_types.specs.PlainData.{key_of}
 use Rattle.occ_types.specs.Row.{Row}
 use Rattle.occ_types.specs.declared.keys.Key as code_key

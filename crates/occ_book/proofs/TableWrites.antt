@@ -1,10 +1,10 @@
 -- The rows of one table, those under numbers and the others: what is found, and what a write does.
-use Rattle.std.proofs.Common.{◌≡◌, ℕ, suc, Bool, true, false, cond, nat_eq, List, [], ◌∷◌, ◌++◌, map, Option, None, Some, IsSome, Ordering, Less, Equal, Greater, is_eq, refl, sym, ap, subst, ◌∙◌, BTreeMap}
+use Rattle.std.proofs.Common.{◌≡◌, ℕ, Bool, true, false, cond, nat_eq, List, [], ◌∷◌, ◌++◌, map, Option, None, Some, IsSome, Ordering, Less, Equal, Greater, is_eq, refl, sym, ap, subst, ◌∙◌, BTreeMap}
 use Rattle.std.specs.Ordering.{nat_cmp, match_ordering}
 use Rattle.std.specs.Cmp.{nat_cmp_total, tied_itself, unsigned_Decides, unsigned_tied}
 use Rattle.std.specs.FinMap.{nat_cmp-IsAntisymmetric}
 use Rattle.std.specs.Option.{option_or}
-use Rattle.occ_types.specs.Key.{Key, Num, Text as KeyText, Pair, key_cmp}
+use Rattle.occ_types.specs.Key.{Key, Num, Text as KeyText, Pair}
 use Rattle.occ_types.specs.Same.{key_same}
 use Rattle.occ_types.specs.PlainData.{key_of}
 use Rattle.occ_types.specs.Row.{Row}

@@ -1,9 +1,8 @@
 -- Tables, seen as one state: what the state has at an object, what a change of one table does to it, and what it answers to a range.
-use Rattle.std.proofs.Common.{Vec, ◌≡◌, ℕ, suc, zero, ◌+◌, ◌<◌, ◌≤◌, nat_eq, Bool, true, false, ◌&&◌, cond, T, List, [], ◌∷◌, ◌++◌, length, Option, None, Some, refl, sym, ap, subst, ◌∙◌, arith, map, slice_get, slice_set, option_copied, slice_index_or, Bor, BTreeMap, Less, is_eq, is_lt}
+use Rattle.std.proofs.Common.{Vec, ◌≡◌, ℕ, suc, zero, ◌+◌, ◌<◌, ◌≤◌, nat_eq, Bool, true, false, ◌&&◌, cond, T, List, [], ◌∷◌, ◌++◌, length, Option, None, Some, refl, sym, ap, subst, ◌∙◌, arith, slice_get, slice_set, slice_index_or, BTreeMap, Less, is_eq, is_lt}
 use Rattle.occ_book.specs.Content.{AnswersUpTo}
 use Rattle.occ_book.specs.Table.{row_under, rows_within, IsWritten, AreAllUpTo}
-use Rattle.occ_book.proofs.Common.{Answer, nat_tests, sorted_head, sorted_tail, option_or, slice_get_past, slice_get_read, length-set, length-map, Bound, entries_between, AllByRecursion, IsStrictlySortedBy, keys_of, IsOrdered, on, eq_by_cmp, ordering_then, eq_by_cmp_equiv, tied_itself, nat_cmp_total, unsigned_Decides, get, empty, find, is_sorted, get-from_entries, below_all, Key, key_cmp, key_cmp_total, Object, object_cmp, object_cmp_total, Span, asks, Row, key_of, end_of, asks-One, Rows, answer, answer_size, put, same, get-put, same_state, Content, is_backward, lower_bound, upper_bound, seen, entries_within, placed, placed_from, state_of, content_of, IsPut}
-use Rattle.std.specs.Slice.{IsItemAt}
+use Rattle.occ_book.proofs.Common.{Answer, nat_tests, sorted_head, sorted_tail, option_or, slice_get_past, slice_get_read, length-set, Bound, entries_between, AllByRecursion, IsStrictlySortedBy, keys_of, on, eq_by_cmp, ordering_then, eq_by_cmp_equiv, tied_itself, nat_cmp_total, unsigned_Decides, get, empty, find, is_sorted, get-from_entries, below_all, Key, key_cmp, key_cmp_total, Object, object_cmp, object_cmp_total, Span, asks, Row, key_of, end_of, asks-One, Rows, answer, answer_size, put, get-put, same_state, Content, is_backward, lower_bound, upper_bound, entries_within, placed, placed_from, state_of, content_of, IsPut}
 use Rattle.std.specs.FinMap as finite
 use Rattle.occ_types.specs.declared.keys.Key as code_key
 use Rattle.occ_book.proofs.TableEntries.{row_at, code_of, answer-rows, answer-nowhere, backward-key}

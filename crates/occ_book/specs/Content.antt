@@ -1,18 +1,15 @@
 -- What clauses see of the tables: how many they are, and the rows of all.
-use Rattle.std.specs.Prelude.{◌≡◌, ◌<◌, ◌≤◌, ℕ, ℤ, suc, length, Vec, Bool, false, ◌&&◌, cond, ◌⊎◌, List, [], ◌∷◌, ◌++◌, map, Option, None, Some, refl}
-use Rattle.std.proofs.Common.{inl, inr}
-use Rattle.std.specs.Coded.{Coded, code_by, coded×, coded⊎, coded_ℕ, coded_ℤ, coded_list}
+use Rattle.std.specs.Prelude.{◌≡◌, ◌<◌, ◌≤◌, ℕ, suc, length, Vec, Bool, false, ◌&&◌, cond, List, [], ◌∷◌, ◌++◌, map, Option, None, Some, refl}
+use Rattle.std.specs.Coded.{Coded, code_by, coded×, coded_ℕ, coded_list}
 use Rattle.std.specs.declared.ops.Bound.{Bound}
 use Rattle.std.specs.declared.ops.Bound.TheVariants.{Included, Excluded, Unbounded}
 use Rattle.std.specs.Ordering.{on, is_eq, is_gt}
 use Rattle.std.specs.List.{filter}
 use Rattle.std.specs.BTreeMap.{BTreeMap, get}
 use Rattle.std.specs.FinMap as finite
-use Rattle.occ_types.specs.Key.{Key, Num, Text as KeyText, Pair, key_cmp}
-use Rattle.occ_types.specs.KeyPart as parts
-use Rattle.occ_types.specs.KeyPart.{KeyPart}
+use Rattle.occ_types.specs.Key.{Key, key_cmp}
 use Rattle.occ_types.specs.Object.{Object}
-use Rattle.occ_types.specs.Row.{Cell, Int, Text as CellText, Row}
+use Rattle.occ_types.specs.Row.{Row}
 use Rattle.occ_types.specs.Question.{is_from, is_below}
 use Rattle.occ_types.specs.PlainData.{key_of}
 use Rattle.occ_types.specs.Codes.{key_code, cell_code}

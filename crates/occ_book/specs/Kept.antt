@@ -1,5 +1,5 @@
 -- The rows that are kept while others take their places, the first two of them without a list.
-use Rattle.std.specs.Prelude.{◌==◌, ◌<◌, List, [], ◌++◌, Option, None, Some, Bool, false, option_to_list, vec_len, vec_capacity}
+use Rattle.std.specs.Prelude.{◌==◌, ◌<◌, List, ◌++◌, Option, None, Some, Bool, false, option_to_list, vec_len, vec_capacity}
 use Rattle.std.specs.Borrow.{Bor}
 use Rattle.occ_types.specs.declared.objects.Object as code_object
 use Rattle.occ_types.specs.Row.{Row}

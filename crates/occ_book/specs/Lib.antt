@@ -4,6 +4,7 @@ pub mod Folded
 pub mod Kept
 pub mod KeyRefs
 pub mod LastWrites
+pub mod Loaded
 pub mod Marks
 pub mod Table
 pub mod Undo

@@ -1,5 +1,5 @@
 -- Writes that are done whole or not at all: first the rows that are put, with what they replace kept, then the deletions.
-use Rattle.std.specs.Prelude.{◌≡◌, ◌<◌, ℕ, List, [], ◌∷◌, map, Option, None, Some}
+use Rattle.std.specs.Prelude.{◌≡◌, List, [], ◌∷◌, map, Option, None, Some}
 use Rattle.std.specs.Borrow.{Bor}
 use Rattle.std.specs.FinMap.{get}
 use Rattle.occ_types.specs.declared.objects.Object as code_object

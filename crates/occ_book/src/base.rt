@@ -1,21 +1,23 @@
 //! What was folded out of a log.
-ghost use Rattle.std.specs.Prelude.{◌≡◌, ◌<◌, ◌+◌, ◌^◌, ℕ, drop, length, IfOk, OnOk, OnErr, IsOkUnless};
+ghost use Rattle.std.specs.Prelude.{◌≡◌, ◌<◌, ◌≤◌, ◌+◌, ◌^◌, ℕ, nat_lt, cond, drop, length, None, IfOk, IfErr, OnOk, OnErr, IsOkUnless, MatchResult};
 ghost use Rattle.std.specs.FinMap as finite;
-ghost use Rattle.occ_types.specs.declared.fault.Fault.TheVariants.{Memory};
+ghost use Rattle.occ_types.specs.declared.fault.Fault.TheVariants.{Memory, NoSession};
 ghost use Rattle.occ_model.specs.Content.{IsSession};
 ghost use Rattle.occ_model.specs.Log.{Case};
 ghost use Rattle.occ_model.specs.State.{apply};
 ghost use Rattle.occ_model.specs.Step.{folded};
 ghost use Rattle.occ_model.specs.World.{empty_base};
-ghost use Rattle.occ_book.specs.Base.{AllFitIn, base_content, numbered};
+ghost use Rattle.occ_book.specs.Base.{AllFitIn, base_content, numbered, written};
+ghost use Rattle.occ_book.specs.Loaded.{rows_fault, IsToldAs, loaded, renumbered, HasEach, plain_rows};
 ghost use Rattle.occ_sets.specs.LogRows.{log_of};
 ghost use Rattle.occ_sets.specs.Sets.{ArePlaced};
 
 use crate::folded_writes::FoldedWrites;
+use crate::loading::load_rows;
 use crate::marks::Marks;
 use crate::tables::Tables;
 use occ_sets::LogRow;
-use occ_types::Fault;
+use occ_types::{Fault, Object, Refused, Row};
 use std::alloc::{AllocError, Allocator};
 use std::marker::Model;
 
@@ -74,6 +76,33 @@ impl<A: Allocator> Base<A> {
     {
         self.next
     }
+
+    /// The same base where no session has a number any more, so that each begins anew. It takes no memory.
+    pub fn renumbered(self) -> Base<A>
+        ensures { result ≡ record self { base = renumbered self.base } }
+    {
+        let mut base = self;
+        base.numbers.clear();
+        base
+    }
+
+    /// The same base with room for the numbers of so many sessions. Refused with `NoSession` where these are fewer than before, and else with `Memory` where there is none for them; the base comes back.
+    pub fn for_sessions(self, alloc: A, sessions: usize) -> Result<Base<A>, Refused<Base<A>>>
+        ensures ok { IfOk result (λ base. base ≡ record self { sessions = sessions }) }
+        ensures handed_back { IfErr result (λ refused. refused.value ≡ self) }
+        ensures fault { MatchResult result
+            (λ _. self.sessions ≤ sessions)
+            (λ refused. refused.fault ≡ cond (nat_lt sessions self.sessions) NoSession Memory) }
+    {
+        let mut base = self;
+        match base.numbers.for_sessions(alloc, sessions) {
+            Ok(numbers) => {
+                base.numbers = numbers;
+                Ok(base)
+            }
+            Err(fault) => Err(Refused { value: base, fault }),
+        }
+    }
 }
 
 impl<A: Allocator + Copy> Base<A> {
@@ -99,6 +128,48 @@ impl<A: Allocator + Copy> Base<A> {
         Ok(Base::from_parts(state, last, 0))
     }
 
+    /// A base with these rows, in whatever order they come, in so many tables, and with room for the numbers of so many sessions, of which none has one. The rows count as what the place 0 wrote, so the next row to enter has the place 1.
+    ///
+    /// The time is that of a search for each row, which is shorter where the rows come in the order of their keys; rows under numbers take the least memory then. Texts are shared and not copied.
+    ///
+    /// The first row, in the order given, that can't come in refuses them all: with `NoTable` where its table isn't there, or with `BadSchema` where an earlier row has its object, so that a key stands twice. `Memory` refuses them where there is none for the tables, for a row up to that one, or, where all can come in, for the sessions. Each refusal hands the rows back.
+    pub fn from_rows(
+        alloc: A,
+        tables: usize,
+        sessions: usize,
+        rows: Vec<(Object<A>, Row<A>), A>,
+    ) -> Result<Base<A>, Refused<Vec<(Object<A>, Row<A>), A>>>
+        ensures ok { IfOk result (λ base. base ≡ record { tables = tables; sessions = sessions; base = loaded (plain_rows rows.items) }) }
+        ensures each { IfOk result (λ base. HasEach base.base.state (plain_rows rows.items)) }
+        ensures fault { MatchResult result
+            (λ _. rows_fault tables (plain_rows rows.items) ≡ None)
+            (λ refused. IsToldAs (rows_fault tables (plain_rows rows.items)) refused.fault) }
+        ensures handed_back { IfErr result (λ refused. refused.value ≡ rows) }
+    {
+        match Base::with_rows(alloc, tables, sessions, &rows) {
+            Ok(base) => Ok(base),
+            Err(fault) => Err(Refused { value: rows, fault }),
+        }
+    }
+
+    // The same base with copies of the rows.
+    fn with_rows(
+        alloc: A,
+        tables: usize,
+        sessions: usize,
+        rows: &[(Object<A>, Row<A>)],
+    ) -> Result<Base<A>, Fault>
+        ensures ok { IfOk result (λ base. base ≡ record { tables = tables; sessions = sessions; base = loaded (plain_rows rows.now) }) }
+        ensures fault { MatchResult result
+            (λ _. rows_fault tables (plain_rows rows.now) ≡ None)
+            (λ fault. IsToldAs (rows_fault tables (plain_rows rows.now)) fault) }
+    {
+        let mut state = Tables::new(alloc, tables)?;
+        load_rows(&mut state, rows)?;
+        let last = Marks::new(alloc, sessions)?;
+        Ok(Base::from_parts(state, last, 1))
+    }
+
     /// Folds some rows after those that were folded: what their committed ones write, their numbers, and their places. A row that is open or backed up writes nothing. The tables that the rows write to and their sessions have to be there.
     ///
     /// Room is made for all writes first, and then they are done, which can't fail. The time is that of a search for each write, and no other row of the state is looked at.
@@ -115,6 +186,21 @@ impl<A: Allocator + Copy> Base<A> {
         note_numbers(&mut self.numbers, rows);
         self.next = place_behind(self.next, rows);
         Ok(())
+    }
+}
+
+impl<A: Allocator + Copy> Base<A> {
+    /// The base that this one is once some rows are folded, of which these tables have the state already. It takes no memory.
+    pub fn behind<O>(self, rows: &[LogRow<A, O>], tables: Tables<A>) -> Base<A>
+        requires fits { AllFitIn self.tables self.sessions rows.now }
+        requires places { self.base.place + length rows.now < 2 ^ 64 }
+        requires state { tables ≡ record { tables = self.tables; state = written self.base.state rows.now } }
+        ensures { (opened : O → ℕ × Case) → result ≡ record self { base = folded self.base (log_of opened rows.now) } }
+    {
+        let Base { numbers, next, .. } = self;
+        let mut numbers = numbers;
+        note_numbers(&mut numbers, rows);
+        Base::from_parts(tables, numbers, place_behind(next, rows))
     }
 }
 

@@ -7,6 +7,7 @@ mod folded_writes;
 mod kept_rows;
 mod key_refs;
 mod lasts;
+mod loading;
 mod maps;
 mod marks;
 mod ranges;

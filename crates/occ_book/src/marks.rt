@@ -1,7 +1,7 @@
 //! A number for each session: its closing mark, or the last one that was folded.
-ghost use Rattle.std.specs.Prelude.{◌≡◌, ◌==◌, ◌≤◌, count_by, is_some, IfOk, IsOkUnless};
+ghost use Rattle.std.specs.Prelude.{◌≡◌, ◌==◌, ◌≤◌, nat_lt, cond, count_by, is_some, IfOk, IsOkUnless, MatchResult};
 ghost use Rattle.std.specs.FinMap as finite;
-ghost use Rattle.occ_types.specs.declared.fault.Fault.TheVariants.{Memory};
+ghost use Rattle.occ_types.specs.declared.fault.Fault.TheVariants.{Memory, NoSession};
 ghost use Rattle.occ_book.specs.Marks.{marks_listed};
 
 use occ_types::Fault;
@@ -80,6 +80,29 @@ impl<A: Allocator> Marks<A> {
         ensures { self.new ≡ record self.old { marks = finite.insert self.old.marks session number } }
     {
         self.slots[session - 1] = Some(number);
+    }
+
+    /// No session has a mark from now on. It takes no memory.
+    pub fn clear(&mut self)
+        ensures { self.new ≡ record self.old { marks = finite.empty } }
+    {
+        self.slots.fill(None);
+    }
+
+    /// The same marks, with room for one of each of so many sessions. Refused with `NoSession` where these are fewer than before, and else with `Memory` where there is none for them.
+    pub fn for_sessions(&self, alloc: A, sessions: usize) -> Result<Marks<A>, Fault>
+        ensures ok { IfOk result (λ marks. marks ≡ record self.now { sessions = sessions }) }
+        ensures fault { MatchResult result
+            (λ _. self.now.sessions ≤ sessions)
+            (λ fault. fault ≡ cond (nat_lt sessions self.now.sessions) NoSession Memory) }
+    {
+        if sessions < self.slots.len() {
+            return Err(Fault::NoSession);
+        }
+        let mut slots = Vec::with_capacity(alloc, sessions)?;
+        slots.extend_from_slice(&self.slots)?;
+        slots.resize(sessions, None)?;
+        Ok(Marks { slots })
     }
 }
 

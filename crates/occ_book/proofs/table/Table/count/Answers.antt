@@ -1,4 +1,4 @@
-use Rattle.std.proofs.Common.{length, ap, sym, ◌∙◌, ◌+◌, arith, option_copied}
+use Rattle.std.proofs.Common.{sym, ◌∙◌, ◌+◌, arith, option_copied}
 use Rattle.occ_book.proofs.Common.{end_of}
 use Rattle.occ_book.proofs.TableRanges.{within-many, within-short}
 use Rattle.occ_book.proofs.table.Table.count.Goals as goal

@@ -1,5 +1,5 @@
 use Rattle.std.proofs.Common.{◌∙◌}
-use Rattle.occ_book.proofs.TableRanges.{rows-copied, others-copied}
+use Rattle.occ_book.proofs.TableRanges.{rows-copied}
 use Rattle.occ_book.proofs.table.TableClone.clone.Goals as goal
 
 pub returns : goal.returns

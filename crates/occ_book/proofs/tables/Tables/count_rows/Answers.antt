@@ -1,4 +1,4 @@
-use Rattle.std.proofs.Common.{length, sym, ap, ◌∙◌, option_copied}
+use Rattle.std.proofs.Common.{sym, ap, ◌∙◌, option_copied}
 use Rattle.occ_book.proofs.Common.{end_of, answer_size}
 use Rattle.occ_sets.proofs.LookUps.{table-at}
 use Rattle.occ_book.proofs.Views.{answer-found, answer-missing}

@@ -1,5 +1,5 @@
-use Rattle.std.proofs.Common.{Some, [], sym, ap, ◌∙◌, map, option_copied, arith}
-use Rattle.occ_book.proofs.Common.{IfOk-weaker, end_of, Rows, seen}
+use Rattle.std.proofs.Common.{Some, [], ap, map, option_copied, arith}
+use Rattle.occ_book.proofs.Common.{IfOk-weaker, end_of, seen}
 use Rattle.occ_book.specs.Table.{AreAllUpTo}
 use Rattle.occ_sets.proofs.LookUps.{table-at}
 use Rattle.occ_book.proofs.Views.{answer-found, answer-missing, up_to_answers}
