@@ -3,9 +3,9 @@ pub mod Holding
 pub mod Places
 pub mod Opponents
 pub mod Windows
-pub mod WindowMoves
 pub mod Changes
 pub mod PhaseViews
+pub mod PhaseLists
 pub mod Listed
 pub mod Numbered
 pub mod Folding

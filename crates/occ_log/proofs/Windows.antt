@@ -13,30 +13,36 @@ none_after test (row ∷ rows) finish low start up = grind (arith, any-finished 
     out (Done number) = grind (arith, nat_tests)
     out standing = refl
 
--- what the window has become once a row finished: its write set at the end, and what fell below the window gone
-abbrev pub moved_window : ℕ → ℕ → List (List Write) → List Write → List (List Write)
-moved_window low next window writes = drop (next - low) (window ++ writes ∷ [])
+-- what the window has become once a row finished: its write set at the end, and the first one gone where there would be more than are kept
+abbrev pub moved_window : ℕ → List (List Write) → List Write → List (List Write)
+moved_window keep window writes = drop (length window + 1 - keep) (window ++ writes ∷ [])
 
-module _ (before later : List LogRow) (row : LogRow) (window : List (List Write)) (counter low next : ℕ)
+-- how many of so many the window has then
+moved_length : (keep : ℕ) (window : List (List Write)) (writes : List Write) → length (moved_window keep window writes) ≡ length window + 1 - (length window + 1 - keep)
+moved_length keep window writes =
+    let l = length-append window (writes ∷ []) in length-drop (length window + 1 - keep) (window ++ writes ∷ []) ∙ omega arith
+
+module _ (before later : List LogRow) (row : LogRow) (window : List (List Write)) (counter keep : ℕ)
     (below : NumbersAreBelow counter (before ++ row ∷ later)) (was : (bound : ℕ) → finished_within bound counter row.standing ≡ false)
-    (up : low ≤ counter) (rises : low ≤ next) (size : length window ≡ counter - low)
-    (is : (start : ℕ) → low ≤ start → AreSame (drop (start - low) window) (finished_opponents (before ++ row ∷ later) counter low start)) where
-  pub window_moved : (start : ℕ) → next ≤ start → AreSame (drop (start - next) (moved_window low next window row.writes)) (finished_opponents (before ++ standing_at row (Done (counter + 1)) ∷ later) (counter + 1) next start)
+    (size : length window ≤ counter - (counter - keep))
+    (is : (start : ℕ) → counter - keep ≤ start → AreSame (drop (start - (counter - length window)) window) (finished_opponents (before ++ row ∷ later) counter (counter - keep) start)) where
+  pub window_moved : (start : ℕ) → (counter + 1) - keep ≤ start
+      → AreSame (drop (start - ((counter + 1) - length (moved_window keep window row.writes))) (moved_window keep window row.writes)) (finished_opponents (before ++ standing_at row (Done (counter + 1)) ∷ later) (counter + 1) ((counter + 1) - keep) start)
   window_moved start above test =
-      ap (list_any test) (drop-drop (start - next) (next - low) (window ++ row.writes ∷ []) ∙ ap (λ k. drop k (window ++ row.writes ∷ [])) there)
+      ap (list_any test) (drop-drop (start - ((counter + 1) - length (moved_window keep window row.writes))) (length window + 1 - keep) (window ++ row.writes ∷ []) ∙ ap (λ k. drop k (window ++ row.writes ∷ [])) there)
       ∙ decided (nat_lt counter start)
       (λ e. let past = ltb-true counter start e in
-      ap (list_any test) (drop_all (start - low) (window ++ row.writes ∷ []) (let l = length-append window (row.writes ∷ []) in omega arith))
-      ∙ sym (none_after test (before ++ standing_at row (Done (counter + 1)) ∷ later) (counter + 1) next start (omega arith)))
+      ap (list_any test) (drop_all (start - (counter - length window)) (window ++ row.writes ∷ []) (let l = length-append window (row.writes ∷ []) in omega arith))
+      ∙ sym (none_after test (before ++ standing_at row (Done (counter + 1)) ∷ later) (counter + 1) ((counter + 1) - keep) start (omega arith)))
       (λ e. let begun = ltb-false counter start e in
-      ap (list_any test) (drop-append-le (start - low) window (row.writes ∷ []) (omega arith))
-      ∙ list_any-append test (drop (start - low) window) (row.writes ∷ [])
+      ap (list_any test) (drop-append-le (start - (counter - length window)) window (row.writes ∷ []) (omega arith))
+      ∙ list_any-append test (drop (start - (counter - length window)) window) (row.writes ∷ [])
       ∙ (λ i. is start (omega arith) test i || or-false (test row.writes) i)
-      ∙ sym (finished-more test counter low start before later row below (was low) up begun)
-      ∙ finished-low test (before ++ standing_at row (Done (counter + 1)) ∷ later) (counter + 1) low next start (omega arith) above)
+      ∙ sym (finished-more test counter (counter - keep) start before later row below (was (counter - keep)) (omega arith) begun)
+      ∙ finished-low test (before ++ standing_at row (Done (counter + 1)) ∷ later) (counter + 1) (counter - keep) ((counter + 1) - keep) start (omega arith) above)
     where
-      there : (next - low) + (start - next) ≡ start - low
-      there = omega arith
+      there : (length window + 1 - keep) + (start - ((counter + 1) - length (moved_window keep window row.writes))) ≡ start - (counter - length window)
+      there = let l = moved_length keep window row.writes in omega arith
 
-  pub moved_size : next ≤ counter + 1 → length (moved_window low next window row.writes) ≡ (counter + 1) - next
-  moved_size upto = let l = length-append window (row.writes ∷ []) in length-drop (next - low) (window ++ row.writes ∷ []) ∙ omega arith
+  pub moved_size : length (moved_window keep window row.writes) ≤ (counter + 1) - ((counter + 1) - keep)
+  moved_size = let l = moved_length keep window row.writes in omega arith

@@ -22,9 +22,9 @@ row_at kept place = if nat_lt place kept.first then None else slice_get kept.row
 abbrev pub HasRoom : Kept → ℕ → Type 0
 HasRoom kept session = get_or kept.free (session - 1) false ≡ true
 
--- a log without a row that begins at the first place of all
-pub record IsBegun (count : ℕ) (kept : Kept) : Type 0 where
-  pub first : kept.first ≡ 0
+-- a log without a row that begins at a place, for so many sessions
+pub record IsBegun (place count : ℕ) (kept : Kept) : Type 0 where
+  pub first : kept.first ≡ place
   pub rows : kept.rows ≡ []
   pub sessions : kept.sessions ≡ count
 

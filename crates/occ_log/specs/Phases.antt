@@ -1,8 +1,10 @@
 -- What clauses see of the read phases under way: each as the model has it, by session and then by number.
-use Rattle.std.specs.Prelude.{◌≡◌, ℕ, ◌⊎◌, List, [], map, Option, None, Some, refl}
+use Rattle.std.specs.Prelude.{◌≡◌, ◌==◌, ℕ, suc, ◌⊎◌, List, [], ◌∷◌, ◌++◌, map, Option, None, Some, refl}
 use Rattle.std.proofs.Common.{inl, inr}
 use Rattle.std.specs.Coded.{Coded, code_by, coded×, coded⊎, coded_ℕ, coded_list, coded_option}
 use Rattle.std.specs.FinMap as finite
+use Rattle.std.specs.List.{IsDistinct}
+use Rattle.std.specs.Ordering.{nat_cmp}
 use Rattle.std.specs.FinMap.{FinMap}
 use Rattle.occ_types.specs.Key.{Key}
 use Rattle.occ_types.specs.Question.{Question, One, Span}
@@ -10,7 +12,7 @@ use Rattle.occ_types.specs.Row.{Row}
 use Rattle.occ_model.specs.State.{Answer, Found, Rows, Observation}
 use Rattle.occ_model.specs.World.{ReadPhase, phase_cmp}
 use Rattle.occ_types.specs.Codes.{key_code, cell_code}
-use Rattle.occ_log.specs.declared.phases.Phase as code_phase
+use Rattle.occ_log.specs.declared.session_phases.Phase as code_phase
 
 abbrev question_parts : Question → (ℕ × Key) ⊎ (ℕ × (Option Key × Option Key))
 question_parts (One table key) = inl (table, key)
@@ -51,7 +53,10 @@ abbrev pub read_phase_code : Coded ReadPhase
 read_phase_code =
     code_by (ℕ × List Observation) (coded× coded_ℕ (coded_list (coded× question_code answer_code))) (λ p. (p.start, p.reads)) (λ p. record { start = p.0; reads = p.1 }) (λ _. refl)
 
--- the code of the read phases
+-- the codes of the read phases, of one session and of all
+abbrev pub session_phases_code : Coded (FinMap nat_cmp ReadPhase)
+session_phases_code = finite.code coded_ℕ read_phase_code
+
 abbrev pub read_phases_code : Coded (FinMap phase_cmp ReadPhase)
 read_phases_code = finite.code (coded× coded_ℕ coded_ℕ) read_phase_code
 
@@ -65,6 +70,19 @@ module _ {Z : Type 0} where
   abbrev pub phase_of : code_phase.Phase Z → ReadPhase
   phase_of phase = record { start = phase.start; reads = phase.reads }
 
-  -- the phases as the model has them
-  unfoldable pub phases_of : List ((ℕ × ℕ) × code_phase.Phase Z) → FinMap phase_cmp ReadPhase
-  phases_of phases = finite.from_entries (map (λ e. (e.0, phase_of e.1)) phases)
+  -- the phases of one session, by their numbers
+  unfoldable pub session_phases_of : List (ℕ × code_phase.Phase Z) → FinMap nat_cmp ReadPhase
+  session_phases_of phases = finite.from_entries (map (λ e. (e.0, phase_of e.1)) phases)
+
+  -- no two phases of one session have one number
+  abbrev pub AreNumberedOnce : List (ℕ × code_phase.Phase Z) → Type 0
+  AreNumberedOnce phases = IsDistinct (λ n m. n == m) (map (λ e. e.0) phases)
+
+-- the phases of the sessions in a list, each under its session's place and its number
+abbrev pub under_sessions : List (FinMap nat_cmp ReadPhase) → List ((ℕ × ℕ) × ReadPhase)
+under_sessions [] = []
+under_sessions (phases ∷ others) = map (λ e. ((0, e.0), e.1)) (finite.entries phases) ++ map (λ e. ((suc e.0.0, e.0.1), e.1)) (under_sessions others)
+
+-- the phases of all sessions, as the model has them
+unfoldable pub phases_of : List (FinMap nat_cmp ReadPhase) → FinMap phase_cmp ReadPhase
+phases_of sessions = finite.from_entries (under_sessions sessions)

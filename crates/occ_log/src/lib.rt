@@ -5,10 +5,12 @@
 mod listing;
 mod log;
 mod phases;
+mod session_phases;
 mod sessions;
 mod window;
 
 pub use log::Log;
-pub use phases::{Phase, ReadPhases, Transaction};
+pub use phases::{ReadPhases, Transaction};
+pub use session_phases::Phase;
 pub use sessions::{Held, SessionState, Sessions};
 pub use window::Window;

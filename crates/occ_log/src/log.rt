@@ -43,14 +43,14 @@ impl<A: Allocator> Model for Log<A> {
 }
 
 impl<A: Allocator + Copy> Log<A> {
-    /// A log without a row, which begins at the place 0 and is for the rows of so many sessions. Refused with `AllocError` where there
+    /// A log without a row, which begins at this place and is for the rows of so many sessions. Refused with `AllocError` where there
     /// is no memory for it.
-    pub fn new(alloc: A, sessions: usize) -> Result<Log<A>, AllocError>
-        ensures { IfOk result (λ log. IsBegun sessions log) }
+    pub fn new(alloc: A, first: usize, sessions: usize) -> Result<Log<A>, AllocError>
+        ensures { IfOk result (λ log. IsBegun first sessions log) }
     {
         let places = Listing::new(alloc, sessions)?;
         Ok(Log {
-            first: 0,
+            first,
             rows: Vec::new(alloc),
             places,
         })
@@ -189,9 +189,12 @@ impl<A: Allocator> Log<A> {
 fn count_foldable<A: Allocator>(rows: &Vec<LogRow<A, OpenCase<A>>, A>, low: u64) -> usize
     ensures { result ≡ prefix_len (λ row. foldable low (standing_of row.standing)) rows.now.items }
 {
-    rows.iter()
-        .take_while(|row| can_fold(&row.standing, low))
-        .count()
+    for count in 0..rows.len() {
+        if !can_fold(&rows[count].standing, low) {
+            return count;
+        }
+    }
+    rows.len()
 }
 
 fn can_fold<A: Allocator>(standing: &Standing<OpenCase<A>>, low: u64) -> bool

@@ -6,13 +6,12 @@ ghost use Rattle.occ_types.specs.declared.fault.Fault.TheVariants.{Memory};
 ghost use Rattle.occ_types.specs.declared.limits.TheConstants as limit;
 ghost use Rattle.occ_types.specs.PlainData.{question_of};
 ghost use Rattle.occ_sets.specs.PlainSets.{answer_of};
-ghost use Rattle.occ_log.specs.Phases.{phase_of, reads_of};
+ghost use Rattle.occ_log.specs.Phases.{phase_of, phases_of, reads_of};
 
-use indexmap::IndexMap;
+use crate::session_phases::{Phase, SessionPhases};
 use occ_sets::{Answer, Observation, ReadSet};
 use occ_types::{Fault, Question, Refused};
-use std::alloc::Allocator;
-use std::hash::{BuildHasherDefault, FoldHasher};
+use std::alloc::{AllocError, Allocator};
 use std::marker::Model;
 
 /// A transaction as its session names it, before it enters.
@@ -26,39 +25,10 @@ pub struct Transaction {
     pub start: u64,
 }
 
-/// A read phase under way.
-#[derive(Drop)]
-pub struct Phase<A: Allocator> {
-    /// What the transaction counter was when the phase began.
-    pub start: u64,
-    /// What was read so far.
-    pub reads: ReadSet<A>,
-}
-
-impl<A: Allocator + Copy> Phase<A> {
-    // A phase with its first read.
-    fn first(
-        alloc: A,
-        start: u64,
-        question: Question<A>,
-        answer: Answer<A>,
-    ) -> Result<Phase<A>, Refused<Observation<A>>>
-        ensures noted { IfOk result (λ phase. (phase.start ≡ start) × (phase.reads ≡ (question_of question, answer_of answer) ∷ [])) }
-        ensures handed_back { IfErr result (λ refused. refused ≡ record { value = record { question = question; answer = answer }; fault = Memory }) }
-    {
-        let mut reads = ReadSet::new(alloc);
-        reads.note(question, answer)?;
-        Ok(Phase { start, reads })
-    }
-}
-
-/// Read phases by their session and the number of their transaction.
-type PhaseMap<A> = IndexMap<(usize, u64), Phase<A>, BuildHasherDefault<FoldHasher>, A>;
-
-/// The read phases under way, which are found by the session and the number of their transaction. Their map keeps the room that it has, so phases take memory only where there are more of them than ever before. Clauses see them as a finite map.
+/// The read phases under way: a short list for each session, found by the number of the transaction. The lists keep the room that they have, so phases take memory only where a session has more of them than ever before. Clauses see them as a finite map by session and number.
 #[derive(Drop)]
 pub struct ReadPhases<A: Allocator> {
-    phases: PhaseMap<A>,
+    sessions: Vec<SessionPhases<A>, A>,
 }
 
 impl<A: Allocator> Model for ReadPhases<A> {
@@ -70,7 +40,7 @@ impl<A: Allocator> Model for ReadPhases<A> {
 
     ghost coded = { read_phases_code };
 
-    ghost view = { λ phases. phases_of phases.phases.entries };
+    ghost view = { λ phases. phases_of phases.sessions.items };
 }
 
 impl<A: Allocator> ReadPhases<A> {
@@ -78,7 +48,10 @@ impl<A: Allocator> ReadPhases<A> {
     pub fn get(&self, session: usize, number: u64) -> Option<&Phase<A>>
         ensures { option_map (λ phase. phase_of phase.now) result ≡ finite.get self.now (session, number) }
     {
-        self.phases.get(&(session, number))
+        match self.sessions.get(session) {
+            Some(phases) => phases.get(number),
+            None => None,
+        }
     }
 
     /// Ends a phase and hands it out, or none where it is not under way. It takes no memory.
@@ -86,14 +59,19 @@ impl<A: Allocator> ReadPhases<A> {
         ensures phase { option_map phase_of result ≡ finite.get self.old (session, number) }
         ensures gone { self.new ≡ finite.remove self.old (session, number) }
     {
-        self.phases.swap_remove(&(session, number))
+        if session >= self.sessions.len() {
+            return None;
+        }
+        self.sessions[session].take(number)
     }
 
-    /// Ends all phases of a session, in one pass over those of all sessions. It takes no memory.
+    /// Ends all phases of a session. It takes no memory.
     pub fn drop_session(&mut self, session: usize)
         ensures { self.new ≡ finite.retain_keys self.old (λ key. not (key.0 == session)) }
     {
-        self.phases.retain(|key, _phase| key.0 != session);
+        if session < self.sessions.len() {
+            self.sessions[session].clear();
+        }
     }
 
     /// Ends a phase, of which nothing is left. It takes no memory.
@@ -110,21 +88,21 @@ impl<A: Allocator + Copy> ReadPhases<A> {
         ensures { result ≡ finite.empty }
     {
         ReadPhases {
-            phases: PhaseMap::new(alloc),
+            sessions: Vec::new(alloc),
         }
     }
 
-    /// One more owner of what was read in a phase, which is nothing where it is not under way. The phase goes on as it was. Refused
-    /// with `Memory` where there is none, or it has too many owners to be counted, which leaves it too.
-    pub fn share(&mut self, alloc: A, session: usize, number: u64) -> Result<ReadSet<A>, Fault>
-        ensures shared { IfOk result (λ shared. shared ≡ reads_of (finite.get self.old (session, number))) }
-        ensures kept { self.new ≡ self.old }
+    /// One more owner of what was read in a phase, which is nothing where it is not under way. Refused with `Memory` where it has too many
+    /// owners to be counted.
+    pub fn share(&self, alloc: A, session: usize, number: u64) -> Result<ReadSet<A>, Fault>
+        ensures shared { IfOk result (λ shared. shared ≡ reads_of (finite.get self.now (session, number))) }
         ensures memory { IsOkUnless result Memory }
     {
-        let Some(phase) = self.phases.get_mut(&(session, number)) else {
+        let Some(phase) = self.get(session, number) else {
             return Ok(ReadSet::new(alloc));
         };
-        share_reads(&mut phase.reads)
+        let shared = phase.reads.clone()?;
+        Ok(shared)
     }
 
     /// Notes a question and the tables' answer after the others of a transaction's phase, which has less than `MAX_QUESTIONS` of them. It
@@ -144,31 +122,28 @@ impl<A: Allocator + Copy> ReadPhases<A> {
         ensures handed_back { IfErr result (λ refused. refused.value ≡ record { question = question; answer = answer }) }
         ensures memory { IfErr result (λ refused. refused.fault ≡ Memory) }
     {
-        let key = (transaction.session, transaction.number);
-        if let Some(phase) = self.phases.get_mut(&key) {
-            phase.reads.note(question, answer)?;
-            phase.start = transaction.start;
-            return Ok(());
-        }
-        if self.phases.reserve(1).is_err() {
+        if reach(&mut self.sessions, alloc, transaction.session).is_err() {
             return Err(Refused {
                 value: Observation { question, answer },
                 fault: Fault::Memory,
             });
         }
-        let phase = Phase::first(alloc, transaction.start, question, answer)?;
-        let _inserted = self.phases.insert(key, phase);
-        Ok(())
+        let phases = &mut self.sessions[transaction.session];
+        phases.note(alloc, transaction, question, answer)
     }
 }
 
-// One more owner of some reads.
-fn share_reads<A: Allocator + Copy>(reads: &mut ReadSet<A>) -> Result<ReadSet<A>, Fault>
-    ensures shared { IfOk result (λ shared. shared ≡ reads.old) }
-    ensures kept { reads.new ≡ reads.old }
-    ensures memory { IsOkUnless result Memory }
+// Gives each session up to this one its list, where there is none yet. An error where there is no memory for them. No phase comes or goes.
+fn reach<A: Allocator + Copy>(
+    sessions: &mut Vec<SessionPhases<A>, A>,
+    alloc: A,
+    session: usize,
+) -> Result<(), AllocError>
+    ensures kept { phases_of sessions.new.items ≡ phases_of sessions.old.items }
+    ensures reached { OnOk result (session < length sessions.new.items) }
 {
-    reads.share()?;
-    let shared = reads.clone()?;
-    Ok(shared)
+    while sessions.len() <= session {
+        sessions.push(SessionPhases::new(alloc))?;
+    }
+    Ok(())
 }

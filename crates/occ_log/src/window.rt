@@ -1,5 +1,5 @@
 //! The window: the write sets of the last transactions to finish.
-ghost use Rattle.std.specs.Prelude.{◌≡◌, [], drop, map, IfOk};
+ghost use Rattle.std.specs.Prelude.{◌≡◌, ◌==◌, [], drop, length, map, IfOk};
 ghost use Rattle.std.specs.List.{list_any};
 ghost use Rattle.occ_model.specs.State.{meets_reads};
 ghost use Rattle.occ_log.specs.Window.{advanced};
@@ -47,6 +47,20 @@ impl<A: Allocator> Window<A> {
         ensures { result ≡ self.now.keep }
     {
         self.keep
+    }
+
+    /// How many write sets are kept now.
+    pub fn len(&self) -> usize
+        ensures { result ≡ length self.now.sets }
+    {
+        self.sets.len()
+    }
+
+    /// Whether none is kept now.
+    pub fn is_empty(&self) -> bool
+        ensures { result ≡ (length self.now.sets == 0) }
+    {
+        self.len() == 0
     }
 
     /// Whether some write set writes what was read, of all but the oldest `skip`. It takes no memory.

@@ -1,9 +1,13 @@
-use Rattle.std.proofs.Common.{rules, ◌==◌, not}
-use Rattle.indexmap.proofs.CallerLemmas.{filter-RetainsPairs}
-use Rattle.occ_log.proofs.PhaseViews.{phases-retained}
+use Rattle.std.proofs.Common.{arith}
+use Rattle.occ_log.proofs.PhaseLists.{phases-cleared, none-cleared}
 use Rattle.occ_log.proofs.phases.ReadPhases.drop_session.Goals as goal
 
-pub returns : goal.returns
-returns g c =
-    phases-retained c.self.inside.phases.entries c.retain.new.self.entries (λ key. not (key.0 == c.args.session)) c.args.self.now c.self.view_is
-    (filter-RetainsPairs _ (λ e. not (e.0.0 == c.args.session)) _ (λ k v b w f said. search rules) c.self.inside.phases.entries c.retain.new.self.entries c.retain.ensures.filtered)
+pub returns-then-session-len : goal.returns-then-session-len
+returns-then-session-len g c =
+    let sessions = c.self.inside.sessions in
+    phases-cleared sessions.items c.args.session c.index_mut.result.now c.args.self.now (omega (arith, c.len.ensures, sessions.ok.0, c.if-session-len.true)) c.self.view_is c.clear.new.self c.clear.ensures
+
+pub returns-else-session-len : goal.returns-else-session-len
+returns-else-session-len g c =
+    let sessions = c.self.inside.sessions in
+    none-cleared sessions.items c.args.session c.args.self.now (omega (arith, c.len.ensures, sessions.ok.0, c.if-session-len.false)) c.self.view_is
