@@ -20,14 +20,13 @@ use Rattle.occ_model.proofs.Turns.{latest-push}
 use Rattle.occ_core.specs.AtOnce.{committed, backed, MayEnd}
 use Rattle.occ_log.specs.SessionStates.{Slot, Hold, held_from}
 use Rattle.occ_log.specs.Window.{Window, advanced}
-use Rattle.occ_core.specs.CoreParts.{Parts, world_of, low_of, AreSound}
+use Rattle.occ_core.specs.CoreParts.{Parts, world_of, low_of, AreSound, before_first}
 use Rattle.occ_core.proofs.Calls.{held_world}
 use Rattle.occ_core.proofs.Moves.{each_slot}
 use Rattle.occ_core.proofs.Placed.{has_push}
 use Rattle.occ_log.proofs.Opponents.{finished-push}
 use Rattle.occ_log.proofs.Places.{slice_get-below, count-push, length-set}
 use Rattle.occ_core.proofs.ReadPhases.{there}
-use Rattle.occ_log.proofs.WindowMoves.{advanced-moved}
 use Rattle.occ_log.proofs.Windows.{window_moved, moved_size, moved_window}
 
 -- as many sessions are held where a slot takes another number alone
@@ -65,8 +64,8 @@ module _ (old : Parts) (place : ℕ) (slot : Slot) (row : LogRow) (sound : AreSo
 
   pub passed_sound : (table : State) (counter : ℕ) (phases : FinMap phase_cmp ReadPhase) (window : List (List Write))
       → IsLawful (world_of (passed_parts table counter phases window))
-      → length window ≡ counter - window_low counter old.settings.keep
-      → ((start : ℕ) → window_low counter old.settings.keep ≤ start → AreSame (drop (start - window_low counter old.settings.keep) window) (finished_opponents (old.log ++ row ∷ []) counter (window_low counter old.settings.keep) start))
+      → length window ≤ counter - window_low counter old.settings.keep
+      → ((start : ℕ) → window_low counter old.settings.keep ≤ start → AreSame (drop (start - (counter - length window)) window) (finished_opponents (old.log ++ row ∷ []) counter (window_low counter old.settings.keep) start))
       → length old.log < MAX_LOG_ROWS → counter + active_count (world_of old) ≤ MAX_COUNTER
       → AreSound (passed_parts table counter phases window)
   passed_sound table counter phases window law size is log_left counter_left = record {
@@ -162,11 +161,8 @@ commit_done parts sound session number start reads writes may lawful row row_is 
     own : LogRow
     own = entering (world_of parts) session number start reads writes (Done (parts.counter + 1))
 
-    next : ℕ
-    next = window_low (parts.counter + 1) parts.settings.keep
-
     sets_now : List (List Write)
-    sets_now = moved_window (low_of parts) next parts.window writes
+    sets_now = moved_window parts.settings.keep parts.window writes
 
     whole : Parts
     whole = passed_parts parts s.place s.slot own sound s.at s.free s.session_is may.number_fits refl (apply parts.table writes) (parts.counter + 1) (finite.remove parts.phases (session, number)) sets_now
@@ -174,14 +170,14 @@ commit_done parts sound session number start reads writes may lawful row row_is 
     worlds : world_of whole ≡ committed (world_of parts) session number start reads writes
     worlds = ap (λ h. record (committed (world_of parts) session number start reads writes) { held = h }) (passed_held parts s.place s.slot own sound s.at s.free s.session_is may.number_fits refl)
 
-    is : (begin : ℕ) → low_of parts ≤ begin → AreSame (drop (begin - low_of parts) parts.window) (finished_opponents (parts.log ++ standing_at own (Writing 0) ∷ []) parts.counter (low_of parts) begin)
+    is : (begin : ℕ) → low_of parts ≤ begin → AreSame (drop (begin - before_first parts) parts.window) (finished_opponents (parts.log ++ standing_at own (Writing 0) ∷ []) parts.counter (low_of parts) begin)
     is begin above test = sound.window_is begin above test ∙ sym (finished-push test parts.log (standing_at own (Writing 0)) parts.counter (low_of parts) begin refl)
 
     passed : AreSound whole
     passed = passed_sound parts s.place s.slot own sound s.at s.free s.session_is may.number_fits refl (apply parts.table writes) (parts.counter + 1) (finite.remove parts.phases (session, number)) sets_now
         (subst IsLawful (sym worlds) lawful)
-        (moved_size parts.log [] (standing_at own (Writing 0)) parts.window parts.counter (low_of parts) next (below-push parts.counter parts.log own 0 sound.law.invariant.below) (λ bound. refl) (omega arith) (omega arith) sound.window_size is (omega arith))
-        (window_moved parts.log [] (standing_at own (Writing 0)) parts.window parts.counter (low_of parts) next (below-push parts.counter parts.log own 0 sound.law.invariant.below) (λ bound. refl) (omega arith) (omega arith) sound.window_size is)
+        (moved_size parts.log [] (standing_at own (Writing 0)) parts.window parts.counter parts.settings.keep (below-push parts.counter parts.log own 0 sound.law.invariant.below) (λ bound. refl) sound.window_size is)
+        (window_moved parts.log [] (standing_at own (Writing 0)) parts.window parts.counter parts.settings.keep (below-push parts.counter parts.log own 0 sound.law.invariant.below) (λ bound. refl) sound.window_size is)
         may.log_room
         (let r = may.counter_room in one_more parts.counter (active_count (world_of parts)) r)
       where
@@ -194,7 +190,7 @@ commit_done parts sound session number start reads writes may lawful row row_is 
         let slots' : slice_set parts.slots s.place (record { last = number; hold = None }) ≡ slots = ap (λ p. slice_set parts.slots p (record { last = number; hold = None })) s.place_is ∙ sym slots_is in
         let count : parts.settings.sessions ≡ length slots = sym (ap length (sym slots') ∙ length-set parts.slots s.place _ ∙ sound.each_session) in
         let keeps : parts.settings.keep ≡ window.keep = sym (ap (λ (w : Window). w.keep) window_is) in
-        let sets' : sets_now ≡ window.sets = sym (advanced-moved (record { keep = parts.settings.keep; sets = parts.window }) parts.counter writes sound.window_size) ∙ sym (ap (λ (w : Window). w.sets) window_is) in
+        let sets' : sets_now ≡ window.sets = sym (ap (λ (w : Window). w.sets) window_is) in
         λ i. record {
           settings = record { schema = parts.settings.schema; sessions = count i; keep = keeps i };
           base = parts.base;

@@ -8,7 +8,7 @@ use Rattle.std.proofs.lemmas.List.Elements.{filter-append}
 use Rattle.occ_types.specs.declared.fault.Fault.TheVariants as faults
 use Rattle.occ_types.specs.Schema.{Schema, fault_if}
 use Rattle.occ_model.specs.State.{Write}
-use Rattle.occ_model.specs.Log.{Case, LogRow, Standing, Open, Writing, Done, Back, Base, last_folded, is_active, is_open}
+use Rattle.occ_model.specs.Log.{Case, LogRow, Standing, Open, Writing, Done, Back, Base, last_folded, is_active, is_open, is_writing, Quiet, serial}
 use Rattle.occ_model.specs.Content.{QuestionFits, RowFits, WriteIs, RowIs}
 use Rattle.occ_model.specs.Event.{Checkpoint, Folded, Refused}
 use Rattle.occ_model.specs.Refusal.{refusal, foldable}
@@ -18,6 +18,7 @@ use Rattle.occ_model.specs.World.{World, latest, low, last_entered, active_count
 use Rattle.occ_model.proofs.Checkpoints.{checkpoint_folds}
 use Rattle.occ_model.proofs.Folds.{AreFoldable, part_foldable, part_rest}
 use Rattle.occ_model.proofs.InSchema.{keeps_lawful}
+use Rattle.occ_model.proofs.Steps.{settled_quiet}
 use Rattle.occ_model.proofs.Tests as tests
 use Rattle.occ_book.specs.Base.{AllFitIn}
 use Rattle.occ_sets.specs.Sets.{ArePlaced}
@@ -248,6 +249,10 @@ module _ {Z : Type 0} where
   first_fit tables sessions (suc n) [] all = tt
   first_fit tables sessions (suc n) (row ∷ rows) all = (record { session = all.0.session; placed = all.0.placed }, first_fit tables sessions n rows all.1)
 
+  pub all_fit : (tables sessions : ℕ) (rows : List (code_row.LogRow Z (ℕ × Case))) → AllFit tables sessions (log_of rows) → AllFitIn tables sessions rows
+  all_fit tables sessions [] all = tt
+  all_fit tables sessions (row ∷ rows) all = (record { session = all.0.session; placed = all.0.placed }, all_fit tables sessions rows all.1)
+
 -- where no row can be folded nothing moves
 pub nothing_folds : (parts : Parts) (world : World) → world_of parts ≡ world → AreSound parts → false ≡ list_any (λ row. is_open row.standing) parts.log
     → (count : ℕ) → count ≡ length (foldable_part (low world) world.log) → count ≡ 0 → Step world Checkpoint (Folded count) world
@@ -261,3 +266,22 @@ nothing_folds parts world seen sound free count count_is none =
 pub checkpoint_starved : (parts : Parts) (world : World) → world_of parts ≡ world → false ≡ list_any (λ row. is_open row.standing) parts.log → (base : Base) → base ≡ parts.base → Step world Checkpoint (Refused faults.Memory) (world_of (record parts { base = base }))
 checkpoint_starved parts world seen free base same =
     starved (subst (λ w. refusal w Checkpoint ≡ None) seen (quiet parts free)) refl refl (ap (λ b. world_of (record parts { base = b })) same ∙ seen)
+
+-- What a store leaves where nothing is active.
+
+quiet_log : (log : List LogRow) → length (filter (λ row. is_active row.standing) log) ≡ 0 → Quiet log
+quiet_log [] none = tt
+quiet_log (row ∷ rows) none = go row.standing refl (quiet_log rows)
+  where
+    left : Standing → ℕ
+    left s = length (cond (is_active s) (row ∷ filter (λ row. is_active row.standing) rows) (filter (λ row. is_active row.standing) rows))
+
+    go : (s : Standing) → row.standing ≡ s → (length (filter (λ row. is_active row.standing) rows) ≡ 0 → Quiet rows) → (is_writing row.standing ≡ false) × Quiet rows
+    go (Open index case) e others = let n : left (Open index case) ≡ 0 = sym (ap left e) ∙ none in absurd (omega arith)
+    go (Writing done) e others = let n : left (Writing done) ≡ 0 = sym (ap left e) ∙ none in absurd (omega arith)
+    go (Done number) e others = (ap is_writing e, others (sym (ap left e) ∙ none))
+    go (Back cause) e others = (ap is_writing e, others (sym (ap left e) ∙ none))
+
+-- the table is the replay of the whole log
+pub quiet_state : (parts : Parts) → AreSound parts → active_count (world_of parts) ≡ 0 → serial parts.base.state parts.log ≡ parts.table
+quiet_state parts sound none = sym sound.law.invariant.replayed ∙ settled_quiet parts.table parts.log (quiet_log parts.log none)

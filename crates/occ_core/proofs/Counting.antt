@@ -258,12 +258,12 @@ count_skipped log slots k count next total less found is was =
     more count next left after total e is a = omega arith
 
 pub share_found : (log : ℕ → Option LogRow) (slots : List Slot) (k : ℕ) (before after : List (List Write)) (writes : List Write) → k < length slots → Some writes ≡ active_at log (slice_get slots k) → after ≡ before ++ writes ∷ []
-    → before ++ active_from log (drop k slots) ≡ active_from log slots → after ++ active_from log (drop (k + 1) slots) ≡ active_from log slots
-share_found log slots k before after writes less found is was =
+    → (all : List (List Write)) → before ++ active_from log (drop k slots) ≡ all → after ++ active_from log (drop (k + 1) slots) ≡ all
+share_found log slots k before after writes less found is all was =
     ap (λ l. l ++ active_from log (drop (k + 1) slots)) is ∙ append_assoc before (writes ∷ []) (active_from log (drop (k + 1) slots))
     ∙ ap (λ l. before ++ l) (sym (active_found log slots k writes less found)) ∙ was
 
 pub share_skipped : (log : ℕ → Option LogRow) (slots : List Slot) (k : ℕ) (before after : List (List Write)) → k < length slots → None ≡ active_at log (slice_get slots k) → after ≡ before
-    → before ++ active_from log (drop k slots) ≡ active_from log slots → after ++ active_from log (drop (k + 1) slots) ≡ active_from log slots
-share_skipped log slots k before after less found is was =
+    → (all : List (List Write)) → before ++ active_from log (drop k slots) ≡ all → after ++ active_from log (drop (k + 1) slots) ≡ all
+share_skipped log slots k before after less found is all was =
     ap (λ l. l ++ active_from log (drop (k + 1) slots)) is ∙ ap (λ l. before ++ l) (sym (active_skipped log slots k less found)) ∙ was

@@ -25,7 +25,7 @@ use Rattle.occ_core.specs.Reads.{session_fault, closed_fault, start_fault}
 use Rattle.occ_core.specs.EntryFaults.{due_fault, busy_fault, spare_fault, turn_to_enter, write_fault, log_fault, counter_fault, room_to_enter}
 use Rattle.occ_log.specs.SessionStates.{Slot, Hold, last_of, active_from, HoldsArePlaced}
 use Rattle.occ_sets.specs.Sets.{ArePlaced}
-use Rattle.occ_core.specs.CoreParts.{Parts, world_of, low_of, found_at, AreSound}
+use Rattle.occ_core.specs.CoreParts.{Parts, world_of, low_of, before_first, found_at, AreSound}
 use Rattle.occ_core.proofs.Placed.{finds_standing, row_found}
 use Rattle.occ_core.proofs.Calls.{held_world}
 use Rattle.occ_log.proofs.Changes.{placed-set}
@@ -192,23 +192,23 @@ low_same (row ∷ rows) counter low start less =
 
 pub open_case : (parts : Parts) (world : World) → world_of parts ≡ world → AreSound parts → (session number start : ℕ) (writes : List Write) (case : Case)
     → case.start ≡ start → case.low ≡ low world → case.reads ≡ map (λ o. o.0) (reads_of (finite.get parts.phases (session, number))) → case.writes ≡ writes
-    → case.finished ≡ drop (start - low world) parts.window → case.active ≡ active_from (found_at parts) parts.slots → IsCaseOf world session number start writes case
+    → case.finished ≡ drop (start - before_first parts) parts.window → case.active ≡ active_from (found_at parts) parts.slots → IsCaseOf world session number start writes case
 open_case parts world seen sound session number start writes case start_is low_is reads_is writes_is finished_is active_is =
     subst (λ w. IsCaseOf w session number start writes case) seen (record {
       start_is = start_is;
       low_is = low_is ∙ ap low (sym seen);
       reads_are = reads_is ∙ ap (map (λ (o : Observation). o.0)) (sym (reads_are (finite.get parts.phases (session, number))));
       writes_are = writes_is;
-      finished = λ test. ap (list_any test) (finished_is ∙ ap (λ w. drop (start - low w) parts.window) (sym seen)) ∙ in_window test;
+      finished = λ test. ap (list_any test) finished_is ∙ in_window test;
       active = λ test. ap (list_any test) active_is ∙ active_same parts.log (found_at parts) parts.slots (finds_standing parts.base.place parts.log) sound.law.invariant.one_under_way sound.law.invariant.active_held
           (λ place slot hold at holds. row_found parts.base.place parts.log (suc place) hold ((sound.slots_true place slot at).row_is hold holds)) test;
     })
   where
-    in_window : (test : List Write → Bool) → list_any test (drop (start - low_of parts) parts.window) ≡ list_any test (finished_opponents parts.log parts.counter (low_of parts) start)
+    in_window : (test : List Write → Bool) → list_any test (drop (start - before_first parts) parts.window) ≡ list_any test (finished_opponents parts.log parts.counter (low_of parts) start)
     in_window test = tests.decided (nat_le (low_of parts) start)
         (λ e. sound.window_is start (leb-true (low_of parts) start e) test)
         (λ e. let under = leb-false (low_of parts) start e in
-        let none : start - low_of parts ≡ low_of parts - low_of parts = omega arith in
+        let none : start - before_first parts ≡ low_of parts - before_first parts = (let size = sound.window_size in omega arith) in
         ap (λ n. list_any test (drop n parts.window)) none ∙ sound.window_is (low_of parts) (omega arith) test
         ∙ ap (list_any test) (sym (low_same parts.log parts.counter (low_of parts) start (omega arith))))
 
@@ -319,21 +319,14 @@ enter_whole parts world seen sound session number start writes none row case is_
 pub entry_of : (old new : World) (session number start : ℕ) (writes : List Write) (item : Item) (reply : Reply) → Step old (Enter session (Request number start writes)) reply new → Request number start writes ≡ item → Step old (Enter session item) reply new
 entry_of old new session number start writes item reply step is = subst (λ i. Step old (Enter session i) reply new) is step
 
--- there is no memory, and the read phases are as they were
-pub entry_starved : (parts : Parts) (world : World) → world_of parts ≡ world → (session number start : ℕ) (writes : List Write) → refusal world (Enter session (Request number start writes)) ≡ None
-    → (phases : FinMap phase_cmp ReadPhase) → phases ≡ parts.phases → Step world (Enter session (Request number start writes)) (Refused faults.Memory) (world_of (record parts { phases = phases }))
-entry_starved parts world seen session number start writes none phases same =
-    starved none refl refl (ap (λ p. world_of (record parts { phases = p })) same ∙ seen)
-
--- and where the log was asked for room, which it has not, its rows are as they were too
+-- where the log was asked for room, which it has not, its rows are as they were
 pub entry_roomless : (parts : Parts) (world : World) → world_of parts ≡ world → (session number start : ℕ) (writes : List Write) → refusal world (Enter session (Request number start writes)) ≡ None
-    → (log : List LogRow) → log ≡ parts.log → (phases : FinMap phase_cmp ReadPhase) → phases ≡ parts.phases → Step world (Enter session (Request number start writes)) (Refused faults.Memory) (world_of (record parts { log = log; phases = phases }))
-entry_roomless parts world seen session number start writes none log still phases same =
-    starved none refl refl ((λ i. world_of (record parts { log = still i; phases = same i })) ∙ seen)
+    → (log : List LogRow) → log ≡ parts.log → Step world (Enter session (Request number start writes)) (Refused faults.Memory) (world_of (record parts { log = log }))
+entry_roomless parts world seen session number start writes none log still =
+    starved none refl refl (ap (λ l. world_of (record parts { log = l })) still ∙ seen)
 
-pub sound_kept : (parts : Parts) → AreSound parts → (log : List LogRow) → log ≡ parts.log → (phases : FinMap phase_cmp ReadPhase) → phases ≡ parts.phases → AreSound (record parts { log = log; phases = phases })
-sound_kept parts sound log still phases same =
-    subst (λ l. AreSound (record parts { log = l; phases = phases })) (sym still) (subst (λ p. AreSound (record parts { phases = p })) (sym same) sound)
+pub sound_kept : (parts : Parts) → AreSound parts → (log : List LogRow) → log ≡ parts.log → AreSound (record parts { log = log })
+sound_kept parts sound log still = subst (λ l. AreSound (record parts { log = l })) (sym still) sound
 
 -- the place of the row of an entry
 pub entering_place : (parts : Parts) (world : World) → world_of parts ≡ world → (session number start : ℕ) (reads : List Observation) (writes : List Write) (standing : Standing)
@@ -345,12 +338,9 @@ abbrev pub IsOpenRow : World → ℕ → ℕ → ℕ → List Write → LogRow �
 IsOpenRow world session number start writes row =
     (case : Case) × IsCaseOf world session number start writes case × (row ≡ entering world session number start (reads_under world session number) writes (Open (next_place world) case))
 
--- it is the same where the read phases are, and the writes
-pub open_row_kept : (parts : Parts) (world : World) → world_of parts ≡ world → (session number start : ℕ) (writes theirs : List Write) → theirs ≡ writes → (phases : FinMap phase_cmp ReadPhase) → phases ≡ parts.phases → (row : LogRow)
-    → IsOpenRow (world_of (record parts { phases = phases })) session number start theirs row → IsOpenRow world session number start writes row
-open_row_kept parts world seen session number start writes theirs same phases kept row is =
-    subst (λ w. IsOpenRow w session number start writes row) (ap (λ p. world_of (record parts { phases = p })) kept ∙ seen)
-    (subst (λ ws. IsOpenRow (world_of (record parts { phases = phases })) session number start ws row) same is)
+-- it is the same where the writes are
+pub open_row_kept : (world : World) (session number start : ℕ) (writes theirs : List Write) → theirs ≡ writes → (row : LogRow) → IsOpenRow world session number start theirs row → IsOpenRow world session number start writes row
+open_row_kept world session number start writes theirs same row = subst (λ ws. IsOpenRow world session number start ws row) same
 
 -- a session that may enter is numbered from one
 pub enter_from : (parts : Parts) (world : World) → world_of parts ≡ world → (session number start : ℕ) (writes : List Write) → refusal world (Enter session (Request number start writes)) ≡ None → 1 ≤ session

@@ -26,7 +26,6 @@ use Rattle.occ_core.proofs.Placed.{at_index, from_index}
 use Rattle.occ_core.specs.declared.writing.SingleWrite.{SingleWrite}
 use Rattle.occ_core.specs.declared.writing.SingleWrite.TheVariants as code_write
 use Rattle.occ_log.proofs.Places.{held_latest, length-set, slice_get-set}
-use Rattle.occ_log.proofs.WindowMoves.{advanced-moved}
 use Rattle.occ_core.proofs.Calls.{UnderWay, found_row, found_is, held_world, told_gone, let_through, latest_reads, latest_none}
 use Rattle.occ_core.proofs.Moves as moves
 
@@ -165,8 +164,7 @@ finish_whole parts world seen sound session place row found at free hold gives s
     ∙ ap (λ p. slice_set parts.log p (record row { standing = Done (parts.counter + 1) })) u.index_is ∙ sym log_is in
     let writes_are : hold.writes ≡ u.row.writes = ap (λ (h : Hold). h.writes) (given_up parts session place u _ hold gives) ∙ u.writes_are in
     let keeps : parts.settings.keep ≡ window.keep = sym (ap (λ (w : Window). w.keep) window_is) in
-    let sets_are = sym (advanced-moved (record { keep = parts.settings.keep; sets = parts.window }) parts.counter u.row.writes sound.window_size)
-    ∙ ap (λ w. (advanced (record { keep = parts.settings.keep; sets = parts.window }) w).sets) (sym writes_are) ∙ sym (ap (λ (w : Window). w.sets) window_is) in
+    let sets_are = ap (λ w. (advanced (record { keep = parts.settings.keep; sets = parts.window }) w).sets) (sym writes_are) ∙ sym (ap (λ (w : Window). w.sets) window_is) in
     let moved : moves.finished_parts parts u.slot_at u.slot u.index u.row sound u.there u.row_there stands.0 stood none ≡ ended parts slots log window =
     ap (λ l. record (moves.finished_parts parts u.slot_at u.slot u.index u.row sound u.there u.row_there stands.0 stood none) { log = l }) log_are
     ∙ ap (λ s. record (ended parts s log window) { settings = parts.settings; window = (moves.finished_parts parts u.slot_at u.slot u.index u.row sound u.there u.row_there stands.0 stood none).window }) slots_are

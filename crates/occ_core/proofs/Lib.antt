@@ -19,3 +19,4 @@ pub mod Checkpoints
 pub mod Performing
 pub mod OpenRows
 pub mod OpenCases
+pub mod Resumptions

@@ -331,7 +331,7 @@ module _ (old : Parts) (place : ℕ) (slot : Slot) (index : ℕ) (row : LogRow) 
       log = turned_log (Done (old.counter + 1));
       counter = old.counter + 1;
       slots = slice_set old.slots place (record { last = slot.last; hold = None });
-      window = moved_window (low_of old) (window_low (old.counter + 1) old.settings.keep) old.window row.writes;
+      window = moved_window old.settings.keep old.window row.writes;
     }
 
     in_slots : place < length old.slots
@@ -356,12 +356,12 @@ module _ (old : Parts) (place : ℕ) (slot : Slot) (index : ℕ) (row : LogRow) 
               (let t = slots_turned finished_parts (Done (old.counter + 1)) refl refl place slot (sound.slots_true place slot at) in
               record { last_is = t.last_is; last_fits = t.last_fits; row_is = λ h (e : None ≡ Some h). cc e })
               (λ q other ne e. slots_turned finished_parts (Done (old.counter + 1)) refl refl q other (sound.slots_true q other e));
-          window_size = moved_size s.before s.later row old.window old.counter (low_of old) (window_low (old.counter + 1) old.settings.keep)
-              (subst (NumbersAreBelow old.counter) s.was sound.law.invariant.below) (λ bound. ap (finished_within bound old.counter) stands) (omega arith) (omega arith) sound.window_size
-              (λ start above test. sound.window_is start above test ∙ ap (λ l. some_finished test l old.counter (low_of old) start) s.was) (omega arith);
+          window_size = moved_size s.before s.later row old.window old.counter old.settings.keep
+              (subst (NumbersAreBelow old.counter) s.was sound.law.invariant.below) (λ bound. ap (finished_within bound old.counter) stands) sound.window_size
+              (λ start above test. sound.window_is start above test ∙ ap (λ l. some_finished test l old.counter (low_of old) start) s.was);
           window_is = λ start above test.
-              window_moved s.before s.later row old.window old.counter (low_of old) (window_low (old.counter + 1) old.settings.keep)
-              (subst (NumbersAreBelow old.counter) s.was sound.law.invariant.below) (λ bound. ap (finished_within bound old.counter) stands) (omega arith) (omega arith) sound.window_size
+              window_moved s.before s.later row old.window old.counter old.settings.keep
+              (subst (NumbersAreBelow old.counter) s.was sound.law.invariant.below) (λ bound. ap (finished_within bound old.counter) stands) sound.window_size
               (λ start above test. sound.window_is start above test ∙ ap (λ l. some_finished test l old.counter (low_of old) start) s.was) start above test
               ∙ sym (ap (λ l. some_finished test l (old.counter + 1) (window_low (old.counter + 1) old.settings.keep) start) (s.now (standing_at row (Done (old.counter + 1)))));
           log_room = let r = sound.log_room in let e = length-set old.log index (standing_at row (Done (old.counter + 1))) in omega arith;

@@ -14,7 +14,7 @@ use Rattle.occ_log.specs.Window.{Window}
 use Rattle.occ_model.specs.Content.{IsLawful}
 use Rattle.occ_model.proofs.InSchema.{opened_lawful}
 use Rattle.occ_log.specs.SessionStates.{Slot, held_from, idle_slots}
-use Rattle.occ_core.specs.CoreParts.{Parts, world_of, AreSound, SlotIsTrue}
+use Rattle.occ_core.specs.CoreParts.{Parts, world_of, before_first, AreSound, SlotIsTrue}
 
 none_held : (n count : ℕ) → held_from n (idle_slots count) ≡ sets.empty
 none_held n zero = refl
@@ -24,7 +24,7 @@ pub idle_length : (count : ℕ) → length (idle_slots count) ≡ count
 idle_length zero = refl
 idle_length (suc count) = ap suc (idle_length count)
 
-idle_at : (count place : ℕ) (slot : Slot) → slice_get (idle_slots count) place ≡ Some slot → slot ≡ record { last = 0; hold = None }
+pub idle_at : (count place : ℕ) (slot : Slot) → slice_get (idle_slots count) place ≡ Some slot → slot ≡ record { last = 0; hold = None }
 idle_at zero place slot at = cc
 idle_at (suc count) zero slot at = cc
 idle_at (suc count) (suc place) slot at = idle_at count place slot at
@@ -58,7 +58,7 @@ opened_sound schema sessions keep = record {
         row_is = λ hold (e : None ≡ Some hold). cc e;
       });
   window_size = omega arith;
-  window_is = λ start above test. ap (Rattle.std.specs.List.list_any test) (drop-nil (start - Rattle.occ_core.specs.CoreParts.low_of (opened_parts schema sessions keep)));
+  window_is = λ start above test. ap (Rattle.std.specs.List.list_any test) (drop-nil (start - before_first (opened_parts schema sessions keep)));
   log_room = omega arith;
   place_room = omega arith;
   base_begins = λ _. refl;

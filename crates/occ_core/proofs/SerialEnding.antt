@@ -25,7 +25,7 @@ use Rattle.occ_model.proofs.Admitted.{passed, admitted}
 use Rattle.occ_model.proofs.InSchema.{keeps_lawful}
 use Rattle.occ_core.specs.AtOnce.{committed, backed, MayEnd, quiet_fault, turn_to_end}
 use Rattle.occ_core.specs.EntryFaults.{spare_fault, turn_to_close, log_fault, counter_fault, room_to_enter}
-use Rattle.occ_core.specs.CoreParts.{Parts, world_of, found_at, AreSound}
+use Rattle.occ_core.specs.CoreParts.{Parts, world_of, found_at, AreSound, before_first}
 use Rattle.occ_core.specs.Reads.{start_fault}
 use Rattle.occ_log.specs.SessionStates.{active_from}
 use Rattle.occ_sets.specs.Sets.{ArePlaced}
@@ -97,26 +97,26 @@ none_active parts sound quiet =
     empty (x ∷ xs) up = absurd (omega arith)
 
 -- the verdict that needs no case
-abbrev pub verdict_alone : ℕ → ℕ → List Observation → List (List Write) → Verdict
-verdict_alone start low reads window = verdict (record {
+abbrev pub verdict_alone : ℕ → ℕ → ℕ → List Observation → List (List Write) → Verdict
+verdict_alone start low before reads window = verdict (record {
   start = start;
   low = low;
   reads = map (λ o. o.0) reads;
   writes = [];
-  finished = drop (start - low) window;
+  finished = drop (start - before) window;
   active = [];
 })
 
-pub quiet_validity : (parts : Parts) (world : World) → world_of parts ≡ world → AreSound parts → store_busy world ≡ None → (session number start lower : ℕ) (reads : List Observation) → reads ≡ reads_under world session number → lower ≡ low world
-    → (writes : List Write) → verdict_alone start lower reads parts.window ≡ validity_of world session number start writes
-quiet_validity parts world seen sound quiet session number start lower reads reads_is lower_is writes =
+pub quiet_validity : (parts : Parts) (world : World) → world_of parts ≡ world → AreSound parts → store_busy world ≡ None → (session number start lower before : ℕ) (reads : List Observation) → reads ≡ reads_under world session number → lower ≡ low world → before ≡ before_first parts
+    → (writes : List Write) → verdict_alone start lower before reads parts.window ≡ validity_of world session number start writes
+quiet_validity parts world seen sound quiet session number start lower before reads reads_is lower_is before_is writes =
     verdict-validity world.log world.counter (low world) start (map (λ o. o.0) (reads_under world session number)) writes case
     (open_case parts world seen sound session number start writes case refl lower_is
     (ap (map (λ (o : Observation). o.0)) (reads_is ∙ ap (λ w. reads_under w session number) (sym seen) ∙ reads_are (finite.get parts.phases (session, number)))) refl
-    (ap (λ n. drop (start - n) parts.window) lower_is) (none_active parts sound (ap store_busy seen ∙ quiet)))
+    (ap (λ n. drop (start - n) parts.window) before_is) (none_active parts sound (ap store_busy seen ∙ quiet)))
   where
     case : Case
-    case = record { start = start; low = lower; reads = map (λ o. o.0) reads; writes = writes; finished = drop (start - lower) parts.window; active = [] }
+    case = record { start = start; low = lower; reads = map (λ o. o.0) reads; writes = writes; finished = drop (start - before) parts.window; active = [] }
 
 -- What it does, where nothing refuses it.
 

@@ -25,7 +25,7 @@ pub record Parts : Type 0 where
   pub phases : FinMap phase_cmp ReadPhase
   -- of each session, in order
   pub slots : List Slot
-  -- the write sets numbered low + 1 to the counter, in the order of their numbers
+  -- the last write sets up to the counter, in the order of their numbers
   pub window : List (List Write)
 
 abbrev pub world_of : Parts → World
@@ -42,6 +42,10 @@ world_of parts = record {
 
 abbrev pub low_of : Parts → ℕ
 low_of parts = low (world_of parts)
+
+-- The number before that of the first write set in the window. Between the lower end of the window and this number none is kept: no row of the log finished there, since the store went on from a base.
+abbrev pub before_first : Parts → ℕ
+before_first parts = parts.counter - length parts.window
 
 -- the row at a place in the order of entry
 abbrev pub found_at : Parts → ℕ → Option LogRow
@@ -75,8 +79,8 @@ pub record AreSound (parts : Parts) : Type 0 where
   pub law : IsLawful (world_of parts)
   pub each_session : length parts.slots ≡ parts.settings.sessions
   pub slots_true : (place : ℕ) (slot : Slot) → slice_get parts.slots place ≡ Some slot → SlotIsTrue parts place slot
-  pub window_size : length parts.window ≡ parts.counter - low_of parts
-  pub window_is : (start : ℕ) → low_of parts ≤ start → AreSame (drop (start - low_of parts) parts.window) (finished_opponents parts.log parts.counter (low_of parts) start)
+  pub window_size : length parts.window ≤ parts.counter - low_of parts
+  pub window_is : (start : ℕ) → low_of parts ≤ start → AreSame (drop (start - before_first parts) parts.window) (finished_opponents parts.log parts.counter (low_of parts) start)
   pub log_room : length parts.log ≤ MAX_LOG_ROWS
   pub place_room : parts.base.place ≤ MAX_PLACE
   -- a log that begins at the first place of all was never folded

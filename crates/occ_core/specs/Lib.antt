@@ -9,3 +9,5 @@ pub mod Runs
 pub mod Folding
 pub mod Performed
 pub mod OpenCases
+pub mod Resuming
+pub mod AutoCheckpoints

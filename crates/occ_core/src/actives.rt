@@ -1,5 +1,5 @@
 //! The active transactions and the open rows, found through the sessions, without a pass over the log.
-ghost use Rattle.std.specs.Prelude.{◌≡◌, length, slice_get, IfOk, option_map};
+ghost use Rattle.std.specs.Prelude.{◌≡◌, ◌++◌, length, slice_get, IfOk, option_map};
 ghost use Rattle.std.specs.List.{list_any};
 ghost use Rattle.occ_model.specs.Log.{is_active, is_open};
 ghost use Rattle.occ_model.specs.World.{active_count};
@@ -108,19 +108,19 @@ fn is_open<A: Allocator>(standing: &Standing<OpenCase<A>>) -> bool
     }
 }
 
-// A clone of the writes of each active transaction, found through the sessions.
-pub(crate) fn active_writes<A: Allocator + Clone>(
-    alloc: A,
+// Some opponents, and behind them a clone of the writes of each active transaction, found through the sessions.
+pub(crate) fn with_active<A: Allocator + Clone>(
+    finished: Vec<WriteSet<A>, A>,
     sessions: &Sessions<A>,
     log: &Log<A>,
 ) -> Result<Vec<WriteSet<A>, A>, AllocError>
-    ensures { IfOk result (λ active. active.items ≡ active_from (row_at log.now) sessions.now) }
+    ensures { IfOk result (λ opponents. opponents.items ≡ finished.items ++ active_from (row_at log.now) sessions.now) }
 {
-    let mut active = Vec::new(alloc);
+    let mut opponents = finished;
     for place in 0..sessions.len() {
         if let Some(writes) = active_at(sessions, log, place) {
-            active.push(writes.clone()?)?;
+            opponents.push(writes.clone()?)?;
         }
     }
-    Ok(active)
+    Ok(opponents)
 }

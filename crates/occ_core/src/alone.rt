@@ -114,7 +114,6 @@ impl<A: Allocator + Copy> Core<A> {
     {
         done.take_room(self.alloc, operations)?;
         done.perform_each(&self.tables, operations)?;
-        done.reads.share()?;
         done.writes.share()
     }
 }

@@ -1,9 +1,9 @@
 //! Checkpoints: the settled beginning of the log goes into the base.
-ghost use Rattle.std.specs.Prelude.{◌≡◌, ◌<◌, ◌≤◌, ◌+◌, ◌^◌, ℕ, length, take, OnOk, OnErr, IsOkUnless};
-ghost use Rattle.occ_types.specs.declared.fault.Fault.TheVariants.{Memory};
+ghost use Rattle.std.specs.Prelude.{◌≡◌, ◌<◌, ◌≤◌, ◌+◌, ◌^◌, ℕ, length, take, IfOk, IfErr, OnOk, OnErr, IsOkUnless, MatchResult};
+ghost use Rattle.occ_types.specs.declared.fault.Fault.TheVariants.{Memory, StoreBusy};
 ghost use Rattle.occ_model.specs.Event.{Checkpoint, Folded};
 ghost use Rattle.occ_model.specs.Step.{folded, foldable_part};
-ghost use Rattle.occ_model.specs.World.{low};
+ghost use Rattle.occ_model.specs.World.{low, active_count};
 ghost use Rattle.occ_core.specs.Core.{Transition};
 ghost use Rattle.occ_core.specs.Folding.{AllFit};
 ghost use Rattle.occ_model.specs.Replies.{replied};
@@ -12,7 +12,7 @@ use crate::actives::has_open;
 use crate::core_state::Core;
 use occ_book::Base;
 use occ_log::Log;
-use occ_types::Fault;
+use occ_types::{Fault, Refused};
 use std::alloc::Allocator;
 
 /// The greatest place that a log may begin at. No store gets there: at ten million transactions a second it would take some twenty-nine
@@ -49,6 +49,33 @@ impl<A: Allocator + Copy> Core<A> {
         fold_front(&mut self.base, &self.log, count)?;
         self.log.fold(count);
         Ok(count)
+    }
+}
+
+impl<A: Allocator + Copy> Core<A> {
+    /// What a store leaves for one that goes on from it: its base with all rows of the log folded into it, those within the window too.
+    /// A closing mark isn't kept. It takes no memory.
+    ///
+    /// Refused with `StoreBusy`, and the store handed back, while a transaction is active: it is open, or in its write phase.
+    pub fn into_base(self) -> Result<Base<A>, Refused<Core<A>>>
+        ensures folded { IfOk result (λ base. base ≡ record { tables = length self.world.settings.schema; sessions = self.world.settings.sessions; base = folded self.world.base self.world.log }) }
+        ensures state { IfOk result (λ base. base.base.state ≡ self.world.table) }
+        ensures quiet { MatchResult result (λ _. active_count self.world ≡ 0) (λ refused. (0 < active_count self.world) × (refused.fault ≡ StoreBusy)) }
+        ensures handed_back { IfErr result (λ refused. refused.value ≡ self) }
+    {
+        if self.active() > 0 {
+            return Err(Refused {
+                value: self,
+                fault: Fault::StoreBusy,
+            });
+        }
+        let Core {
+            tables,
+            base,
+            log,
+            ..
+        } = self;
+        Ok(base.behind(log.rows(), tables))
     }
 }
 

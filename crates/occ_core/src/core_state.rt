@@ -1,5 +1,5 @@
 //! The core of the store: the world of the model, kept.
-ghost use Rattle.std.specs.Prelude.{◌≡◌, ◌<◌, ◌≤◌, ◌+◌, ◌^◌, ℕ, [], length, IfOk, IfErr, IsOkUnless, true, Some};
+ghost use Rattle.std.specs.Prelude.{◌≡◌, ◌<◌, ◌≤◌, ◌+◌, ◌-◌, ◌^◌, ℕ, [], length, IfOk, IfErr, IsOkUnless, true, Some};
 ghost use Rattle.std.specs.FinMap as finite;
 ghost use Rattle.occ_types.specs.declared.fault.Fault.TheVariants.{Memory};
 ghost use Rattle.occ_types.specs.declared.limits.TheConstants.{MAX_COUNTER, MAX_LOG_ROWS, MAX_NUMBER};
@@ -119,6 +119,13 @@ impl<A: Allocator> Core<A> {
     }
 }
 
+// The number before that of the first write set in a window that ends at the counter. Nobody finished between the window's lower end and this number.
+pub(crate) fn before_first<A: Allocator>(counter: u64, window: &Window<A>) -> u64
+    ensures { result ≡ counter - length window.now.sets }
+{
+    counter.saturating_sub(window.len() as u64)
+}
+
 // The parts of an empty store that take memory: so many tables, so many sessions with a slot for a mark each and a log for their rows, a window
 // of so many write sets, and a base of which nothing was folded.
 fn room<A: Allocator + Copy>(
@@ -131,7 +138,7 @@ fn room<A: Allocator + Copy>(
     ensures sessions { IfOk result (λ parts. parts.1 ≡ idle_slots sessions) }
     ensures window { IfOk result (λ parts. parts.2 ≡ record { keep = keep; sets = [] }) }
     ensures marks { IfOk result (λ parts. parts.3 ≡ record { sessions = sessions; marks = finite.empty }) }
-    ensures log { IfOk result (λ parts. IsBegun sessions parts.4) }
+    ensures log { IfOk result (λ parts. IsBegun 0 sessions parts.4) }
     ensures base { IfOk result (λ parts. parts.5 ≡ record { tables = tables; sessions = sessions; base = empty_base }) }
     ensures memory { IsOkUnless result Memory }
 {
@@ -140,6 +147,6 @@ fn room<A: Allocator + Copy>(
     let states = Sessions::new(alloc, sessions)?;
     let window = Window::new(alloc, keep)?;
     let marks = Marks::new(alloc, sessions)?;
-    let log = Log::new(alloc, sessions)?;
+    let log = Log::new(alloc, 0, sessions)?;
     Ok((tables, states, window, marks, log, base))
 }

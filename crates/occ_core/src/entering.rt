@@ -14,8 +14,8 @@ ghost use Rattle.occ_model.specs.Replies.{replied, replied_back};
 ghost use Rattle.occ_core.specs.Replies.{outcome_of, CanEnter};
 ghost use Rattle.occ_queue.specs.Items.{item_of};
 
-use crate::actives::active_writes;
-use crate::core_state::Core;
+use crate::actives::with_active;
+use crate::core_state::{Core, before_first};
 use crate::entry_checks::{check_due, check_idle, check_room_to_enter, check_turn_to_enter};
 use crate::outcomes::Outcome;
 use crate::read_checks::{check_session, check_unclosed};
@@ -136,16 +136,17 @@ impl<A: Allocator + Copy> Core<A> {
     {
         let start = transaction.start;
         let low = self.low();
-        let skip = start.saturating_sub(low) as usize;
+        let skip = start.saturating_sub(before_first(self.counter, &self.window)) as usize;
         let finished = self.window.shared_from(self.alloc, skip)?;
-        let active = active_writes(self.alloc, &self.sessions, &self.log)?;
+        let count = finished.as_slice().len();
+        let opponents = with_active(finished, &self.sessions, &self.log)?;
         let case = Case::new(
             start,
             low,
             reads.clone()?,
             writes.clone()?,
-            finished,
-            active,
+            opponents,
+            count,
         );
         let place = self.log.next_place();
         let Ok(open_case) = OpenCase::new(self.alloc, place as u64, case) else {

@@ -16,7 +16,7 @@ ghost use Rattle.occ_log.specs.Logs.{row_at};
 ghost use Rattle.occ_queue.specs.Items.{item_of};
 
 use crate::actives::count_active;
-use crate::core_state::Core;
+use crate::core_state::{Core, before_first};
 use crate::entering::{check_turn_to_close, request};
 use crate::entry_checks::{check_room_to_enter, check_spare};
 use crate::outcomes::Outcome;
@@ -127,9 +127,8 @@ impl<A: Allocator + Copy> Core<A> {
     }
 
     // One more owner of what was read under a transaction's number.
-    fn shared_reads(&mut self, transaction: Transaction) -> Result<ReadSet<A>, Fault>
-        ensures reads { IfOk result (λ reads. reads ≡ reads_under self.old.world transaction.session transaction.number) }
-        ensures kept { self.new ≡ self.old }
+    fn shared_reads(&self, transaction: Transaction) -> Result<ReadSet<A>, Fault>
+        ensures reads { IfOk result (λ reads. reads ≡ reads_under self.now.world transaction.session transaction.number) }
         ensures memory { IsOkUnless result Memory }
     {
         let reads = self
@@ -144,7 +143,8 @@ impl<A: Allocator + Copy> Core<A> {
         requires reads { reads.now ≡ reads_under self.now.world transaction.session transaction.number }
         ensures { (writes : List Write) → result ≡ validity_of self.now.world transaction.session transaction.number transaction.start writes }
     {
-        test(&self.window, self.low(), transaction.start, reads)
+        let before = before_first(self.counter, &self.window);
+        test(&self.window, self.low(), before, transaction.start, reads)
     }
 }
 
@@ -180,21 +180,27 @@ pub(crate) fn check_quiet(active: usize) -> Result<(), Fault>
 }
 
 // The verdict on a transaction that no other one is active beside: the write sets in the window are its opponents, but for those of
-// transactions that had finished as it began.
-fn test<A: Allocator>(window: &Window<A>, low: u64, start: u64, reads: &ReadSet<A>) -> Verdict
+// transactions that had finished as it began. `before` is the number before that of the window's first set.
+fn test<A: Allocator>(
+    window: &Window<A>,
+    low: u64,
+    before: u64,
+    start: u64,
+    reads: &ReadSet<A>,
+) -> Verdict
     ensures { result ≡ verdict (record {
       start = start;
       low = low;
       reads = map (λ o. o.0) reads.now;
       writes = [];
-      finished = drop (start - low) window.now.sets;
+      finished = drop (start - before) window.now.sets;
       active = [];
     }) }
 {
     if start < low {
         return Verdict::BackUp(Cause::TooOld);
     }
-    if window.meets((start - low) as usize, reads) {
+    if window.meets(start.saturating_sub(before) as usize, reads) {
         return Verdict::BackUp(Cause::Conflict);
     }
     Verdict::Commit

@@ -22,8 +22,8 @@ pub(crate) fn number_in<A: Allocator>(row: Option<&Row<A>>) -> i64
     let Some(row) = row else {
         return 0;
     };
-    match (row.cell(0), row.len()) {
-        (Some(Cell::Int(number)), 1) => *number,
+    match (row.int(0), row.len()) {
+        (Some(number), 1) => number,
         _ => 0,
     }
 }

@@ -14,39 +14,39 @@ returns-in_err-check_serial-clause-step g c =
 pub tested-requires-clause-quiet : goal.tested-requires-clause-quiet
 tested-requires-clause-quiet g c =
     let t = c.args.transaction in
-    quiet_kept c.args.self.now.world t.session t.number t.start c.args.writes.now (sym c.in_ok-check_serial.ensures) c.shared_reads.new.self.world (ap (λ s. s.world) c.in_ok-reads.ensures.kept) c.in_ok-reads.reads c.in_ok-reads.ensures.reads c.share.new.self c.in_ok-share.ensures.kept
+    quiet_kept c.args.self.now.world t.session t.number t.start c.args.writes.now (sym c.in_ok-check_serial.ensures) c.args.self.now.world refl c.in_ok-reads.reads c.in_ok-reads.ensures.reads c.share.new.self c.in_ok-share.ensures.kept
 
 pub commit_at_once-requires-clause-lawful : goal.commit_at_once-requires-clause-lawful
 commit_at_once-requires-clause-lawful g c =
     let t = c.args.transaction in
-    commit_lawful c.args.self.now.world t.session t.number t.start c.args.writes.now (sym c.in_ok-check_serial.ensures) c.shared_reads.new.self.world (ap (λ s. s.world) c.in_ok-reads.ensures.kept) c.in_ok-reads.reads c.in_ok-reads.ensures.reads c.in_ok-kept-in-Commit.kept (c.in_ok-kept-in-Commit.ensures.cases ∙ c.in_ok-share.ensures.kept) (record { invariant = c.law.ensures.invariant; content = c.law.ensures.content }) (c.in-Commit.ensures c.args.writes.now)
+    commit_lawful c.args.self.now.world t.session t.number t.start c.args.writes.now (sym c.in_ok-check_serial.ensures) c.args.self.now.world refl c.in_ok-reads.reads c.in_ok-reads.ensures.reads c.in_ok-kept-in-Commit.kept (c.in_ok-kept-in-Commit.ensures.cases ∙ c.in_ok-share.ensures.kept) (record { invariant = c.law.ensures.invariant; content = c.law.ensures.content }) (c.in-Commit.ensures c.args.writes.now)
 
 pub commit_at_once-requires-clause-room : goal.commit_at_once-requires-clause-room
 commit_at_once-requires-clause-room g c =
     let t = c.args.transaction in
-    room_kept c.args.self.now.world t.session t.number t.start c.args.writes.now (sym c.in_ok-check_serial.ensures) c.shared_reads.new.self.world (ap (λ s. s.world) c.in_ok-reads.ensures.kept) c.in_ok-reads.reads c.in_ok-reads.ensures.reads c.in_ok-kept-in-Commit.kept (c.in_ok-kept-in-Commit.ensures.cases ∙ c.in_ok-share.ensures.kept)
+    room_kept c.args.self.now.world t.session t.number t.start c.args.writes.now (sym c.in_ok-check_serial.ensures) c.args.self.now.world refl c.in_ok-reads.reads c.in_ok-reads.ensures.reads c.in_ok-kept-in-Commit.kept (c.in_ok-kept-in-Commit.ensures.cases ∙ c.in_ok-share.ensures.kept)
 
 pub commit_at_once-requires-clause-placed : goal.commit_at_once-requires-clause-placed
 commit_at_once-requires-clause-placed g c =
     let t = c.args.transaction in
-    placed_kept c.args.self.now.world t.session t.number t.start c.args.writes.now (sym c.in_ok-check_serial.ensures) c.shared_reads.new.self.world (ap (λ s. s.world) c.in_ok-reads.ensures.kept) c.in_ok-reads.reads c.in_ok-reads.ensures.reads c.in_ok-kept-in-Commit.kept (c.in_ok-kept-in-Commit.ensures.cases ∙ c.in_ok-share.ensures.kept)
+    placed_kept c.args.self.now.world t.session t.number t.start c.args.writes.now (sym c.in_ok-check_serial.ensures) c.args.self.now.world refl c.in_ok-reads.reads c.in_ok-reads.ensures.reads c.in_ok-kept-in-Commit.kept (c.in_ok-kept-in-Commit.ensures.cases ∙ c.in_ok-share.ensures.kept)
 
 pub back_up_at_once-requires-clause-lawful : goal.back_up_at_once-requires-clause-lawful
 back_up_at_once-requires-clause-lawful g c =
     let t = c.args.transaction in
-    back_lawful c.args.self.now.world t.session t.number t.start c.args.writes.now (sym c.in_ok-check_serial.ensures) c.shared_reads.new.self.world (ap (λ s. s.world) c.in_ok-reads.ensures.kept) c.in_ok-reads.reads c.in_ok-reads.ensures.reads c.share.new.self c.in_ok-share.ensures.kept c.in-BackUp.cause (record { invariant = c.law.ensures.invariant; content = c.law.ensures.content }) (c.in-BackUp.ensures c.args.writes.now)
+    back_lawful c.args.self.now.world t.session t.number t.start c.args.writes.now (sym c.in_ok-check_serial.ensures) c.args.self.now.world refl c.in_ok-reads.reads c.in_ok-reads.ensures.reads c.share.new.self c.in_ok-share.ensures.kept c.in-BackUp.cause (record { invariant = c.law.ensures.invariant; content = c.law.ensures.content }) (c.in-BackUp.ensures c.args.writes.now)
 
 pub back_up_at_once-requires-clause-room : goal.back_up_at_once-requires-clause-room
 back_up_at_once-requires-clause-room g c =
     let t = c.args.transaction in
-    room_kept c.args.self.now.world t.session t.number t.start c.args.writes.now (sym c.in_ok-check_serial.ensures) c.shared_reads.new.self.world (ap (λ s. s.world) c.in_ok-reads.ensures.kept) c.in_ok-reads.reads c.in_ok-reads.ensures.reads c.share.new.self c.in_ok-share.ensures.kept
+    room_kept c.args.self.now.world t.session t.number t.start c.args.writes.now (sym c.in_ok-check_serial.ensures) c.args.self.now.world refl c.in_ok-reads.reads c.in_ok-reads.ensures.reads c.share.new.self c.in_ok-share.ensures.kept
 
 pub returns-in_ok-tn-in-Commit-clause-step : goal.returns-in_ok-tn-in-Commit-clause-step
 returns-in_ok-tn-in-Commit-clause-step g c =
     let t = c.args.transaction in
-    commit_returns c.args.self.now.world t.session t.number t.start c.args.writes.now (sym c.in_ok-check_serial.ensures) c.shared_reads.new.self.world (ap (λ s. s.world) c.in_ok-reads.ensures.kept) c.in_ok-reads.reads c.in_ok-reads.ensures.reads c.in_ok-kept-in-Commit.kept (c.in_ok-kept-in-Commit.ensures.cases ∙ c.in_ok-share.ensures.kept) (c.in-Commit.ensures c.args.writes.now) c.in_ok-tn-in-Commit.tn c.in_ok-tn-in-Commit.ensures.number c.commit_at_once.new.self.world c.in_ok-tn-in-Commit.ensures.ok
+    commit_returns c.args.self.now.world t.session t.number t.start c.args.writes.now (sym c.in_ok-check_serial.ensures) c.args.self.now.world refl c.in_ok-reads.reads c.in_ok-reads.ensures.reads c.in_ok-kept-in-Commit.kept (c.in_ok-kept-in-Commit.ensures.cases ∙ c.in_ok-share.ensures.kept) (c.in-Commit.ensures c.args.writes.now) c.in_ok-tn-in-Commit.tn c.in_ok-tn-in-Commit.ensures.number c.commit_at_once.new.self.world c.in_ok-tn-in-Commit.ensures.ok
 
 pub returns-in_ok-back_up_at_once-in-BackUp-clause-step : goal.returns-in_ok-back_up_at_once-in-BackUp-clause-step
 returns-in_ok-back_up_at_once-in-BackUp-clause-step g c =
     let t = c.args.transaction in
-    back_returns c.args.self.now.world t.session t.number t.start c.args.writes.now (sym c.in_ok-check_serial.ensures) c.shared_reads.new.self.world (ap (λ s. s.world) c.in_ok-reads.ensures.kept) c.in_ok-reads.reads c.in_ok-reads.ensures.reads c.share.new.self c.in_ok-share.ensures.kept c.in-BackUp.cause (c.in-BackUp.ensures c.args.writes.now) c.back_up_at_once.new.self.world c.in_ok-back_up_at_once-in-BackUp.ensures.ok
+    back_returns c.args.self.now.world t.session t.number t.start c.args.writes.now (sym c.in_ok-check_serial.ensures) c.args.self.now.world refl c.in_ok-reads.reads c.in_ok-reads.ensures.reads c.share.new.self c.in_ok-share.ensures.kept c.in-BackUp.cause (c.in-BackUp.ensures c.args.writes.now) c.back_up_at_once.new.self.world c.in_ok-back_up_at_once-in-BackUp.ensures.ok
