@@ -6,8 +6,8 @@ use Rattle.std.specs.FinSet as sets
 use Rattle.std.specs.FinMap as finite
 use Rattle.std.specs.Ordering.{nat_cmp}
 use Rattle.occ_types.specs.declared.limits.TheConstants.{MAX_NUMBER}
-use Rattle.occ_model.specs.Log.{LogRow, Back, last_folded}
-use Rattle.occ_model.specs.World.{Settings, World, opened, empty_base, has_session, latest}
+use Rattle.occ_model.specs.Log.{LogRow, Back, Base, last_folded}
+use Rattle.occ_model.specs.World.{Settings, World, resumed, has_session, latest}
 use Rattle.occ_model.specs.Event.{BackUp, BackedUp, EndedBack}
 use Rattle.occ_model.specs.Poll.{Poll, poll, outcome, row_numbered, settled_number}
 use Rattle.occ_model.specs.EndLaws.{BacksUp, Fades}
@@ -21,26 +21,26 @@ use Rattle.occ_board.specs.declared.words.Last.{Last}
 use Rattle.occ_board.specs.declared.words.Words.{Words}
 use Rattle.occ_board.specs.Words.{HasSession, blank, last_of, counted, placed, over}
 use Rattle.occ_published.specs.Published.{IsShown, Published, NumbersFit, BackUpMayBeStored}
-use Rattle.occ_published.specs.Laws.{OpenedIsPublished, StepsBetweenStayPublished, CommitsAreStored, BackUpsAreStored, SerialBackUpsAreStored, CausesOfRowsMayBeTold, CausesKeptMayBeTold}
+use Rattle.occ_published.specs.Laws.{BegunIsPublished, StepsBetweenStayPublished, CommitsAreStored, BackUpsAreStored, SerialBackUpsAreStored, CausesOfRowsMayBeTold, CausesKeptMayBeTold}
 use Rattle.occ_published.proofs.Words.{placed_sessions, placed_own, placed_other, blank_shows, blank_length}
 use Rattle.occ_published.proofs.Steps.{some_is, exists, tells_none, fades, at_session, number_ends, commits, settled_most}
 
--- ---- a store that was just opened
+-- ---- a store that begins
 
-opened_poll : (settings : Settings) (session : ℕ) → poll (opened settings) session ≡ record { counter = 0; settled = 0; ended = None; finished = None }
-opened_poll settings session = λ i. record { counter = 0; settled = none i; ended = None; finished = None }
+begun_poll : (settings : Settings) (base : Base) → base.last ≡ finite.empty → (session : ℕ) → poll (resumed settings base 0) session ≡ record { counter = 0; settled = 0; ended = None; finished = None }
+begun_poll settings base anew session = λ i. record { counter = 0; settled = none i; ended = None; finished = None }
   where
-    number : last_folded empty_base session ≡ 0
-    number = ap (λ o. unwrap_or o 0) (finite.get-empty nat_cmp session)
+    number : last_folded base session ≡ 0
+    number = ap (λ o. unwrap_or o 0) (ap (λ last. finite.get last session) anew ∙ finite.get-empty nat_cmp session)
 
-    none : settled_number (opened settings) session ≡ 0
-    none = ap (λ b. if b then last_folded empty_base session - 1 else last_folded empty_base session) (sets.contains-empty nat_cmp session) ∙ number
+    none : settled_number (resumed settings base 0) session ≡ 0
+    none = ap (λ b. if b then last_folded base session - 1 else last_folded base session) (sets.contains-empty nat_cmp session) ∙ number
 
-pub opened_is_published : OpenedIsPublished
-opened_is_published settings = record {
+pub begun_is_published : BegunIsPublished
+begun_is_published settings base anew = record {
   sessions = blank_length settings.sessions;
   counter = refl;
-  shown = λ session has. subst (λ p. IsShown p (last_of (blank settings.sessions) session)) (sym (opened_poll settings session))
+  shown = λ session has. subst (λ p. IsShown p (last_of (blank settings.sessions) session)) (sym (begun_poll settings base anew session))
       (subst (IsShown (record { counter = 0; settled = 0; ended = None; finished = None })) (sym (blank_shows settings.sessions (session - 1)))
       (record { number = refl; status = λ verdict is. cc; tn = λ number is. cc }));
 }

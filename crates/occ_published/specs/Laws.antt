@@ -1,7 +1,8 @@
 -- What keeps a store shown on its board. Each law is the contract of a function of this crate (our own choice).
 use Rattle.std.specs.Prelude.{◌≡◌, ℕ, ◌+◌, false, Some}
-use Rattle.occ_model.specs.Log.{LogRow, Back}
-use Rattle.occ_model.specs.World.{Settings, World, opened}
+use Rattle.occ_model.specs.Log.{LogRow, Back, Base}
+use Rattle.std.specs.FinMap as finite
+use Rattle.occ_model.specs.World.{Settings, World, resumed}
 use Rattle.occ_model.specs.Event.{Event, Reply, BackUp, BackedUp, EndedBack}
 use Rattle.occ_model.specs.Step.{Step}
 use Rattle.occ_model.specs.Invariant.{Invariant}
@@ -12,9 +13,9 @@ use Rattle.occ_board.specs.declared.words.Words.{Words}
 use Rattle.occ_board.specs.Words.{blank, last_of}
 use Rattle.occ_published.specs.Published.{Published, ends, number_told, NumbersFit, CommitMayBeStored, BackUpMayBeStored, MayTell}
 
--- A new board shows a store that was just opened.
-abbrev pub OpenedIsPublished : Type 0
-OpenedIsPublished = (settings : Settings) → Published (opened settings) (blank settings.sessions)
+-- A new board shows a store that was just opened, and one that goes on from a base without numbers, with the counter at 0.
+abbrev pub BegunIsPublished : Type 0
+BegunIsPublished = (settings : Settings) (base : Base) → base.last ≡ finite.empty → Published (resumed settings base 0) (blank settings.sessions)
 
 -- A step that ends nothing leaves a store shown by the words that stand, be it refused or a checkpoint.
 abbrev pub StepsBetweenStayPublished : Type 0
