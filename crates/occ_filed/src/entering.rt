@@ -94,7 +94,7 @@ fn keep_none<A: Allocator>(tokens: &mut CaseTokens<A>, session: usize, outcome: 
     }
 }
 
-// Puts the case of what a session has entered into a file. None where there is no memory for it, or no such case.
+// Puts a copy of the case of what a session has entered into a file, which shares its sets. None where there is no memory for it, or no such case.
 fn push_open<A: Allocator + Copy, R: Wait>(
     core: &Core<A>,
     file: &CaseFile<A>,
@@ -107,7 +107,7 @@ fn push_open<A: Allocator + Copy, R: Wait>(
     let Some(open) = core.open_case(session) else {
         return None;
     };
-    let Ok(case) = open.share() else {
+    let Ok(case) = open.case().clone() else {
         return None;
     };
     match file.push(rt, case) {
