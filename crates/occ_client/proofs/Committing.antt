@@ -9,8 +9,10 @@ use Rattle.occ_model.specs.Event.{Enter, Close, RunAlone, Reply, Refused}
 use Rattle.occ_model.specs.Operations.{Operation}
 use Rattle.occ_model.specs.Step.{Step}
 use Rattle.occ_sets.specs.Sets.{Copied}
-use Rattle.occ_client.specs.Clients.{Client, close_refusal, HasNext, Commits, CommitsNext, after_end, spent, IsLastEnd}
+use Rattle.occ_client.specs.Clients.{Client, close_refusal, HasNext, Commits, CommitsNext, after_end, count_end, spent, IsLastEnd}
 use Rattle.occ_client.specs.Ends.{Ends, WritesOut, is_refusal}
+use Rattle.occ_client.specs.declared.ending.End.{End}
+use Rattle.occ_client.specs.declared.ending.End.TheVariants as ends
 use Rattle.occ_open.specs.Transactions.{Unless}
 
 -- the write phase goes on
@@ -36,16 +38,20 @@ phase_done inside client is has on =
     ap (λ (c : Option Copied). record inside { current = c; writing = false }) (none_writing inside.next inside.writing inside.current has (ap (λ (c : Client). c.writing) is ∙ on))
     ∙ ap (λ (c : Client). record c { current = None; writing = false }) is
 
-pub after_phase : (client new : Client) → client.writing ≡ true → new ≡ record client { current = None; writing = false } → new ≡ after_end client
-after_phase client new on is = is ∙ sym (ap (λ (b : Bool). cond b (record client { current = None; writing = false }) (spent client)) on)
+pub after_phase : (end : End) (client new : Client) → client.writing ≡ true → new ≡ count_end end (record client { current = None; writing = false }) → new ≡ after_end end client
+after_phase end client new on is = is ∙ sym (ap (λ (b : Bool). count_end end (cond b (record client { current = None; writing = false }) (spent client))) on)
 
-pub after_one : (client new : Client) → client.writing ≡ false → new ≡ spent client → new ≡ after_end client
-after_one client new off is = is ∙ sym (ap (λ (b : Bool). cond b (record client { current = None; writing = false }) (spent client)) off)
+pub after_one : (end : End) (client new : Client) → client.writing ≡ false → new ≡ count_end end (spent client) → new ≡ after_end end client
+after_one end client new off is = is ∙ sym (ap (λ (b : Bool). count_end end (cond b (record client { current = None; writing = false }) (spent client))) off)
 
 -- none is open after an end
-pub none_after : (client new : Client) → new ≡ after_end client → new.current ≡ None
-none_after client new is = ap (λ (c : Client). c.current) is ∙ go client.writing
+pub none_after : (end : End) (client new : Client) → new ≡ after_end end client → new.current ≡ None
+none_after end client new is = ap (λ (c : Client). c.current) is ∙ same end (cond client.writing (record client { current = None; writing = false }) (spent client)) ∙ go client.writing
   where
+    same : (end : End) (c : Client) → (count_end end c).current ≡ c.current
+    same (ends.Committed tn) c = refl
+    same (ends.BackedUp cause) c = refl
+
     go : (b : Bool) → (cond b (record client { current = None; writing = false }) (spent client)).current ≡ None
     go true = refl
     go false = refl

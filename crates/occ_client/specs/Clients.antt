@@ -10,6 +10,8 @@ use Rattle.occ_model.specs.World.{World, has_session}
 use Rattle.occ_model.specs.Event.{Item, Request, Alone, Close, Reply, Refused, Closed, Finished, EndedBack}
 use Rattle.occ_sets.specs.Sets.{Copied}
 use Rattle.occ_model.specs.Replies.{replied, replied_back}
+use Rattle.occ_core.specs.AutoCheckpoints.{no_checkpoints, counted}
+use Rattle.occ_core.specs.declared.auto_checkpoints.AutoCheckpoint.{AutoCheckpoint}
 use Rattle.occ_core.specs.declared.outcomes.Outcome as code_outcome
 use Rattle.occ_core.specs.declared.outcomes.Outcome.TheVariants as outcomes
 use Rattle.occ_client.specs.Ends.{Ends, WritesOut, is_refusal}
@@ -31,6 +33,12 @@ pub record Client : Type 0 where
   pub returned : Bool
   -- the transaction before it was decided to commit, and stopped before all of its single writes were done
   pub writing : Bool
+  -- after how many of its commits it makes a checkpoint, and how many it counted
+  pub checkpoints : AutoCheckpoint
+
+-- of a session that has done nothing yet
+abbrev pub fresh_client : ℕ → Client
+fresh_client session = record { session = session; next = 1; closed = false; current = None; returned = false; writing = false; checkpoints = no_checkpoints }
 
 -- the transaction that is open has the next number, and the closing mark one behind it; the one before it is not in its write phase
 abbrev pub HasNext : ℕ → Bool → Option Copied → Type 0
@@ -110,9 +118,18 @@ Commits client old stopped reply new = CommitsNext client.writing client old sto
 abbrev pub spent : Client → Client
 spent client = record client { next = client.next + 1; current = None; returned = false }
 
--- the client after a transaction ended
-abbrev pub after_end : Client → Client
-after_end client = cond client.writing (record client { current = None; writing = false }) (spent client)
+-- a commit is counted, and a back-up is not
+abbrev pub count_end : End → Client → Client
+count_end (ends.Committed tn) client = record client { checkpoints = counted client.checkpoints }
+count_end (ends.BackedUp cause) client = client
+
+-- the client after operations ran alone, which is a commit
+abbrev pub after_alone : Client → Client
+after_alone client = record client { next = client.next + 1; checkpoints = counted client.checkpoints }
+
+-- the client after a transaction ended so
+abbrev pub after_end : End → Client → Client
+after_end end client = count_end end (cond client.writing (record client { current = None; writing = false }) (spent client))
 
 -- and after an end that was refused: the transaction is open as it was, or its write phase has begun and stopped
 abbrev pub StaysOrStops : Client → Client → Type 0

@@ -4,19 +4,20 @@ ghost use Rattle.std.specs.Result.{result_err};
 ghost use Rattle.occ_types.specs.PlainData.{key_of, end_of};
 ghost use Rattle.occ_types.specs.Question.{Span};
 ghost use Rattle.occ_types.specs.declared.fault.Fault.TheVariants as faults;
-ghost use Rattle.occ_model.specs.Event.{Enter, Close, RunAlone, Refused as refused};
-ghost use Rattle.occ_model.specs.Replies.{replied_back};
+ghost use Rattle.occ_model.specs.Event.{Enter, Close, RunAlone, Checkpoint, Folded, Refused as refused};
+ghost use Rattle.occ_model.specs.Replies.{replied, replied_back};
+ghost use Rattle.occ_core.specs.AutoCheckpoints.{is_due, due_each, checked_point};
 ghost use Rattle.occ_core.specs.Replies.{ran};
 ghost use Rattle.occ_sets.specs.Operations.{ops_of};
 ghost use Rattle.occ_model.specs.Step.{Step};
-ghost use Rattle.occ_client.specs.Clients.{begin_refusal, close_refusal, closing, ending, Commits, StaysOrStops, after_end, spent};
+ghost use Rattle.occ_client.specs.Clients.{begin_refusal, close_refusal, closing, ending, Commits, StaysOrStops, after_alone, after_end, count_end, fresh_client, spent};
 ghost use Rattle.occ_client.specs.Ends.{Ends, WritesOut};
 ghost use Rattle.occ_open.specs.Replies.{reading, scanning, forgetting};
 ghost use Rattle.occ_open.specs.Transactions.{IsRefusedBy, Unless, begun, write_fault, written, WantsRoom, Gets, WantsOwn, Scans, WantsRange, Abandons, open_after, OrStarves};
 
 use crate::by_steps::write_out;
 use crate::ending::{End, Handed, close_session, end_request};
-use occ_core::Core;
+use occ_core::{AutoCheckpoint, Core};
 use occ_open::KeptTransaction;
 use occ_sets::{Answer, Op, RangeRows, Write};
 use occ_types::{Fault, Key, Refused, Row, Schema};
@@ -34,6 +35,7 @@ pub struct Client<A: Allocator> {
     kept: KeptTransaction<A>,
     // The last transaction was decided to commit, and single writes of it are left.
     writing: bool,
+    checkpoints: AutoCheckpoint,
 }
 
 impl<A: Allocator> Model for Client<A> {
@@ -41,7 +43,7 @@ impl<A: Allocator> Model for Client<A> {
 
     ghost Value = { Plain };
 
-    ghost view = { λ c. record { session = c.session; next = c.next; closed = c.closed; current = c.kept.current; returned = c.kept.returned; writing = c.writing } };
+    ghost view = { λ c. record { session = c.session; next = c.next; closed = c.closed; current = c.kept.current; returned = c.kept.returned; writing = c.writing; checkpoints = c.checkpoints } };
 
     ghost invariant = { λ c. HasNext c.next c.writing c.kept.current };
 }
@@ -49,7 +51,7 @@ impl<A: Allocator> Model for Client<A> {
 impl<A: Allocator> Client<A> {
     /// The client of a session that has done nothing yet; sessions are numbered from 1.
     pub fn new(alloc: A, session: usize) -> Client<A>
-        ensures { result ≡ record { session = session; next = 1; closed = false; current = None; returned = false; writing = false } }
+        ensures { result ≡ fresh_client session }
     {
         Client {
             alloc,
@@ -58,6 +60,7 @@ impl<A: Allocator> Client<A> {
             closed: false,
             kept: KeptTransaction::none(),
             writing: false,
+            checkpoints: AutoCheckpoint::off(),
         }
     }
 
@@ -81,9 +84,49 @@ impl<A: Allocator> Client<A> {
     {
         self.writing
     }
+
+    /// From now on a checkpoint of the store is due after each so many commits of this client, where 0 stands for 1. `transact` begins with
+    /// it, and `checkpoint_if_due` makes it for who calls `begin` and `commit`. None is due where it is none, as at first. The commits since
+    /// the last one that it made are counted already.
+    pub fn checkpoint_each(&mut self, commits: Option<u64>)
+        ensures { self.new ≡ record self.old { checkpoints = due_each commits self.old.checkpoints } }
+    {
+        self.checkpoints.set(commits);
+    }
+
+    /// After how many of its commits a checkpoint is due, and how many it counted.
+    pub fn checkpoints(&self) -> AutoCheckpoint
+        ensures { result ≡ self.now.checkpoints }
+    {
+        self.checkpoints
+    }
+
+    // Counts how a transaction ended, where it committed.
+    fn count_end(&mut self, end: End)
+        ensures { self.new ≡ count_end end self.old }
+    {
+        if let End::Committed { .. } = end {
+            self.checkpoints.count();
+        }
+    }
 }
 
 impl<A: Allocator + Copy> Client<A> {
+    /// Makes a checkpoint of the store where one is due, as `checkpoint_each` says, and answers what came of it: how many rows it folded,
+    /// or why it was refused, as `Core::checkpoint` is. The count begins anew where it was made. None where none is due, and nothing moves.
+    pub fn checkpoint_if_due(&mut self, store: &mut Core<A>) -> Option<Result<usize, Fault>>
+        ensures due { is_some result ≡ is_due self.old.checkpoints }
+        ensures step { MatchOption result (store.new ≡ store.old) (λ folded. Step store.old.world Checkpoint (replied Folded folded) store.new.world) }
+        ensures left { self.new ≡ record self.old { checkpoints = checked_point result self.old.checkpoints } }
+    {
+        if !self.checkpoints.is_due() {
+            return None;
+        }
+        let folded = Some(store.checkpoint());
+        self.checkpoints.note(&folded);
+        folded
+    }
+
     /// Opens the session's next transaction, which starts at the store's counter. Refused, the first of these that holds: with
     /// `NoSession` where the store has no such session; with `Closed`; with `SessionBusy` where the transaction before is in its write
     /// phase, as `commit` tells; with `ReadOpen` where one is open; and with `NumbersExhausted` where only the number of the closing mark
@@ -222,7 +265,7 @@ impl<A: Allocator + Copy> Client<A> {
     /// the next call of `commit` goes on with them, and nothing is begun before.
     pub fn commit(&mut self, store: &mut Core<A>) -> Result<End, Fault>
         ensures step { Commits self.old store.old.world self.new.writing (ending result) store.new.world }
-        ensures ok { OnOk result (self.new ≡ after_end self.old) }
+        ensures ok { IfOk result (λ end. self.new ≡ after_end end self.old) }
         ensures err { OnErr result (StaysOrStops self.old self.new) }
     {
         if self.writing {
@@ -236,12 +279,13 @@ impl<A: Allocator + Copy> Client<A> {
     fn go_on(&mut self, store: &mut Core<A>) -> Result<End, Fault>
         requires on { self.old.writing ≡ true }
         ensures step { WritesOut self.old.session store.old.world (ending result) store.new.world }
-        ensures ok { OnOk result (self.new ≡ record self.old { current = None; writing = false }) }
+        ensures ok { IfOk result (λ end. self.new ≡ count_end end (record self.old { current = None; writing = false })) }
         ensures err { OnErr result (self.new ≡ self.old) }
     {
         match write_out(store, self.session) {
             Ok(tn) => {
                 self.writing = false;
+                self.checkpoints.count();
                 Ok(End::Committed { tn })
             }
             Err(fault) => Err(fault),
@@ -254,7 +298,7 @@ impl<A: Allocator + Copy> Client<A> {
         ensures step { MatchOption self.old.current
             ((ending result ≡ refused faults.NoReadOpen) × (store.new.world ≡ store.old.world) × (self.new.writing ≡ false))
             (λ copy. Ends self.old.session copy store.old.world self.new.writing (ending result) store.new.world) }
-        ensures ok { OnOk result (self.new ≡ spent self.old) }
+        ensures ok { IfOk result (λ end. self.new ≡ count_end end (spent self.old)) }
         ensures err { OnErr result (StaysOrStops self.old self.new) }
     {
         let (number, start, writes) = self.kept.into_request()?;
@@ -267,7 +311,10 @@ impl<A: Allocator + Copy> Client<A> {
         };
         self.next = number + 1;
         match handed {
-            Handed::Ended(end) => Ok(end),
+            Handed::Ended(end) => {
+                self.count_end(end);
+                Ok(end)
+            }
             Handed::Stopped(fault) => {
                 self.writing = true;
                 Err(fault)
@@ -286,7 +333,7 @@ impl<A: Allocator + Copy> Client<A> {
     ) -> Result<(u64, Vec<Answer<A>, A>), Refused<Vec<Op<A>, A>>>
         ensures step { Unless (close_refusal self.old) store.old.world (replied_back ran result) store.new.world
             (Step store.old.world (RunAlone self.old.session self.old.next (ops_of operations.items)) (replied_back ran result) store.new.world) }
-        ensures ok { OnOk result (self.new ≡ record self.old { next = self.old.next + 1 }) }
+        ensures ok { OnOk result (self.new ≡ after_alone self.old) }
         ensures err { OnErr result (self.new ≡ self.old) }
         ensures handed_back { IfErr result (λ refused. refused.value ≡ operations) }
     {
@@ -299,6 +346,7 @@ impl<A: Allocator + Copy> Client<A> {
         match store.run_alone(self.session, self.next, operations) {
             Ok(ran) => {
                 self.next += 1;
+                self.checkpoints.count();
                 Ok(ran)
             }
             Err(refused) => Err(refused),

@@ -8,8 +8,9 @@ mod retries;
 
 pub use clients::Client;
 pub use ending::End;
+pub use occ_book::{Base, Tables};
 pub use occ_case::{Cause, Verdict};
-pub use occ_core::{Core, Outcome, SingleWrite};
+pub use occ_core::{AutoCheckpoint, Core, Outcome, SHORT_LOG, SingleWrite};
 pub use occ_open::{KeptTransaction, OpenTransaction, Readable};
 pub use occ_queue::Item;
 pub use occ_sets::{Answer, Op, RangeRows, RequestWrites, Write, WriteSet};

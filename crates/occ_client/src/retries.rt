@@ -13,6 +13,8 @@ impl Client<Global> {
     /// and from the counter of that time, until it commits or was tried so many times; once at least. The answer is how the last try
     /// ended. A fault of `body` or of a call ends it: the transaction is abandoned, and the fault is handed on. One that stopped in its
     /// single writes can't be abandoned: `commit` goes on with it.
+    ///
+    /// Where a checkpoint is due, as `checkpoint_each` says, it is made first. A refusal of it is not told: it stays due for the next call.
     pub fn transact<F: FnMut(&mut Client<Global>, &mut Core<Global>) -> Result<(), Fault>>(
         &mut self,
         store: &mut Core<Global>,
@@ -23,6 +25,7 @@ impl Client<Global> {
         ensures last { IfOk result (λ end. IsLastEnd (end_reply end) store.new.world) }
         ensures none { IfOk result (λ _. self.new.current ≡ None) }
     {
+        let _made = self.checkpoint_if_due(store);
         self.begin(store)?;
         let done = body(self, store);
         let mut end = self.end_try(store, done)?;
