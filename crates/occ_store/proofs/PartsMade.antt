@@ -6,12 +6,14 @@ use Rattle.std.proofs.lemmas.List.FromFn.{get_or-map-range_with_len, map-range_w
 use Rattle.atomic_table.specs.Seated.{TableId}
 use Rattle.occ_types.specs.Schema.{Schema}
 use Rattle.boxcar.specs.Table.{Shelves}
-use Rattle.occ_model.specs.World.{Settings, World, opened, next_place}
+use Rattle.std.specs.FinMap as finite
+use Rattle.occ_model.specs.Log.{Base}
+use Rattle.occ_model.specs.World.{Settings, World, resumed, next_place}
 use Rattle.occ_board.specs.Rule.{Seated, Posted, fresh}
 use Rattle.occ_board.specs.Words.{blank}
 use Rattle.occ_filed.specs.Filed.{Filed}
 use Rattle.occ_published.specs.Published.{Published}
-use Rattle.occ_published.proofs.Stored.{opened_is_published}
+use Rattle.occ_published.proofs.Stored.{begun_is_published}
 use Rattle.occ_store.specs.Names.{Named, nowhere, lane_of}
 use Rattle.occ_store.specs.Locked.{IsLocked}
 use Rattle.occ_store.specs.Sessions.{SessionView}
@@ -47,13 +49,15 @@ pub lane_at : (parts : List PartView) (place : ℕ) (part : PartView) → place 
     → get_or (map (λ (p : PartView). p.receiver.lane) parts) place nowhere ≡ part.receiver.lane
 lane_at parts place part below at = get_or-map (λ (p : PartView). p.receiver.lane) parts place part nowhere below ∙ ap (λ (p : PartView). p.receiver.lane) (sym at)
 
--- a store that was just opened, with its parts, makes a frame
-pub frame_is : (filed : Filed) (file : Shelves) (posted : Posted) (parts : List PartView) (ledger_parts : ℕ) (settings : Settings) → filed.world ≡ opened settings → file ≡ filed.file
+-- a store that begins, with its parts, makes a frame
+pub frame_is : (filed : Filed) (file : Shelves) (posted : Posted) (parts : List PartView) (ledger_parts : ℕ) (settings : Settings) (base : Base) → base.last ≡ finite.empty → filed.world ≡ resumed settings base 0 → file ≡ filed.file
     → posted.words ≡ blank settings.sessions → length parts ≡ settings.sessions → AreParts posted.board settings.schema 1 parts → ledger_parts ≡ settings.sessions → IsFrame filed file posted parts ledger_parts
-frame_is filed file posted parts ledger_parts settings world file_is words count are ledger =
+frame_is filed file posted parts ledger_parts settings base anew world file_is words count are ledger =
     let same : settings ≡ filed.world.settings = sym (ap (λ (w : World). w.settings) world) in
+    let from : base ≡ filed.world.base = sym (ap (λ (w : World). w.base) world) in
     record {
-      opened = world ∙ ap opened same;
+      begun = world ∙ (λ i. resumed (same i) (from i) 0);
+      anew = ap (λ (b : Base). b.last) (sym from) ∙ anew;
       shared = file_is;
       blank = words ∙ ap (λ (s : Settings). blank s.sessions) same;
       count = count ∙ ap (λ (s : Settings). s.sessions) same;
@@ -63,13 +67,13 @@ frame_is filed file posted parts ledger_parts settings world file_is words count
 
 -- and what stands behind the lock of its store
 pub frame_locked : (named : Named) (filed : Filed) (file : Shelves) (posted : Posted) (parts : List PartView) (ledger_parts rows : ℕ) → IsFrame filed file posted parts ledger_parts
-    → named_by filed posted parts ≡ named → rows ≡ 0 → IsLocked named filed posted rows
-frame_locked named filed file posted parts ledger_parts rows is names none = record {
-  published = subst (λ w. Published w posted.words) (sym is.opened) (subst (Published (opened filed.world.settings)) (sym is.blank) (opened_is_published filed.world.settings));
+    → named_by filed posted parts ≡ named → rows ≡ filed.world.base.place → IsLocked named filed posted rows
+frame_locked named filed file posted parts ledger_parts rows is names before = record {
+  published = subst (λ w. Published w posted.words) (sym is.begun) (subst (Published (resumed filed.world.settings filed.world.base 0)) (sym is.blank) (begun_is_published filed.world.settings filed.world.base is.anew));
   settings = ap (λ (n : Named). n.settings) names;
   file = ap (λ (n : Named). n.file) names;
   board = ap (λ (n : Named). n.board) names;
-  counted = none ∙ sym (ap next_place is.opened);
+  counted = (let place = ap next_place is.begun in omega arith);
 }
 
 -- one session more, and one lane

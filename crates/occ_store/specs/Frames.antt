@@ -4,7 +4,9 @@ use Rattle.std.specs.List.{range_with_len}
 use Rattle.atomic_table.specs.Seated.{TableId}
 use Rattle.boxcar.specs.Table.{Shelves}
 use Rattle.occ_types.specs.Schema.{Schema}
-use Rattle.occ_model.specs.World.{opened}
+use Rattle.std.specs.FinMap as finite
+use Rattle.occ_model.specs.Log.{Base}
+use Rattle.occ_model.specs.World.{resumed}
 use Rattle.occ_board.specs.Rule.{Seated, Posted, fresh, unseen}
 use Rattle.occ_board.specs.Words.{blank}
 use Rattle.occ_queue.specs.Lanes.{Known}
@@ -13,11 +15,12 @@ use Rattle.occ_store.specs.Names.{Named, lane_of}
 use Rattle.occ_store.specs.Sessions.{SessionView}
 use Rattle.occ_store.specs.Lanes.{LaneView, unused}
 
--- what its name has to stand for, and the name and the parts of its ledger
+-- what its name has to stand for, the name and the parts of its ledger, and the base that its store begins from
 pub record Framed : Type 0 where
   pub named : Named
   pub ledger : ℕ
   pub parts : ℕ
+  pub base : Base
 
 -- what becomes of a session and its lane: the seat, the two ends of the queue, and the tables
 pub record PartView : Type 0 where
@@ -51,9 +54,10 @@ named_by filed posted parts = record {
   lanes = map (λ (p : PartView). p.receiver.lane) parts;
 }
 
--- A frame is of a store that was just opened, whose board shows it, with a part for each session, and a ledger of as many parts.
+-- A frame is of a store that begins, empty or from a base without numbers, whose board shows it, with a part for each session, and a ledger of as many parts.
 pub record IsFrame (filed : Filed) (handle : Shelves) (posted : Posted) (made : List PartView) (cut : ℕ) : Type 0 where
-  pub opened : filed.world ≡ opened filed.world.settings
+  pub begun : filed.world ≡ resumed filed.world.settings filed.world.base 0
+  pub anew : filed.world.base.last ≡ finite.empty
   pub shared : handle ≡ filed.file
   pub blank : posted.words ≡ blank filed.world.settings.sessions
   pub count : length made ≡ filed.world.settings.sessions

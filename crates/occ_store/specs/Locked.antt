@@ -23,7 +23,7 @@ pub record Locked : Type 0 where
   pub filed : Filed
   pub words : Words
 
--- What stands behind the lock of a named store. The words show the world; the store is the one that the name stands for; and the ledger's total is how many rows entered, those that were folded too.
+-- What stands behind the lock of a named store. The words show the world; the store is the one that the name stands for; and the rows that the ledger counts, with those before the place that the store began at, are all that entered, those that were folded too.
 pub record IsLocked (named : Named) (filed : Filed) (posted : Posted) (rows : ℕ) : Type 0 where
   pub published : Published filed.world posted.words
   pub settings : filed.world.settings ≡ named.settings

@@ -1,5 +1,5 @@
 -- What a worker does (our own choice).
-use Rattle.std.specs.Prelude.{◌≡◌, ◌⊎◌, ℕ, ◌<◌, ◌≤◌, List, [], ◌∷◌, ◌++◌, length, Option, None, Some, Result, Ok, Err, if◌then◌else◌, ◌==◌}
+use Rattle.std.specs.Prelude.{◌≡◌, ◌⊎◌, ℕ, ◌<◌, ◌≤◌, List, [], ◌∷◌, ◌++◌, length, Option, None, Some, Result, Ok, Err, is_some, if◌then◌else◌, ◌==◌}
 use Rattle.occ_types.specs.declared.fault.Fault.{Fault}
 use Rattle.occ_types.specs.declared.fault.Fault.TheVariants as faults
 use Rattle.occ_model.specs.Operations.{Operation}
@@ -7,6 +7,8 @@ use Rattle.occ_model.specs.Event.{Item, Request, Alone, Close, Reply}
 use Rattle.occ_model.specs.World.{Settings}
 use Rattle.occ_sets.specs.Sets.{Copied}
 use Rattle.occ_open.specs.Transactions.{begun, Abandons}
+use Rattle.occ_core.specs.AutoCheckpoints.{is_due, counted, checked_point}
+use Rattle.occ_core.specs.declared.auto_checkpoints.AutoCheckpoint.{AutoCheckpoint}
 use Rattle.occ_store.specs.Sessions.{SessionView, due, begin_fault, submit_fault, request, handed_in, alone_fault, IsRefusedBy, InOneHolding}
 use Rattle.occ_store.specs.Transactions.{TransactionView}
 use Rattle.occ_store.specs.Bodies.{Making, Performing}
@@ -136,3 +138,30 @@ RunsOut settings most operations old new = HandsInUpTo (Performing settings oper
 abbrev pub RunStops : Settings → List Operation → SessionView → LaneView → Fault → Type 0
 RunStops settings operations session lane fault = (alone_fault session operations ≡ Some fault)
     ⊎ (Stops (Performing settings operations) settings session lane fault ⊎ AloneStops operations session lane fault)
+
+-- ---- how a worker counts its commits
+
+-- a commit is counted, and a back-up is not
+abbrev pub count_ended : Ended → AutoCheckpoint → AutoCheckpoint
+count_ended (Committed tn) auto = counted auto
+count_ended (BackedUp cause) auto = auto
+
+-- what came of tries is counted so, and a fault is not
+abbrev pub count_tried : Result Ended Fault → AutoCheckpoint → AutoCheckpoint
+count_tried (Ok ended) auto = count_ended ended auto
+count_tried (Err fault) auto = auto
+
+-- operations of which each try was backed up are not counted
+abbrev pub count_listed : Result (Option ℕ) Fault → AutoCheckpoint → AutoCheckpoint
+count_listed (Ok (Some tn)) auto = counted auto
+count_listed (Ok None) auto = auto
+count_listed (Err fault) auto = auto
+
+-- operations that commit are
+abbrev pub count_run : Result ℕ Fault → AutoCheckpoint → AutoCheckpoint
+count_run (Ok tn) auto = counted auto
+count_run (Err fault) auto = auto
+
+-- Where a checkpoint is due it comes first, and where it is made the count begins anew; then what came of the call is counted.
+abbrev pub Counts : (AutoCheckpoint → AutoCheckpoint) → AutoCheckpoint → AutoCheckpoint → Type 0
+Counts count old new = (folded : Option (Result ℕ Fault)) × (is_some folded ≡ is_due old) × (new ≡ count (checked_point folded old))

@@ -33,7 +33,7 @@ pub struct AccountLine<A: Allocator + Copy> {
 /// The closing account of a store.
 #[derive(Drop)]
 pub struct Account<A: Allocator + Copy> {
-    /// How many rows entered, those that were folded too.
+    /// How many rows entered since the store began, those that were folded too.
     pub entered: u64,
     /// A line for each session, the first session's first.
     pub lines: Vec<AccountLine<A>, A>,

@@ -1,16 +1,20 @@
 //! Frames: a store that has no name yet.
-ghost use Rattle.std.specs.Prelude.{◌≡◌, ℕ, map, length, IfOk, IfErr, IsOkUnless};
+ghost use Rattle.std.specs.Prelude.{◌≡◌, ◌<◌, ◌⊎◌, ℕ, map, length, IfOk, IfErr, IsOkUnless, None};
 ghost use Rattle.std.specs.List.{range_with_len};
 ghost use Rattle.atomic_table.specs.Seated.{TableId};
 ghost use Rattle.occ_board.specs.Words.{blank};
 ghost use Rattle.occ_board.specs.Rule.{fresh};
 ghost use Rattle.occ_store.specs.Frames.{IsPart, AreParts};
 ghost use Rattle.std.specs.Arc.{arc_value};
-ghost use Rattle.occ_types.specs.declared.fault.Fault.TheVariants.{Memory};
+ghost use Rattle.occ_types.specs.declared.fault.Fault.TheVariants.{Memory, OutOfTurn};
+ghost use Rattle.std.specs.FinMap as finite;
+ghost use Rattle.occ_model.specs.World.{empty_base};
+ghost use Rattle.occ_core.specs.Resuming.{resume_fault, CannotGoOn};
 
 use crate::parts::Part;
 use crate::schemas::copied;
 use occ_board::{Board, Publisher, Seat};
+use occ_book::Base;
 use occ_case::CaseFile;
 use occ_filed::FiledCore;
 use occ_queue::lane;
@@ -34,14 +38,15 @@ pub struct Frame<A: Allocator + Copy> {
 impl<A: Allocator + Copy> Model for Frame<A> {
     ghost use Rattle.std.specs.Coded.{codes};
     ghost use Rattle.boxcar.specs.Table.{shelves_coded};
+    ghost use Rattle.std.specs.FinMap as finite;
     ghost use Rattle.std.specs.Arc.{arc_value};
     ghost use Rattle.occ_store.specs.Frames.{Framed, named_by, IsFrame};
 
     ghost Value = { Framed };
 
-    ghost coded = { Prim.hlevel (codes, shelves_coded) };
+    ghost coded = { Prim.hlevel (codes, finite.code, shelves_coded) };
 
-    ghost view = { λ f. record { named = named_by f.filed f.publisher f.parts.items; ledger = f.rows.name; parts = f.rows.parts } };
+    ghost view = { λ f. record { named = named_by f.filed f.publisher f.parts.items; ledger = f.rows.name; parts = f.rows.parts; base = f.filed.world.base } };
 
     ghost invariant = { λ f. IsFrame f.filed (arc_value f.file) f.publisher f.parts.items f.rows.parts };
 }
@@ -58,6 +63,7 @@ impl<A: Allocator + Copy> Frame<A> {
         keep: usize,
     ) -> Result<Frame<A>, Refused<Schema<A>>>
         ensures settings { IfOk result (λ frame. frame.named.settings ≡ record { schema = schema; sessions = sessions; keep = keep }) }
+        ensures empty { IfOk result (λ frame. frame.base ≡ empty_base) }
         ensures handed_back { IfErr result (λ refused. (refused.value ≡ schema) × (refused.fault ≡ Memory)) }
     {
         let (publisher, parts, spare) = match room(alloc, &schema, sessions, capacity) {
@@ -84,6 +90,54 @@ impl<A: Allocator + Copy> Frame<A> {
                 fault: Fault::Memory,
             }),
         }
+    }
+}
+
+impl<A: Allocator + Copy> Frame<A> {
+    /// The frame of a store that goes on from a base in which no session has a number (`Base::renumbered`): as `new` makes it, but with
+    /// the rows of the base. The counter begins with 0, and each session with the number 1.
+    ///
+    /// Refused with `OutOfTurn` where a session has a number; as `Core::resume`; and with `Memory` where there is none for the rest. The
+    /// schema and the base are handed back then.
+    pub fn resume(
+        alloc: A,
+        schema: Schema<A>,
+        sessions: usize,
+        capacity: usize,
+        keep: usize,
+        base: Base<A>,
+    ) -> Result<Frame<A>, Refused<(Schema<A>, Base<A>)>>
+        ensures settings { IfOk result (λ frame. frame.named.settings ≡ record { schema = schema; sessions = sessions; keep = keep }) }
+        ensures base { IfOk result (λ frame. frame.base ≡ base.base) }
+        ensures anew { IfOk result (λ _. finite.len base.base.last ≡ 0) }
+        ensures fits { IfOk result (λ _. resume_fault schema sessions base 0 ≡ None) }
+        ensures fault { IfErr result (λ refused. ((0 < finite.len base.base.last) × (refused.fault ≡ OutOfTurn)) ⊎ ((refused.fault ≡ Memory) ⊎ CannotGoOn schema sessions base 0 refused.fault)) }
+        ensures handed_back { IfErr result (λ refused. refused.value ≡ (schema, base)) }
+    {
+        if base.numbers().len() > 0 {
+            return Err(Refused {
+                value: (schema, base),
+                fault: Fault::OutOfTurn,
+            });
+        }
+        let (publisher, parts, _spare) = match room(alloc, &schema, sessions, capacity) {
+            Ok(parts) => parts,
+            Err(fault) => {
+                return Err(Refused {
+                    value: (schema, base),
+                    fault,
+                });
+            }
+        };
+        let (filed, file) = FiledCore::resume(alloc, schema, sessions, keep, base, 0)?;
+        Ok(Frame {
+            alloc,
+            filed,
+            file,
+            publisher,
+            parts,
+            rows: Blank::new(sessions as u64),
+        })
     }
 }
 

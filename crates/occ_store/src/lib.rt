@@ -27,6 +27,7 @@ mod session_reads;
 mod session_turns;
 mod sessions;
 mod shared;
+mod short_logs;
 mod stores;
 mod transactions;
 mod tries;
@@ -42,8 +43,8 @@ pub use leases::Lease;
 pub use names::Name;
 pub use occ_board::Last;
 pub use occ_book::{Base, Book, LogRow, Marks, Standing, Tables};
-pub use occ_case::{CaseFile, CaseToken, Cause, Judged, OpenCase, SharedCase, Verdict};
-pub use occ_core::Core;
+pub use occ_case::{Case, CaseFile, CaseToken, Cause, Judged, OpenCase, Verdict};
+pub use occ_core::{AutoCheckpoint, Core, SHORT_LOG};
 pub use occ_queue::Item;
 pub use occ_sets::{Op, RangeRows, ReadSet, RequestWrites, Write, WriteSet};
 pub use occ_types::{

@@ -12,7 +12,7 @@ use crate::names::Name;
 use crate::stores::Store;
 use crate::transactions::{Body, Transaction};
 use occ_sets::{Op, RangeRows};
-use occ_types::{Cell, Fault, Key, Row};
+use occ_types::{Fault, Key, Row};
 use std::alloc::{AllocError, Allocator};
 use std::sync::Wait;
 
@@ -164,8 +164,8 @@ fn number_in<A: Allocator + Copy>(row: &Option<Row<A>>) -> i64
     let Some(row) = row else {
         return 0;
     };
-    match (row.cell(0), row.len()) {
-        (Some(Cell::Int(number)), 1) => *number,
+    match (row.int(0), row.len()) {
+        (Some(number), 1) => number,
         _ => 0,
     }
 }

@@ -1,5 +1,5 @@
 //! What the events rest on, and what they store and count.
-ghost use Rattle.std.specs.Prelude.{◌≡◌, ◌+◌, ◌^◌, ◌<◌};
+ghost use Rattle.std.specs.Prelude.{◌≤◌, ◌≡◌, ◌+◌, ◌^◌, ◌<◌};
 ghost use Rattle.occ_model.specs.World.{next_place};
 ghost use Rattle.occ_model.specs.Poll.{row_numbered};
 ghost use Rattle.occ_log.specs.Rows.{standing_of};
@@ -33,9 +33,9 @@ pub(crate) fn account<N: Name, A: Allocator + Copy>(
 )
     requires part { 0 < share.old.parts }
     requires may { MayStore publisher.old.words session (outcome_of outcome.now) }
-    requires rows { rows.old.total + rows_entered (outcome_of outcome.now) ≡ next_place filed.now.world }
+    requires rows { rows.old.total + rows_entered (outcome_of outcome.now) ≤ next_place filed.now.world }
     ensures words { publisher.new ≡ record publisher.old { words = stored publisher.old.words session (outcome_of outcome.now) } }
-    ensures total { rows.new.total ≡ next_place filed.now.world }
+    ensures total { rows.new.total ≡ rows.old.total + rows_entered (outcome_of outcome.now) }
     ensures amount { share.new.amount ≡ share.old.amount + rows_entered (outcome_of outcome.now) }
     ensures parts { share.new.parts ≡ share.old.parts }
     ensures bound { share.new.amount < 2 ^ 64 }

@@ -31,12 +31,15 @@ pub struct Shared<N: Name, A: Allocator + Copy> {
     pub(crate) filed: FiledCore<A>,
     pub(crate) publisher: Publisher<A>,
     pub(crate) rows: Book<N>,
+    // The place that the store began at: no lane entered the rows before it.
+    pub(crate) origin: u64,
 }
 
 impl<N: Name, A: Allocator + Copy> Model for Shared<N, A> {
     ghost use Rattle.std.specs.Coded.{codes};
     ghost use Rattle.std.specs.FinMap as finite;
     ghost use Rattle.boxcar.specs.Table.{shelves_coded, where_coded};
+    ghost use Rattle.std.specs.Prelude.{◌+◌};
     ghost use Rattle.occ_store.specs.Locked.{Locked, IsLocked};
 
     ghost Value = { Locked };
@@ -45,7 +48,7 @@ impl<N: Name, A: Allocator + Copy> Model for Shared<N, A> {
 
     ghost view = { λ s. record { filed = s.filed; words = s.publisher.words } };
 
-    ghost invariant = { λ s. IsLocked N.named s.filed s.publisher s.rows.total };
+    ghost invariant = { λ s. IsLocked N.named s.filed s.publisher (s.rows.total + s.origin) };
 }
 
 impl<N: Name, A: Allocator + Copy> Shared<N, A> {
@@ -88,15 +91,14 @@ impl<N: Name, A: Allocator + Copy> Shared<N, A> {
         self.core().sessions()
     }
 
-    // How many rows entered, those that were folded too. Where all parts of the ledger are here, it is what they count.
+    // How many rows entered since the store began, those that were folded too: what all parts of the ledger count.
     pub(crate) fn entered(&mut self, whole: &mut Share<N>) -> u64
         requires all { whole.old.parts ≡ N.parts }
         ensures counted { result ≡ whole.old.amount }
-        ensures rows { result ≡ next_place (world_of self.old) }
         ensures same { self.new ≡ self.old }
     {
         self.rows.audit(whole);
-        all_rows(&self.filed)
+        all_rows(&self.filed) - self.origin
     }
 
     /// How the row of a session's transaction with this number stands; none where it does not stand in the log.

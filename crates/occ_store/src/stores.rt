@@ -45,6 +45,7 @@ impl<N: Name, A: Allocator + Copy> Store<N, A> {
         ensures handed_back { IfErr result (λ refused. (refused.value ≡ frame) × (refused.fault ≡ Memory)) }
     {
         let sessions = frame.parts.len();
+        let origin = frame.filed.core().base().place() as u64;
         let (mut clients, mut lanes) = match room(frame.alloc, sessions) {
             Ok(lists) => lists,
             Err(fault) => {
@@ -74,6 +75,7 @@ impl<N: Name, A: Allocator + Copy> Store<N, A> {
                 filed,
                 publisher,
                 rows,
+                origin,
             }),
             lease: Mutex::new(Turns),
             file,

@@ -31,6 +31,7 @@ impl<N: Name, A: Allocator + Copy> Worker<N, A> {
         ensures nothing_left { OnOk result (self.new.lane.left ≡ Nothing) }
         ensures few { OnErr result (HandsInUpTo (B.makes body.old) most self.old.session self.new.session) }
         ensures fault { IfErr result (Stops (B.makes body.old) N.named.settings self.new.session self.new.lane) }
+        ensures counts { self.new.checkpoints ≡ self.old.checkpoints }
     {
         let mut ended = self.try_leased(rt, store, within, body)?;
         for tried in 1..most {
@@ -55,6 +56,7 @@ impl<N: Name, A: Allocator + Copy> Worker<N, A> {
         ensures few { OnErr result (HandsInUpTo (B.makes body.old) 1 self.old.session self.new.session) }
         ensures fault { IfErr result (Stops (B.makes body.old) N.named.settings self.new.session self.new.lane) }
         ensures keeps { Goes (B.makes body.new) (B.makes body.old) }
+        ensures counts { self.new.checkpoints ≡ self.old.checkpoints }
     {
         if within {
             return self.try_once(rt, store, body);
@@ -75,6 +77,7 @@ impl<N: Name, A: Allocator + Copy> Worker<N, A> {
         ensures few { OnErr result (HandsInUpTo (B.makes body.old) 1 self.old.session self.new.session) }
         ensures fault { IfErr result (Stops (B.makes body.old) N.named.settings self.new.session self.new.lane) }
         ensures keeps { Goes (B.makes body.new) (B.makes body.old) }
+        ensures counts { self.new.checkpoints ≡ self.old.checkpoints }
     {
         self.serve(rt, store)?;
         let number = self.hand_in(rt, store, body)?;
@@ -94,6 +97,7 @@ impl<N: Name, A: Allocator + Copy> Worker<N, A> {
         ensures fault { IfErr result (NotHandedIn (B.makes body.old) N.named.settings self.new.session) }
         ensures lane { self.new.lane ≡ self.old.lane }
         ensures keeps { Goes (B.makes body.new) (B.makes body.old) }
+        ensures counts { self.new.checkpoints ≡ self.old.checkpoints }
     {
         let (number, start) = match self.session.begin() {
             Ok(begun) => begun,
@@ -118,6 +122,7 @@ impl<N: Name, A: Allocator + Copy> Worker<N, A> {
         ensures again { Reopens self.old.session number self.new.session }
         ensures lane { self.new.lane ≡ self.old.lane }
         ensures keeps { Goes (B.makes body.new) (B.makes body.old) }
+        ensures counts { self.new.checkpoints ≡ self.old.checkpoints }
     {
         let session = self.session.session();
         let open = self.session.lend();
@@ -138,6 +143,7 @@ impl<N: Name, A: Allocator + Copy> Worker<N, A> {
         ensures same { self.new.session ≡ self.old.session }
         ensures nothing_left { OnOk result (self.new.lane.left ≡ Nothing) }
         ensures kept { OnErr result (IsKept self.new.lane) }
+        ensures counts { self.new.checkpoints ≡ self.old.checkpoints }
     {
         for _ in rt.forever() {
             match self.lane.serve_one(rt, store, &AlwaysGo) {

@@ -1,11 +1,12 @@
 //! Workers: a session with its own lane, for one thread a client.
 ghost use Rattle.std.specs.Prelude.{⊤, ◌≡◌, ◌⊎◌, ◌<◌, ◌==◌, false, if◌then◌else◌, true, is_some, Err, IfErr, IfOk, OnOk, OnErr, MatchOption};
+ghost use Rattle.occ_core.specs.AutoCheckpoints.{no_checkpoints, due_each};
 ghost use Rattle.occ_types.specs.declared.fault.Fault.TheVariants.{NoSession, Memory};
 ghost use Rattle.occ_sets.specs.Operations.{ops_of};
 ghost use Rattle.occ_store.specs.Lanes.{Nothing};
 ghost use Rattle.occ_store.specs.Sessions.{alone_fault};
 ghost use Rattle.occ_store.specs.Bodies.{Performing};
-ghost use Rattle.occ_store.specs.Workers.{Ends, HandsInUpTo, Stops, IsKept, most_tries, TriesList, Runs, RunsOut, RunStops, RunsAlone, HandsInAlone, AloneStops};
+ghost use Rattle.occ_store.specs.Workers.{Ends, HandsInUpTo, Stops, IsKept, most_tries, TriesList, Runs, RunsOut, RunStops, RunsAlone, HandsInAlone, AloneStops, Counts, count_tried, count_listed, count_run};
 
 use crate::ended::Ended;
 use crate::lanes::Lane;
@@ -13,8 +14,10 @@ use crate::leases::Lease;
 use crate::names::Name;
 use crate::operations::Operations;
 use crate::sessions::Session;
+use crate::short_logs::{checkpoint_if_due, count_end};
 use crate::stores::Store;
 use crate::transactions::{Body, Transaction};
+use occ_core::AutoCheckpoint;
 use occ_sets::Op;
 use occ_types::{Fault, Refused};
 use std::alloc::Allocator;
@@ -32,6 +35,7 @@ pub struct Worker<N: Name, A: Allocator + Copy> {
     pub(crate) session: Session<N, A>,
     pub(crate) lane: Lane<N, A>,
     pub(crate) transaction: Transaction<N, A>,
+    pub(crate) checkpoints: AutoCheckpoint,
     ghost own_lane: { session.session ≡ lane.session },
 }
 
@@ -42,7 +46,7 @@ impl<N: Name, A: Allocator + Copy> Worker<N, A> {
         session: Session<N, A>,
         mut lane: Lane<N, A>,
     ) -> Result<Worker<N, A>, Refused<(Session<N, A>, Lane<N, A>)>>
-        ensures ok { IfOk result (λ worker. (worker.session ≡ session) × (worker.lane ≡ record lane { files = false; serial = true }) × (session.session ≡ lane.session)) }
+        ensures ok { IfOk result (λ worker. (worker.session ≡ session) × (worker.lane ≡ record lane { files = false; serial = true }) × (worker.checkpoints ≡ no_checkpoints) × (session.session ≡ lane.session)) }
         ensures handed_back { IfErr result (λ refused. refused.value ≡ (session, lane)) }
         ensures fault { IfErr result (λ refused. refused.fault ≡ (if session.session == lane.session then Memory else NoSession)) }
     {
@@ -64,6 +68,7 @@ impl<N: Name, A: Allocator + Copy> Worker<N, A> {
             session,
             lane,
             transaction,
+            checkpoints: AutoCheckpoint::off(),
         })
     }
 
@@ -73,6 +78,25 @@ impl<N: Name, A: Allocator + Copy> Worker<N, A> {
     {
         let Worker { session, lane, .. } = self;
         (session, lane)
+    }
+
+    /// From now on a checkpoint of the store is due after each so many commits that calls of this worker tell, where 0 stands for 1. None
+    /// is due where it is none, as at first. The commits since the last one that it made are counted already.
+    ///
+    /// `transact`, `transact_within` and `run` begin with a checkpoint that is due, in a holding of the lock. Where it is refused, as
+    /// `Store::checkpoint` is, that is not told, and it stays due for the next call.
+    pub fn checkpoint_each(&mut self, commits: Option<u64>)
+        ensures due { self.new.checkpoints ≡ due_each commits self.old.checkpoints }
+        ensures same { (self.new.session ≡ self.old.session) × (self.new.lane ≡ self.old.lane) }
+    {
+        self.checkpoints.set(commits);
+    }
+
+    /// After how many of its commits a checkpoint is due, and how many it counted.
+    pub fn checkpoints(&self) -> AutoCheckpoint
+        ensures { result ≡ self.now.checkpoints }
+    {
+        self.checkpoints
     }
 }
 
@@ -101,8 +125,10 @@ impl<N: Name, A: Allocator + Copy> Worker<N, A> {
         ensures nothing_left { OnOk result (self.new.lane.left ≡ Nothing) }
         ensures few { OnErr result (HandsInUpTo (B.makes body.old) (most_tries tries) self.old.session self.new.session) }
         ensures fault { IfErr result (Stops (B.makes body.old) N.named.settings self.new.session self.new.lane) }
+        ensures counts { Counts (count_tried result) self.old.checkpoints self.new.checkpoints }
     {
-        self.try_up_to(rt, store, false, at_least_one(tries), body)
+        let _made = checkpoint_if_due(&mut self.checkpoints, rt, store);
+        self.try_and_count(rt, store, false, at_least_one(tries), body)
     }
 
     /// The same as `transact` within a lease that the caller has, for many transactions in one lease.
@@ -118,8 +144,31 @@ impl<N: Name, A: Allocator + Copy> Worker<N, A> {
         ensures nothing_left { OnOk result (self.new.lane.left ≡ Nothing) }
         ensures few { OnErr result (HandsInUpTo (B.makes body.old) (most_tries tries) self.old.session self.new.session) }
         ensures fault { IfErr result (Stops (B.makes body.old) N.named.settings self.new.session self.new.lane) }
+        ensures counts { Counts (count_tried result) self.old.checkpoints self.new.checkpoints }
     {
-        self.try_up_to(rt, store, true, at_least_one(tries), body)
+        let _made = checkpoint_if_due(&mut self.checkpoints, rt, store);
+        self.try_and_count(rt, store, true, at_least_one(tries), body)
+    }
+
+    // Tries a transaction, at most so many times, within a lease that the caller has, or not, and counts how it ended.
+    fn try_and_count<R: Wait, B: Body<N, A, R>>(
+        &mut self,
+        rt: &R,
+        store: &Store<N, A>,
+        within: bool,
+        most: usize,
+        body: &mut B,
+    ) -> Result<Ended, Fault>
+        requires { 0 < most }
+        ensures ended { IfOk result (λ ended. Ends (B.makes body.old) most self.old.session ended self.new.session) }
+        ensures nothing_left { OnOk result (self.new.lane.left ≡ Nothing) }
+        ensures few { OnErr result (HandsInUpTo (B.makes body.old) most self.old.session self.new.session) }
+        ensures fault { IfErr result (Stops (B.makes body.old) N.named.settings self.new.session self.new.lane) }
+        ensures counts { self.new.checkpoints ≡ count_tried result self.old.checkpoints }
+    {
+        let ended = self.try_up_to(rt, store, within, most, body)?;
+        count_end(&mut self.checkpoints, ended);
+        Ok(ended)
     }
 
     /// Tries operations as a transaction, at most so many times, and runs them alone where each try was backed up: they commit, and the
@@ -141,8 +190,10 @@ impl<N: Name, A: Allocator + Copy> Worker<N, A> {
         ensures nothing_left { OnOk result (self.new.lane.left ≡ Nothing) }
         ensures few { OnErr result (RunsOut N.named.settings tries (ops_of operations.now) self.old.session self.new.session) }
         ensures fault { IfErr result (RunStops N.named.settings (ops_of operations.now) self.new.session self.new.lane) }
+        ensures counts { MatchOption (alone_fault self.old.session (ops_of operations.now)) (Counts (count_run result) self.old.checkpoints self.new.checkpoints) (λ _. ⊤) }
     {
         self.session.check_alone(operations)?;
+        let _made = checkpoint_if_due(&mut self.checkpoints, rt, store);
         self.run_checked(rt, store, tries, operations)
     }
 
@@ -158,6 +209,7 @@ impl<N: Name, A: Allocator + Copy> Worker<N, A> {
         ensures nothing_left { OnOk result (self.new.lane.left ≡ Nothing) }
         ensures few { OnErr result (RunsOut N.named.settings tries (ops_of operations.now) self.old.session self.new.session) }
         ensures fault { IfErr result (λ fault. Stops (Performing N.named.settings (ops_of operations.now)) N.named.settings self.new.session self.new.lane fault ⊎ AloneStops (ops_of operations.now) self.new.session self.new.lane fault) }
+        ensures counts { self.new.checkpoints ≡ count_run result self.old.checkpoints }
     {
         let Some(tn) = self.try_list(rt, store, tries, operations)? else {
             return self.run_alone(rt, store, operations);
@@ -177,12 +229,13 @@ impl<N: Name, A: Allocator + Copy> Worker<N, A> {
         ensures committed { IfOk result (λ tn. is_some tn ≡ true → self.new.lane.left ≡ Nothing) }
         ensures few { OnErr result (HandsInUpTo (Performing N.named.settings (ops_of operations.now)) tries self.old.session self.new.session) }
         ensures fault { IfErr result (Stops (Performing N.named.settings (ops_of operations.now)) N.named.settings self.new.session self.new.lane) }
+        ensures counts { self.new.checkpoints ≡ count_listed result self.old.checkpoints }
     {
         if tries == 0 {
             return Ok(None);
         }
         let mut body = Operations { list: operations };
-        let ended = self.try_up_to(rt, store, false, tries, &mut body)?;
+        let ended = self.try_and_count(rt, store, false, tries, &mut body)?;
         Ok(ended.tn())
     }
 
@@ -197,11 +250,13 @@ impl<N: Name, A: Allocator + Copy> Worker<N, A> {
         ensures nothing_left { OnOk result (self.new.lane.left ≡ Nothing) }
         ensures few { OnErr result (HandsInAlone (ops_of operations.now) self.old.session self.new.session) }
         ensures fault { IfErr result (AloneStops (ops_of operations.now) self.new.session self.new.lane) }
+        ensures counts { self.new.checkpoints ≡ count_run result self.old.checkpoints }
     {
         self.serve_patiently(rt, store)?;
         let copies = self.session.copied(operations)?;
         let number = self.session.alone(rt, copies)?;
         self.serve_patiently(rt, store)?;
+        self.checkpoints.count();
         Ok(self.session.committed(rt, number))
     }
 
@@ -210,6 +265,7 @@ impl<N: Name, A: Allocator + Copy> Worker<N, A> {
         ensures same { self.new.session ≡ self.old.session }
         ensures nothing_left { OnOk result (self.new.lane.left ≡ Nothing) }
         ensures kept { OnErr result (IsKept self.new.lane) }
+        ensures counts { self.new.checkpoints ≡ self.old.checkpoints }
     {
         for tried in 0..BUSY_TRIES {
             match self.serve_leased(rt, store) {
@@ -225,6 +281,7 @@ impl<N: Name, A: Allocator + Copy> Worker<N, A> {
         ensures same { self.new.session ≡ self.old.session }
         ensures nothing_left { OnOk result (self.new.lane.left ≡ Nothing) }
         ensures kept { OnErr result (IsKept self.new.lane) }
+        ensures counts { self.new.checkpoints ≡ self.old.checkpoints }
     {
         let _lease = store.lease(rt);
         self.serve(rt, store)

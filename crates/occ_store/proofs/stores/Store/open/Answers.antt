@@ -79,7 +79,10 @@ loop-part-preserved g c =
     )
 
 pub invariant_of-new : goal.invariant_of-new
-invariant_of-new g c = frame_locked _ _ _ _ _ _ _ c.frame.invariant (ap (λ f. f.named) c.frame.view_is ∙ c.requires.named) c.open-rows.ensures.total
+invariant_of-new g c =
+    let none = c.open-rows.ensures.total in
+    let place = c.place-origin.ensures ∙ ap (λ b. b.place) c.base.ensures.base ∙ ap (λ w. w.base.place) c.core.ensures in
+    frame_locked _ _ _ _ _ _ _ c.frame.invariant (ap (λ f. f.named) c.frame.view_is ∙ c.requires.named) (omega arith)
 
 pub returns-clause-sessions : goal.returns-clause-sessions
 returns-clause-sessions g c =

@@ -1,4 +1,4 @@
-use Rattle.std.proofs.Common.{arith}
+use Rattle.std.proofs.Common.{arith, ◌∙◌}
 use Rattle.occ_store.proofs.Working.{ends_now, ends_last, tried_more, hands_in_more, stops_later, on_err_any}
 use Rattle.occ_store.proofs.workers.Worker.try_up_to.Goals as goal
 
@@ -30,4 +30,5 @@ loop-tried-preserved g c = (
   tried_more (g.B.Body.makes c.args.body.now) (g.B.Body.makes c.loop-tried.body) c.loop-tried.tried c.args.self.now.session c.loop-tried.self.session c.try_leased-in-loop-tried.new.self.session c.loop-tried.ended c.in_ok-ended-2.ended c.loop-tried.invariant.2 c.loop-tried.invariant.0 c.in_ok-ended-2.ensures.ended,
   c.in_ok-ended-2.ensures.nothing_left,
   λ before ran after made. c.loop-tried.invariant.2 before ran after (c.try_leased-in-loop-tried.ensures.keeps before ran after made),
+  c.try_leased-in-loop-tried.ensures.counts ∙ c.loop-tried.invariant.3,
 )

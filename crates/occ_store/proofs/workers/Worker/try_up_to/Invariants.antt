@@ -9,3 +9,4 @@ abbrev pub invariant-loop-tried : goal.invariant-loop-tried
 invariant-loop-tried g l = Tried (g.B.Body.makes l.fn.body) l.tried l.fn.self.session l.ended l.self.session
     × (l.self.lane.left ≡ Nothing)
     × Goes (g.B.Body.makes l.body) (g.B.Body.makes l.fn.body)
+    × (l.self.checkpoints ≡ l.fn.self.checkpoints)
