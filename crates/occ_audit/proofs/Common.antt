@@ -9,7 +9,7 @@ pub use Rattle.occ_book.specs.Content.{entries_within, is_backward, is_within, l
 pub use Rattle.occ_book.specs.LastWrites.{writes_in}
 pub use Rattle.occ_audit.specs.Order.{AreClosed, AreLast, AreNumbered, ArePlaced, last_of}
 pub use Rattle.occ_book.specs.Table.{row_under, rows_within}
-pub use Rattle.occ_audit.specs.Replica.{IsInOrder, IsPlaced, IsTaken, SameTable, end_lent, lent, row_lent, with_table}
+pub use Rattle.occ_audit.specs.Replica.{IsPlaced, IsTaken, SameTable, with_table}
 unfoldable pub use Rattle.occ_audit.specs.Replica.{state_of}
 pub use Rattle.occ_audit.specs.Rows.{log_of, log_row_of, unasked}
-pub use Rattle.occ_audit.proofs.Walks.{Iff, along, at_next, of_cond, via}
+pub use Rattle.occ_audit.proofs.Walks.{Iff, along, at_next, next_left, of_cond, via}

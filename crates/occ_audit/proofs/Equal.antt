@@ -1,6 +1,6 @@
 -- Two iterators that are compared by `eq`, and the lists that they give.
 use Rattle.std.proofs.Common.{◌≡◌, ℕ, suc, ◌≤◌, Bool, true, false, ◌&&◌, List, [], ◌∷◌, length, Option, None, Some, refl, sym, ap, ◌∙◌, arith, map, slice_get, Decides, MatchOption, IfSome, option_map, Bor}
-use Rattle.occ_audit.proofs.Common.{AllZip, YieldsList, YieldsList-end, Decides-and, Row, key_same, key_same-decides, row_same, row_same-decides, clash, map-id, row_lent}
+use Rattle.occ_audit.proofs.Common.{AllZip, YieldsList, YieldsList-end, Decides-and, Key, Row, key_same, key_same-decides, row_same, row_same-decides, clash, map-id}
 use Rattle.std.specs.Iterator.{YieldsThen}
 use Rattle.std.proofs.lemmas.Iterator.Consumers.{nth_from_yields_List}
 use Rattle.std.proofs.lemmas.Option.{slice_get-map}
@@ -56,6 +56,10 @@ module _ {A B C : Type 0} (v : A → B) (f : B → C) (eq : A → A → Bool) (s
       ended o p r (map f ys ≡ map f xs) last
       (λ d e. sym (ap (map f) (sym (YieldsList-end road ps left.0 left.1 o u d left.2).0) ∙ z.1 ∙ ap (map f) (YieldsList-end other qs right.0 right.1 p w e right.2).0))
       (λ same. next road ps o u left ∙ (λ i. slice_get (sym same i) (z.0 i)) ∙ sym (next other qs p w right))
+
+-- the plain key and row of those that are lent
+abbrev pub row_lent : {Z : Type 0} → refs.KeyRef Z × Bor Row → Key × Row
+row_lent e = (key_lent e.0, e.1.now)
 
 -- the test of two lent keys and their rows
 pub entries-decide : {Z : Type 0} (x y : refs.KeyRef Z × Bor Row) → Decides (key_same (key_lent x.0) (key_lent y.0) && row_same x.1.now y.1.now) (row_lent x ≡ row_lent y)

@@ -1,6 +1,7 @@
 pub mod Common
 pub mod Equal
 pub mod Walks
+pub mod Lending
 pub mod Lent
 pub mod Ranges
 pub mod Tables

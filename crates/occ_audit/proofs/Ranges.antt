@@ -1,57 +1,12 @@
--- What a state answers to a range, from the entries of the range's table.
-use Rattle.std.proofs.Common.{true, ◌≡◌, ℕ, Bool, false, List, [], ◌∷◌, length, Option, None, Some, refl, sym, ap, ◌∙◌, arith, Decides, ◌==◌, Bor, option_copied, Less, is_gt}
-use Rattle.occ_audit.proofs.Common.{answers_range, AllByRecursion, IsStrictlySortedBy, keys_of, option_eq, Bound, entries_between, on, get, Decides-eqb, Key, key_cmp, Object, Question, One, Span, Row, row_same, row_same-decides, State, Answer, Found, Rows, answer, is_within, is_backward, lower_bound, upper_bound, kept-filtered, lent, row_lent, end_lent, row_under, IsInOrder}
-use Rattle.std.specs.Range.Bound.{IsForward}
-use Rattle.occ_book.specs.KeyRefs.{key_lent}
-use Rattle.occ_book.specs.Table.{rows_within}
-use Rattle.occ_book.specs.declared.key_refs.KeyRef as refs
+-- What a state answers to a question, from the rows of its table.
+use Rattle.std.proofs.Common.{true, ◌≡◌, ℕ, Bool, false, List, [], ◌∷◌, length, Option, None, Some, refl, sym, ap, ◌∙◌, arith, Decides, ◌==◌, Bor, option_copied}
+use Rattle.occ_audit.proofs.Common.{answers_range, IsStrictlySortedBy, keys_of, option_eq, get, Decides-eqb, Key, key_cmp, Object, Question, One, Span, Row, row_same, row_same-decides, State, Answer, Found, Rows, answer, row_under}
 use Rattle.occ_book.proofs.TableEntries.{answer-rows}
 use Rattle.occ_book.proofs.Views.{all-within}
 
--- lent keys in order are keys in order
-
-all-lent : {Z : Type 0} (P : Key → Type 0) (es : List (refs.KeyRef Z × Bor Row)) → AllByRecursion (λ b. P (key_lent b)) (keys_of es) → AllByRecursion P (keys_of (lent es))
-all-lent P [] h = h
-all-lent P (e ∷ es) h = (h.0, all-lent P es h.1)
-
-sorted-lent : {Z : Type 0} (es : List (refs.KeyRef Z × Bor Row)) → IsInOrder es → IsStrictlySortedBy key_cmp (keys_of (lent es))
-unfolding IsStrictlySortedBy
-sorted-lent [] h = h
-sorted-lent (e ∷ es) h = (all-lent (λ y. key_cmp (key_lent e.0) y ≡ Less) es h.0, sorted-lent es h.1)
-
-module _ {Z : Type 0} where
-  -- the answer of a table: what lies between the ends
-  pub answer-between : (state : State) (t : ℕ) (a b : Option Key) (es : List (refs.KeyRef Z × Bor Row)) → IsInOrder es → ((k : Key) → get state (t, k) ≡ row_under (lent es) k) → answer (Span t a b) state ≡ Rows (rows_within a b (lent es))
-  answer-between state t a b es ordered is = answer-rows state t a b (lent es) (sorted-lent es ordered) is
-
-  -- all of it where there are no ends
-  pub answer-all : (state : State) (t : ℕ) (es : List (refs.KeyRef Z × Bor Row)) → IsInOrder es → ((k : Key) → get state (t, k) ≡ row_under (lent es) k) → answer (Span t None None) state ≡ Rows (lent es)
-  answer-all state t es ordered is =
-      answer-between state t None None es ordered is ∙ ap Rows (all-within (lent es))
-
-  -- what a map has between two bounds
-  pub lent-between : (lower upper : Option (refs.KeyRef Z)) (lo hi : Bound (refs.KeyRef Z)) (es : List (refs.KeyRef Z × Bor Row)) → lo ≡ lower_bound lower → hi ≡ upper_bound upper
-      → lent (entries_between (on key_lent key_cmp) lo hi es) ≡ rows_within (end_lent lower) (end_lent upper) (lent es)
-  lent-between lower upper lo hi es p q =
-      (λ i. lent (entries_between (on key_lent key_cmp) (p i) (q i) es)) ∙ by lower upper
-    where
-      by : (l u : Option (refs.KeyRef Z)) → lent (entries_between (on key_lent key_cmp) (lower_bound l) (upper_bound u) es) ≡ rows_within (end_lent l) (end_lent u) (lent es)
-      by None None = kept-filtered row_lent (λ e. is_within None None e.0) es
-      by None (Some b) = kept-filtered row_lent (λ e. is_within None (Some (key_lent b)) e.0) es
-      by (Some a) None = kept-filtered row_lent (λ e. is_within (Some (key_lent a)) None e.0) es
-      by (Some a) (Some b) = kept-filtered row_lent (λ e. is_within (Some (key_lent a)) (Some (key_lent b)) e.0) es
-
-  -- two ends that don't run backwards may be asked for
-  pub forward : (lower upper : Option (refs.KeyRef Z)) (lo hi : Bound (refs.KeyRef Z)) → lo ≡ lower_bound lower → hi ≡ upper_bound upper → is_backward (end_lent lower) (end_lent upper) ≡ false
-      → IsForward (λ a b. is_gt (key_cmp (key_lent a) (key_lent b)) ≡ false) (λ a b. key_cmp (key_lent a) (key_lent b) ≡ Less) lo hi
-  forward lower upper lo hi p q e = rw (p, q) (by lower upper e)
-    where
-      by : (l u : Option (refs.KeyRef Z)) → is_backward (end_lent l) (end_lent u) ≡ false
-          → IsForward (λ a b. is_gt (key_cmp (key_lent a) (key_lent b)) ≡ false) (λ a b. key_cmp (key_lent a) (key_lent b) ≡ Less) (lower_bound l) (upper_bound u)
-      by None None e = tt
-      by None (Some b) e = tt
-      by (Some a) None e = tt
-      by (Some a) (Some b) e = e
+-- the answer of a table is all of it where there are no ends
+pub answer-all : (state : State) (t : ℕ) (rows : List (Key × Row)) → IsStrictlySortedBy key_cmp (keys_of rows) → ((k : Key) → get state (t, k) ≡ row_under rows k) → answer (Span t None None) state ≡ Rows rows
+answer-all state t rows ordered is = answer-rows state t None None rows ordered is ∙ ap Rows (all-within rows)
 
 -- whether there is no row
 pub none-decides : (rows : List (Key × Row)) (n : ℕ) (r : Bool) → n ≡ length rows → r ≡ (n == 0) → Decides r (rows ≡ [])
@@ -82,6 +37,12 @@ one-decides given question object row old x y r q g found same is =
     let d = option-decides x y in
     decides-at (Found (option_copied y)) (Found (option_copied x)) r (g ∙ ap Found (sym same)) (ap (λ w. answer w old) q ∙ ap Found found)
     (λ e. ap Found (sym (d.0 (sym is ∙ e))), λ e. let h : option_copied y ≡ option_copied x = cc in is ∙ d.1 (sym h))
+
+-- the row of an object is the answer for it
+pub one-answered : (question : Question) (table : ℕ) (key : Key) (row : Option Row) (state : State) → question ≡ One table key → row ≡ get state (table, key) → Found row ≡ answer question state
+unfolding answer
+one-answered question table key row state asked is =
+    ap Found is ∙ sym (ap (λ q. answer q state) asked)
 
 -- rows are no answer for one key, and a row none to a range
 

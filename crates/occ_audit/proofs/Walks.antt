@@ -1,5 +1,6 @@
 -- Facts that stand or fall together as a loop goes on, and what is made of a choice.
-use Rattle.std.proofs.Common.{◌≡◌, ℕ, ◌+◌, ◌<◌, Bool, true, false, cond, List, ◌∷◌, length, get_or, drop, refl, sym, subst}
+use Rattle.std.proofs.Common.{◌≡◌, ℕ, ◌+◌, ◌<◌, Bool, true, false, cond, List, ◌∷◌, length, get_or, drop, Option, Some, refl, sym, subst}
+use Rattle.std.specs.Iterator.{YieldsFirstBy}
 use Rattle.occ_book.proofs.Common.{drop_at}
 
 -- each of two facts gives the other
@@ -21,3 +22,7 @@ at_next P xs i x h at so_far = via so_far (along P _ _ (drop_at xs i x x h at))
 pub of_cond : {X Y : Type 0} (f : X → Y) (b : Bool) (x y : X) → f (cond b x y) ≡ cond b (f x) (f y)
 of_cond f true x y = refl
 of_cond f false x y = refl
+
+-- what an iterator has left begins with what it yields
+pub next_left : {S A B : Type 0} (view : A → B) (left : S → List B) (before after : S) (yielded : Option A) (x : A) → yielded ≡ Some x → YieldsFirstBy view left before yielded after → left before ≡ view x ∷ left after
+next_left view left before after yielded x is step = subst (λ item. YieldsFirstBy view left before item after) is step

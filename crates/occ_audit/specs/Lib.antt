@@ -1,3 +1,4 @@
+pub mod LentRows
 pub mod Order
 pub mod Replica
 pub mod Rows

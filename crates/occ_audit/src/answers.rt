@@ -3,18 +3,34 @@ ghost use Rattle.std.specs.Prelude.{◌≡◌, IfOk};
 ghost use Rattle.std.specs.Option.{option_copied};
 ghost use Rattle.occ_types.specs.Question.{Span};
 ghost use Rattle.occ_types.specs.PlainData.{end_of, question_of};
+ghost use Rattle.occ_sets.specs.Entries.{question_lent};
 ghost use Rattle.occ_sets.specs.PlainSets.{answer_of, rows_of};
 ghost use Rattle.occ_model.specs.State.{answer, Rows};
-ghost use Rattle.occ_audit.specs.Replica.{lent};
 
-use crate::replica::{Replica, end_lent, is_backward, lower_bound, upper_bound};
-use occ_book::KeyRef;
-use occ_sets::{Answer, RangeRows};
+use crate::lent_rows::LentRange;
+use crate::replica::Replica;
+use occ_sets::{Answer, ObservationRef, RangeRows};
 use occ_types::{Key, Question, Row};
 use std::alloc::{AllocError, Allocator};
-use std::collections::btree_map::Range;
 
 impl<'a, A: Allocator + Copy> Replica<'a, A> {
+    /// What the state answers to the question of an observation, as `answer` has it.
+    pub fn answer_again(
+        &self,
+        alloc: A,
+        seen: ObservationRef<'a, A>,
+    ) -> Result<Answer<A>, AllocError>
+        ensures { IfOk result (λ given. answer_of given ≡ answer (question_lent seen.entry) self.now) }
+    {
+        match seen {
+            ObservationRef::Key(object, _) => {
+                let row = copied(self.row(object))?;
+                Ok(Answer::Found(row))
+            }
+            ObservationRef::Whole(seen) => self.answer(alloc, &seen.question),
+        }
+    }
+
     /// What the state answers to a question. Its keys and rows are copied, and it is refused with `AllocError` where there is no memory for that.
     pub fn answer(&self, alloc: A, question: &'a Question<A>) -> Result<Answer<A>, AllocError>
         ensures { IfOk result (λ given. answer_of given ≡ answer (question_of question.now) self.now) }
@@ -47,16 +63,8 @@ impl<'a, A: Allocator + Copy> Replica<'a, A> {
         ensures { IfOk result (λ rows. Rows (rows_of rows.items) ≡ answer (Span table (end_of (option_copied lower.entry)) (end_of (option_copied upper.entry))) self.now) }
     {
         match self.rows(table) {
-            // a map may not be asked for a range that runs backwards
-            Some(rows) if !is_backward(lower, upper) => {
-                let lower = end_lent(lower);
-                let upper = end_lent(upper);
-                copies(
-                    alloc,
-                    rows.range((lower_bound(lower.as_ref()), upper_bound(upper.as_ref()))),
-                )
-            }
-            _ => Ok(Vec::new(alloc)),
+            Some(rows) => copies(alloc, rows.range(lower, upper)),
+            None => Ok(Vec::new(alloc)),
         }
     }
 }
@@ -74,13 +82,13 @@ pub fn copied<A: Allocator + Copy>(row: Option<&Row<A>>) -> Result<Option<Row<A>
 // Copies of lent keys and rows, in their order.
 fn copies<'a, A: Allocator + Copy>(
     alloc: A,
-    rows: Range<'_, KeyRef<'a, A>, &'a Row<A>>,
+    rows: LentRange<'_, 'a, A>,
 ) -> Result<Vec<(Key<A>, Row<A>), A>, AllocError>
-    ensures { IfOk result (λ copies. rows_of copies.items ≡ lent rows.entry) }
+    ensures { IfOk result (λ copies. rows_of copies.items ≡ rows.entry) }
 {
     let mut copies = Vec::new(alloc);
     for (key, row) in rows {
-        copies.push((key.to_key()?, (*row).clone()?))?;
+        copies.push((key.to_key()?, row.clone()?))?;
     }
     Ok(copies)
 }

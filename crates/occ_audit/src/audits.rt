@@ -18,8 +18,8 @@ use std::alloc::{AllocError, Allocator};
 /// The numbers of the base and of the log may be any, and do not have to add up. The rows may be of sessions, and may write to tables,
 /// that are not there, and the base may have other sessions and tables than the book.
 ///
-/// The time is linear in the log, in what its rows read and write and in the rows of the base and of the tables, but for a factor for each search in a map. No key and no row is copied: the memory is that of a map of
-/// references to the rows of the replayed state, and of a few words for each session and each write that is still to be done.
+/// The time is linear in the log, in what its rows read and write and in the rows of the base and of the tables, but for a factor for each search in a map. No key and no row is copied: the memory is that of
+/// references to the rows of the replayed state under their keys, and of a few words for each session and each write that is still to be done.
 ///
 /// It is refused with `Memory` where there is none.
 pub fn audit_rows<A: Allocator + Copy, O>(

@@ -3,6 +3,7 @@
 
 pub mod answers;
 mod audits;
+pub mod lent_rows;
 mod order;
 pub mod replica;
 pub mod rests;

@@ -1,5 +1,5 @@
 //! The order of a log from its base on: its places, the numbers of each session, and the closing marks.
-ghost use Rattle.std.specs.Prelude.{◌≡◌, suc, ◌+◌, IfOk, MatchOption};
+ghost use Rattle.std.specs.Prelude.{◌≡◌, suc, ◌+◌, unwrap_or, IfOk, MatchOption};
 ghost use Rattle.std.specs.Bool.{Decides};
 ghost use Rattle.occ_model.specs.Log.{last_folded};
 ghost use Rattle.occ_audit.specs.Order.{ArePlaced, AreNumbered, AreClosed, AreLast, last_of};
@@ -40,10 +40,11 @@ pub(crate) fn last_numbers<A: Allocator + Clone, O>(
 {
     let mut last = BTreeMap::new(alloc);
     for row in log {
-        if !is_due(base, &last, row.session, row.number) {
+        // what stood there comes back, so that one search of the sessions does
+        let before = last.insert(row.session, row.number)?;
+        if !is_next(base, row.session, before, row.number) {
             return Ok(None);
         }
-        last.insert(row.session, row.number)?;
     }
     Ok(Some(last))
 }
@@ -67,8 +68,15 @@ fn is_due<A: Allocator>(
 ) -> bool
     ensures { Decides result (number ≡ suc (last_of base.now.base last.now session)) }
 {
-    let before = match last.get(&session) {
-        Some(number) => *number,
+    is_next(base, session, last.get(&session).copied(), number)
+}
+
+// Whether a number is the one after a session's last, which is that in the base where none is kept.
+fn is_next<A: Allocator>(base: &Base<A>, session: usize, kept: Option<u64>, number: u64) -> bool
+    ensures { Decides result (number ≡ suc (unwrap_or kept (last_folded base.now.base session))) }
+{
+    let before = match kept {
+        Some(last) => last,
         None => last_folded(base, session),
     };
     number > 0 && number - 1 == before

@@ -5,32 +5,26 @@ ghost use Rattle.std.specs.List.Sorted.{IsStrictlySortedBy};
 ghost use Rattle.std.specs.Map.{keys_of};
 ghost use Rattle.std.specs.Option.{option_copied};
 ghost use Rattle.std.specs.FinMap as finite;
-ghost use Rattle.std.specs.Range.Bound.{bound_map};
 ghost use Rattle.occ_types.specs.Key as keys;
 ghost use Rattle.occ_types.specs.Key.{key_cmp};
 ghost use Rattle.occ_types.specs.Object as objects;
 ghost use Rattle.occ_types.specs.Question.{Span};
 ghost use Rattle.occ_types.specs.PlainData.{end_of, object_of, question_of};
+ghost use Rattle.occ_sets.specs.Entries.{observation_lent};
 ghost use Rattle.occ_sets.specs.PlainSets.{answer_of, rows_of};
-ghost use Rattle.occ_book.specs.Content.{is_backward, lower_bound, upper_bound};
-ghost use Rattle.occ_book.specs.KeyRefs.{key_lent};
 ghost use Rattle.occ_book.specs.Table.{row_under};
 ghost use Rattle.occ_model.specs.State.{put, apply, answer, Rows};
-ghost use Rattle.occ_audit.specs.Replica.{lent, IsInOrder, SameTable, IsPlaced, IsTaken, end_lent, state_of};
+ghost use Rattle.occ_audit.specs.Replica.{SameTable, IsPlaced, IsTaken, state_of};
 
+use crate::lent_rows::{LentRange, LentRows};
 use occ_book::{Base, FoldedWrites, KeyRef, TableRows, Tables};
-use occ_sets::{Answer, WriteSet};
+use occ_sets::{Answer, ObservationRef, WriteSet};
 use occ_types::{Key, Object, Question, Row};
 use std::alloc::{AllocError, Allocator};
 use std::collections::BTreeMap;
-use std::collections::btree_map::Range;
 use std::marker::Model;
-use std::ops::Bound;
 
-/// The rows of one table under their keys, all of them lent.
-pub type LentRows<'a, A> = BTreeMap<KeyRef<'a, A>, &'a Row<A>, A>;
-
-/// A state with a map for each table that was ever written. Tables may have any place, also one that no schema has. Clauses see the state of the model.
+/// A state with the rows of each table that was ever written. Tables may have any place, also one that no schema has. Clauses see the state of the model.
 pub struct Replica<'a, A: Allocator> {
     alloc: A,
     tables: BTreeMap<usize, LentRows<'a, A>, A>,
@@ -55,9 +49,7 @@ impl<'a, A: Allocator> Drop for Replica<'a, A> {
     fn drop(self) {
         let Replica { alloc, mut tables } = self;
         drop(alloc);
-        while let Some((_, rows)) = tables.pop_first() {
-            drop(rows);
-        }
+        while let Some((_, _rows)) = tables.pop_first() {}
         tables.destroy_empty();
     }
 }
@@ -102,13 +94,13 @@ impl<'a, A: Allocator + Copy> Replica<'a, A> {
         let Some(kept) = tables.table(table) else {
             return Ok(());
         };
-        let rows = lend(self.alloc, kept)?;
+        let rows = LentRows::of(self.alloc, kept)?;
         self.place(table, rows)
     }
 
     // Puts the rows of a table in the place of those that it has.
     fn place(&mut self, table: usize, rows: LentRows<'a, A>) -> Result<(), AllocError>
-        ensures { OnOk result (IsPlaced table (lent rows.entry.entries) self.old self.new) }
+        ensures { OnOk result (IsPlaced table rows.entry self.old self.new) }
     {
         // without `?`, since a conversion of the refused map gets no proof
         let _replaced = match self.tables.insert(table, rows) {
@@ -129,7 +121,7 @@ impl<'a, A: Allocator + Copy> Replica<'a, A> {
     pub fn rows(&self, table: usize) -> Option<&LentRows<'a, A>>
         ensures { MatchOption result
             ((key : keys.Key) → finite.get self.now (table, key) ≡ None)
-            (λ rows. (key : keys.Key) → finite.get self.now (table, key) ≡ row_under (lent rows.now.entries) key) }
+            (λ rows. (key : keys.Key) → finite.get self.now (table, key) ≡ row_under rows.now key) }
     {
         self.tables.get(&table)
     }
@@ -139,7 +131,7 @@ impl<'a, A: Allocator + Copy> Replica<'a, A> {
         ensures { option_copied result ≡ finite.get self.now (object_of object.now) }
     {
         let rows = self.rows(object.table)?;
-        rows.get(&KeyRef::of(&object.key)).copied()
+        rows.get(&object.key)
     }
 
     /// Does one write.
@@ -160,11 +152,10 @@ impl<'a, A: Allocator + Copy> Replica<'a, A> {
         ensures { OnOk result (self.new ≡ put self.old (object_of object.now, Some row.now)) }
     {
         if let Some(rows) = self.tables.get_mut(&object.table) {
-            rows.insert(KeyRef::of(&object.key), row)?;
-            return Ok(());
+            return rows.put(&object.key, row);
         }
-        let mut rows = BTreeMap::new(self.alloc);
-        rows.insert(KeyRef::of(&object.key), row)?;
+        let mut rows = LentRows::new(self.alloc)?;
+        rows.put(&object.key, row)?;
         self.place(object.table, rows)
     }
 
@@ -173,7 +164,7 @@ impl<'a, A: Allocator + Copy> Replica<'a, A> {
         ensures { self.new ≡ put self.old (object_of object.now, None) }
     {
         if let Some(rows) = self.tables.get_mut(&object.table) {
-            let _deleted = rows.remove(&KeyRef::of(&object.key));
+            rows.delete(&object.key);
         }
     }
 
@@ -221,6 +212,16 @@ impl<'a, A: Allocator + Copy> Replica<'a, A> {
         self.put(object, row)
     }
 
+    /// Whether the state answers the question of an observation as this does.
+    pub fn agrees(&self, seen: ObservationRef<'a, A>) -> bool
+        ensures { Decides result ((observation_lent seen.entry).1 ≡ answer (observation_lent seen.entry).0 self.now) }
+    {
+        match seen {
+            ObservationRef::Key(object, row) => self.row(object) == row,
+            ObservationRef::Whole(seen) => self.answers(&seen.question, &seen.answer),
+        }
+    }
+
     /// Whether the state answers a question so.
     pub fn answers(&self, question: &'a Question<A>, given: &'a Answer<A>) -> bool
         ensures { Decides result (answer_of given.now ≡ answer (question_of question.now) self.now) }
@@ -251,16 +252,8 @@ impl<'a, A: Allocator + Copy> Replica<'a, A> {
         ensures { Decides result (Rows (rows_of given.now) ≡ answer (Span table (end_of (option_copied lower.entry)) (end_of (option_copied upper.entry))) self.now) }
     {
         match self.rows(table) {
-            // a map may not be asked for a range that runs backwards
-            Some(rows) if !is_backward(lower, upper) => {
-                let lower = end_lent(lower);
-                let upper = end_lent(upper);
-                are_given(
-                    rows.range((lower_bound(lower.as_ref()), upper_bound(upper.as_ref()))),
-                    given,
-                )
-            }
-            _ => given.is_empty(),
+            Some(rows) => are_given(rows.range(lower, upper), given),
+            None => given.is_empty(),
         }
     }
 
@@ -306,38 +299,19 @@ impl<'a, A: Allocator + Copy> Replica<'a, A> {
     }
 }
 
-// The rows of a table, lent.
-fn lend<'a, A: Allocator + Copy>(
-    alloc: A,
-    kept: TableRows<'a, A>,
-) -> Result<LentRows<'a, A>, AllocError>
-    requires { IsStrictlySortedBy key_cmp (keys_of kept) }
-    ensures { IfOk result (λ rows. (key : keys.Key) → row_under (lent rows.entries) key ≡ row_under kept.entry key) }
-{
-    let mut rows = BTreeMap::new(alloc);
-    for (key, row) in kept {
-        rows.insert(key, row)?;
-    }
-    Ok(rows)
-}
-
 // Whether rows are those that were given, in their order.
-fn are_given<'a, A: Allocator>(
-    rows: Range<'_, KeyRef<'a, A>, &'a Row<A>>,
-    given: &'a [(Key<A>, Row<A>)],
-) -> bool
-    ensures { Decides result (rows_of given.now ≡ lent rows.entry) }
+fn are_given<'a, A: Allocator>(rows: LentRange<'_, 'a, A>, given: &'a [(Key<A>, Row<A>)]) -> bool
+    ensures { Decides result (rows_of given.now ≡ rows.entry) }
 {
-    rows.map(|(key, row)| (*key, *row))
-        .eq(given.iter().map(|(key, row)| (KeyRef::of(key), row)))
+    rows.eq(given.iter().map(|(key, row)| (KeyRef::of(key), row)))
 }
 
 // Whether rows are those of a table.
 fn are_kept<'a, A: Allocator>(rows: &LentRows<'a, A>, kept: TableRows<'a, A>) -> bool
-    ensures same { Decides result (kept.entry ≡ lent rows.now.entries) }
-    ensures ordered { IsInOrder rows.now.entries }
+    ensures same { Decides result (kept.entry ≡ rows.now) }
+    ensures ordered { IsStrictlySortedBy key_cmp (keys_of rows.now) }
 {
-    rows.iter().map(|(key, row)| (*key, *row)).eq(kept)
+    rows.iter().eq(kept)
 }
 
 // Whether a table has no row.
@@ -347,45 +321,5 @@ fn is_none_left<A: Allocator>(mut kept: TableRows<'_, A>) -> bool
     match kept.next() {
         Some(_) => false,
         None => true,
-    }
-}
-
-// An end of a range, lent.
-pub(crate) fn end_lent<'a, A: Allocator>(end: Option<&'a Key<A>>) -> Option<KeyRef<'a, A>>
-    ensures { end_lent result ≡ end_of (option_copied end.entry) }
-{
-    match end {
-        Some(key) => Some(KeyRef::of(key)),
-        None => None,
-    }
-}
-
-// Whether both ends of a range are there, and the lower one is above the upper one.
-pub(crate) fn is_backward<A: Allocator>(lower: Option<&Key<A>>, upper: Option<&Key<A>>) -> bool
-    ensures { result ≡ is_backward (end_of (option_copied lower.entry)) (end_of (option_copied upper.entry)) }
-{
-    match (lower, upper) {
-        (Some(lower), Some(upper)) => lower > upper,
-        _ => false,
-    }
-}
-
-// A lower end as a bound, which lies within the range.
-pub(crate) fn lower_bound<K>(lower: Option<&K>) -> Bound<&K>
-    ensures { bound_map (λ end. end.now) result ≡ lower_bound (option_copied lower.entry) }
-{
-    match lower {
-        Some(end) => Bound::Included(end),
-        None => Bound::Unbounded,
-    }
-}
-
-// An upper end as a bound, which lies outside of the range.
-pub(crate) fn upper_bound<K>(upper: Option<&K>) -> Bound<&K>
-    ensures { bound_map (λ end. end.now) result ≡ upper_bound (option_copied upper.entry) }
-{
-    match upper {
-        Some(end) => Bound::Excluded(end),
-        None => Bound::Unbounded,
     }
 }

@@ -57,8 +57,8 @@ pub fn is_committed<O>(standing: &Standing<O>) -> bool
 fn are_answers<'a, A: Allocator + Copy>(replica: &Replica<'a, A>, reads: &'a ReadSet<A>) -> bool
     ensures { Decides result (AreAnswers replica.now reads.now) }
 {
-    for seen in reads.observations() {
-        if !replica.answers(&seen.question, &seen.answer) {
+    for seen in reads.iter() {
+        if !replica.agrees(seen) {
             return false;
         }
     }

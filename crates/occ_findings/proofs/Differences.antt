@@ -1,13 +1,13 @@
 -- The first difference of two states, from the first row of each that the other one has not.
-use Rattle.std.proofs.Common.{◌≡◌, ◌≢◌, ℕ, Bool, true, false, cond, List, [], ◌∷◌, Option, None, Some, refl, sym, ap, subst, ◌∙◌, MatchOption, IsSomeAnd, Bor, option_copied, nat_cmp, Less}
+use Rattle.std.proofs.Common.{◌≡◌, ◌≢◌, ℕ, Bool, true, false, cond, List, [], ◌∷◌, Option, None, Some, refl, sym, ap, subst, ◌∙◌, MatchOption, IsSomeAnd, nat_cmp, Less}
 use Rattle.std.specs.declared.cmp.Ordering.{Ordering}
 use Rattle.std.specs.declared.cmp.Ordering.TheVariants.{Equal, Greater}
 use Rattle.std.specs.Ordering.{is_lt, ordering_reverse, ordering_then}
 use Rattle.std.specs.Cmp.{nat_cmp_total}
 use Rattle.std.specs.FinMap.{nat_cmp-IsAntisymmetric}
 use Rattle.occ_types.specs.Key.{key_cmp-IsAntisymmetric, key_cmp_total}
-use Rattle.occ_audit.proofs.Common.{IsInOrder, IsStrictlySortedBy, Key, Object, Row, State, get, key_cmp, key_of, key_same, keys_of, lent, lookup, object_cmp, object_cmp-IsAntisymmetric, object_cmp_total, row_under, same_state, state_of}
-use Rattle.occ_audit.proofs.Lent.{Lent, get-in, row_under-lent, table_at}
+use Rattle.occ_audit.proofs.Common.{IsStrictlySortedBy, Key, Object, Row, State, get, key_cmp, keys_of, object_cmp, object_cmp-IsAntisymmetric, object_cmp_total, row_under, same_state, state_of}
+use Rattle.occ_audit.proofs.Lent.{get-in, table_at}
 use Rattle.occ_book.specs.KeyRefs.{key_lent}
 use Rattle.occ_book.specs.declared.key_refs.KeyRef as refs
 use Rattle.occ_findings.specs.declared.first_difference.Spot as spots
@@ -95,63 +95,53 @@ module _ {Z : Type 0} (one other : State) where
   first-found (Some a) (Some b) result first second is =
       subst (FirstGives one other) (sym is) (both_sides a b (is_lt (object_cmp (spot_of b) (spot_of a))) refl first second)
 
-module _ {Z : Type 0} (table : ℕ) (other : State) where
-  -- of lent rows these are left, and a state has all others
-  abbrev pub KeysWalked : List (refs.KeyRef Z × Bor Row) → List (refs.KeyRef Z × Bor Row) → Type 0
-  KeysWalked = Walked key_cmp key_cmp_total key_cmp-IsAntisymmetric (λ (b : refs.KeyRef Z). key_lent b) (λ k (v : Bor Row). get other (table, k) ≡ Some v.now)
+module _ (table : ℕ) (other : State) where
+  -- of some rows these are left, and a state has all others
+  abbrev pub KeysWalked : List (Key × Row) → List (Key × Row) → Type 0
+  KeysWalked = Walked key_cmp key_cmp_total key_cmp-IsAntisymmetric (λ (k : Key). k) (λ k (row : Row). get other (table, k) ≡ Some row)
 
-  pub keys-none : (whole left : List (refs.KeyRef Z × Bor Row)) → left ≡ whole → IsInOrder whole → KeysWalked whole left
-  keys-none = walked-none key_cmp key_cmp_total key_cmp-IsAntisymmetric (λ (b : refs.KeyRef Z). key_lent b) (λ k (v : Bor Row). get other (table, k) ≡ Some v.now)
+  pub keys-none : (whole left : List (Key × Row)) → left ≡ whole → IsStrictlySortedBy key_cmp (keys_of whole) → KeysWalked whole left
+  keys-none = walked-none key_cmp key_cmp_total key_cmp-IsAntisymmetric (λ (k : Key). k) (λ k (row : Row). get other (table, k) ≡ Some row)
 
-  pub keys-more : (whole more : List (refs.KeyRef Z × Bor Row)) (e : refs.KeyRef Z × Bor Row) → KeysWalked whole (e ∷ more) → get other (table, key_lent e.0) ≡ Some e.1.now → KeysWalked whole more
-  keys-more = walked-more key_cmp key_cmp_total key_cmp-IsAntisymmetric (λ (b : refs.KeyRef Z). key_lent b) (λ k (v : Bor Row). get other (table, k) ≡ Some v.now)
+  pub keys-more : (whole more : List (Key × Row)) (e : Key × Row) → KeysWalked whole (e ∷ more) → get other (table, e.0) ≡ Some e.1 → KeysWalked whole more
+  keys-more = walked-more key_cmp key_cmp_total key_cmp-IsAntisymmetric (λ (k : Key). k) (λ k (row : Row). get other (table, k) ≡ Some row)
 
-  -- what is found among rows is found among those that they lend
-  lent-found : (es : List (refs.KeyRef Z × Bor Row)) (k : Key) (row : Row) (P : Type 0) → row_under (lent es) k ≡ Some row → ((v : Bor Row) → lookup (λ x. key_same k (key_lent x)) es ≡ Some v → v.now ≡ row → P) → P
-  lent-found es k row P f then_so = by (lookup (λ x. key_same k (key_lent x)) es) refl
-    where
-      by : (o : Option (Bor Row)) → lookup (λ x. key_same k (key_lent x)) es ≡ o → P
-      by None e = let none : None ≡ Some row = sym (ap option_copied e) ∙ sym (row_under-lent es k) ∙ f in cc
-      by (Some v) e = let one : Some v.now ≡ Some row = sym (ap option_copied e) ∙ sym (row_under-lent es k) ∙ f in then_so v e (cc)
-
-  pub keys-agree : (whole left : List (refs.KeyRef Z × Bor Row)) → left ≡ [] → KeysWalked whole left → AgreeIn (lent whole) table other
+  pub keys-agree : (whole left : List (Key × Row)) → left ≡ [] → KeysWalked whole left → AgreeIn whole table other
   keys-agree whole left nothing w k row f =
-      lent-found whole k row (get other (table, k) ≡ Some row) f
-      (λ v at is. walked-all key_cmp key_cmp_total key_cmp-IsAntisymmetric (λ (b : refs.KeyRef Z). key_lent b) (λ k (v : Bor Row). get other (table, k) ≡ Some v.now) whole left nothing w k v at ∙ ap Some is)
+      walked-all key_cmp key_cmp_total key_cmp-IsAntisymmetric (λ (k : Key). k) (λ k (row : Row). get other (table, k) ≡ Some row) whole left nothing w k row f
 
-  pub keys-first : (whole more : List (refs.KeyRef Z × Bor Row)) (e : refs.KeyRef Z × Bor Row) → KeysWalked whole (e ∷ more) → get other (table, key_lent e.0) ≢ Some e.1.now → IsFirstIn (lent whole) table other e.0
-  keys-first whole more e w apart =
-      let here = walked-here key_cmp key_cmp_total key_cmp-IsAntisymmetric (λ (b : refs.KeyRef Z). key_lent b) (λ k (v : Bor Row). get other (table, k) ≡ Some v.now) whole more e w in (
-        subst (λ o. IsSomeAnd o (λ row. get other (table, key_lent e.0) ≢ Some row)) (sym (row_under-lent whole (key_lent e.0) ∙ ap option_copied here)) apart,
-        λ k row less f. lent-found whole k row (get other (table, k) ≡ Some row) f
-            (λ v at is. walked-to key_cmp key_cmp_total key_cmp-IsAntisymmetric (λ (b : refs.KeyRef Z). key_lent b) (λ k (v : Bor Row). get other (table, k) ≡ Some v.now) whole more e w k v less at ∙ ap Some is),
+  pub keys-first : {Z : Type 0} (whole more : List (Key × Row)) (key : refs.KeyRef Z) (row : Row) → KeysWalked whole ((key_lent key, row) ∷ more) → get other (table, key_lent key) ≢ Some row → IsFirstIn whole table other key
+  keys-first whole more key row w apart =
+      let here = walked-here key_cmp key_cmp_total key_cmp-IsAntisymmetric (λ (k : Key). k) (λ k (row : Row). get other (table, k) ≡ Some row) whole more (key_lent key, row) w in (
+        subst (λ o. IsSomeAnd o (λ row. get other (table, key_lent key) ≢ Some row)) (sym here) apart,
+        λ k r less f. walked-to key_cmp key_cmp_total key_cmp-IsAntisymmetric (λ (k : Key). k) (λ k (row : Row). get other (table, k) ≡ Some row) whole more (key_lent key, row) w k r less f,
       )
 
-module _ {Z : Type 0} (state other : State) where
-  -- of lent tables these are left, and a state has all rows of the others
-  abbrev pub TablesWalked : List (ℕ × Lent Z) → List (ℕ × Lent Z) → Type 0
-  TablesWalked = Walked nat_cmp nat_cmp_total nat_cmp-IsAntisymmetric (λ u. u) (λ u (m : Lent Z). AgreeIn (lent m.entries) u other)
+module _ (state other : State) where
+  -- of some tables these are left, and a state has all rows of the others
+  abbrev pub TablesWalked : List (ℕ × List (Key × Row)) → List (ℕ × List (Key × Row)) → Type 0
+  TablesWalked = Walked nat_cmp nat_cmp_total nat_cmp-IsAntisymmetric (λ u. u) (λ u (rows : List (Key × Row)). AgreeIn rows u other)
 
-  pub tables-none : (whole left : List (ℕ × Lent Z)) → left ≡ whole → IsStrictlySortedBy nat_cmp (keys_of whole) → TablesWalked whole left
-  tables-none = walked-none nat_cmp nat_cmp_total nat_cmp-IsAntisymmetric (λ u. u) (λ u (m : Lent Z). AgreeIn (lent m.entries) u other)
+  pub tables-none : (whole left : List (ℕ × List (Key × Row))) → left ≡ whole → IsStrictlySortedBy nat_cmp (keys_of whole) → TablesWalked whole left
+  tables-none = walked-none nat_cmp nat_cmp_total nat_cmp-IsAntisymmetric (λ u. u) (λ u (rows : List (Key × Row)). AgreeIn rows u other)
 
-  pub tables-more : (whole more : List (ℕ × Lent Z)) (e : ℕ × Lent Z) → TablesWalked whole (e ∷ more) → AgreeIn (lent e.1.entries) e.0 other → TablesWalked whole more
-  tables-more = walked-more nat_cmp nat_cmp_total nat_cmp-IsAntisymmetric (λ u. u) (λ u (m : Lent Z). AgreeIn (lent m.entries) u other)
+  pub tables-more : (whole more : List (ℕ × List (Key × Row))) (e : ℕ × List (Key × Row)) → TablesWalked whole (e ∷ more) → AgreeIn e.1 e.0 other → TablesWalked whole more
+  tables-more = walked-more nat_cmp nat_cmp_total nat_cmp-IsAntisymmetric (λ u. u) (λ u (rows : List (Key × Row)). AgreeIn rows u other)
 
   -- a row of a state stands in its table
-  in-table : (whole : List (ℕ × Lent Z)) (p : Object) (row : Row) (P : Type 0) → state_of whole ≡ state → get state p ≡ Some row → ((m : Lent Z) → table_at whole p.0 ≡ Some m → row_under (lent m.entries) p.1 ≡ Some row → P) → P
+  in-table : (whole : List (ℕ × List (Key × Row))) (p : Object) (row : Row) (P : Type 0) → state_of whole ≡ state → get state p ≡ Some row → ((m : List (Key × Row)) → table_at whole p.0 ≡ Some m → row_under m p.1 ≡ Some row → P) → P
   in-table whole p row P view f then_so = by (table_at whole p.0) refl
     where
-      by : (o : Option (Lent Z)) → table_at whole p.0 ≡ o → P
+      by : (o : Option (List (Key × Row))) → table_at whole p.0 ≡ o → P
       by None e = let none : None ≡ Some row = sym (get-in whole p.0 state None view e p.1) ∙ f in cc
       by (Some m) e = then_so m e (sym (get-in whole p.0 state (Some m) view e p.1) ∙ f)
 
-  pub tables-agree : (whole left : List (ℕ × Lent Z)) → state_of whole ≡ state → left ≡ [] → TablesWalked whole left → AgreeOn state other
+  pub tables-agree : (whole left : List (ℕ × List (Key × Row))) → state_of whole ≡ state → left ≡ [] → TablesWalked whole left → AgreeOn state other
   tables-agree whole left view nothing w p row f =
       in-table whole p row (get other p ≡ Some row) view f
-      (λ m at g. walked-all nat_cmp nat_cmp_total nat_cmp-IsAntisymmetric (λ u. u) (λ u (m : Lent Z). AgreeIn (lent m.entries) u other) whole left nothing w p.0 m at p.1 row g)
+      (λ m at g. walked-all nat_cmp nat_cmp_total nat_cmp-IsAntisymmetric (λ u. u) (λ u (rows : List (Key × Row)). AgreeIn rows u other) whole left nothing w p.0 m at p.1 row g)
 
-  pub tables-first : (whole more : List (ℕ × Lent Z)) (e : ℕ × Lent Z) (spot : spots.Spot Z) → state_of whole ≡ state → TablesWalked whole (e ∷ more) → spot.table ≡ e.0 → IsFirstIn (lent e.1.entries) e.0 other spot.key → IsFirstOf state other spot
+  pub tables-first : {Z : Type 0} (whole more : List (ℕ × List (Key × Row))) (e : ℕ × List (Key × Row)) (spot : spots.Spot Z) → state_of whole ≡ state → TablesWalked whole (e ∷ more) → spot.table ≡ e.0 → IsFirstIn e.1 e.0 other spot.key → IsFirstOf state other spot
   tables-first whole more e spot view w at first = (
     subst (λ u. IsSomeAnd (get state (u, key)) (λ row. get other (u, key) ≢ Some row)) (sym at)
         (subst (λ o. IsSomeAnd o (λ row. get other (e.0, key) ≢ Some row)) (sym (get-in whole e.0 state (Some e.1) view here key)) first.0),
@@ -162,15 +152,15 @@ module _ {Z : Type 0} (state other : State) where
       key = key_lent spot.key
 
       here : table_at whole e.0 ≡ Some e.1
-      here = walked-here nat_cmp nat_cmp_total nat_cmp-IsAntisymmetric (λ u. u) (λ u (m : Lent Z). AgreeIn (lent m.entries) u other) whole more e w
+      here = walked-here nat_cmp nat_cmp_total nat_cmp-IsAntisymmetric (λ u. u) (λ u (rows : List (Key × Row)). AgreeIn rows u other) whole more e w
 
       by : (p : Object) (row : Row) → get state p ≡ Some row → (o : Ordering) → nat_cmp p.0 e.0 ≡ o → object_cmp p (e.0, key) ≡ Less → get other p ≡ Some row
       by p row f Less t less =
           in-table whole p row (get other p ≡ Some row) view f
-          (λ m there g. walked-to nat_cmp nat_cmp_total nat_cmp-IsAntisymmetric (λ u. u) (λ u (m : Lent Z). AgreeIn (lent m.entries) u other) whole more e w p.0 m t there p.1 row g)
+          (λ m there g. walked-to nat_cmp nat_cmp_total nat_cmp-IsAntisymmetric (λ u. u) (λ u (rows : List (Key × Row)). AgreeIn rows u other) whole more e w p.0 m t there p.1 row g)
       by p row f Equal t less =
           let same : p.0 ≡ e.0 = nat_cmp-IsAntisymmetric p.0 e.0 t in
-          let under : row_under (lent e.1.entries) p.1 ≡ Some row = sym (get-in whole e.0 state (Some e.1) view here p.1) ∙ ap (λ u. get state (u, p.1)) (sym same) ∙ f in
+          let under : row_under e.1 p.1 ≡ Some row = sym (get-in whole e.0 state (Some e.1) view here p.1) ∙ ap (λ u. get state (u, p.1)) (sym same) ∙ f in
           let before : key_cmp p.1 key ≡ Less = sym (ap (λ o. ordering_then o (key_cmp p.1 key)) t) ∙ less in
           ap (λ u. get other (u, p.1)) same ∙ first.1 p.1 row before under
       by p row f Greater t less =

@@ -1,11 +1,11 @@
 -- How a log is explained row by row, and what a wrong read says against it.
 use Rattle.std.proofs.Common.{◌≡◌, ◌≢◌, ℕ, zero, suc, ◌+◌, ◌<◌, true, List, [], ◌∷◌, ◌++◌, take, length, get_or, Some, sym, ap, subst, ◌∙◌, slice_get, IsSomeAnd}
+use Rattle.std.proofs.lemmas.List.{take_more}
+use Rattle.std.proofs.lemmas.Option.{slice_get_within, get_or_from_slice_get}
 use Rattle.occ_model.proofs.Logs.{serial-append}
 use Rattle.occ_model.specs.State.{Observation}
-use Rattle.occ_audit.proofs.Common.{AreAnswers, Answer, Explained, answer_of, LogRow, State, after, answer, is_committed, log_of, log_row_of, observations_of, serial}
+use Rattle.occ_audit.proofs.Common.{AreAnswers, Answer, Explained, answer_of, LogRow, State, after, answer, is_committed, log_of, log_row_of, serial}
 use Rattle.occ_sets.specs.declared.log_rows.LogRow as code_row
-use Rattle.occ_sets.specs.PlainSets.{observation_of}
-use Rattle.occ_sets.specs.declared.reads.Observation as code_observation
 use Rattle.occ_findings.specs.Findings.{IsWrongRead}
 use Rattle.occ_findings.specs.Replaying.{IsWrongAnswer, RowPlays}
 use Rattle.occ_findings.specs.declared.findings.WrongRead as wrong_reads
@@ -42,20 +42,18 @@ not-explained state log row read replayed wrong explained =
     at_some (slice_get at.reads read) (λ seen. (seen.1 ≢ replayed) × (replayed ≡ answer seen.0 now)) w.2
     (λ seen found apart. apart.0 (answers_at now at.reads read seen are found ∙ sym apart.1)))
 
-module _ {Z : Type 0} (state : State) (reads : List (code_observation.Observation Z)) (i : ℕ) (seen : code_observation.Observation Z) (h : i < length reads) (at : seen ≡ get_or reads i seen) (before : AreAnswers state (observations_of (take i reads))) where
+module _ (state : State) (reads : List Observation) (i : ℕ) (seen : Observation) (at : slice_get reads i ≡ Some seen) (before : AreAnswers state (take i reads)) where
   -- one read more that is answered so
-  pub read-answered : (observation_of seen).1 ≡ answer (observation_of seen).0 state → AreAnswers state (observations_of (take (i + 1) reads))
+  pub read-answered : seen.1 ≡ answer seen.0 state → AreAnswers state (take (i + 1) reads)
   read-answered is =
-      subst (AreAnswers state) (prefix-more observation_of reads i seen h at) (answers-more state (observations_of (take i reads)) (observation_of seen) before is)
+      let next : take (i + 1) reads ≡ take i reads ++ seen ∷ [] =
+      take_more reads i seen (slice_get_within reads i seen at) ∙ ap (λ o. take i reads ++ o ∷ []) (get_or_from_slice_get reads i seen seen at) in
+      subst (AreAnswers state) (sym next) (answers-more state (take i reads) seen before is)
 
   -- one that isn't
-  pub read-wrong : (all : List Observation) (replayed : Answer) → observations_of reads ≡ all → ((observation_of seen).1 ≡ answer (observation_of seen).0 state → ⊥) → replayed ≡ answer (observation_of seen).0 state → IsWrongAnswer state all i replayed
-  read-wrong all replayed whole apart is =
-      subst (λ os. IsWrongAnswer state os i replayed) whole (
-        subst (AreAnswers state) (prefix-seen observation_of reads i) before,
-        subst (λ o. IsSomeAnd o (λ s. (s.1 ≢ replayed) × (replayed ≡ answer s.0 state))) (sym (prefix-next observation_of reads i seen h at))
-            (λ e. apart (e ∙ is), is),
-      )
+  pub read-wrong : (replayed : Answer) → (seen.1 ≡ answer seen.0 state → ⊥) → replayed ≡ answer seen.0 state → IsWrongAnswer state reads i replayed
+  read-wrong replayed apart is =
+      (before, subst (λ o. IsSomeAnd o (λ s. (s.1 ≢ replayed) × (replayed ≡ answer s.0 state))) (sym at) (λ e. apart (e ∙ is), is))
 
 module _ {Z O : Type 0} (state now : State) (log : List (code_row.LogRow Z O)) (i : ℕ) (row : code_row.LogRow Z O) (h : i < length log) (at : row ≡ get_or log i row) (before : Explained state (log_of (take i log))) (is : now ≡ serial state (log_of (take i log))) where
   -- one row more that is played

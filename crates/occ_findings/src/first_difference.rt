@@ -5,10 +5,10 @@ ghost use Rattle.std.specs.Option.{option_copied};
 ghost use Rattle.std.specs.FinMap as finite;
 ghost use Rattle.occ_types.specs.Object.{object_cmp};
 ghost use Rattle.occ_book.specs.KeyRefs.{key_lent};
-ghost use Rattle.occ_audit.specs.Replica.{lent};
 ghost use Rattle.occ_findings.specs.Differences.{AgreeIn, AgreeOn, FirstGives, IsEarlier, IsFirstIn, IsFirstOf, spot_of};
 
-use occ_audit::replica::{LentRows, Replica};
+use occ_audit::lent_rows::LentRows;
+use occ_audit::replica::Replica;
 use occ_book::KeyRef;
 use occ_types::Row;
 use std::alloc::Allocator;
@@ -59,13 +59,11 @@ fn first_key_apart<'a, A: Allocator + Copy>(
     other: &Replica<'a, A>,
     table: usize,
 ) -> Option<KeyRef<'a, A>>
-    ensures { MatchOption result (AgreeIn (lent rows.now.entries) table other.now) (IsFirstIn (lent rows.now.entries) table other.now) }
+    ensures { MatchOption result (AgreeIn rows.now table other.now) (IsFirstIn rows.now table other.now) }
 {
-    // `len` tells that the keys are in order
-    let _count = rows.len();
-    for (key, row) in rows {
-        if row_at(other, table, *key) != Some(*row) {
-            return Some(*key);
+    for (key, row) in rows.iter() {
+        if row_at(other, table, key) != Some(row) {
+            return Some(key);
         }
     }
     None
@@ -80,7 +78,7 @@ pub(crate) fn row_at<'a, A: Allocator + Copy>(
     ensures { option_copied result ≡ finite.get state.now (table, key_lent key.entry) }
 {
     match state.rows(table) {
-        Some(rows) => rows.get(&key).copied(),
+        Some(rows) => rows.get_lent(key),
         None => None,
     }
 }

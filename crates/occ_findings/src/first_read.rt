@@ -79,14 +79,13 @@ fn first_wrong<'a, A: Allocator + Copy>(
 ) -> Result<Option<WrongAnswer<A>>, AllocError>
     ensures { IfOk result (λ found. MatchOption found (AreAnswers replica.now reads.now) (λ wrong. IsWrongAnswer replica.now reads.now wrong.read (answer_of wrong.replayed))) }
 {
-    let observations = reads.observations();
-    for (index, seen) in observations.iter().enumerate() {
-        if !replica.answers(&seen.question, &seen.answer) {
-            let replayed = replica.answer(alloc, &seen.question)?;
-            return Ok(Some(WrongAnswer {
-                read: index,
-                replayed,
-            }));
+    for read in 0..reads.len() {
+        let Some(seen) = reads.at(read) else {
+            unreachable!();
+        };
+        if !replica.agrees(seen) {
+            let replayed = replica.answer_again(alloc, seen)?;
+            return Ok(Some(WrongAnswer { read, replayed }));
         }
     }
     Ok(None)

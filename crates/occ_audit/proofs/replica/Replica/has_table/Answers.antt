@@ -1,12 +1,12 @@
 use Rattle.std.proofs.Common.{[], None, refl, sym, ◌∙◌}
-use Rattle.occ_audit.proofs.Common.{length-map, lent, row_lent, answer-nowhere}
+use Rattle.occ_audit.proofs.Common.{answer-nowhere}
 use Rattle.occ_audit.proofs.Ranges.{answer-all, none-decides, rows-decide}
 use Rattle.occ_audit.proofs.replica.Replica.has_table.Goals as goal
 
 pub returns-in-Some-Some : goal.returns-in-Some-Some
 returns-in-Some-Some g c =
-    let rows = c.in-Some-Some.rows.now.entries in
-    rows-decide _ _ c.in-Some-Some.kept (lent rows) c.are_kept.result (sym c.in-Some-Some.ensures)
+    let rows = c.in-Some-Some.rows.now in
+    rows-decide _ _ c.in-Some-Some.kept rows c.are_kept.result (sym c.in-Some-Some.ensures)
     (answer-all c.args.self.now c.args.table rows c.are_kept.ensures.ordered c.in-Some-Some.ensures')
     c.are_kept.ensures.same
 
@@ -17,9 +17,9 @@ returns-in-Some-None g c =
 
 pub returns-in-None-Some : goal.returns-in-None-Some
 returns-in-None-Some g c =
-    let rows = c.in-None-Some.rows.now.entries in
-    let d = none-decides (lent rows) c.len.result _ (c.len.ensures.len ∙ sym (length-map rows row_lent)) refl in
-    rows-decide _ _ [] (lent rows) _
+    let rows = c.in-None-Some.rows.now in
+    let d = none-decides rows c.len.result _ c.len.ensures.len refl in
+    rows-decide _ _ [] rows _
     (answer-nowhere c.args.tables.now.state c.args.table None None (λ k. c.count-count.ensures.no_more (c.args.table, k) c.in-None-Some.ensures))
     (answer-all c.args.self.now c.args.table rows c.len.ensures.ordered c.in-None-Some.ensures')
     (λ e. sym (d.0 e), λ e. d.1 (sym e))

@@ -1,7 +1,6 @@
 use Rattle.std.proofs.Common.{◌≡◌, Some, None, refl, sym, ap, subst, ◌∙◌, IsSome}
-use Rattle.occ_book.specs.KeyRefs.{key_lent}
-use Rattle.occ_audit.proofs.Common.{IsPlaced, put, option_copied_mut, state_of, lent, row_under, on_ok_weaker}
-use Rattle.occ_audit.proofs.Lent.{table_at, rows-placed, changed-put, get-in}
+use Rattle.occ_audit.proofs.Common.{IsPlaced, key_of, option_copied_mut, state_of, row_under, on_ok_weaker}
+use Rattle.occ_audit.proofs.Lent.{table_at, rows-placed, written-put, get-in}
 use Rattle.occ_audit.proofs.replica.Replica.insert.Goals as goal
 
 pub returns-in-Some : goal.returns-in-Some
@@ -10,10 +9,9 @@ returns-in-Some g c =
     let tables = c.self.inside.tables.entries in
     let rows = c.in-Some.rows.now in
     let at : table_at tables object.table ≡ Some rows = sym c.get_mut.ensures.value ∙ ap option_copied_mut c.in-Some.is in
-    changed-put object.table (key_lent c.of.result) (Some c.args.row) rows c.insert.new.self c.args.self.now _
-    (rows-placed tables _ object.table c.insert.new.self c.args.self.now c.self.view_is ((c.get_mut.follows.holds c.insert.new.self).3 (subst IsSome (sym at) refl)).0)
-    (get-in tables object.table c.args.self.now (Some rows) c.self.view_is at) c.in_ok-insert.ensures.updates.0
-    ∙ ap (λ k. put c.args.self.now ((object.table, k), Some c.args.row.now)) c.of.ensures
+    on_ok_weaker c.put.result (λ written. written-put object.table (key_of object.key) (Some c.args.row.now) rows c.put.new.self c.args.self.now _
+    (rows-placed tables _ object.table c.put.new.self c.args.self.now c.self.view_is ((c.get_mut.follows.holds c.put.new.self).3 (subst IsSome (sym at) refl)).0)
+    (get-in tables object.table c.args.self.now (Some rows) c.self.view_is at) written) c.put.ensures
 
 pub returns : goal.returns
 returns g c =
@@ -22,8 +20,7 @@ returns g c =
     let same = c.get_mut.follows.holds-at-none in
     let view = ap (λ t. state_of t.entries) same ∙ c.self.view_is in
     let at : table_at tables object.table ≡ None = ap (λ t. table_at t.entries object.table) same ∙ sym c.get_mut.ensures.value ∙ ap option_copied_mut c.in_default.is in
-    let rows = c.insert-2.new.self in
-    on_ok_weaker c.place.result (λ placed. changed-put object.table (key_lent c.of-2.result) (Some c.args.row) c.new-rows.result rows c.args.self.now c.place.new.self
-    (subst (λ s. IsPlaced object.table (lent rows.entries) s c.place.new.self) view placed)
-    (λ k. get-in tables object.table c.args.self.now None view at k ∙ sym (ap (λ es. row_under (lent es) k) c.new-rows.ensures.empty)) c.in_ok-insert-2.ensures.updates.0
-    ∙ ap (λ k. put c.args.self.now ((object.table, k), Some c.args.row.now)) c.of-2.ensures) c.place.ensures
+    let rows = c.put-2.new.self in
+    on_ok_weaker c.place.result (λ placed. written-put object.table (key_of object.key) (Some c.args.row.now) c.in_ok-rows.rows rows c.args.self.now c.place.new.self
+    (subst (λ s. IsPlaced object.table rows s c.place.new.self) view placed)
+    (λ k. get-in tables object.table c.args.self.now None view at k ∙ sym (ap (λ es. row_under es k) c.in_ok-rows.ensures)) c.in_ok-put.ensures) c.place.ensures

@@ -1,5 +1,5 @@
 use Rattle.std.proofs.Common.{arith}
-use Rattle.occ_audit.proofs.Common.{on_ok_weaker, lent}
+use Rattle.occ_audit.proofs.Common.{on_ok_weaker}
 use Rattle.occ_audit.proofs.Tables.{table-taken, answered-sorted}
 use Rattle.occ_audit.proofs.replica.Replica.take_table.Goals as goal
 
@@ -8,7 +8,7 @@ returns-in_default g c = let past = c.in_default.ensures in let within = c.requi
 
 pub returns : goal.returns
 returns g c =
-    on_ok_weaker c.place.result (λ placed. table-taken c.args.table (lent c.in_ok-rows.rows.entries) c.in-Some.kept c.args.tables.now.state c.args.self.now c.place.new.self placed c.in-Some.ensures c.in_ok-rows.ensures) c.place.ensures
+    on_ok_weaker c.place.result (λ placed. table-taken c.args.table c.in_ok-rows.rows c.in-Some.kept c.args.tables.now.state c.args.self.now c.place.new.self placed c.in-Some.ensures c.in_ok-rows.ensures) c.place.ensures
 
-pub lend-requires : goal.lend-requires
-lend-requires g c = answered-sorted c.args.tables.now.state c.args.table c.in-Some.kept c.in-Some.ensures
+pub of-requires : goal.of-requires
+of-requires g c = answered-sorted c.args.tables.now.state c.args.table c.in-Some.kept c.in-Some.ensures
