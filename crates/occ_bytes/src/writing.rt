@@ -1,10 +1,10 @@
 //! Keys and rows that are written into a room.
 ghost use Rattle.std.specs.Prelude.{◌≡◌, ◌≤◌, ◌<◌, ◌+◌, Some, length, slice_get};
 ghost use Rattle.occ_types.specs.Row.{Cell as PlainCell};
-ghost use Rattle.occ_types.specs.PlainData.{cell_of, key_of, part_of};
+ghost use Rattle.occ_types.specs.PlainData.{cell_lent, key_of, part_of};
 ghost use Rattle.occ_bytes.specs.Bytes.{text_bytes, part_bytes, key_bytes, cell_bytes, row_bytes, number_bytes, put_at, IsSize};
 
-use occ_types::{Cell, Key, KeyPart, Row, Text};
+use occ_types::{CellRef, Key, KeyPart, Row, Text};
 use std::alloc::Allocator;
 
 // How many bytes a text takes.
@@ -34,12 +34,12 @@ pub fn key_size<A: Allocator>(key: &Key<A>) -> usize
     }
 }
 
-fn cell_size<A: Allocator>(cell: &Cell<A>) -> usize
-    ensures { IsSize result (length (cell_bytes (cell_of cell.now))) }
+fn cell_size<A: Allocator>(cell: &CellRef<'_, A>) -> usize
+    ensures { IsSize result (length (cell_bytes (cell_lent cell.now))) }
 {
     match cell {
-        Cell::Int(_) => 8,
-        Cell::Text(text) => text_size(text),
+        CellRef::Int(_) => 8,
+        CellRef::Text(text) => text_size(text),
     }
 }
 
@@ -48,7 +48,7 @@ fn size_at<A: Allocator>(row: &Row<A>, place: usize) -> usize
     ensures { (cell : PlainCell) → slice_get row.now place ≡ Some cell → IsSize result (length (cell_bytes cell)) }
 {
     match row.cell(place) {
-        Some(cell) => cell_size(cell),
+        Some(cell) => cell_size(&cell),
         None => 0,
     }
 }
@@ -120,13 +120,13 @@ pub fn put_key<A: Allocator>(room: &mut [u8], at: usize, key: &Key<A>) -> usize
     }
 }
 
-fn put_cell<A: Allocator>(room: &mut [u8], at: usize, cell: &Cell<A>) -> usize
-    ensures put { at + length (cell_bytes (cell_of cell.now)) ≤ length room.old → (room.new ≡ put_at room.old at (cell_bytes (cell_of cell.now))) × (result ≡ at + length (cell_bytes (cell_of cell.now))) }
+fn put_cell<A: Allocator>(room: &mut [u8], at: usize, cell: &CellRef<'_, A>) -> usize
+    ensures put { at + length (cell_bytes (cell_lent cell.now)) ≤ length room.old → (room.new ≡ put_at room.old at (cell_bytes (cell_lent cell.now))) × (result ≡ at + length (cell_bytes (cell_lent cell.now))) }
     ensures length { length room.new ≡ length room.old }
 {
     match cell {
-        Cell::Int(number) => put_number(room, at, number.cast_unsigned()),
-        Cell::Text(text) => put_text(room, at, text),
+        CellRef::Int(number) => put_number(room, at, number.cast_unsigned()),
+        CellRef::Text(text) => put_text(room, at, text),
     }
 }
 
@@ -136,7 +136,7 @@ fn put_place<A: Allocator>(room: &mut [u8], at: usize, row: &Row<A>, place: usiz
     ensures length { length room.new ≡ length room.old }
 {
     match row.cell(place) {
-        Some(cell) => put_cell(room, at, cell),
+        Some(cell) => put_cell(room, at, &cell),
         None => at,
     }
 }

@@ -20,6 +20,7 @@ use Rattle.occ_sets.specs.PlainSets.{answer_of}
 use Rattle.occ_sets.specs.declared.operations.Op as code_op
 use Rattle.occ_sets.specs.declared.reads.Answer as code_answer
 use Rattle.occ_core.specs.Replies.{ran}
+use Rattle.occ_client.specs.Clients.{after_alone}
 use Rattle.occ_text.specs.declared.headers.Limits.{Limits}
 use Rattle.occ_text.specs.declared.trouble.Trouble.{Trouble}
 use Rattle.occ_text.specs.Headers.{HeaderFits, header_text}
@@ -55,7 +56,7 @@ Done = Result (ℕ × Vec (code_answer.Answer Global) Global) (Refused (Vec (cod
 
 abbrev RanAs : Worker → Worker → Vec (code_op.Op Global) Global → Done → Type 0
 RanAs old new operations done = InOneHolding old new (λ before after. RunsAloneNext old.client (ops_of operations.items) before (replied_back ran done) after
-    × OnOk done (new.client ≡ record old.client { next = old.client.next + 1 }) × OnErr done (new.client ≡ old.client) × IfErr done (λ refused. refused.value ≡ operations))
+    × OnOk done (new.client ≡ after_alone old.client) × OnErr done (new.client ≡ old.client) × IfErr done (λ refused. refused.value ≡ operations))
 
 abbrev KeptAs : Desk → Worker → Vec (code_op.Op Global) Global → Done → Result (ℕ × ℕ) ℤ → Desk → Type 0
 KeptAs old worker empty done result new = MatchResult done
@@ -71,9 +72,9 @@ ran_in old new worker operations empty (Ok told) result same none ran_as kept =
     subst (λ (v : Vec (code_op.Op Global) Global). RunCame old.worker worker (ops_of v.items) (Ok (Ok (told.0, answers)))) same
     (weaker old.worker worker
     (λ before after. RunsAloneNext old.worker.client (ops_of operations.items) before (RanAlone told.0 answers) after
-    × (worker.client ≡ record old.worker.client { next = old.worker.client.next + 1 }) × ⊤ × ⊤)
+    × (worker.client ≡ after_alone old.worker.client) × ⊤ × ⊤)
     (λ before after. RunsAloneNext old.worker.client (ops_of operations.items) before (RanAlone told.0 answers) after
-    × (worker.client ≡ record old.worker.client { next = old.worker.client.next + 1 }) × ⊤)
+    × (worker.client ≡ after_alone old.worker.client) × ⊤)
     (λ before after did. (did.0, did.1, tt)) ran_as) in
     let long : length told.1.items ≡ length answers = sym (length-map told.1.items answer_of) in
     subst (λ (d : Desk). RunsAt old d result) (sym kept.1)

@@ -11,6 +11,7 @@ use Rattle.occ_types.specs.Question.{Question, Span}
 use Rattle.occ_types.specs.declared.fault.Fault.{Fault}
 use Rattle.occ_types.specs.declared.fault.Fault.TheVariants as faults
 use Rattle.occ_bytes.specs.Bytes.{IsSize, key_bytes, row_bytes, put_at}
+use Rattle.occ_client.specs.Clients.{fresh_client}
 use Rattle.occ_sharing.specs.declared.places.Missed.{Missed}
 use Rattle.occ_sharing.specs.Sharing.{Worker, GetCame, ScanCame, WriteCame}
 use Rattle.occ_c.specs.declared.operations.Kept.{Kept}
@@ -153,5 +154,5 @@ pub record KeepsNothing (kept : Kept) : Type 0 where
 
 -- the worker of a desk has no session, and the desk keeps nothing
 pub record IsFresh (desk : Desk) : Type 0 where
-  pub worker : desk.worker ≡ record { settings = desk.store; client = record { session = 0; next = 1; closed = false; current = None; returned = false; writing = false }; lease = None; holdings = 0 }
+  pub worker : desk.worker ≡ record { settings = desk.store; client = fresh_client 0; lease = None; holdings = 0 }
   pub kept : KeepsNothing desk.kept

@@ -13,6 +13,7 @@ use Rattle.occ_model.specs.Replies.{replied}
 use Rattle.occ_sets.specs.Operations.{ops_of}
 use Rattle.occ_sets.specs.PlainSets.{answer_of}
 use Rattle.occ_bytes.specs.Bytes.{IsSize, number_bytes, key_bytes, row_bytes, put_at}
+use Rattle.occ_client.specs.Clients.{after_alone}
 use Rattle.occ_sharing.specs.declared.places.Missed.{Missed}
 use Rattle.occ_sharing.specs.Sharing.{Worker, Came, RunsAloneNext}
 use Rattle.occ_c.specs.declared.desks.Desk.{Desk}
@@ -111,7 +112,7 @@ AddsAt old new kind table first second result = Refuses (NoOperation (tables old
 abbrev pub RunCame : Worker → Worker → List Operation → Result (Result (ℕ × List Answer) Fault) Missed → Type 0
 RunCame old new operations came = Came old new came (λ done before after.
     RunsAloneNext old.client operations before (replied (λ told. RanAlone told.0 told.1) done) after
-    × OnOk done (new.client ≡ record old.client { next = old.client.next + 1 })
+    × OnOk done (new.client ≡ after_alone old.client)
     × OnErr done (new.client ≡ old.client))
 
 -- what a desk keeps behind a run: nothing of it where the core was away; or no operation is left, and the answers are those of the run

@@ -79,8 +79,9 @@ impl<A: Allocator> OpenTransaction<A> {
 }
 
 impl<A: Allocator + Copy> OpenTransaction<A> {
-    /// The transaction that a request was made of, open as it was. It takes no memory for writes that nobody else shares, as those that
-    /// `into_request` gave; others are copied first. Refused with `Memory`, and the writes handed back, where there is none for that copy.
+    /// The transaction that a request was made of, open as it was. It takes no memory for writes that were never shared, as those that
+    /// `into_request` gave; others are taken out of what their owners share, or copied. Refused with `Memory`, and the writes handed
+    /// back, where there is none for that.
     pub fn from_request(
         number: u64,
         start: u64,

@@ -3,11 +3,11 @@
 use crate::meetings::{Meetings, meetings_of};
 use crate::pieces::{Kind, Piece, push_pieces};
 use crate::rows::{Drawn, TOLD};
-use crate::words::{put, say, write_met, write_object, write_question};
+use crate::words::{put, say, write_asked, write_met, write_object};
 use occ_book::{LogRow, Standing};
 use occ_model::Cause;
-use occ_sets::{ReadSet, WriteSet};
-use occ_types::{Object, Question, Schema};
+use occ_sets::{ObservationRef, ReadSet, WriteSet};
+use occ_types::{Object, Schema};
 use std::alloc::{AllocError, Allocator};
 
 /// The greatest width of a card, in letters, and the least.
@@ -67,11 +67,11 @@ fn name_line<A: Allocator>(
 fn read_line<A: Allocator>(
     line: &mut String<A>,
     schema: &Schema<A>,
-    question: &Question<A>,
+    read: ObservationRef<'_, A>,
 ) -> Result<(), AllocError> {
     line.clear();
     say(line, "reads ")?;
-    write_question(line, schema, question)
+    write_asked(line, schema, read)
 }
 
 fn write_line<A: Allocator>(
@@ -210,8 +210,8 @@ impl<A: Allocator + Copy> Cards<A> {
         row: usize,
         reads: &ReadSet<A>,
     ) -> Result<(), AllocError> {
-        for read in reads.observations().iter().take(TOLD) {
-            self.tell_read(schema, row, &read.question)?;
+        for read in reads.iter().take(TOLD) {
+            self.tell_read(schema, row, read)?;
         }
         self.tell_more(row, "further reads: ", reads.len())
     }
@@ -220,9 +220,9 @@ impl<A: Allocator + Copy> Cards<A> {
         &mut self,
         schema: &Schema<A>,
         row: usize,
-        question: &Question<A>,
+        read: ObservationRef<'_, A>,
     ) -> Result<(), AllocError> {
-        read_line(&mut self.line, schema, question)?;
+        read_line(&mut self.line, schema, read)?;
         self.end(row, "words", None)
     }
 

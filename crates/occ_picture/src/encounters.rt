@@ -1,8 +1,8 @@
 //! On what a row and its opponent met.
 
 use occ_book::LogRow;
-use occ_sets::{ReadSet, WriteSet};
-use occ_types::{Object, Question};
+use occ_sets::{ObservationRef, ReadSet, WriteSet};
+use occ_types::Object;
 use std::alloc::Allocator;
 
 /// What a row did with an object that an opponent writes.
@@ -21,42 +21,42 @@ pub(crate) fn object_met<'a, A: Allocator, O>(
     at: &'a LogRow<A, O>,
     other: &'a LogRow<A, O>,
 ) -> Option<&'a Object<A>> {
-    match question_met(&at.reads, &other.writes) {
-        Some(question) => object_asked(&other.writes, question),
+    match read_met(&at.reads, &other.writes) {
+        Some(seen) => object_asked(&other.writes, seen),
         None => object_in_both(&at.writes, &other.writes),
     }
 }
 
 /// What a row did with the first object on which it met an opponent.
 pub(crate) fn how_met<A: Allocator>(reads: &ReadSet<A>, writes: &WriteSet<A>) -> How {
-    match question_met(reads, writes) {
-        Some(Question::One(_)) => How::Read,
-        Some(Question::Span { .. }) => How::Range,
+    match read_met(reads, writes) {
+        Some(ObservationRef::Key(_, _)) => How::Read,
+        Some(ObservationRef::Whole(_)) => How::Range,
         None => How::Write,
     }
 }
 
-// The first question of reads that asks for something that another row writes.
-fn question_met<'a, A: Allocator>(
+// The first read whose question asks for something that another row writes.
+fn read_met<'a, A: Allocator>(
     reads: &'a ReadSet<A>,
     writes: &WriteSet<A>,
-) -> Option<&'a Question<A>> {
-    for seen in reads.observations() {
-        if writes.meets(&seen.question) {
-            return Some(&seen.question);
+) -> Option<ObservationRef<'a, A>> {
+    for seen in reads.iter() {
+        if writes.meets_observation(&seen) {
+            return Some(seen);
         }
     }
     None
 }
 
-// The first object of a write set that a question asks for.
+// The first object of a write set that the question of a read asks for.
 fn object_asked<'a, A: Allocator>(
     writes: &'a WriteSet<A>,
-    question: &Question<A>,
+    seen: ObservationRef<'_, A>,
 ) -> Option<&'a Object<A>> {
     for place in 0..writes.len() {
         if let Some((object, _)) = writes.write_at(place) {
-            if question.asks(object.table, &object.key) {
+            if seen.asks(object.table, &object.key) {
                 return Some(object);
             }
         }

@@ -2,7 +2,7 @@
 
 use occ_book::{LogRow, Standing};
 use occ_model::Cause;
-use occ_types::Question;
+use occ_sets::ObservationRef;
 use std::alloc::{AllocError, Allocator};
 
 /// How many opponents are told of a row.
@@ -141,15 +141,15 @@ impl<'a, A: Allocator, O> Search<'a, A, O> {
 
     // Whether this row reads something that another one writes.
     fn reads(&mut self, other: &LogRow<A, O>) -> bool {
-        for seen in self.at.reads.observations() {
-            let count = match &seen.question {
-                Question::One(_) => 1,
-                Question::Span { .. } => other.writes.len() as u64,
+        for seen in self.at.reads.iter() {
+            let count = match seen {
+                ObservationRef::Key(_, _) => 1,
+                ObservationRef::Whole(_) => other.writes.len() as u64,
             };
             if !self.take(count) {
                 return false;
             }
-            if other.writes.meets(&seen.question) {
+            if other.writes.meets_observation(&seen) {
                 return true;
             }
         }

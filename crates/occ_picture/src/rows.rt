@@ -190,7 +190,7 @@ impl<A: Allocator + Copy> Sheet<A> {
 
     fn tell_reads(&mut self, schema: &Schema<A>, reads: &ReadSet<A>) -> Result<(), AllocError> {
         self.put("\nreads: ", reads.len() as u64)?;
-        for read in reads.observations().iter().take(TOLD) {
+        for read in reads.iter().take(TOLD) {
             read_line(&mut self.line, schema, read)?;
             self.tell_line()?;
         }

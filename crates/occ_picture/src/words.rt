@@ -2,6 +2,7 @@
 
 use crate::encounters::object_met;
 use occ_book::LogRow;
+use occ_sets::ObservationRef;
 use occ_text::writers::{write_counted, write_end, write_key};
 use occ_types::{Object, Question, Schema};
 use std::alloc::{AllocError, Allocator};
@@ -61,8 +62,19 @@ pub(crate) fn write_met<A: Allocator, O>(
     }
 }
 
-/// Appends what was asked: `t 5` or `t 1..10`, where `*` stands for a missing end.
-pub(crate) fn write_question<A: Allocator>(
+/// Appends what a read asked for: `t 5` or `t 1..10`, where `*` stands for a missing end.
+pub(crate) fn write_asked<A: Allocator>(
+    line: &mut String<A>,
+    schema: &Schema<A>,
+    read: ObservationRef<'_, A>,
+) -> Result<(), AllocError> {
+    match read {
+        ObservationRef::Key(object, _) => write_object(line, schema, object),
+        ObservationRef::Whole(read) => write_question(line, schema, &read.question),
+    }
+}
+
+fn write_question<A: Allocator>(
     line: &mut String<A>,
     schema: &Schema<A>,
     question: &Question<A>,

@@ -1,10 +1,11 @@
 -- What several prints push together.
-use Rattle.std.proofs.Common.{◌≡◌, ℕ, zero, suc, ◌+◌, ◌<◌, add-one, List, [], ◌∷◌, ◌++◌, length, map, take, drop, get_or, Result, Ok, Err, refl, sym, ap, subst, ◌∙◌, append_assoc, take-append-drop}
+use Rattle.std.proofs.Common.{◌≡◌, ℕ, zero, suc, ◌+◌, ◌<◌, add-one, List, [], ◌∷◌, ◌++◌, length, map, take, drop, get_or, Some, None, Result, Ok, Err, refl, sym, ap, subst, ◌∙◌, append_assoc, take-append-drop}
 use Rattle.std.proofs.lemmas.List.{append-nil, map-append, take_more, drop_more}
 use Rattle.std.proofs.lemmas.List.Concat.{flat_map-append, flat_map_single}
 use Rattle.std.proofs.KnownBytes.{Appends-nil, Appends-trans}
 use Rattle.std.specs.declared.option.Option.{Option}
 use Rattle.std.specs.Prelude.{slice_get}
+use Rattle.std.specs.Iterator.{YieldsFirstBy}
 use Rattle.std.specs.Option.{option_to_list}
 use Rattle.std.specs.Result.{IsErrAnd}
 use Rattle.std.specs.List.{flat_map, join_with_byte}
@@ -173,6 +174,46 @@ module _ {X Y : Type 0} (line : Y → List ℕ) (view : X → Y) where
   each_front a b c old mid new xs i x lt is h k =
       subst (λ l. PushedFront a c old new (lines_text l)) (one_each xs)
       (loop_front alone view a b c old mid new xs i x lt is (subst (λ l. Pushed a b old mid (lines_text l)) (sym (one_each (take i xs))) h) k)
+
+-- the lines of the first of some values were pushed, and the others are left
+pub record LinesLeft {Y : Type 0} (f : Y → List (List ℕ)) (all left : List Y) (a b : Option (List ℕ)) (old new : List ℕ) : Type 0 where
+  pub done : List (List ℕ)
+  pub whole : flat_map f all ≡ done ++ flat_map f left
+  pub pushed : Pushed a b old new (lines_text done)
+
+-- an iterator gives the values one by one
+module _ {Y S A : Type 0} (f : Y → List (List ℕ)) (all : List Y) (view : A → Y) (left : S → List Y) where
+  -- no value was gone over
+  pub left_whole : (iter : S) (a : Option (List ℕ)) (old : List ℕ) → left iter ≡ all → LinesLeft f all (left iter) a a old old
+  left_whole iter a old is = record { done = []; whole = ap (flat_map f) (sym is); pushed = Pushed-nothing a old }
+
+  one_taken : (iter next : S) (item : Option A) (x : A) (done : List (List ℕ)) → item ≡ Some x → YieldsFirstBy view left iter item next → flat_map f all ≡ done ++ flat_map f (left iter)
+      → flat_map f all ≡ done ++ f (view x) ++ flat_map f (left next)
+  one_taken iter next item x done is step whole =
+      let taken : left iter ≡ view x ∷ left next = subst (λ i. YieldsFirstBy view left iter i next) is step in
+      whole ∙ ap (λ xs. done ++ flat_map f xs) taken ∙ sym (append_assoc done (f (view x)) (flat_map f (left next)))
+
+  -- one value more
+  pub left_fewer : (iter next : S) (item : Option A) (x : A) (a b c : Option (List ℕ)) (old mid new : List ℕ) → item ≡ Some x → YieldsFirstBy view left iter item next
+      → LinesLeft f all (left iter) a b old mid → Pushed b c mid new (lines_text (f (view x))) → LinesLeft f all (left next) a c old new
+  left_fewer iter next item x a b c old mid new is step h k = record {
+    done = h.done ++ f (view x);
+    whole = one_taken iter next item x h.done is step h.whole;
+    pushed = lines_then (Ok tt) a b c old mid new h.done (f (view x)) h.pushed k;
+  }
+
+  -- a beginning of the lines, up to a value
+  pub left_front : (iter next : S) (item : Option A) (x : A) (a b c : Option (List ℕ)) (old mid new : List ℕ) → item ≡ Some x → YieldsFirstBy view left iter item next
+      → LinesLeft f all (left iter) a b old mid → PushedFront b c mid new (lines_text (f (view x))) → PushedFront a c old new (lines_text (flat_map f all))
+  left_front iter next item x a b c old mid new is step h k =
+      subst (λ l. PushedFront a c old new (lines_text l)) (sym (one_taken iter next item x h.done is step h.whole)) (front_amid a b c old mid new h.done (f (view x)) (flat_map f (left next)) h.pushed k)
+
+  -- each value was gone over
+  pub left_none : (iter next : S) (item : Option A) (a b : Option (List ℕ)) (old new : List ℕ) → item ≡ None → YieldsFirstBy view left iter item next
+      → LinesLeft f all (left iter) a b old new → Pushed a b old new (lines_text (flat_map f all))
+  left_none iter next item a b old new is step h =
+      let none : left iter ≡ [] = (subst (λ i. YieldsFirstBy view left iter i next) is step).0 in
+      subst (λ l. Pushed a b old new (lines_text l)) (sym (h.whole ∙ ap (λ xs. h.done ++ flat_map f xs) none ∙ append-nil h.done)) h.pushed
 
 -- the same, where values are found by their places
 module _ {X : Type 0} (line : X → List ℕ) where

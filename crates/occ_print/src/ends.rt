@@ -3,6 +3,7 @@
 ghost use Rattle.std.specs.Prelude.{◌≡◌, ◌≢◌, ℕ, true, IfErr, IfSome};
 ghost use Rattle.std.specs.List.{list_all};
 ghost use Rattle.occ_types.specs.PlainData.{question_of, tables_of};
+ghost use Rattle.occ_sets.specs.Entries.{question_lent};
 ghost use Rattle.occ_model.specs.Log.{Case};
 ghost use Rattle.occ_sets.specs.LogRows.{log_of};
 ghost use Rattle.occ_text.specs.declared.versions.Version.TheVariants as versions;
@@ -12,7 +13,7 @@ ghost use Rattle.occ_print.specs.Ends.{is_pair, some_are_pairs, has_both_ends, r
 
 use crate::books::write_book;
 use occ_book::{BookView, LogRow};
-use occ_sets::Observation;
+use occ_sets::ObservationRef;
 use occ_text::faults::WriteFault;
 use occ_text::headers::Limits;
 use occ_text::output::Output;
@@ -130,13 +131,17 @@ fn ranges_have_ends<A: Allocator, O>(log: &[LogRow<A, O>]) -> bool
 fn row_has_ends<A: Allocator, O>(row: &LogRow<A, O>) -> bool
     ensures { result ≡ reads_have_ends row.now.reads }
 {
-    reads_have_ends(row.reads.observations())
+    row.reads.iter().all(|read| has_ends(read))
 }
 
-fn reads_have_ends<A: Allocator>(reads: &[Observation<A>]) -> bool
-    ensures { result ≡ list_all (λ seen. has_both_ends (question_of seen.question)) reads.now }
+// Whether what was read is no range without an end.
+fn has_ends<A: Allocator>(read: ObservationRef<'_, A>) -> bool
+    ensures { result ≡ has_both_ends (question_lent read.entry) }
 {
-    reads.iter().all(|seen| has_both_ends(&seen.question))
+    match read {
+        ObservationRef::Key(_, _) => true,
+        ObservationRef::Whole(read) => has_both_ends(&read.question),
+    }
 }
 
 fn has_both_ends<A: Allocator>(question: &Question<A>) -> bool

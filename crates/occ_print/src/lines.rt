@@ -6,7 +6,10 @@ ghost use Rattle.occ_text.specs.Spelling.{line_text};
 ghost use Rattle.std.specs.List.{flat_map};
 ghost use Rattle.std.specs.Option.{option_copied};
 ghost use Rattle.occ_types.specs.PlainData.{key_of, object_of, question_of, table_of};
-ghost use Rattle.occ_sets.specs.PlainSets.{answer_of, observation_of};
+ghost use Rattle.occ_types.specs.Question.{One};
+ghost use Rattle.occ_sets.specs.Entries.{observation_lent};
+ghost use Rattle.occ_sets.specs.PlainSets.{answer_of};
+ghost use Rattle.occ_model.specs.State.{Found};
 ghost use Rattle.occ_model.specs.Log.{Case};
 ghost use Rattle.occ_sets.specs.LogRows.{log_row_of, standing_of};
 ghost use Rattle.occ_text.specs.Headers.{version_text, count_text, table_text, kind_word, key_kind_word};
@@ -15,7 +18,7 @@ ghost use Rattle.occ_print.specs.Books.{table_name, question_text, answer_text, 
 use crate::sections::{Section, entry_word, number_word};
 use occ_book::{LogRow, Standing};
 use occ_model::Cause;
-use occ_sets::{Answer, Observation};
+use occ_sets::{Answer, ObservationRef};
 use occ_text::versions::{Version, version_text};
 use occ_text::writers::{
     write_counted, write_end, write_key, write_next_number, write_number, write_row,
@@ -126,14 +129,14 @@ fn write_question<A: Allocator>(
 ) -> Result<(), AllocError>
     ensures { OnOk result (string_bytes line.new ≡ string_bytes line.old ++ question_text schema.now (question_of question.now)) }
 {
-    let name = table_name(schema, question.table());
     match question {
-        Question::One(object) => {
-            write_words(line, "one ", name)?;
-            write_key(line, &object.key)
-        }
-        Question::Span { lower, upper, .. } => {
-            write_words(line, "span ", name)?;
+        Question::One(object) => write_one(line, schema, object),
+        Question::Span {
+            table,
+            lower,
+            upper,
+        } => {
+            write_words(line, "span ", table_name(schema, *table))?;
             write_end(line, lower)?;
             line.push(' ')?;
             write_end(line, upper)
@@ -141,12 +144,33 @@ fn write_question<A: Allocator>(
     }
 }
 
+/// Appends the question for a single key.
+fn write_one<A: Allocator>(
+    line: &mut String<A>,
+    schema: &Schema<A>,
+    object: &Object<A>,
+) -> Result<(), AllocError>
+    ensures { OnOk result (string_bytes line.new ≡ string_bytes line.old ++ question_text schema.now (One object.now.table (key_of object.now.key))) }
+{
+    write_words(line, "one ", table_name(schema, object.table))?;
+    write_key(line, &object.key)
+}
+
+/// Appends a row, or `none`.
+fn write_found<A: Allocator>(line: &mut String<A>, row: Option<&Row<A>>) -> Result<(), AllocError>
+    ensures { OnOk result (string_bytes line.new ≡ string_bytes line.old ++ answer_text (Found (option_copied row.entry))) }
+{
+    match row {
+        Some(row) => write_row(line, row),
+        None => line.push_str("none"),
+    }
+}
+
 fn write_answer<A: Allocator>(line: &mut String<A>, answer: &Answer<A>) -> Result<(), AllocError>
     ensures { OnOk result (string_bytes line.new ≡ string_bytes line.old ++ answer_text (answer_of answer.now)) }
 {
     match answer {
-        Answer::Found(Some(row)) => write_row(line, row),
-        Answer::Found(None) => line.push_str("none"),
+        Answer::Found(row) => write_found(line, row.as_ref()),
         Answer::Rows(rows) => write_number(line, rows.len() as u64),
     }
 }
@@ -155,14 +179,23 @@ fn write_answer<A: Allocator>(line: &mut String<A>, answer: &Answer<A>) -> Resul
 pub fn read_line<A: Allocator>(
     line: &mut String<A>,
     schema: &Schema<A>,
-    read: &Observation<A>,
+    read: ObservationRef<'_, A>,
 ) -> Result<(), AllocError>
-    ensures { OnOk result (string_bytes line.new ≡ read_line schema.now (observation_of read.now)) }
+    ensures { OnOk result (string_bytes line.new ≡ read_line schema.now (observation_lent read.entry)) }
 {
     line.clear();
-    write_question(line, schema, &read.question)?;
-    line.push(' ')?;
-    write_answer(line, &read.answer)
+    match read {
+        ObservationRef::Key(object, row) => {
+            write_one(line, schema, object)?;
+            line.push(' ')?;
+            write_found(line, row)
+        }
+        ObservationRef::Whole(read) => {
+            write_question(line, schema, &read.question)?;
+            line.push(' ')?;
+            write_answer(line, &read.answer)
+        }
+    }
 }
 
 /// `pair KEY ROW`.

@@ -4,7 +4,8 @@ ghost use Rattle.std.specs.Prelude.{◌≡◌, ℕ, ◌<◌, ◌∷◌, [], true
 ghost use Rattle.std.specs.List.{flat_map};
 ghost use Rattle.std.specs.Option.{option_copied, option_to_list};
 ghost use Rattle.occ_types.specs.PlainData.{key_of, object_of};
-ghost use Rattle.occ_sets.specs.PlainSets.{rows_of, answer_of, observation_of, observations_of};
+ghost use Rattle.occ_sets.specs.Entries.{observation_lent};
+ghost use Rattle.occ_sets.specs.PlainSets.{rows_of};
 ghost use Rattle.occ_model.specs.Log.{Case};
 ghost use Rattle.occ_sets.specs.LogRows.{log_row_of, log_of};
 ghost use Rattle.occ_text.specs.Line.{lines_text};
@@ -15,7 +16,7 @@ ghost use Rattle.occ_print.specs.Books.{pair_line, pair_lines, read_lines, write
 use crate::books::{print_count, push_line};
 use crate::lines::{pair_line, read_line, row_line, write_line};
 use occ_book::LogRow;
-use occ_sets::{Answer, Observation, WriteSet};
+use occ_sets::{Answer, ObservationRef, ReadSet, WriteSet};
 use occ_text::faults::WriteFault;
 use occ_text::output::Output;
 use occ_types::{Key, Object, Row, Schema};
@@ -55,14 +56,17 @@ fn print_answer<W: Write, A: Allocator>(
     output: &mut Output<A>,
     writer: &mut W,
     line: &mut String<A>,
-    answer: &Answer<A>,
+    read: ObservationRef<'_, A>,
 ) -> Result<(), WriteFault>
-    ensures printed { PrintGives result (W.contents writer.old) (W.contents writer.new) output.old.held output.new.held (lines_text (pair_lines (answer_of answer.now))) }
+    ensures printed { PrintGives result (W.contents writer.old) (W.contents writer.new) output.old.held output.new.held (lines_text (pair_lines (observation_lent read.entry).1)) }
     ensures cause { IfErr result (λ fault. fault ≡ write_faults.Write → output.new.failed ≡ true) }
 {
-    match answer {
-        Answer::Found(_) => Ok(()),
-        Answer::Rows(rows) => print_pairs(output, writer, line, rows.as_slice()),
+    match read {
+        ObservationRef::Key(_, _) => Ok(()),
+        ObservationRef::Whole(read) => match &read.answer {
+            Answer::Found(_) => Ok(()),
+            Answer::Rows(rows) => print_pairs(output, writer, line, rows.as_slice()),
+        },
     }
 }
 
@@ -71,14 +75,14 @@ fn print_read<W: Write, A: Allocator>(
     writer: &mut W,
     line: &mut String<A>,
     schema: &Schema<A>,
-    read: &Observation<A>,
+    read: ObservationRef<'_, A>,
 ) -> Result<(), WriteFault>
-    ensures printed { PrintGives result (W.contents writer.old) (W.contents writer.new) output.old.held output.new.held (lines_text (read_lines schema.now (observation_of read.now))) }
+    ensures printed { PrintGives result (W.contents writer.old) (W.contents writer.new) output.old.held output.new.held (lines_text (read_lines schema.now (observation_lent read.entry))) }
     ensures cause { IfErr result (λ fault. fault ≡ write_faults.Write → output.new.failed ≡ true) }
 {
     read_line(line, schema, read)?;
     push_line(output, writer, line)?;
-    print_answer(output, writer, line, &read.answer)
+    print_answer(output, writer, line, read)
 }
 
 fn print_reads<W: Write, A: Allocator>(
@@ -86,12 +90,12 @@ fn print_reads<W: Write, A: Allocator>(
     writer: &mut W,
     line: &mut String<A>,
     schema: &Schema<A>,
-    reads: &[Observation<A>],
+    reads: &ReadSet<A>,
 ) -> Result<(), WriteFault>
-    ensures printed { PrintGives result (W.contents writer.old) (W.contents writer.new) output.old.held output.new.held (lines_text (flat_map (read_lines schema.now) (observations_of reads.now))) }
+    ensures printed { PrintGives result (W.contents writer.old) (W.contents writer.new) output.old.held output.new.held (lines_text (flat_map (read_lines schema.now) reads.now)) }
     ensures cause { IfErr result (λ fault. fault ≡ write_faults.Write → output.new.failed ≡ true) }
 {
-    for read in reads {
+    for read in reads.iter() {
         print_read(output, writer, line, schema, read)?;
     }
     Ok(())
@@ -157,7 +161,7 @@ fn print_row<W: Write, A: Allocator, O>(
 {
     row_line(line, row)?;
     push_line(output, writer, line)?;
-    print_reads(output, writer, line, schema, row.reads.observations())?;
+    print_reads(output, writer, line, schema, &row.reads)?;
     print_writes(output, writer, line, schema, &row.writes)
 }
 

@@ -9,7 +9,7 @@ ghost use Rattle.occ_run.specs.Clients.{SameButWrites};
 
 use occ_sets::Op;
 use occ_store::{Name, Session, Store};
-use occ_types::{Cell, Fault, Key, Row};
+use occ_types::{Fault, Key, Row};
 use std::alloc::{AllocError, Allocator};
 use std::sync::Wait;
 
@@ -159,8 +159,8 @@ fn number_in<A: Allocator>(row: &Option<Row<A>>) -> i64
     let Some(row) = row else {
         return 0;
     };
-    match (row.cell(0), row.len()) {
-        (Some(Cell::Int(number)), 1) => *number,
+    match (row.int(0), row.len()) {
+        (Some(number), 1) => number,
         _ => 0,
     }
 }

@@ -2,7 +2,7 @@
 use Rattle.std.specs.Prelude.{⊤, IsOkUnless}
 use Rattle.std.proofs.Common.{◌≡◌, ◌⊎◌, ◌+◌, ◌-◌, ◌≤◌, ◌<◌, arith, ℕ, suc, Bool, true, false, cond, nat_lt, List, map, Option, None, Some, Result, Ok, Err, IfOk, [], ◌∷◌, ◌++◌, is_some, length, inl, inr, refl, sym, ap, subst, ◌∙◌, MatchOption, OnOk, OnErr}
 use Rattle.std.specs.Result.{result_err}
-use Rattle.std.proofs.lemmas.Result.{on_ok_weaker, on_err_weaker}
+use Rattle.std.proofs.lemmas.Result.{IfOk-weaker, on_err_weaker}
 use Rattle.std.specs.List.{All}
 use Rattle.std.proofs.lemmas.List.Elements.{All-head, All-tail, All-append, All-cons, All-nil}
 use Rattle.occ_types.specs.declared.fault.Fault.{Fault}
@@ -20,7 +20,7 @@ use Rattle.occ_model.specs.Event.{Event, Request, SerialEnd, Reply, Refused}
 use Rattle.occ_model.specs.Operations.{Operation}
 use Rattle.occ_model.specs.Step.{Step}
 use Rattle.occ_sets.specs.Sets.{Copied}
-use Rattle.occ_client.specs.Clients.{Client, begin_refusal, ending, spent, after_end, Commits, CommitsNext, StaysOrStops}
+use Rattle.occ_client.specs.Clients.{Client, begin_refusal, ending, count_end, spent, after_alone, after_end, fresh_client, Commits, CommitsNext, StaysOrStops}
 use Rattle.occ_client.specs.Ends.{EndsBeside}
 use Rattle.occ_client.specs.declared.ending.End.{End}
 use Rattle.occ_open.specs.Transactions.{Gets, Scans, Abandons, WantsOwn, WantsRange, OrStarves, WithOpen, begun, open_after}
@@ -107,21 +107,21 @@ module _ (old inside mid new : Client) (before lent : World) (is : inside ≡ ol
       old inside mid new before lent is given same (step, left)
 
   pub committed_in : (came : Result End Fault) (after : World) → inside.writing ≡ false → active_count lent ≡ 0
-      → Commits inside lent mid.writing (ending came) after → OnOk came (mid ≡ after_end inside) → OnErr came (StaysOrStops inside mid)
-      → EndsAtOnce old before (ending came) after × OnOk came (new ≡ spent old) × OnErr came (IsKept old new)
+      → Commits inside lent mid.writing (ending came) after → IfOk came (λ end. mid ≡ after_end end inside) → OnErr came (StaysOrStops inside mid)
+      → EndsAtOnce old before (ending came) after × IfOk came (λ end. new ≡ count_end end (spent old)) × OnErr came (IsKept old new)
   committed_in came after off quiet step ok err =
       let once : EndsAtOnce inside lent (ending came) after × (mid.writing ≡ false) = ends_once inside lent mid.writing (ending came) after off quiet step in
-      moved (λ c d w. EndsAtOnce c w (ending came) after × OnOk came (d ≡ spent c) × OnErr came (IsKept c d)) old inside mid new before lent is given same (
+      moved (λ c d w. EndsAtOnce c w (ending came) after × IfOk came (λ end. d ≡ count_end end (spent c)) × OnErr came (IsKept c d)) old inside mid new before lent is given same (
         once.0,
-        on_ok_weaker came (λ (e : mid ≡ after_end inside). e ∙ ap (λ (b : Bool). cond b (record inside { current = None; writing = false }) (spent inside)) off) ok,
+        IfOk-weaker came (λ end. mid ≡ after_end end inside) (λ end. mid ≡ count_end end (spent inside)) (λ (end : End) (e : mid ≡ after_end end inside). e ∙ ap (λ (b : Bool). count_end end (cond b (record inside { current = None; writing = false }) (spent inside))) off) ok,
         on_err_weaker came (stays inside mid once.1) err,
       )
 
   pub ran_in : {X Z : Type 0} (came : Result X Z) (Back : Type 0) (operations : List Operation) (reply : Reply) (after : World) → RunsAloneNext inside operations lent reply after
-      → OnOk came (mid ≡ record inside { next = inside.next + 1 }) → OnErr came (mid ≡ inside) → Back
-      → RunsAloneNext old operations before reply after × OnOk came (new ≡ record old { next = old.next + 1 }) × OnErr came (new ≡ old) × Back
+      → OnOk came (mid ≡ after_alone inside) → OnErr came (mid ≡ inside) → Back
+      → RunsAloneNext old operations before reply after × OnOk came (new ≡ after_alone old) × OnErr came (new ≡ old) × Back
   ran_in came Back operations reply after step ok err back = moved
-      (λ c d w. RunsAloneNext c operations w reply after × OnOk came (d ≡ record c { next = c.next + 1 }) × OnErr came (d ≡ c) × Back)
+      (λ c d w. RunsAloneNext c operations w reply after × OnOk came (d ≡ after_alone c) × OnErr came (d ≡ c) × Back)
       old inside mid new before lent is given same (step, ok, err, back)
 
 pub stepped : (event : Event) (reply : Reply) (before lent after : World) → lent ≡ before → Step lent event reply after → Step before event reply after
@@ -156,7 +156,7 @@ added sessions idle new client all are is = subst (λ (l : List Client). All (Is
 
 -- a client that is made anew
 pub fresh : (sessions before : ℕ) (client : Client) → before < sessions
-    → client ≡ record { session = sessions - before; next = 1; closed = false; current = None; returned = false; writing = false } → IsIdle sessions client
+    → client ≡ fresh_client (sessions - before) → IsIdle sessions client
 fresh sessions before client below is = subst (λ (c : Client). IsIdle sessions c) (sym is)
     (record { first = omega (arith, below); last = omega arith; none = refl; done = refl })
 

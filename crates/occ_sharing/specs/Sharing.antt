@@ -1,5 +1,5 @@
 -- A store that threads share: what lies in its place, and what a worker does in one holding of it (our own choice).
-use Rattle.std.specs.Prelude.{⊤, ◌≡◌, ◌⊎◌, ◌≤◌, ◌<◌, ◌+◌, ◌%◌, ◌^◌, ℕ, Bool, true, false, List, length, Option, None, Some, is_some, MatchOption, MatchResult, Result, Ok, Err, IsOk, OnOk, OnErr, IfErr}
+use Rattle.std.specs.Prelude.{⊤, ◌≡◌, ◌⊎◌, ◌≤◌, ◌<◌, ◌+◌, ◌%◌, ◌^◌, ℕ, Bool, true, false, List, length, Option, None, Some, is_some, MatchOption, MatchResult, Result, Ok, Err, IsOk, OnOk, OnErr, IfOk, IfErr}
 use Rattle.std.specs.List.{All}
 use Rattle.std.specs.Result.{result_err}
 use Rattle.occ_types.specs.declared.fault.Fault.{Fault}
@@ -19,7 +19,7 @@ use Rattle.occ_model.specs.Event.{Request, SerialEnd, RunAlone, Checkpoint, Fold
 use Rattle.occ_model.specs.Replies.{replied}
 use Rattle.occ_model.specs.Operations.{Operation}
 use Rattle.occ_model.specs.Step.{Step}
-use Rattle.occ_client.specs.Clients.{Client, begin_refusal, close_refusal, ending, spent}
+use Rattle.occ_client.specs.Clients.{Client, begin_refusal, close_refusal, ending, count_end, spent}
 use Rattle.occ_client.specs.declared.ending.End.{End}
 use Rattle.occ_open.specs.Replies.{reading, scanning, forgetting}
 use Rattle.occ_open.specs.Transactions.{begun, written, write_fault, open_after, WithOpen, Unless, IsRefusedBy, WantsRoom, WantsOwn, WantsRange, Gets, Scans, Abandons, OrStarves}
@@ -142,7 +142,7 @@ AbandonCame old new came = Came old new came (λ done before after.
 abbrev pub CommitCame : Worker → Worker → Result (Result End Fault) Missed → Type 0
 CommitCame old new came = Came old new came (λ done before after.
     EndsAtOnce old.client before (ending done) after
-    × OnOk done (new.client ≡ spent old.client)
+    × IfOk done (λ end. new.client ≡ count_end end (spent old.client))
     × OnErr done (IsKept old.client new.client))
 
 abbrev pub CheckpointCame : Worker → Worker → Result (Result ℕ Fault) Missed → Type 0

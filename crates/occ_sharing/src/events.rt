@@ -1,8 +1,8 @@
 //! The calls of a transaction, each in one holding.
-ghost use Rattle.std.specs.Prelude.{◌≡◌, ◌⊎◌, ◌+◌, None, Some, true, false, is_some, IfErr, OnOk, OnErr, MatchResult};
+ghost use Rattle.std.specs.Prelude.{◌≡◌, ◌⊎◌, ◌+◌, None, Some, true, false, is_some, IfOk, IfErr, OnOk, OnErr, MatchResult};
 ghost use Rattle.occ_types.specs.PlainData.{key_of, end_of};
 ghost use Rattle.occ_types.specs.Question.{Span};
-ghost use Rattle.occ_client.specs.Clients.{ending, spent};
+ghost use Rattle.occ_client.specs.Clients.{count_end, ending, spent};
 ghost use Rattle.occ_open.specs.Replies.{reading, scanning, forgetting};
 ghost use Rattle.occ_open.specs.Transactions.{IsRefusedBy, write_fault, written, WantsRoom, Gets, WantsOwn, Scans, WantsRange, Abandons, open_after, OrStarves};
 ghost use Rattle.occ_sharing.specs.Sharing.{Begins, DidNothing, EndsAtOnce, InOneHolding, IsKept};
@@ -113,7 +113,7 @@ impl<A: Allocator + Copy> Worker<A> {
         ensures { MatchResult result
             (λ done. InOneHolding self.old self.new (λ before after.
             EndsAtOnce self.old.client before (ending done) after
-            × OnOk done (self.new.client ≡ spent self.old.client)
+            × IfOk done (λ end. self.new.client ≡ count_end end (spent self.old.client))
             × OnErr done (IsKept self.old.client self.new.client)))
             (λ _. DidNothing self.old self.new) }
     {

@@ -2,6 +2,7 @@
 ghost use Rattle.std.specs.Prelude.{◌≡◌, false, IfOk, IsOkUnless, None};
 ghost use Rattle.std.specs.Arc.{arc_value};
 ghost use Rattle.occ_types.specs.declared.fault.Fault.TheVariants.{Memory};
+ghost use Rattle.occ_client.specs.Clients.{fresh_client};
 ghost use Rattle.occ_sharing.specs.Sharing.{IsHeldOf};
 
 use crate::held::{Held, idle_clients};
@@ -71,7 +72,7 @@ impl<A: Allocator + Copy> SharedStore<A> {
     /// A worker of the store, which has no session yet: `Worker::join` takes one. Refused with `Memory` where the store has too many
     /// handles to be counted.
     pub fn worker(&self) -> Result<Worker<A>, Fault>
-        ensures ok { IfOk result (λ worker. worker ≡ record { settings = self.now; client = record { session = 0; next = 1; closed = false; current = None; returned = false; writing = false }; lease = None; holdings = 0 }) }
+        ensures ok { IfOk result (λ worker. worker ≡ record { settings = self.now; client = fresh_client 0; lease = None; holdings = 0 }) }
         ensures memory { IsOkUnless result Memory }
     {
         match Arc::try_clone(&self.place) {

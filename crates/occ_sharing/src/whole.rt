@@ -6,6 +6,7 @@ ghost use Rattle.occ_model.specs.Replies.{replied, replied_back};
 ghost use Rattle.occ_model.specs.Step.{Step};
 ghost use Rattle.occ_model.specs.World.{low};
 ghost use Rattle.occ_core.specs.Replies.{ran};
+ghost use Rattle.occ_client.specs.Clients.{after_alone};
 ghost use Rattle.occ_log.specs.Rows.{log_of};
 ghost use Rattle.occ_sets.specs.Operations.{ops_of};
 ghost use Rattle.occ_sharing.specs.Sharing.{DidNothing, InOneHolding, RunsAloneNext, Shows};
@@ -36,7 +37,7 @@ impl<A: Allocator + Copy> Worker<A> {
         ensures ran { MatchResult result
             (λ done. InOneHolding self.old self.new (λ before after.
             RunsAloneNext self.old.client (ops_of operations.items) before (replied_back ran done) after
-            × OnOk done (self.new.client ≡ record self.old.client { next = self.old.client.next + 1 })
+            × OnOk done (self.new.client ≡ after_alone self.old.client)
             × OnErr done (self.new.client ≡ self.old.client)
             × IfErr done (λ refused. refused.value ≡ operations)))
             (λ missed. DidNothing self.old self.new × (missed.1 ≡ operations)) }

@@ -3,13 +3,13 @@
 ghost use Rattle.std.specs.Prelude.{◌≡◌, ◌<◌, ◌+◌, ◌++◌, ◌∷◌, [], OnOk, string_bytes};
 ghost use Rattle.std.specs.Fmt.{decimal, signed_decimal};
 ghost use Rattle.occ_types.specs.Key as keys;
-ghost use Rattle.occ_types.specs.PlainData.{part_of, key_of, end_of, cell_of};
+ghost use Rattle.occ_types.specs.PlainData.{part_of, key_of, end_of, cell_lent};
 ghost use Rattle.occ_types.specs.Spelling.{escaped_byte, escaped, text_text, part_text, key_text, cell_text, row_text, comma};
 ghost use Rattle.occ_text.specs.Spelling.{end_text};
 
 use itoa::Buffer;
 use occ_types::spelling::{hex_digit, is_plain};
-use occ_types::{Cell, Key, KeyPart, Pair, Row, Text};
+use occ_types::{CellRef, Key, KeyPart, Pair, Row, Text};
 use std::alloc::{AllocError, Allocator};
 
 /// The digit of a number below 10.
@@ -134,12 +134,12 @@ pub fn write_end<A: Allocator>(line: &mut String<A>, end: &Option<Key<A>>) -> Re
     }
 }
 
-fn write_cell<A: Allocator>(line: &mut String<A>, cell: &Cell<A>) -> Result<(), AllocError>
-    ensures { OnOk result (string_bytes line.new ≡ string_bytes line.old ++ cell_text (cell_of cell.now)) }
+fn write_cell<A: Allocator>(line: &mut String<A>, cell: CellRef<'_, A>) -> Result<(), AllocError>
+    ensures { OnOk result (string_bytes line.new ≡ string_bytes line.old ++ cell_text (cell_lent cell.entry)) }
 {
     match cell {
-        Cell::Int(number) => write_int(line, *number),
-        Cell::Text(text) => write_text(line, text),
+        CellRef::Int(number) => write_int(line, number),
+        CellRef::Text(text) => write_text(line, text),
     }
 }
 

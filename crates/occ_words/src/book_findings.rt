@@ -2,14 +2,14 @@
 
 use crate::book_lines::{line_of_mark, line_of_read, line_of_row};
 use crate::phrases::{
-    push_all, write_answer, write_counted, write_found, write_named, write_object, write_question,
-    write_transaction,
+    push_all, write_answer, write_asked, write_counted, write_found, write_given, write_named,
+    write_object, write_transaction,
 };
 use crate::sayings::{Saying, Subject};
 use occ_book::LogRow;
 use occ_findings::{Disorder, Finding, ObjectApart, WrongRead};
 use occ_reading::whole_books::PrintedBook;
-use occ_sets::{Answer, Observation};
+use occ_sets::{Answer, ObservationRef};
 use occ_types::{Key, Row, Schema};
 use std::alloc::{AllocError, Global};
 
@@ -157,7 +157,7 @@ fn write_read(
         row.number,
         row.session,
     )?;
-    match row.reads.observations().get(wrong.read) {
+    match row.reads.at(wrong.read) {
         Some(seen) => write_answers(
             &mut saying.sentence,
             &printed.header.schema,
@@ -172,24 +172,27 @@ fn write_read(
 fn write_answers(
     line: &mut String,
     schema: &Schema<Global>,
-    seen: &Observation<Global>,
+    seen: ObservationRef<'_, Global>,
     replayed: &Answer<Global>,
 ) -> Result<(), AllocError> {
     line.push_str(" read ")?;
-    write_question(line, schema, &seen.question)?;
+    write_asked(line, schema, seen)?;
     line.push_str(" and was answered ")?;
-    write_answer(line, &seen.answer)?;
+    write_given(line, seen)?;
     line.push_str("; serial replay of the rows before it answers ")?;
     write_answer(line, replayed)?;
-    match (&seen.answer, replayed) {
-        (Answer::Rows(given), Answer::Rows(rows)) => write_first_apart(
+    let (ObservationRef::Whole(seen), Answer::Rows(rows)) = (seen, replayed) else {
+        return Ok(());
+    };
+    match &seen.answer {
+        Answer::Found(_) => Ok(()),
+        Answer::Rows(given) => write_first_apart(
             line,
             schema,
             seen.question.table(),
             given.as_slice(),
             rows.as_slice(),
         ),
-        _ => Ok(()),
     }
 }
 

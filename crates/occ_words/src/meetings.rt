@@ -3,6 +3,7 @@
 use occ_book::{LogRow, Standing};
 use occ_case::OpenCase;
 use occ_core::Core;
+use occ_sets::ReadSet;
 use occ_types::Object;
 use std::alloc::{AllocError, Global};
 
@@ -80,11 +81,9 @@ fn is_opponent(row: &StoreRow, entered: &StoreRow) -> bool {
 
 // The first object on which a row meets an opponent.
 fn object_met<'l>(opponent: &'l StoreRow, row: &StoreRow) -> Option<(&'l Object<Global>, How)> {
-    for (read, seen) in row.reads.observations().iter().enumerate() {
-        for (object, _) in opponent.writes.iter() {
-            if seen.question.asks(object.table, &object.key) {
-                return Some((object, How::Read(read)));
-            }
+    for read in 0..row.reads.len() {
+        if let Some(object) = object_asked(opponent, &row.reads, read) {
+            return Some((object, How::Read(read)));
         }
     }
     if !is_active(opponent) {
@@ -93,6 +92,21 @@ fn object_met<'l>(opponent: &'l StoreRow, row: &StoreRow) -> Option<(&'l Object<
     for (object, _) in opponent.writes.iter() {
         if row.writes.writes(object) {
             return Some((object, How::Write));
+        }
+    }
+    None
+}
+
+// The first object that an opponent writes and the read at a place asked for.
+fn object_asked<'l>(
+    opponent: &'l StoreRow,
+    reads: &ReadSet<Global>,
+    read: usize,
+) -> Option<&'l Object<Global>> {
+    let seen = reads.at(read)?;
+    for (object, _) in opponent.writes.iter() {
+        if seen.asks(object.table, &object.key) {
+            return Some(object);
         }
     }
     None

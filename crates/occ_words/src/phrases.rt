@@ -1,6 +1,6 @@
 //! Parts of sentences: numbers, rows, objects, questions and answers, each as the texts spell it.
 
-use occ_sets::Answer;
+use occ_sets::{Answer, ObservationRef};
 use occ_text::writers::{write_end, write_key, write_number, write_row};
 use occ_types::{Key, Object, Question, Row, Schema};
 use std::alloc::{AllocError, Global};
@@ -72,8 +72,19 @@ pub fn write_found(line: &mut String, row: Option<&Row<Global>>) -> Result<(), A
     }
 }
 
-/// Appends what a question asks for: `NAME KEY`, or `NAME from END to END`.
-pub fn write_question(
+/// Appends what a read asked for: `NAME KEY`, or `NAME from END to END`.
+pub fn write_asked(
+    line: &mut String,
+    schema: &Schema<Global>,
+    seen: ObservationRef<'_, Global>,
+) -> Result<(), AllocError> {
+    match seen {
+        ObservationRef::Key(object, _) => write_object(line, schema, object),
+        ObservationRef::Whole(seen) => write_question(line, schema, &seen.question),
+    }
+}
+
+fn write_question(
     line: &mut String,
     schema: &Schema<Global>,
     question: &Question<Global>,
@@ -90,6 +101,14 @@ pub fn write_question(
             line.push_str(" to ")?;
             write_end(line, upper)
         }
+    }
+}
+
+/// Appends what a read was answered, as `write_answer` does an answer.
+pub fn write_given(line: &mut String, seen: ObservationRef<'_, Global>) -> Result<(), AllocError> {
+    match seen {
+        ObservationRef::Key(_, row) => write_found(line, row),
+        ObservationRef::Whole(seen) => write_answer(line, &seen.answer),
     }
 }
 

@@ -3,7 +3,7 @@
 use crate::fault_words::advice;
 use crate::meetings::{How, Meeting, StoreRow};
 use crate::phrases::{
-    push_all, shown, write_counted, write_object, write_question, write_transaction,
+    push_all, shown, write_asked, write_counted, write_object, write_transaction,
 };
 use crate::sayings::{Saying, Subject};
 use occ_case::Cause;
@@ -107,8 +107,8 @@ fn write_meeting(
         How::Write => line.push_str(" as it does; begin it anew"),
         How::Read(read) => {
             line.push_str(", and it had read ")?;
-            if let Some(seen) = row.reads.observations().get(read) {
-                write_question(line, schema, &seen.question)?;
+            if let Some(seen) = row.reads.at(read) {
+                write_asked(line, schema, seen)?;
             }
             line.push_str("; begin it anew")
         }

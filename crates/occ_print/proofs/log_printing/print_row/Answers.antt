@@ -1,8 +1,8 @@
-use Rattle.std.proofs.Common.{◌++◌, ap, map, Ok}
+use Rattle.std.proofs.Common.{◌++◌, map}
 use Rattle.std.specs.List.{flat_map}
 use Rattle.occ_sets.specs.LogRows.{log_row_of}
 use Rattle.occ_print.specs.Books.{row_line, read_lines, write_line}
-use Rattle.occ_print.proofs.Printing.{failed, printed_nothing, front_line, front_before, front_same, line_then, lines_then, lines_same}
+use Rattle.occ_print.proofs.Printing.{failed, printed_nothing, front_line, front_before, line_then, lines_then}
 use Rattle.occ_print.proofs.log_printing.print_row.Goals as goal
 
 pub returns-in_err-row_line-clause-printed : goal.returns-in_err-row_line-clause-printed
@@ -22,7 +22,7 @@ returns-in_err-print_reads-clause-printed g c = λ opened.
     let writes = map (write_line schema) row.writes in
     line_then r _ _ _ _ _ _ (row_line row) _ (reads ++ writes) (c.in_ok-row_line.ensures opened) c.in_ok-push_line.ensures.printed
     (failed _ r _ _ _ _ _ c.from_residual-in_err-print_reads.ensures.1
-    (front_before _ _ _ _ reads writes (front_same _ _ _ _ _ reads (ap (flat_map (read_lines schema)) c.observations.ensures) c.in_err-print_reads.ensures.printed)))
+    (front_before _ _ _ _ reads writes c.in_err-print_reads.ensures.printed))
 
 pub returns-clause-printed : goal.returns-clause-printed
 returns-clause-printed g c = λ opened.
@@ -33,5 +33,5 @@ returns-clause-printed g c = λ opened.
     let writes = map (write_line schema) row.writes in
     line_then r _ _ _ _ _ _ (row_line row) _ (reads ++ writes) (c.in_ok-row_line.ensures opened) c.in_ok-push_line.ensures.printed
     (lines_then r _ _ _ _ _ _ reads writes
-    (lines_same (Ok tt) _ _ _ _ _ reads (ap (flat_map (read_lines schema)) c.observations.ensures) c.in_ok-print_reads.ensures.printed)
+    c.in_ok-print_reads.ensures.printed
     c.print_writes.ensures.printed)
