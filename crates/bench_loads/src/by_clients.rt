@@ -48,8 +48,5 @@ pub(crate) fn commit_all<A: Allocator + Copy>(
 
 /// The number in a row, 0 where there is none.
 pub(crate) fn number_in<A: Allocator>(row: Option<Row<A>>) -> i64 {
-    match row.as_ref().and_then(|row| row.cell(0)) {
-        Some(Cell::Int(number)) => *number,
-        _ => 0,
-    }
+    row.as_ref().and_then(|row| row.int(0)).unwrap_or(0)
 }

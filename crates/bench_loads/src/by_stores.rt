@@ -24,7 +24,7 @@ use std::time::Clock;
 /// How many items a session's queue holds.
 const ROOM: usize = 4;
 /// How many write sets are kept for testing.
-const KEPT: usize = 16;
+pub(crate) const KEPT: usize = 16;
 
 /// Does a task on a store with so many sessions as there are threads.
 pub(crate) fn open<A: Allocator + Copy + Send + Sync, R: Threads + Wait + Clock + Sync>(
@@ -102,8 +102,9 @@ fn play_by_workers<
     task: Task,
 ) -> Result<Told, Fault> {
     let mut crew = Vec::new(alloc);
-    for worker in workers {
+    for mut worker in workers {
         let place = crew.len();
+        worker.checkpoint_each(task.folded_each());
         crew.push(Member::new(worker, task, place))?;
     }
     let budget = Budget::begin(rt, task.until);

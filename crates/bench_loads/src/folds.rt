@@ -4,30 +4,30 @@ use occ_types::Fault;
 use std::alloc::Allocator;
 use std::sync::Wait;
 
-/// After how many transactions the log is folded.
-const FOLDED_AFTER: u64 = 10_000;
-
 /// The checkpoints that one thread makes.
 #[derive(Clone, Copy)]
 pub(crate) struct Folds {
-    wanted: bool,
+    after: Option<u64>,
     due: bool,
 }
 
 impl Folds {
-    /// None yet, and none ever where they aren't wanted.
-    pub(crate) fn new(wanted: bool) -> Folds {
-        Folds { wanted, due: false }
+    /// None yet, and none ever where it isn't told after how many transactions they are made.
+    pub(crate) fn new(after: Option<u64>) -> Folds {
+        Folds { after, due: false }
     }
 
-    /// Makes a checkpoint after each 10,000th transaction. Where a row is open then, it is made after one of the next ones.
+    /// Makes a checkpoint after each so many transactions of all. Where a row is open then, it is made after one of the next ones.
     pub(crate) fn after<N: Name, A: Allocator + Copy, R: Wait>(
         &mut self,
         rt: &R,
         store: &Store<N, A>,
         tn: u64,
     ) -> Result<(), Fault> {
-        self.due = self.due || self.wanted && tn % FOLDED_AFTER == 0;
+        let Some(after) = self.after else {
+            return Ok(());
+        };
+        self.due = self.due || tn.checked_rem(after) == Some(0);
         if !self.due {
             return Ok(());
         }

@@ -74,13 +74,17 @@ fn tried<N: Name, A: Allocator + Copy, R: Wait, B: Body<N, A, R>>(
 }
 
 impl<'a, N: Name, A: Allocator + Copy> Hand<'a, N, A> {
-    /// That of a thread which makes transactions in this way.
+    /// That of a thread which makes transactions in this way. A worker makes the checkpoints itself.
     pub(crate) fn new(maker: Maker<'a, N, A>, way: Way) -> Hand<'a, N, A> {
+        let folds = Folds::new(match maker {
+            Maker::Client(_) => way.folded,
+            Maker::Worker(_) => None,
+        });
         Hand {
             maker,
             leased: way.leased,
             at_a_time: way.at_a_time,
-            folds: Folds::new(way.folded),
+            folds,
         }
     }
 

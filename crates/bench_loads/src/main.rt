@@ -3,8 +3,9 @@
 //! `bench_loads LOAD WAY THREADS END` does a load by so many threads and prints what came of it. The load is `accounts`, which is a
 //! transfer over 1,000 rows, or one of `loads.rt`. The way is `steps`, `serial`, `alone` (by a session and its lane: in single events,
 //! ended in one event, as operations that run alone), `worker` or `map`. Behind it may stand `-leased` (16 transactions in one lease, or
-//! in one holding of the map's lock; with `-leased-64` so many) and then `-folded` (a checkpoint every 10,000 transactions). The end is a
-//! number of transactions, or of seconds, as `60s`.
+//! in one holding of the map's lock; with `-leased-64` so many) and then `-folded` (a checkpoint every 10,000 transactions of all; with
+//! `-folded-500` every so many; each worker makes its part of them by `checkpoint_each`). The end is a number of transactions, or of
+//! seconds, as `60s`.
 //!
 //! `bench_loads LOAD WAY ROUNDS` does so many rounds by one owner and prints how many transactions committed. The load is one of `loads.rt`,
 //! and the way `steps`, `serial`, `client`, `alone`, `folded` (as `serial`, with a log that is folded every 10,000 rounds) or `bare`.
@@ -120,7 +121,11 @@ fn tell_name<R: Runtime>(rt: &R, task: Task) -> io::Result<()> {
     if task.way.is_unusual() {
         print!(rt; "-{}", task.way.at_a_time)?;
     }
-    let folded = if task.way.folded { "-folded" } else { "" };
+    let folded = if task.way.folded.is_some() {
+        "-folded"
+    } else {
+        ""
+    };
     print!(rt; "{folded}, {threads} threads: ")
 }
 

@@ -17,6 +17,10 @@ const SHORT_THREADS: usize = 4;
 const AT_A_TIME: u64 = 16;
 /// How many it makes at most.
 const MOST_AT_A_TIME: u64 = 1_000;
+/// After how many transactions of all a checkpoint is made, if nothing else is said.
+const FOLDED_AFTER: u64 = 10_000;
+/// After how many it may be made.
+const MOST_BETWEEN: u64 = 1_000_000;
 
 /// By what transactions are made.
 #[derive(Clone, Copy, PartialEq, Eq)]
@@ -41,8 +45,8 @@ pub(crate) struct Way {
     pub(crate) leased: bool,
     /// How many that are.
     pub(crate) at_a_time: u64,
-    /// Whether the log is folded after each 10,000 of them.
-    pub(crate) folded: bool,
+    /// After how many of all a checkpoint is made, where any is.
+    pub(crate) folded: Option<u64>,
 }
 
 /// A load with its name.
@@ -99,16 +103,16 @@ impl Way {
 
     /// Whether there is such a way: a map has no log to be folded.
     pub(crate) fn is_possible(self) -> bool {
-        !(self.folded && self.by == By::Map)
+        !(self.folded.is_some() && self.by == By::Map)
     }
 
-    /// The way with one of these choices, where a thread makes as many at a time as it does if nothing else is said.
+    /// The way with one of these choices, where a thread makes as many at a time, and a checkpoint after as many, as if nothing else is said.
     pub(crate) fn usual(by: By, leased: bool, folded: bool) -> Way {
         Way {
             by,
             leased,
             at_a_time: AT_A_TIME,
-            folded,
+            folded: folded.then_some(FOLDED_AFTER),
         }
     }
 
@@ -117,11 +121,15 @@ impl Way {
         self.at_a_time != AT_A_TIME
     }
 
-    /// The way that a word names: by what transactions are made, then `-leased`, or `-leased-64` where it is for so many, then `-folded`.
+    /// The way that a word names: by what transactions are made, then `-leased`, or `-leased-64` where it is for so many, then `-folded`, or
+    /// `-folded-500` where a checkpoint is made after so many.
     fn named(word: &str) -> Option<Way> {
-        let (word, folded) = without(word, "-folded");
+        let (word, folded) = match word.split_once("-folded") {
+            Some((word, after)) => (word, Some(told_by(after, FOLDED_AFTER, MOST_BETWEEN)?)),
+            None => (word, None),
+        };
         let (word, leased, at_a_time) = match word.split_once("-leased") {
-            Some((word, many)) => (word, true, many_told(many)?),
+            Some((word, many)) => (word, true, told_by(many, AT_A_TIME, MOST_AT_A_TIME)?),
             None => (word, false, AT_A_TIME),
         };
         let by = By::ALL.into_iter().find(|by| by.name() == word)?;
@@ -135,22 +143,14 @@ impl Way {
     }
 }
 
-/// How many transactions the end of a word tells, as `-64`; as many as always where it tells nothing.
-fn many_told(end: &str) -> Option<u64> {
+/// What number the end of a word tells, as `-64`, which is 1 to `most`; the usual one where it tells nothing.
+fn told_by(end: &str, usual: u64, most: u64) -> Option<u64> {
     if end.is_empty() {
-        return Some(AT_A_TIME);
+        return Some(usual);
     }
     match end.strip_prefix('-')?.parse::<u64>() {
-        Ok(many) if (1..=MOST_AT_A_TIME).contains(&many) => Some(many),
+        Ok(number) if (1..=most).contains(&number) => Some(number),
         _ => None,
-    }
-}
-
-/// A word without an ending, and whether it had that.
-fn without<'w>(word: &'w str, ending: &str) -> (&'w str, bool) {
-    match word.strip_suffix(ending) {
-        Some(rest) => (rest, true),
-        None => (word, false),
     }
 }
 
@@ -203,6 +203,12 @@ impl Task {
             threads: SHORT_THREADS,
             until: Until::Count(SHORT),
         }
+    }
+
+    /// After how many of its own a thread makes a checkpoint, so that all of them make as many as are told.
+    pub(crate) fn folded_each(self) -> Option<u64> {
+        let after = self.way.folded?;
+        Some(after.div_ceil((self.threads as u64).max(1)))
     }
 
     /// The task that four words tell.

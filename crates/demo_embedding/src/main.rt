@@ -1,5 +1,5 @@
-//! The store in a program of one's own: two tables, a conflict, a retry, a range, a counter under load, a log that is kept short, and
-//! refusals.
+//! The store in a program of one's own: two tables, a conflict, a retry, a range, a counter under load, a log that is kept short,
+//! refusals, and a store that goes on from another one's rows.
 #![tactic(auto)]
 
 use occ_client::{Client, Core, End, Fault, Key, KeyKind, Kind, Schema};
@@ -27,19 +27,24 @@ fn show(alloc: Global) -> Result<String, Fault> {
     let mut lines = String::new(alloc);
     let mut store = open(alloc)?;
     tell(alloc, &mut store, &mut lines)?;
+    go_on(alloc, store, &mut lines)?;
     Ok(lines)
 }
 
-/// A store of two sessions that keeps the last 8 write sets for testing.
-fn open(alloc: Global) -> Result<Box<Store>, Fault> {
-    let schema = Schema::of(
+/// Two tables.
+fn schema(alloc: Global) -> Result<Schema<Global>, Fault> {
+    Schema::of(
         alloc,
         &[
             ("accounts", KeyKind::Num, &[Kind::Int]),
             ("owners", KeyKind::Text, &[Kind::Int]),
         ],
-    )?;
-    let store = Core::open(alloc, schema, 2, 8)?;
+    )
+}
+
+/// A store of two sessions that keeps the last 8 write sets for testing.
+fn open(alloc: Global) -> Result<Box<Store>, Fault> {
+    let store = Core::open(alloc, schema(alloc)?, 2, 8)?;
     Ok(Box::new(alloc, store)?)
 }
 
@@ -175,4 +180,26 @@ fn refusals(
         writeln!(lines, "{fault}")?;
     }
     Ok(())
+}
+
+/// The store ends, and another one goes on from its rows, with numbers that begin anew.
+fn go_on(alloc: Global, store: Box<Store>, lines: &mut String) -> Result<(), Fault> {
+    let base = Box::into_inner(store).into_base()?;
+    let next = Core::resume(alloc, schema(alloc)?, 2, 8, base.renumbered(), 0)?;
+    let mut next = Box::new(alloc, next)?;
+    deposit(alloc, &mut next, lines)
+}
+
+/// A new client of the session 1, which was closed, adds to an account.
+fn deposit(alloc: Global, store: &mut Store, lines: &mut String) -> Result<(), Fault> {
+    let mut alice = Client::new(alloc, 1);
+    let end = alice.transact(store, 1, |alice, store| add(alice, store, 7, 8))?;
+    alice.begin(store)?;
+    let sum = balance(&mut alice, store, 7)?;
+    let _known = alice.abandon(store)?;
+    Ok(writeln!(
+        lines,
+        "{end:?} from row {} on, account 7 has {sum}",
+        store.base().place()
+    )?)
 }

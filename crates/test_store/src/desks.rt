@@ -156,7 +156,7 @@ pub(crate) fn lane_of<N: Name, A: Allocator + Copy>(
     let place = dealt.checked_rem(count).unwrap_or(0);
     let round = dealt.checked_div(count).unwrap_or(0);
     match groups.get_mut(place) {
-        Some(group) => match group.lanes.get_mut(round) {
+        Some(group) => match group.lanes.as_mut_slice().get_mut(round) {
             Some(lane) => Ok(lane),
             None => Err(Fault::NoSession),
         },
@@ -197,7 +197,8 @@ impl<N: Name, A: Allocator + Copy> Desk<N, A> {
 
     /// A session.
     pub(crate) fn session(&mut self, session: usize) -> Result<&mut Session<N, A>, Fault> {
-        match self.sessions.get_mut(session.wrapping_sub(1)) {
+        let sessions = self.sessions.as_mut_slice();
+        match sessions.get_mut(session.wrapping_sub(1)) {
             Some(session) => Ok(session),
             None => Err(Fault::NoSession),
         }

@@ -1,5 +1,5 @@
 //! A file of cases that four threads fill at once.
-use occ_case::{Case, CaseFile, SharedCase, Verdict, judge, verdict};
+use occ_case::{Case, CaseFile, Verdict, judge, verdict};
 use occ_sets::{ReadSet, WriteSet};
 use occ_types::Fault;
 use std::alloc::Global;
@@ -12,17 +12,15 @@ use std::thread::Threads;
 const EACH: u64 = 5_000;
 
 // The case of a transaction that began then, reads and writes nothing, and has no opponent. The window begins above 1.
-fn case(alloc: Global, start: u64) -> Result<SharedCase<Global>, Fault> {
-    let case = Case::new(
+fn case(alloc: Global, start: u64) -> Case<Global> {
+    Case::new(
         start,
         1,
         ReadSet::new(alloc),
         WriteSet::new(alloc),
         Vec::new(alloc),
-        Vec::new(alloc),
-    );
-    let shared = SharedCase::new(alloc, case)?;
-    Ok(shared)
+        0,
+    )
 }
 
 // The verdict on the case at an index; none where no case is seen there.
@@ -34,27 +32,23 @@ fn verdict_at(file: &CaseFile<Global>, index: u64) -> Option<Verdict> {
 }
 
 // Pushes a case. The answer is its index.
-fn pushed<R: Wait>(
-    rt: &R,
-    file: &CaseFile<Global>,
-    case: SharedCase<Global>,
-) -> Result<u64, Fault> {
+fn pushed<R: Wait>(rt: &R, file: &CaseFile<Global>, case: Case<Global>) -> Result<u64, Fault> {
     let token = file.push(rt, case)?;
     Ok(token.index() as u64)
 }
 
 // Whether a case is found at an index, and judged as it is to be.
-fn is_right(file: &CaseFile<Global>, index: u64, case: &SharedCase<Global>) -> bool {
-    verdict_at(file, index) == Some(verdict(case.case()))
+fn is_right(file: &CaseFile<Global>, index: u64, case: &Case<Global>) -> bool {
+    verdict_at(file, index) == Some(verdict(case))
 }
 
 // Pushes a case. The answer is its index, if it is found there and judged as it is to be.
 fn push<R: Wait>(
     rt: &R,
     file: &CaseFile<Global>,
-    case: &SharedCase<Global>,
+    case: &Case<Global>,
 ) -> Result<Option<u64>, Fault> {
-    let index = pushed(rt, file, case.share()?)?;
+    let index = pushed(rt, file, case.clone()?)?;
     let right = is_right(file, index, case);
     Ok(if right { Some(index) } else { None })
 }
@@ -64,8 +58,8 @@ fn push<R: Wait>(
 fn push_by_turns<R: Wait>(
     rt: &R,
     file: &CaseFile<Global>,
-    valid: &SharedCase<Global>,
-    too_old: &SharedCase<Global>,
+    valid: &Case<Global>,
+    too_old: &Case<Global>,
 ) -> Result<bool, Fault> {
     let mut next = 0u64;
     for turn in 0..EACH {
@@ -83,8 +77,8 @@ fn push_by_turns<R: Wait>(
 }
 
 fn push_all<R: Wait>(rt: &R, alloc: Global, file: &CaseFile<Global>) -> Result<bool, Fault> {
-    let valid = case(alloc, 1)?;
-    let too_old = case(alloc, 0)?;
+    let valid = case(alloc, 1);
+    let too_old = case(alloc, 0);
     push_by_turns(rt, file, &valid, &too_old)
 }
 

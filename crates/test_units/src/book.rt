@@ -4,7 +4,7 @@ ghost use Rattle.occ_sets.specs.Sets.{ArePlaced};
 
 use occ_book::{Base, Marks, Tables};
 use occ_sets::{LogRow, ReadSet, Standing, WriteSet};
-use occ_types::{Fault, Key, Row};
+use occ_types::{Fault, Key, Refused, Row};
 use std::alloc::Global;
 use std::test::Fail;
 
@@ -166,5 +166,38 @@ fn folded(alloc: Global) -> Result<bool, Fault> {
 #[test]
 fn a_base_finds_memory(rt: HostRuntime) -> Result<(), Fail> {
     assert!(rt; folded(rt.alloc())?);
+    Ok(())
+}
+
+// Whether a base for more sessions is the same, and one without numbers too but for these.
+fn goes_on(alloc: Global) -> Result<bool, Fault> {
+    let mut base = Box::new(alloc, Base::new(alloc, 1, 2)?)?;
+    fold_both(alloc, &mut base)?;
+    let more = Box::into_inner(base).for_sessions(alloc, 5)?;
+    let kept = more.last(1) == Some(2) && more.numbers().sessions() == 5 && more.place() == 2;
+    let anew = more.renumbered();
+    let begins = anew.numbers().is_empty() && anew.numbers().sessions() == 5 && anew.place() == 2;
+    Ok(kept && begins && has_both(&anew)?)
+}
+
+#[test]
+fn a_base_goes_on_with_more_sessions(rt: HostRuntime) -> Result<(), Fail> {
+    assert!(rt; goes_on(rt.alloc())?);
+    Ok(())
+}
+
+// Whether a base comes back that has more sessions than are asked for.
+fn has_too_many(alloc: Global) -> Result<bool, Fault> {
+    match Base::new(alloc, 1, 2)?.for_sessions(alloc, 1) {
+        Ok(_fewer) => Ok(false),
+        Err(Refused { value, fault }) => {
+            Ok(fault == Fault::NoSession && value.numbers().sessions() == 2)
+        }
+    }
+}
+
+#[test]
+fn a_base_keeps_its_sessions(rt: HostRuntime) -> Result<(), Fail> {
+    assert!(rt; has_too_many(rt.alloc())?);
     Ok(())
 }

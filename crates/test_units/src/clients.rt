@@ -109,3 +109,63 @@ fn a_client_tries_again(rt: HostRuntime) -> Result<(), Fail> {
     assert!(rt; end == End::Committed { tn: 2 });
     Ok(())
 }
+
+// A client that puts a row in a whole transaction.
+fn put_whole(client: &mut Client<Global>, core: &mut Core<Global>) -> Result<(), Fault> {
+    let _end = client.transact(core, 1, |client, core| {
+        Ok(client.put(core, 0, 4.into(), 2.into())?)
+    })?;
+    Ok(())
+}
+
+// How long the log is at most behind each of so many transactions.
+fn longest(
+    client: &mut Client<Global>,
+    core: &mut Core<Global>,
+    transactions: usize,
+) -> Result<usize, Fault> {
+    let mut longest = 0;
+    for _ in 0..transactions {
+        put_whole(client, core)?;
+        longest = longest.max(core.log().len());
+    }
+    Ok(longest)
+}
+
+#[test]
+fn a_log_grows_with_each_commit(rt: HostRuntime) -> Result<(), Fail> {
+    let mut core = store(rt.alloc())?;
+    let mut client = Client::new(rt.alloc(), 1);
+    assert!(rt; longest(&mut client, &mut core, 40)? == 40);
+    Ok(())
+}
+
+#[test]
+fn a_client_keeps_the_log_short(rt: HostRuntime) -> Result<(), Fail> {
+    let mut core = store(rt.alloc())?;
+    let mut client = Client::new(rt.alloc(), 1);
+    client.checkpoint_each(Some(5));
+    // the store keeps the write set of the last commit, so that its row stays
+    assert!(rt; longest(&mut client, &mut core, 40)? == 6);
+    Ok(())
+}
+
+// A checkpoint is refused while the row of session 2 is open, and made before the next transaction: one commit is counted since.
+fn put_off(client: &mut Client<Global>, core: &mut Core<Global>) -> Result<bool, Fault> {
+    client.checkpoint_each(Some(0));
+    let _end = put(client, core)?;
+    put_whole(client, core)?;
+    let refused = client.checkpoint_if_due(core) == Some(Err(Fault::StoreBusy));
+    let stays = client.checkpoints().since() == 2;
+    finish(core);
+    put_whole(client, core)?;
+    Ok(refused && stays && client.checkpoints().since() == 1)
+}
+
+#[test]
+fn a_checkpoint_that_is_refused_comes_later(rt: HostRuntime) -> Result<(), Fail> {
+    let mut core = beside(rt.alloc())?;
+    let mut client = Client::new(rt.alloc(), 1);
+    assert!(rt; put_off(&mut client, &mut core)?);
+    Ok(())
+}

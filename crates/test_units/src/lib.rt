@@ -4,6 +4,8 @@
 #![tactic(auto)]
 
 #[cfg(test)]
+mod bases;
+#[cfg(test)]
 mod book;
 #[cfg(test)]
 mod clients;
@@ -15,6 +17,8 @@ mod log;
 mod queue;
 #[cfg(test)]
 mod refusing;
+#[cfg(test)]
+mod resuming;
 #[cfg(test)]
 mod sets;
 #[cfg(test)]

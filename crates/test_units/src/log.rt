@@ -13,7 +13,7 @@ use std::test::Fail;
 
 // The first row of a log of two sessions comes in.
 fn enter(alloc: Global, log: &mut Log<Global>) -> Result<(), Fault>
-    requires { IsBegun 2 log.old }
+    requires { IsBegun 0 2 log.old }
 {
     log.reserve(2)?;
     log.push(LogRow {
@@ -31,7 +31,7 @@ fn enter(alloc: Global, log: &mut Log<Global>) -> Result<(), Fault>
 
 // How many rows a log shares in which one came in.
 fn shared(alloc: Global) -> Result<usize, Fault> {
-    let mut log = Box::new(alloc, Log::new(alloc, 2)?)?;
+    let mut log = Box::new(alloc, Log::new(alloc, 0, 2)?)?;
     enter(alloc, &mut log)?;
     Ok(log.share_rows()?.len())
 }

@@ -62,7 +62,6 @@ fn range(alloc: Global) -> Result<RangeRows<Global>, Fault> {
 fn note_beside(alloc: Global, reads: &mut ReadSet<Global>) -> Result<(usize, usize), Fault> {
     reads.note(question(1), Answer::Rows(range(alloc)?))?;
     let copied = reads.clone()?.len();
-    reads.share()?;
     let second = reads.clone()?;
     reads.note(question(2), Answer::Found(None))?;
     Ok((copied, second.len()))
