@@ -1,4 +1,6 @@
+pub mod After
 pub mod Alike
 pub mod Asked
+pub mod Beginnings
 pub mod RowTexts
 pub mod Walks

@@ -1,10 +1,12 @@
+pub mod After
 pub mod Codes
 pub mod Key
 pub mod KeyPart
 pub mod Object
+pub mod PlainData
+pub mod Prefix
 pub mod Question
 pub mod Row
 pub mod Same
 pub mod Schema
 pub mod Spelling
-pub mod PlainData

@@ -4,6 +4,7 @@ ghost use Rattle.std.specs.Ordering.{on, eq_by_cmp, as_partial_cmp};
 ghost use Rattle.std.specs.Cmp.{on_per, on_equiv, on_total, on_po, po, eq_by_cmp_equiv, partial_equiv_from_equiv};
 ghost use Rattle.occ_types.specs.KeyPart.{Num, Text as PlainText, part_cmp, part_cmp_total};
 ghost use Rattle.occ_types.specs.Same.{part_same, part_same_equiv, part_po, part_fed, part_fed_alike};
+ghost use Rattle.occ_types.specs.After.{part_after};
 ghost use Rattle.occ_types.specs.PlainData.{part_of};
 ghost use Rattle.occ_types.specs.Spelling.{part_text};
 
@@ -38,6 +39,18 @@ impl<A: Allocator + Clone> KeyPart<A> {
         ensures { IfOk result (λ part. part_of part ≡ PlainText text.now) }
     {
         Ok(KeyPart::Text(Text::new(alloc, text)?))
+    }
+
+    /// The next part in the order of parts: the next number, the empty text behind the last number, and a text with a byte 0 at its
+    /// end. No part lies between the two. An error where there is no memory for it.
+    pub fn after(&self, alloc: A) -> Result<KeyPart<A>, AllocError>
+        ensures { IfOk result (λ next. part_of next ≡ part_after (part_of self.now)) }
+    {
+        match self {
+            KeyPart::Num(number) if *number < u64::MAX => Ok(KeyPart::Num(*number + 1)),
+            KeyPart::Num(_) => Ok(KeyPart::Text(Text::new(alloc, "")?)),
+            KeyPart::Text(text) => Ok(KeyPart::Text(text.after(alloc)?)),
+        }
     }
 }
 

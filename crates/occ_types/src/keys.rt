@@ -5,6 +5,7 @@ ghost use Rattle.std.specs.Cmp.{on_per, on_equiv, on_total, on_po, po, eq_by_cmp
 ghost use Rattle.occ_types.specs.Key.{Num, Text as PlainText, Pair as PlainPair, key_cmp, key_cmp_total};
 ghost use Rattle.occ_types.specs.Same.{key_same, key_same_equiv, key_po, key_fed, key_fed_alike};
 ghost use Rattle.occ_types.specs.declared.fault.Fault.TheVariants.{Memory};
+ghost use Rattle.occ_types.specs.After.{key_after};
 ghost use Rattle.occ_types.specs.PlainData.{key_of, part_of};
 ghost use Rattle.occ_types.specs.Spelling.{key_text};
 
@@ -62,6 +63,20 @@ impl<A: Allocator + Clone> Key<A> {
         ensures { IfOk result (λ key. key_of key ≡ PlainText text.now) }
     {
         Ok(Key::Text(Text::new(alloc, text)?))
+    }
+
+    /// The next key in the order of all keys: the next number, the empty text behind the last number, a text with a byte 0 at its
+    /// end, and of two parts the first one with the next of the second one. No key lies between the two
+    /// (`laws::no_key_lies_between`). An error where there is no memory for it.
+    pub fn after(&self, alloc: A) -> Result<Key<A>, AllocError>
+        ensures { IfOk result (λ next. key_of next ≡ key_after (key_of self.now)) }
+    {
+        match self {
+            Key::Num(number) if *number < u64::MAX => Ok(Key::Num(*number + 1)),
+            Key::Num(_) => Ok(Key::Text(Text::new(alloc, "")?)),
+            Key::Text(text) => Ok(Key::Text(text.after(alloc)?)),
+            Key::Pair(pair) => Ok(Key::Pair(pair.after(alloc)?)),
+        }
     }
 }
 

@@ -1,11 +1,12 @@
 //! Keys of two parts, which are seen as both.
-ghost use Rattle.std.specs.Prelude.{◌≡◌, ◌++◌, [], ◌∷◌, Some, MatchResult, refl};
+ghost use Rattle.std.specs.Prelude.{◌≡◌, ◌++◌, [], ◌∷◌, Some, IfOk, MatchResult, refl};
 ghost use Rattle.std.specs.Ordering.{eq_by_cmp, as_partial_cmp};
 ghost use Rattle.std.specs.Cmp.{partial_equiv_from_equiv};
 ghost use Rattle.occ_types.specs.declared.fault.Fault.TheVariants.{Memory};
 ghost use Rattle.occ_types.specs.Key.{Pair as PlainPair};
 ghost use Rattle.occ_types.specs.KeyPart.{pair_cmp, pair_cmp_total};
 ghost use Rattle.occ_types.specs.Same.{part_fed, pair_equiv, pair_po, pair_fed, pair_fed_alike};
+ghost use Rattle.occ_types.specs.After.{part_after};
 ghost use Rattle.occ_types.specs.PlainData.{part_of};
 ghost use Rattle.occ_types.specs.Spelling.{key_text};
 
@@ -71,6 +72,20 @@ impl<A: Allocator> Pair<A> {
     {
         let [_, second] = &*self.parts;
         second
+    }
+}
+
+impl<A: Allocator + Clone> Pair<A> {
+    /// The next key of two parts: the first one with the next of the second one. An error where there is no memory for it.
+    pub fn after(&self, alloc: A) -> Result<Pair<A>, AllocError>
+        ensures { IfOk result (λ next. next ≡ (self.now.0, part_after self.now.1)) }
+    {
+        let second = self.second().after(alloc.clone()?)?;
+        let first = self.first().clone()?;
+        match Pair::new(alloc, first, second) {
+            Ok(pair) => Ok(pair),
+            Err(_) => Err(AllocError),
+        }
     }
 }
 

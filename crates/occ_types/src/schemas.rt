@@ -6,12 +6,15 @@ ghost use Rattle.std.specs.Result.{result_err};
 ghost use Rattle.occ_types.specs.Schema.{check_tables, are_tables, check_key, check_row, check_question, check_range, is_empty_range, has_name};
 ghost use Rattle.occ_types.specs.Question.{Span};
 ghost use Rattle.occ_types.specs.declared.fault.Fault.TheVariants.{NoTable, Memory};
-ghost use Rattle.occ_types.specs.PlainData.{named_table, key_of, end_of, question_of, table_of, tables_of};
+ghost use Rattle.occ_types.specs.Prefix.{check_prefix, check_prefix_in, IsPrefix};
+ghost use Rattle.occ_types.specs.PlainData.{named_table, part_of, key_of, end_of, question_of, table_of, tables_of};
 
 use crate::fault::{Fault, Refused};
+use crate::key_parts::KeyPart;
 use crate::keys::Key;
 use crate::kind::{KeyKind, Kind};
 use crate::limits::MAX_TABLES;
+use crate::prefixes::Prefix;
 use crate::questions::Question;
 use crate::rows::Row;
 use crate::tables::TableDef;
@@ -124,9 +127,30 @@ impl<A: Allocator> Schema<A> {
     {
         check_range(self.table_at(table)?, lower, upper)
     }
+
+    /// Whether the keys of a table that begin with a part have a range: `NoTable`, or as `TableDef::check_prefix` says.
+    pub fn check_prefix(&self, table: usize, first: &KeyPart<A>) -> Result<(), Fault>
+        ensures { result_err result ≡ check_prefix self.now table (part_of first.now) }
+    {
+        self.table_at(table)?.check_prefix(first)
+    }
 }
 
 impl<A: Allocator + Clone> Schema<A> {
+    /// The range of the keys of a table that begin with a part, as `TableDef::prefix` says. Refused as `check_prefix` says, or else
+    /// with `Memory` where there is none for the ends.
+    pub fn prefix(&self, alloc: A, table: usize, first: &KeyPart<A>) -> Result<Prefix<A>, Fault>
+        ensures { MatchResult result
+            (λ prefix. (check_prefix self.now table (part_of first.now) ≡ None)
+            × IsPrefix self.now table (part_of first.now) (key_of prefix.lower) (end_of prefix.upper))
+            (λ fault. (check_prefix self.now table (part_of first.now) ≡ Some fault)
+            ⊎ (check_prefix self.now table (part_of first.now) ≡ None) × (fault ≡ Memory)) }
+    {
+        let table = self.table_at(table)?;
+        let prefix = table.prefix(alloc, first)?;
+        Ok(prefix)
+    }
+
     /// The schema of tables of these names, kinds of keys and kinds of columns, each at its place. Refused with `BadSchema` where
     /// `new` refuses them, and with `Memory` where there is none for them.
     pub fn of(alloc: A, tables: &[(&str, KeyKind, &[Kind])]) -> Result<Schema<A>, Fault>

@@ -83,7 +83,7 @@ impl<A: Allocator> TableDef<A> {
 }
 
 // Whether a part of a key has the kind.
-fn part_has_kind<A: Allocator>(kind: PartKind, part: &KeyPart<A>) -> bool
+pub(crate) fn part_has_kind<A: Allocator>(kind: PartKind, part: &KeyPart<A>) -> bool
     ensures { result ≡ part_has_kind kind (part_of part.now) }
 {
     matches!(

@@ -1,5 +1,5 @@
 //! Texts, which are seen as their bytes.
-ghost use Rattle.std.specs.Prelude.{◌≡◌, ℕ, ◌==◌, List, length, Some, IfOk, MatchResult, nat_eq, refl, string_bytes};
+ghost use Rattle.std.specs.Prelude.{◌≡◌, ℕ, ◌==◌, List, [], ◌∷◌, ◌++◌, length, Some, IfOk, MatchResult, nat_eq, refl, string_bytes};
 ghost use Rattle.std.specs.Ordering.{nat_cmp};
 ghost use Rattle.std.specs.Cmp.{partial_equiv_from_equiv};
 ghost use Rattle.std.specs.Cmp.Lexicographic.{pointwise, slice_cmp, nat_list_eq_equiv, nat_list_cmp_total, texts_po, texts_ties};
@@ -53,6 +53,18 @@ impl<A: Allocator + Clone> Text<A> {
             Ok(text) => Ok(Text { text }),
             Err(failed) => Err(failed),
         }
+    }
+
+    /// The next text in the order of texts, which is this one with a byte 0 at its end; an error where there is no memory for it.
+    pub fn after(&self, alloc: A) -> Result<Text<A>, AllocError>
+        ensures { IfOk result (λ next. next ≡ self.now ++ 0 ∷ []) }
+    {
+        let text = self.as_str();
+        let mut next = String::with_capacity(alloc, text.len() + 1)?;
+        next.push_str(text)?;
+        next.push('\0')?;
+        let next = Text::from_string(next)?;
+        Ok(next)
     }
 }
 
