@@ -26,3 +26,4 @@ pub mod RangeAnswers
 pub mod Meetings
 pub mod OwnWrites
 pub mod WorkedExamples
+pub mod PageRows

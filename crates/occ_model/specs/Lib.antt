@@ -10,8 +10,10 @@ pub mod Refusal
 pub mod Step
 pub mod Invariant
 pub mod Content
+pub mod Paging
 pub mod Poll
 pub mod Laws
 pub mod EndLaws
 pub mod RangeLaws
+pub mod PageLaws
 pub mod Examples

@@ -1,5 +1,6 @@
 //! The laws of questions, answers and a transaction's own writes.
 
+ghost use Rattle.occ_model.specs.PageLaws.{FirstPages, LastPages};
 ghost use Rattle.occ_model.specs.RangeLaws.{AsksOne, AsksRange, AnswersRange, MeetsReads, MeetsWrites, DistinctWrites, SetsOwn, SetsAll, OverlaysAnswer, UnaskedUnseen};
 
 /// A question for one key asks for that key of its table, and for nothing else.
@@ -51,4 +52,14 @@ pub fn own_writes_are_seen()
 /// A write of what a question doesn't ask for is not seen by it.
 pub fn unasked_writes_are_unseen()
     ensures { UnaskedUnseen }
+{}
+
+/// A first page of a range has the first rows of the range, and the rest of the range has the others.
+pub fn a_first_page_has_the_first_rows()
+    ensures { FirstPages }
+{}
+
+/// A last page of a range has the last rows of the range, and the rest of the range has the others.
+pub fn a_last_page_has_the_last_rows()
+    ensures { LastPages }
 {}
