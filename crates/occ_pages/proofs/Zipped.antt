@@ -29,7 +29,7 @@ module _ {T : Type 0} where
   zipped-drop (suc n) (key ∷ keys) [] = zipped-none (drop n keys)
   zipped-drop (suc n) (key ∷ keys) (row ∷ rows) = zipped-drop n keys rows
 
-  zipped-append : (keys more : List ℕ) (rows others : List T) → length keys ≡ length rows → zipped (keys ++ more) (rows ++ others) ≡ zipped keys rows ++ zipped more others
+  pub zipped-append : (keys more : List ℕ) (rows others : List T) → length keys ≡ length rows → zipped (keys ++ more) (rows ++ others) ≡ zipped keys rows ++ zipped more others
   zipped-append [] more [] others e = refl
   zipped-append [] more (row ∷ rows) others e = absurd (omega (arith, e))
   zipped-append (key ∷ keys) more [] others e = absurd (omega (arith, e))

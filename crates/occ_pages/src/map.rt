@@ -4,6 +4,7 @@ ghost use Rattle.std.specs.Option.{option_copied};
 ghost use Rattle.occ_pages.specs.Copies.{AreCopies};
 ghost use Rattle.occ_pages.specs.Entries.{Ascends, get, put, within, without};
 
+use crate::backward::Backward;
 use crate::page::between;
 use crate::range::Range;
 use crate::shelf::Shelf;
@@ -92,6 +93,14 @@ impl<T, A: Allocator> PageMap<T, A> {
     {
         let (start, end) = self.shelf.pages_between(lower, upper);
         Range::new(between(&self.shelf.pages, start, end), lower, upper)
+    }
+
+    /// The same rows from the last one back.
+    pub fn range_backward(&self, lower: Option<u64>, upper: Option<u64>) -> Backward<'_, T, A>
+        ensures { result ≡ within lower upper self.now }
+    {
+        let (start, end) = self.shelf.pages_between(lower, upper);
+        Backward::new(between(&self.shelf.pages, start, end), lower, upper)
     }
 
     /// All rows, in the order of their keys.
