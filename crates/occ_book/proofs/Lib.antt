@@ -12,3 +12,4 @@ pub mod Undoing
 pub mod Views
 pub mod TableWrites
 pub mod TableRanges
+pub mod PageEnds

@@ -1,6 +1,8 @@
 -- The rows of one table, those under numbers and the others: what is found, and what a write does.
 use Rattle.std.proofs.Common.{◌≡◌, ℕ, Bool, true, false, cond, nat_eq, List, [], ◌∷◌, ◌++◌, map, Option, None, Some, IsSome, Ordering, Less, Equal, Greater, is_eq, refl, sym, ap, subst, ◌∙◌, BTreeMap}
 use Rattle.std.specs.Ordering.{nat_cmp, match_ordering}
+use Rattle.std.specs.Prelude.{Result, Ok, Err, OnOk, OnErr}
+use Rattle.std.specs.BTreeMap.{IsUnchanged}
 use Rattle.std.specs.Cmp.{nat_cmp_total, tied_itself, unsigned_Decides, unsigned_tied}
 use Rattle.std.specs.FinMap.{nat_cmp-IsAntisymmetric}
 use Rattle.std.specs.Option.{option_or}
@@ -187,6 +189,11 @@ module _ {Z : Type 0} where
       by : (o : Option Row) → row_at m.entries (key_of key) ≡ o → AreOthers n.entries
       by None is = subst (λ (es : List (code_key.Key Z × Row)). AreOthers es) (sym (missing is)) are
       by (Some x) is = still-others m n key (Some row) other are (there (subst IsSome (sym is) refl))
+
+  -- nor does a row that comes in or is refused
+  pub inserted-others : {T E : Type 0} (m n : BTreeMap (code_key.Key Z) Row) (key : code_key.Key Z) (row : Row) (r : Result T E) → IsOther key → AreOthers m.entries → OnOk r (IsPut m key (Some row) n) → OnErr r (IsUnchanged m n) → AreOthers n.entries
+  inserted-others m n key row (Ok x) other are ok err = still-others m n key (Some row) other are ok
+  inserted-others m n key row (Err y) other are ok err = subst (λ (es : List (code_key.Key Z × Row)). AreOthers es) (sym err) are
 
   -- a write under a number, and one of rows that are seen otherwise
   pub carried : (key : code_key.Key Z) (n : ℕ) (row : Option Row) (old seen new : List (Key × Row)) → key ≡ keys.Num n → seen ≡ old → IsWritten seen (Num n) row new → IsWritten old (key_of key) row new

@@ -1,5 +1,6 @@
 -- Tables, seen as one state: what the state has at an object, what a change of one table does to it, and what it answers to a range.
 use Rattle.std.proofs.Common.{Vec, ◌≡◌, ℕ, suc, zero, ◌+◌, ◌<◌, ◌≤◌, nat_eq, Bool, true, false, ◌&&◌, cond, T, List, [], ◌∷◌, ◌++◌, length, Option, None, Some, refl, sym, ap, subst, ◌∙◌, arith, slice_get, slice_set, slice_index_or, BTreeMap, Less, is_eq, is_lt}
+use Rattle.std.specs.Prelude.{Result, OnOk}
 use Rattle.occ_book.specs.Content.{AnswersUpTo}
 use Rattle.occ_book.specs.Table.{row_under, rows_within, IsWritten, AreAllUpTo}
 use Rattle.occ_book.proofs.Common.{Answer, nat_tests, sorted_head, sorted_tail, option_or, slice_get_past, slice_get_read, length-set, Bound, entries_between, AllByRecursion, IsStrictlySortedBy, keys_of, on, eq_by_cmp, ordering_then, eq_by_cmp_equiv, tied_itself, nat_cmp_total, unsigned_Decides, get, empty, find, is_sorted, get-from_entries, below_all, Key, key_cmp, key_cmp_total, Object, object_cmp, object_cmp_total, Span, asks, Row, key_of, end_of, asks-One, Rows, answer, answer_size, put, get-put, same_state, Content, is_backward, lower_bound, upper_bound, entries_within, placed, placed_from, state_of, content_of, IsPut}
@@ -163,6 +164,10 @@ content-put tables t rows new key row old view h at is =
     let after : Content → Content = λ c. record { tables = c.tables; state = put c.state ((t, key), row) } in
     let first : content_of (slice_set tables t new) ≡ after (content_of tables) = λ j. record { tables = length-set tables t new j; state = change j } in
     first ∙ ap after view
+
+-- what holds where there is no error, of a result that is given otherwise
+pub ok-as : {T E : Type 0} (P : Type 0) (r s : Result T E) → r ≡ s → OnOk s P → OnOk r P
+ok-as P r s is = subst (λ q. OnOk q P) (sym is)
 
 -- the tables after a write that failed
 pub content-unchanged : (tables : List (List (Key × Row))) (t : ℕ) (rows new : List (Key × Row)) (old : Content) → content_of tables ≡ old → t < old.tables → rows ≡ slice_index_or tables t rows → new ≡ rows → content_of (slice_set tables t new) ≡ old

@@ -5,6 +5,7 @@ pub mod Kept
 pub mod KeyRefs
 pub mod LastWrites
 pub mod Loaded
+pub mod Loading
 pub mod Marks
 pub mod Table
 pub mod Undo

@@ -142,7 +142,7 @@ fn has_none_between<A: Allocator>(
 }
 
 // Whether both ends are there, and the lower one is above the upper one.
-fn is_backward<A: Allocator>(lower: Option<&Key<A>>, upper: Option<&Key<A>>) -> bool
+pub(crate) fn is_backward<A: Allocator>(lower: Option<&Key<A>>, upper: Option<&Key<A>>) -> bool
     ensures { result ≡ is_backward (end_of (option_copied lower.entry)) (end_of (option_copied upper.entry)) }
 {
     match (lower, upper) {
@@ -152,7 +152,7 @@ fn is_backward<A: Allocator>(lower: Option<&Key<A>>, upper: Option<&Key<A>>) -> 
 }
 
 // A lower end, which lies within the range.
-fn lower_bound<A: Allocator>(lower: Option<&Key<A>>) -> Bound<&Key<A>>
+pub(crate) fn lower_bound<A: Allocator>(lower: Option<&Key<A>>) -> Bound<&Key<A>>
     ensures { bound_map (λ end. end.now) result ≡ lower_bound (option_copied lower.entry) }
 {
     match lower {
@@ -162,7 +162,7 @@ fn lower_bound<A: Allocator>(lower: Option<&Key<A>>) -> Bound<&Key<A>>
 }
 
 // An upper end, which lies outside of the range.
-fn upper_bound<A: Allocator>(upper: Option<&Key<A>>) -> Bound<&Key<A>>
+pub(crate) fn upper_bound<A: Allocator>(upper: Option<&Key<A>>) -> Bound<&Key<A>>
     ensures { bound_map (λ end. end.now) result ≡ upper_bound (option_copied upper.entry) }
 {
     match upper {

@@ -1,5 +1,5 @@
 //! The rows of one table: those under numbers in pages, and the others in a tree.
-ghost use Rattle.std.specs.Prelude.{◌≡◌, ◌<◌, ◌≤◌, [], map, length, IfOk, OnOk, OnErr, IsSome, IsOkUnless, MatchOption, Some, None};
+ghost use Rattle.std.specs.Prelude.{◌≡◌, ◌<◌, ◌≤◌, [], map, length, IfOk, IfErr, OnOk, OnErr, IsSome, IsOkUnless, MatchOption, Some, None};
 ghost use Rattle.std.specs.List.Sorted.{IsStrictlySortedBy};
 ghost use Rattle.std.specs.Map.{keys_of};
 ghost use Rattle.std.specs.Option.{option_copied};
@@ -9,11 +9,12 @@ ghost use Rattle.occ_types.specs.Key.{key_cmp};
 ghost use Rattle.occ_book.specs.Content.{seen};
 ghost use Rattle.occ_book.specs.Table.{row_under, IsWritten, rows_within, AreAllUpTo};
 
-use crate::maps::{delete_row, exchange_row, replace_row};
+use crate::maps::{delete_row, exchange_row, insert_number, insert_row, replace_row};
 use crate::ranges::{count_between, count_numbers, count_up_to, push_numbers, push_others};
+use crate::rows_between::{RowsBackward, RowsBetween};
 use crate::table_rows::TableRows;
 use occ_pages::PageMap;
-use occ_types::{Fault, Key, Row};
+use occ_types::{Fault, Key, Refused, Row};
 use std::alloc::{AllocError, Allocator};
 use std::collections::BTreeMap;
 use std::marker::Model;
@@ -78,6 +79,23 @@ impl<A: Allocator + Clone> Table<A> {
         let was = exchange_row(&mut self.others, key, row)?;
         Ok(was)
     }
+
+    // Puts a row under a key, neither of which is copied. Refused with `Memory` at a new key alone, which leaves the table as it was and hands both back.
+    pub(crate) fn insert(
+        &mut self,
+        key: Key<A>,
+        row: Row<A>,
+    ) -> Result<(), Refused<(Key<A>, Row<A>)>>
+        ensures ok { OnOk result (IsWritten self.old (key_of key) (Some row) self.new) }
+        ensures err { OnErr result (self.new ≡ self.old) }
+        ensures handed_back { IfErr result (λ refused. refused.value ≡ (key, row)) }
+        ensures memory { IfErr result (λ refused. refused.fault ≡ Memory) }
+    {
+        if let Key::Num(number) = &key {
+            return insert_number(&mut self.numbers, *number, row);
+        }
+        insert_row(&mut self.others, key, row)
+    }
 }
 
 impl<A: Allocator> Table<A> {
@@ -139,6 +157,28 @@ impl<A: Allocator> Table<A> {
 }
 
 impl<A: Allocator> Table<A> {
+    // The rows from a lower end on and below an upper one, one after another; either end may be missing. It takes no memory.
+    pub(crate) fn between(
+        &self,
+        lower: Option<&Key<A>>,
+        upper: Option<&Key<A>>,
+    ) -> RowsBetween<'_, A>
+        ensures { result ≡ rows_within (end_of (option_copied lower.entry)) (end_of (option_copied upper.entry)) self.now }
+    {
+        RowsBetween::new(&self.numbers, &self.others, lower, upper)
+    }
+
+    // The same from the last one back.
+    pub(crate) fn backward(
+        &self,
+        lower: Option<&Key<A>>,
+        upper: Option<&Key<A>>,
+    ) -> RowsBackward<'_, A>
+        ensures { result ≡ rows_within (end_of (option_copied lower.entry)) (end_of (option_copied upper.entry)) self.now }
+    {
+        RowsBackward::new(&self.numbers, &self.others, lower, upper)
+    }
+
     // How many rows lie from a lower end on and below an upper one; either end may be missing. It takes no memory.
     pub(crate) fn count(&self, lower: Option<&Key<A>>, upper: Option<&Key<A>>) -> usize
         ensures count { result ≡ length (rows_within (end_of (option_copied lower.entry)) (end_of (option_copied upper.entry)) self.now) }

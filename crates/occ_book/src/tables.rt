@@ -1,17 +1,20 @@
 //! The tables of a store, each of which keeps its rows.
-ghost use Rattle.std.specs.Prelude.{◌≡◌, ◌<◌, ◌≤◌, ◌-◌, ◌^◌, min, map, length, true, false, [], IfOk, OnOk, OnErr, IsOk, IsSome, MatchOption, IsOkUnless, Some, None};
-ghost use Rattle.std.specs.Option.{option_copied};
+ghost use Rattle.std.specs.Prelude.{◌≡◌, ◌<◌, ◌≤◌, ◌-◌, ◌^◌, min, map, length, true, false, [], IfOk, IfErr, OnOk, Option, OnErr, IsOk, IsSome, MatchOption, IsOkUnless, Some, None};
+ghost use Rattle.std.specs.Option.{option_copied, option_map_or};
 ghost use Rattle.std.specs.FinMap as finite;
 ghost use Rattle.occ_types.specs.declared.fault.Fault.TheVariants.{Memory};
 ghost use Rattle.occ_types.specs.Object as objects;
+ghost use Rattle.occ_types.specs.Key as keys;
+ghost use Rattle.occ_model.specs.Paging.{rows_answered};
+ghost use Rattle.occ_book.specs.Table.{rows_within};
 ghost use Rattle.occ_types.specs.Question.{Span};
-ghost use Rattle.occ_types.specs.PlainData.{key_of, end_of};
+ghost use Rattle.occ_types.specs.PlainData.{key_of, end_of, object_of};
 ghost use Rattle.occ_model.specs.State.{put, answer, Rows, answer_size};
 ghost use Rattle.occ_book.specs.Content.{seen, AnswersUpTo};
 
 use crate::table::Table;
 use crate::table_rows::TableRows;
-use occ_types::{Fault, Key, Row};
+use occ_types::{Fault, Key, Object, Refused, Row};
 use std::alloc::{AllocError, Allocator};
 use std::marker::Model;
 
@@ -95,6 +98,34 @@ impl<A: Allocator + Clone> Tables<A> {
         self.tables[table].exchange(key, row)
     }
 
+    // Puts a row under an object, neither of which is copied. Refused with `Memory` at a new object alone, which leaves the tables as they were and hands both back.
+    pub(crate) fn insert(
+        &mut self,
+        object: Object<A>,
+        row: Row<A>,
+    ) -> Result<(), Refused<(Object<A>, Row<A>)>>
+        requires { object.table < self.old.tables }
+        ensures ok { OnOk result (self.new ≡ record { tables = self.old.tables; state = put self.old.state (object_of object, Some row) }) }
+        ensures err { OnErr result (self.new ≡ self.old) }
+        ensures handed_back { IfErr result (λ refused. refused.value ≡ (object, row)) }
+        ensures memory { IfErr result (λ refused. refused.fault ≡ Memory) }
+    {
+        let Object { table, key } = object;
+        match self.tables[table].insert(key, row) {
+            Ok(()) => Ok(()),
+            Err(Refused { value, fault }) => Err(Refused {
+                value: (
+                    Object {
+                        table,
+                        key: value.0,
+                    },
+                    value.1,
+                ),
+                fault,
+            }),
+        }
+    }
+
     /// Copies of the rows of a table from the lower end on and below the upper one, with their keys and in the order of the keys. Either end may be missing, and a table that is not there has no rows.
     ///
     /// Refused with `Memory` where there is none for the copies.
@@ -159,6 +190,18 @@ impl<A: Allocator + Copy> Tables<A> {
     // What the tables take memory from.
     pub(crate) fn allocator(&self) -> A {
         *self.tables.allocator()
+    }
+
+    // The table at a place, where there is one.
+    pub(crate) fn at(&self, table: usize) -> Option<&Table<A>>
+        ensures { (lower upper : Option keys.Key) → rows_answered (answer (Span table lower upper) self.now.state) ≡ option_map_or (λ rows. rows_within lower upper rows.now) result [] }
+    {
+        let Some(rows) = self.tables.get(table) else {
+            return None;
+        };
+        // that the keys are in order
+        let _rows = rows.len();
+        Some(rows)
     }
 }
 
