@@ -6,6 +6,7 @@ pub mod Windows
 pub mod Changes
 pub mod PhaseViews
 pub mod PhaseLists
+pub mod Readers
 pub mod Listed
 pub mod Numbered
 pub mod Folding

@@ -28,7 +28,7 @@ same-tied q k = both_ways (is_same q k) (eq_by_cmp phase_cmp q k)
     (λ i. eq-eqb q.0 k.0 (ap (λ (p : ℕ × ℕ). p.0) same) i && eq-eqb q.1 k.1 (ap (λ (p : ℕ × ℕ). p.1) same) i))
 
 -- two maps of phases that answer alike are equal
-same_phases : (m n : FinMap phase_cmp ReadPhase) → ((q : ℕ × ℕ) → get m q ≡ get n q) → m ≡ n
+pub same_phases : (m n : FinMap phase_cmp ReadPhase) → ((q : ℕ × ℕ) → get m q ≡ get n q) → m ≡ n
 same_phases = same_map phase_cmp_total phase_cmp-IsAntisymmetric
 
 -- what a session that may be there has under a number
@@ -40,7 +40,7 @@ phase_in (Some phases) number = get phases number
 first : (s : ℕ) → (0 == suc s) ≡ false
 first s = ne_eqb 0 (suc s) (λ e. omega (arith, e))
 
-other : (s : ℕ) → (suc s == 0) ≡ false
+pub other : (s : ℕ) → (suc s == 0) ≡ false
 other s = ne_eqb (suc s) 0 (λ e. omega (arith, e))
 
 -- and these are counted one place lower among themselves

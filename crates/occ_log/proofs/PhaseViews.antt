@@ -179,7 +179,7 @@ module _ {Z : Type 0} where
       numbers-push (e ∷ es) = ap (λ ns. e.0 ∷ ns) (numbers-push es)
 
   -- what the model's map has under a number is what the list has there
-  get-session : (es : List (ℕ × code_phase.Phase Z)) (q : ℕ) → get (session_phases_of es) q ≡ option_map phase_of (under es q)
+  pub get-session : (es : List (ℕ × code_phase.Phase Z)) (q : ℕ) → get (session_phases_of es) q ≡ option_map phase_of (under es q)
   unfolding session_phases_of
   get-session es q = get-from_entries nat_cmp_total (map (λ e. (e.0, phase_of e.1)) es) q ∙ go es
     where

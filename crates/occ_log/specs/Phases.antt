@@ -1,5 +1,5 @@
 -- What clauses see of the read phases under way: each as the model has it, by session and then by number.
-use Rattle.std.specs.Prelude.{◌≡◌, ◌==◌, ℕ, suc, ◌⊎◌, List, [], ◌∷◌, ◌++◌, map, Option, None, Some, refl}
+use Rattle.std.specs.Prelude.{◌≡◌, ◌==◌, not, Bool, ℕ, suc, ◌⊎◌, List, [], ◌∷◌, ◌++◌, map, Option, None, Some, refl}
 use Rattle.std.proofs.Common.{inl, inr}
 use Rattle.std.specs.Coded.{Coded, code_by, coded×, coded⊎, coded_ℕ, coded_list, coded_option}
 use Rattle.std.specs.FinMap as finite
@@ -64,6 +64,10 @@ read_phases_code = finite.code (coded× coded_ℕ coded_ℕ) read_phase_code
 abbrev pub reads_of : Option ReadPhase → List Observation
 reads_of None = []
 reads_of (Some phase) = phase.reads
+
+-- a session has a phase under way: where its phases alone are kept, some are left
+abbrev pub is_reading : FinMap phase_cmp ReadPhase → ℕ → Bool
+is_reading phases session = not (finite.len (finite.retain_keys phases (λ key. key.0 == session)) == 0)
 
 module _ {Z : Type 0} where
   -- the phase as the model has it

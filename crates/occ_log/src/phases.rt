@@ -6,7 +6,7 @@ ghost use Rattle.occ_types.specs.declared.fault.Fault.TheVariants.{Memory};
 ghost use Rattle.occ_types.specs.declared.limits.TheConstants as limit;
 ghost use Rattle.occ_types.specs.PlainData.{question_of};
 ghost use Rattle.occ_sets.specs.PlainSets.{answer_of};
-ghost use Rattle.occ_log.specs.Phases.{phase_of, phases_of, reads_of};
+ghost use Rattle.occ_log.specs.Phases.{phase_of, phases_of, reads_of, is_reading};
 
 use crate::session_phases::{Phase, SessionPhases};
 use occ_sets::{Answer, Observation, ReadSet};
@@ -52,6 +52,16 @@ impl<A: Allocator> ReadPhases<A> {
             Some(phases) => phases.get(number),
             None => None,
         }
+    }
+
+    /// Whether a session has a phase under way.
+    pub fn is_reading(&self, session: usize) -> bool
+        ensures { result ≡ is_reading self.now session }
+    {
+        let Some(phases) = self.sessions.get(session) else {
+            return false;
+        };
+        !phases.is_empty()
     }
 
     /// Ends a phase and hands it out, or none where it is not under way. It takes no memory.

@@ -96,6 +96,13 @@ impl<A: Allocator> SessionPhases<A> {
         }
     }
 
+    // Whether there are no phases.
+    pub(crate) fn is_empty(&self) -> bool
+        ensures { result ≡ (finite.len self.now == 0) }
+    {
+        self.phases.is_empty()
+    }
+
     // Ends all phases.
     pub(crate) fn clear(&mut self)
         ensures { self.new ≡ finite.empty }
