@@ -14,6 +14,7 @@ use Rattle.occ_model.proofs.Tests as tests
 use Rattle.occ_queue.specs.Items.{number_of, is_mark}
 use Rattle.occ_queue.specs.Numbering.{EndsWithMark, IsInTurn}
 use Rattle.occ_queue.specs.Lanes.{InTurn, AreOfOne, longer}
+use Rattle.occ_queue.proofs.Turns.{behind_in_turn}
 
 module _ {X : Type 0} where
   pub prefix_refl : (xs : List X) → IsPrefix xs xs
@@ -72,6 +73,10 @@ module _ {X Y : Type 0} (f : X → Y) where
   pub prefix_map : (xs ys : List X) → IsPrefix xs ys → IsPrefix (map f xs) (map f ys)
   prefix_map xs ys p = (map f p.0, sym (map-append f xs p.0) ∙ ap (map f) p.1)
 
+-- a list of nothing is in turn behind each number
+pub unused_in_turn : (before : ℕ) → before ≤ MAX_NUMBER → InTurn before []
+unused_in_turn before within = subst (λ last. IsInTurn (record { items = []; limit = 0; before = before; pushed = last; closed = false })) (omega arith) (behind_in_turn 0 before within)
+
 -- what has something behind it has no mark
 pub unmarked_front : (closed : Bool) (xs : List Item) (y : Item) (ys : List Item) → EndsWithMark closed (xs ++ y ∷ ys) → list_any is_mark xs ≡ false
 unmarked_front closed [] y ys ends = refl
@@ -84,28 +89,29 @@ ends_unmarked (x ∷ []) none = (tests.or_false (is_mark x) false none).0
 ends_unmarked (x ∷ w ∷ xs) none = let parts = tests.or_false (is_mark x) (list_any is_mark (w ∷ xs)) none in (parts.0, ends_unmarked (w ∷ xs) parts.1)
 
 -- a beginning of a list in turn is in turn
-pub in_turn_front : (xs zs : List Item) → InTurn (xs ++ zs) → InTurn xs
-in_turn_front xs [] law = subst InTurn (append-nil xs) law
-in_turn_front xs (z ∷ zs) law =
+pub in_turn_front : (before : ℕ) (xs zs : List Item) → InTurn before (xs ++ zs) → InTurn before xs
+in_turn_front before xs [] law = subst (InTurn before) (append-nil xs) law
+in_turn_front before xs (z ∷ zs) law =
     let none = unmarked_front _ xs z zs law.ended in
     let longer : length (xs ++ z ∷ zs) ≡ length xs + suc (length zs) = length-append xs (z ∷ zs) in
     let taken = law.numbered.0 in
-    let zero_taken : taken ≡ 0 = (let e = law.numbered.1 in omega arith) in
-    let all : Counts 1 (map number_of xs ++ map number_of (z ∷ zs)) = subst (λ n. Counts (suc n) (map number_of xs ++ map number_of (z ∷ zs))) zero_taken (subst (Counts (suc taken)) (map-append number_of xs (z ∷ zs)) law.numbered.2) in
+    let none_taken : taken ≡ before = (let e = law.numbered.1 in omega arith) in
+    let all : Counts (suc before) (map number_of xs ++ map number_of (z ∷ zs)) = subst (λ n. Counts (suc n) (map number_of xs ++ map number_of (z ∷ zs))) none_taken (subst (Counts (suc taken)) (map-append number_of xs (z ∷ zs)) law.numbered.2) in
     let within = law.within in
     record {
-      numbered = (0, omega arith, Counts-front 1 (map number_of xs) (map number_of (z ∷ zs)) all);
+      numbered = (before, omega arith, Counts-front (suc before) (map number_of xs) (map number_of (z ∷ zs)) all);
+      begun = omega arith;
       ended = subst (λ b. EndsWithMark b xs) (sym none) (ends_unmarked xs none);
       within = omega arith;
-      spare = λ _. omega arith;
+      spare = λ _ _. omega arith;
     }
 
-pub in_turn_prefix : (xs zs : List Item) → IsPrefix xs zs → InTurn zs → InTurn xs
-in_turn_prefix xs zs p law = in_turn_front xs p.0 (subst InTurn (sym p.1) law)
+pub in_turn_prefix : (before : ℕ) (xs zs : List Item) → IsPrefix xs zs → InTurn before zs → InTurn before xs
+in_turn_prefix before xs zs p law = in_turn_front before xs p.0 (subst (InTurn before) (sym p.1) law)
 
 -- one with a mark is the list itself
-pub marked_front : (xs zs : List Item) → IsPrefix xs zs → InTurn zs → list_any is_mark xs ≡ true → xs ≡ zs
-marked_front xs zs p law marked = go p.0 p.1
+pub marked_front : (before : ℕ) (xs zs : List Item) → IsPrefix xs zs → InTurn before zs → list_any is_mark xs ≡ true → xs ≡ zs
+marked_front before xs zs p law marked = go p.0 p.1
   where
     go : (rest : List Item) → xs ++ rest ≡ zs → xs ≡ zs
     go [] e = sym (append-nil xs) ∙ e

@@ -17,7 +17,7 @@ module _ {Z : Type 0} where
 
   -- where the two ends came together, and nothing is taken out yet
   pub known_first : (v u w : Knowledge Z) (pushed taken : List Item) (left : List (code_item.Item Z)) → v.sends ≡ true → u.takes ≡ true → items_of v.pushed ≡ pushed → items_of u.taken ≡ taken → left ≡ []
-      → w ≡ knowledge v.sends u.takes v.pushed u.taken → AllKnown pushed taken left w
+      → w ≡ knowledge v.sends u.takes v.before v.pushed u.taken → AllKnown pushed taken left w
   known_first v u w pushed taken left may takes all some none is = (
     ap (λ (k : Knowledge Z). k.sends) is ∙ may,
     ap (λ (k : Knowledge Z). k.takes) is ∙ takes,
@@ -26,7 +26,7 @@ module _ {Z : Type 0} where
   )
 
   known_more : (v w : Knowledge Z) (x : code_item.Item Z) (pushed taken : List Item) (left : List (code_item.Item Z)) → AllKnown pushed taken left v
-      → w ≡ knowledge v.sends v.takes v.pushed (v.taken ++ x ∷ []) → AllKnown pushed taken (left ++ x ∷ []) w
+      → w ≡ knowledge v.sends v.takes v.before v.pushed (v.taken ++ x ∷ []) → AllKnown pushed taken (left ++ x ∷ []) w
   known_more v w x pushed taken left known is = subst (AllKnown pushed taken (left ++ x ∷ [])) (sym is) (
     known.0,
     known.1,
@@ -38,7 +38,7 @@ module _ {Z : Type 0} where
   )
 
   pub grown : (v w : Knowledge Z) (x : code_item.Item Z) (pushed taken : List Item) (left after : List (code_item.Item Z)) → AllKnown pushed taken left v
-      → w ≡ knowledge v.sends v.takes v.pushed (v.taken ++ x ∷ []) → after ≡ left ++ x ∷ [] → AllKnown pushed taken after w
+      → w ≡ knowledge v.sends v.takes v.before v.pushed (v.taken ++ x ∷ []) → after ≡ left ++ x ∷ [] → AllKnown pushed taken after w
   grown v w x pushed taken left after known is more =
       subst (λ (l : List (code_item.Item Z)). AllKnown pushed taken l w) (sym more) (known_more v w x pushed taken left known is)
 
@@ -55,7 +55,7 @@ module _ {Z : Type 0} where
       omega arith
 
   -- and less is left then
-  pub less_left : (v w : Knowledge Z) (x : code_item.Item Z) → w ≡ knowledge v.sends v.takes v.pushed (v.taken ++ x ∷ []) → IsPrefix (v.taken ++ x ∷ []) v.pushed
+  pub less_left : (v w : Knowledge Z) (x : code_item.Item Z) → w ≡ knowledge v.sends v.takes v.before v.pushed (v.taken ++ x ∷ []) → IsPrefix (v.taken ++ x ∷ []) v.pushed
       → length w.pushed - length w.taken < length v.pushed - length v.taken
   less_left v w x is among =
       let below = prefix_length (v.taken ++ x ∷ []) v.pushed among in

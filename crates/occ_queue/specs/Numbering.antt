@@ -1,5 +1,5 @@
--- The queue of one session: its items are numbered 1, 2, 3, .., and nothing follows its closing mark (our own choice).
-use Rattle.std.specs.Prelude.{◌≡◌, ℕ, suc, ◌+◌, ◌≤◌, ◌<◌, Bool, false, not, ◌||◌, ◌==◌, nat_le, List, [], ◌∷◌, ◌++◌, map, length, Option}
+-- The queue of one session: its items are numbered without a gap, and nothing follows its closing mark (our own choice).
+use Rattle.std.specs.Prelude.{◌≡◌, ℕ, suc, ◌+◌, ◌≤◌, ◌<◌, Bool, false, not, ◌||◌, ◌==◌, nat_le, nat_lt, List, [], ◌∷◌, ◌++◌, map, length, Option, if◌then◌else◌}
 use Rattle.occ_types.specs.declared.fault.Fault.{Fault}
 use Rattle.occ_types.specs.declared.fault.Fault.TheVariants as faults
 use Rattle.occ_types.specs.declared.limits.TheConstants.{MAX_NUMBER}
@@ -8,16 +8,25 @@ use Rattle.occ_model.specs.Event.{Item}
 use Rattle.occ_model.specs.Log.{Counts}
 use Rattle.occ_queue.specs.Items.{number_of, is_mark}
 
--- The items that wait, the first one first, and how many there may be; how many were pushed so far, which is the number of the last one; and whether that one was the closing mark.
+-- The items that wait, the first one first, and how many there may be; the number that the queue begins behind; that of the last item that was pushed, which is the same as long as there is none; and whether that one was the closing mark.
 pub record Numbered : Type 0 where
   pub items : List Item
   pub limit : ℕ
+  pub before : ℕ
   pub pushed : ℕ
   pub closed : Bool
 
--- a queue into which nothing was pushed
+-- a queue that begins behind a number, and into which nothing was pushed
+abbrev pub behind : ℕ → ℕ → Numbered
+behind limit last = record { items = []; limit = limit; before = last; pushed = last; closed = false }
+
+-- one whose first item has the number 1
 abbrev pub unused : ℕ → Numbered
-unused limit = record { items = []; limit = limit; pushed = 0; closed = false }
+unused limit = behind limit 0
+
+-- why there is no queue that begins behind a number
+abbrev pub behind_fault : ℕ → Fault
+behind_fault last = if nat_lt MAX_NUMBER last then faults.NumbersExhausted else faults.Memory
 
 -- the number of the next item
 abbrev pub next : Numbered → ℕ
@@ -55,12 +64,16 @@ refusal_of_request queue number = first_fault (
 abbrev pub refusal_of_submit : Numbered → Item → Option Fault
 refusal_of_submit queue item = first_fault (turn_fault queue item ∷ fault_if (is_full queue) faults.QueueFull ∷ [])
 
+-- why a session can't be closed even where there is room: it is closed, or there is no number for the mark
+abbrev pub close_fault : Numbered → Option Fault
+close_fault queue = first_fault (
+    fault_if queue.closed faults.Closed
+    ∷ fault_if (nat_lt MAX_NUMBER (next queue)) faults.NumbersExhausted
+    ∷ [])
+
 -- why a session can't be closed, where there is a reason
 abbrev pub refusal_of_close : Numbered → Option Fault
-refusal_of_close queue = first_fault (
-    fault_if queue.closed faults.Closed
-    ∷ fault_if (is_full queue) faults.QueueFull
-    ∷ [])
+refusal_of_close queue = first_fault (close_fault queue ∷ fault_if (is_full queue) faults.QueueFull ∷ [])
 
 -- of the items that wait, none but the last is a mark; and that one is where the session is closed
 abbrev pub EndsWithMark : Bool → List Item → Type 0
@@ -72,7 +85,8 @@ EndsWithMark closed (item ∷ next ∷ items) = (is_mark item ≡ false) × Ends
 pub record IsInTurn (queue : Numbered) : Type 0 where
   -- those that wait have the numbers after those that were taken, up to the last that was pushed, without a gap
   pub numbered : (taken : ℕ) × (queue.pushed ≡ taken + length queue.items) × Counts (suc taken) (map number_of queue.items)
+  pub begun : queue.before ≤ queue.pushed
   pub ended : EndsWithMark queue.closed queue.items
-  -- the last number is for the mark alone
+  -- the last number is for the mark alone, unless the queue begins behind it
   pub within : queue.pushed ≤ MAX_NUMBER
-  pub spare : queue.closed ≡ false → queue.pushed < MAX_NUMBER
+  pub spare : queue.closed ≡ false → queue.before < MAX_NUMBER → queue.pushed < MAX_NUMBER

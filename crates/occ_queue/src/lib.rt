@@ -13,7 +13,7 @@ mod session_queues;
 
 pub use draining::drain;
 pub use items::Item;
-pub use lanes::lane;
+pub use lanes::{lane, lane_behind};
 pub use news::News;
 pub use queues::Queue;
 pub use receivers::Receiver;

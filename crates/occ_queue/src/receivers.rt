@@ -1,9 +1,10 @@
 //! The end of a lane at which its items are taken.
-ghost use Rattle.std.specs.Prelude.{◌≡◌, true, false, Some, [], length, slice_get, option_map, IfSome, IfNone, IsNone, IsTrue};
+ghost use Rattle.std.specs.Prelude.{◌≡◌, ◌≤◌, true, false, Some, [], length, slice_get, option_map, IfSome, IfNone, IsNone, IsTrue};
 ghost use Rattle.std.specs.List.{list_any};
 ghost use Rattle.std.specs.Arc.{arc_value};
 ghost use mathlib.Core.List.{IsPrefix};
 ghost use Rattle.crossbeam_queue.specs.Passes.{view, IsPassOf};
+ghost use Rattle.occ_types.specs.declared.limits.TheConstants.{MAX_NUMBER};
 ghost use Rattle.occ_queue.specs.Items.{item_of, is_mark};
 ghost use Rattle.occ_queue.specs.Lanes.{AreOfOne, InTurn, taking, longer};
 ghost use Rattle.occ_queue.specs.Rule.{known_by, IsTaking};
@@ -40,7 +41,7 @@ impl<A: Allocator> Model for Receiver<A> {
 
     ghost invariant = { λ r. IsPassOf (arc_value r.line) r.pass × IsTaking r.pass
         × (r.taken ≡ length (known_by r.pass).taken) × (r.closed ≡ list_any is_mark (known_by r.pass).taken)
-        × AreOfOne (known_by r.pass).pushed (known_by r.pass).taken };
+        × AreOfOne (known_by r.pass).before (known_by r.pass).pushed (known_by r.pass).taken };
 }
 
 impl<A: Allocator> Receiver<A> {
@@ -48,6 +49,7 @@ impl<A: Allocator> Receiver<A> {
     pub(crate) fn new(line: Arc<Line<A>, A>, pass: Pass<A>) -> Receiver<A>
         requires pass { IsPassOf (arc_value line) pass }
         requires unused { ((view pass).pushed ≡ []) × ((view pass).taken ≡ []) }
+        requires number { (view pass).before ≤ MAX_NUMBER }
         requires takes { IsTaking pass }
         ensures { result ≡ known_by pass }
     {
@@ -63,8 +65,8 @@ impl<A: Allocator> Receiver<A> {
     /// and it and what this end heard of as pushed are beginnings of one list.
     pub fn taken(&self) -> u64
         ensures number { result ≡ length self.now.taken }
-        ensures in_turn { InTurn self.now.taken }
-        ensures law { AreOfOne self.now.pushed self.now.taken }
+        ensures in_turn { InTurn self.now.before self.now.taken }
+        ensures law { AreOfOne self.now.before self.now.pushed self.now.taken }
     {
         self.taken
     }

@@ -1,15 +1,16 @@
 //! The end of a lane at which a session pushes.
-ghost use Rattle.std.specs.Prelude.{◌≡◌, true, false, None, Some, [], IfOk, IfErr, OnOk, OnErr, MatchResult};
+ghost use Rattle.std.specs.Prelude.{◌≡◌, ◌≤◌, true, false, None, Some, [], length, IfOk, IfErr, OnOk, OnErr, MatchResult};
 ghost use Rattle.std.specs.Result.{result_err};
 ghost use mathlib.Core.List.{IsPrefix};
 ghost use Rattle.std.specs.Arc.{arc_value};
 ghost use Rattle.crossbeam_queue.specs.Passes.{view, IsPassOf, ruled_capacity};
 ghost use Rattle.occ_types.specs.declared.fault.Fault.TheVariants.{Closed, QueueFull};
+ghost use Rattle.occ_types.specs.declared.limits.TheConstants.{MAX_NUMBER};
 ghost use Rattle.occ_types.specs.Schema.{fault_if};
 ghost use Rattle.occ_model.specs.Event.{Close};
 ghost use Rattle.occ_model.specs.Refusal.{numbers_exhausted};
 ghost use Rattle.occ_queue.specs.Items.{item_of};
-ghost use Rattle.occ_queue.specs.Numbering.{next, is_full, turn_fault, refusal_of_submit, refusal_of_close};
+ghost use Rattle.occ_queue.specs.Numbering.{next, is_full, turn_fault, close_fault, refusal_of_submit, refusal_of_close};
 ghost use Rattle.occ_queue.specs.Lanes.{InTurn, as_queue, capacity, pushing, longer};
 ghost use Rattle.occ_queue.specs.Rule.{known_by, IsSending};
 
@@ -22,18 +23,19 @@ use std::alloc::Allocator;
 use std::marker::Model;
 use std::sync::{Arc, Wait};
 
-/// The end of a lane at which a session pushes its items: they have the numbers 1, 2, 3, .., and nothing follows the closing mark. It
-/// knows all that was pushed, and of what was taken as much as it heard.
+/// The end of a lane at which a session pushes its items: they have the numbers after the one that the lane begins behind, without a
+/// gap, and nothing follows the closing mark. It knows all that was pushed, and of what was taken as much as it heard.
 #[derive(Drop)]
 pub struct Sender<A: Allocator> {
     pub(crate) line: Arc<Line<A>, A>,
     pub(crate) pass: Pass<A>,
-    pushed: u64,
+    before: u64,
+    last: u64,
     closed: bool,
 }
 
 impl<A: Allocator> Model for Sender<A> {
-    ghost use Rattle.std.specs.Prelude.{◌≡◌, length};
+    ghost use Rattle.std.specs.Prelude.{◌≡◌, ◌+◌, length};
     ghost use Rattle.std.specs.List.{list_any};
     ghost use Rattle.std.specs.Arc.{arc_value};
     ghost use mathlib.Core.List.{IsPrefix};
@@ -47,34 +49,43 @@ impl<A: Allocator> Model for Sender<A> {
     ghost view = { λ s. known_by s.pass };
 
     ghost invariant = { λ s. IsPassOf (arc_value s.line) s.pass × (ruled_capacity (arc_value s.line) ≡ capacity (known_by s.pass)) × IsSending s.pass
-        × (s.pushed ≡ length (known_by s.pass).pushed) × (s.closed ≡ list_any is_mark (known_by s.pass).pushed)
-        × InTurn (known_by s.pass).pushed × IsPrefix (known_by s.pass).taken (known_by s.pass).pushed };
+        × (s.before ≡ (known_by s.pass).before) × (s.last ≡ (known_by s.pass).before + length (known_by s.pass).pushed) × (s.closed ≡ list_any is_mark (known_by s.pass).pushed)
+        × InTurn (known_by s.pass).before (known_by s.pass).pushed × IsPrefix (known_by s.pass).taken (known_by s.pass).pushed };
 }
 
 impl<A: Allocator> Sender<A> {
-    /// The end of a lane into which nothing was pushed.
-    pub(crate) fn new(line: Arc<Line<A>, A>, pass: Pass<A>) -> Sender<A>
+    /// The end of a lane that begins behind the number `last`, and into which nothing was pushed.
+    pub(crate) fn new(line: Arc<Line<A>, A>, pass: Pass<A>, last: u64) -> Sender<A>
         requires pass { IsPassOf (arc_value line) pass × (ruled_capacity (arc_value line) ≡ capacity (known_by pass)) }
         requires unused { ((view pass).pushed ≡ []) × ((view pass).taken ≡ []) }
+        requires number { (last ≡ (view pass).before) × (last ≤ MAX_NUMBER) }
         requires sends { IsSending pass }
         ensures { result ≡ known_by pass }
     {
         Sender {
             line,
             pass,
-            pushed: 0,
+            before: last,
+            last,
             closed: false,
         }
     }
 
-    /// The number that the next item takes: 1 more than how many were pushed. Its clauses have the law of what a sender knows, for a
-    /// caller to rest on.
+    /// The number that the next item takes: 1 more than that of the last one, or than the one that the lane begins behind. Its clauses
+    /// have the law of what a sender knows, for a caller to rest on.
     pub fn next(&self) -> u64
         ensures number { result ≡ next (as_queue self.now) }
-        ensures in_turn { InTurn self.now.pushed }
+        ensures in_turn { InTurn self.now.before self.now.pushed }
         ensures taken { IsPrefix self.now.taken self.now.pushed }
     {
-        self.pushed + 1
+        self.last + 1
+    }
+
+    /// How many items were pushed.
+    pub fn pushed(&self) -> u64
+        ensures { result ≡ length self.now.pushed }
+    {
+        self.last - self.before
     }
 
     /// Whether the closing mark was pushed.
@@ -89,7 +100,7 @@ impl<A: Allocator> Sender<A> {
     ///
     /// Refused with the first of these that holds; the item is handed back then, and the next number stays:
     /// - `Closed` where the closing mark was pushed;
-    /// - `NumbersExhausted` where only the number of the mark is left;
+    /// - `NumbersExhausted` where only the number of the mark is left, or none;
     /// - `OutOfTurn` where the item has another number, or is a closing mark, which `close` pushes;
     /// - `QueueFull`, only where as many were pushed as the lane holds beyond those that this end heard of as taken.
     pub fn submit<R: Wait>(&mut self, rt: &R, item: Item<A>) -> Result<(), Refused<Item<A>>>
@@ -106,17 +117,18 @@ impl<A: Allocator> Sender<A> {
         self.push(rt, item)
     }
 
-    /// Pushes the closing mark, which takes no memory, and answers its number. Refused with `Closed` where it was pushed before, and then
-    /// with `QueueFull` as `submit` is; nothing changes then.
+    /// Pushes the closing mark, which takes no memory, and answers its number. Refused with `Closed` where it was pushed before, with
+    /// `NumbersExhausted` where no number is left for it, as in a lane that begins behind `MAX_NUMBER`, and then with `QueueFull` as
+    /// `submit` is; nothing changes then.
     pub fn close<R: Wait>(&mut self, rt: &R) -> Result<u64, Fault>
         ensures ok { OnOk result (self.new ≡ pushing self.old (Close (next (as_queue self.old)))) }
         ensures err { OnErr result (self.new ≡ self.old) }
         ensures number { IfOk result (λ number. number ≡ next (as_queue self.old)) }
         ensures fault { MatchResult result
-            (λ _. fault_if (as_queue self.old).closed Closed ≡ None)
+            (λ _. close_fault (as_queue self.old) ≡ None)
             (λ fault. refusal_of_close (as_queue self.old) ≡ Some fault) }
     {
-        self.check_open()?;
+        self.check_close()?;
         let number = self.next();
         self.push(rt, Item::Close { number })?;
         Ok(number)
@@ -143,7 +155,7 @@ impl<A: Allocator> Sender<A> {
 
     // An item that may be pushed goes to the end, if there is room.
     fn push<R: Wait>(&mut self, rt: &R, item: Item<A>) -> Result<(), Refused<Item<A>>>
-        requires { InTurn (pushing self.old (item_of item)).pushed }
+        requires { InTurn self.old.before (pushing self.old (item_of item)).pushed }
         ensures ok { OnOk result (self.new ≡ pushing self.old (item_of item)) }
         ensures err { OnErr result (self.new ≡ self.old) }
         ensures handed_back { IfErr result (λ refused. refused.value ≡ item) }
@@ -152,7 +164,7 @@ impl<A: Allocator> Sender<A> {
         let closes = item.is_mark();
         match self.line.push_as::<Pushes, R>(rt, &mut self.pass, item) {
             Ok(()) => {
-                self.pushed += 1;
+                self.last += 1;
                 self.closed = closes;
                 Ok(())
             }
@@ -184,10 +196,23 @@ impl<A: Allocator> Sender<A> {
         Ok(())
     }
 
+    // Whether the closing mark may be pushed, if there is room. Its clauses have the law, for `close` to rest on.
+    fn check_close(&self) -> Result<(), Fault>
+        ensures fault { result_err result ≡ close_fault (as_queue self.now) }
+        ensures in_turn { InTurn self.now.before self.now.pushed }
+    {
+        let next = self.next();
+        self.check_open()?;
+        if next > MAX_NUMBER {
+            return Err(Fault::NumbersExhausted);
+        }
+        Ok(())
+    }
+
     // Whether an item may be submitted, if there is room. Its clauses have the law, for `submit` to rest on.
     fn check_turn(&self, item: &Item<A>) -> Result<(), Fault>
         ensures fault { result_err result ≡ turn_fault (as_queue self.now) (item_of item.now) }
-        ensures in_turn { InTurn self.now.pushed }
+        ensures in_turn { InTurn self.now.before self.now.pushed }
     {
         let next = self.next();
         self.check_open()?;

@@ -1,12 +1,13 @@
 //! The queue of one session, which keeps the law of its numbers.
-ghost use Rattle.std.specs.Prelude.{◌≡◌, ◌<◌, None, Some, drop, slice_get, option_map, IfOk, IfErr, IsSome, OnOk, OnErr, IsOkUnless, length};
+ghost use Rattle.std.specs.Prelude.{◌≡◌, ◌<◌, ◌≤◌, None, Some, drop, slice_get, option_map, IfOk, IfErr, IsSome, OnOk, OnErr, IsOkUnless, length};
 ghost use Rattle.std.specs.Result.{result_err};
 ghost use Rattle.occ_types.specs.declared.fault.Fault.TheVariants.{Memory, Closed};
+ghost use Rattle.occ_types.specs.declared.limits.TheConstants.{MAX_NUMBER};
 ghost use Rattle.occ_types.specs.Schema.{fault_if};
 ghost use Rattle.occ_model.specs.Event.{Close};
 ghost use Rattle.occ_model.specs.Refusal.{numbers_exhausted};
 ghost use Rattle.occ_queue.specs.Items.{item_of};
-ghost use Rattle.occ_queue.specs.Numbering.{IsInTurn, unused, next, with_item, is_full, turn_fault, refusal_of_request, refusal_of_submit, refusal_of_close};
+ghost use Rattle.occ_queue.specs.Numbering.{IsInTurn, unused, behind, behind_fault, next, with_item, is_full, turn_fault, close_fault, refusal_of_request, refusal_of_submit, refusal_of_close};
 
 use crate::items::Item;
 use crate::queues::Queue;
@@ -15,12 +16,14 @@ use occ_types::{Fault, Refused};
 use std::alloc::Allocator;
 use std::marker::Model;
 
-/// The items of one session on their way to be entered, by one owner: what is pushed is numbered 1, 2, 3, .., and nothing follows the
-/// closing mark. An item that was taken has left it, and doesn't count for the room.
+/// The items of one session on their way to be entered, by one owner: what is pushed has the numbers after the one that the queue
+/// begins behind, without a gap, and nothing follows the closing mark. An item that was taken has left it, and doesn't count for the
+/// room.
 #[derive(Drop)]
 pub struct SessionQueue<A: Allocator> {
     queue: Queue<A>,
-    pushed: u64,
+    before: u64,
+    last: u64,
     closed: bool,
 }
 
@@ -29,32 +32,48 @@ impl<A: Allocator> Model for SessionQueue<A> {
 
     ghost Value = { Numbered };
 
-    ghost view = { λ q. record { items = q.queue.items; limit = q.queue.limit; pushed = q.pushed; closed = q.closed } };
+    ghost view = { λ q. record { items = q.queue.items; limit = q.queue.limit; before = q.before; pushed = q.last; closed = q.closed } };
 
-    ghost invariant = { λ q. IsInTurn (record { items = q.queue.items; limit = q.queue.limit; pushed = q.pushed; closed = q.closed }) };
+    ghost invariant = { λ q. IsInTurn (record { items = q.queue.items; limit = q.queue.limit; before = q.before; pushed = q.last; closed = q.closed }) };
 }
 
 impl<A: Allocator> SessionQueue<A> {
-    /// The queue of a session that has pushed nothing, with room for `limit` items. Refused with `Memory` where there is none for them.
+    /// The queue of a session that has pushed nothing, with room for `limit` items: the first one takes the number 1. Refused with
+    /// `Memory` where there is none for them.
     pub fn new(alloc: A, limit: usize) -> Result<SessionQueue<A>, Fault>
         ensures unused { IfOk result (λ queue. queue ≡ unused limit) }
         ensures memory { IsOkUnless result Memory }
     {
+        SessionQueue::behind(alloc, limit, 0)
+    }
+
+    /// The queue of a session whose last number is `last`, with room for `limit` items: the first one takes the number after it. Behind
+    /// `MAX_NUMBER` nothing can be pushed, not even the closing mark. Refused with `NumbersExhausted` where the last number is above that
+    /// limit, and with `Memory` where there is none for the items.
+    pub fn behind(alloc: A, limit: usize, last: u64) -> Result<SessionQueue<A>, Fault>
+        ensures unused { IfOk result (λ queue. queue ≡ behind limit last) }
+        ensures number { IfOk result (λ _. last ≤ MAX_NUMBER) }
+        ensures fault { IfErr result (λ fault. fault ≡ behind_fault last) }
+    {
+        if last > MAX_NUMBER {
+            return Err(Fault::NumbersExhausted);
+        }
         let queue = Queue::new(alloc, limit)?;
         Ok(SessionQueue {
             queue,
-            pushed: 0,
+            before: last,
+            last,
             closed: false,
         })
     }
 
-    /// The number that the next item takes: 1 more than how many were pushed. Its clause has the law of every queue of a session, for a
-    /// caller to rest on.
+    /// The number that the next item takes: 1 more than that of the last one, or than the one that the queue begins behind. Its clause
+    /// has the law of every queue of a session, for a caller to rest on.
     pub fn next(&self) -> u64
         ensures number { result ≡ next self.now }
         ensures law { IsInTurn self.now }
     {
-        self.pushed + 1
+        self.last + 1
     }
 
     /// Whether the session is closed: its closing mark was pushed.
@@ -87,9 +106,9 @@ impl<A: Allocator> SessionQueue<A> {
     }
 
     /// Pushes an item that has the next number, which takes no memory. Refused, the first of these that holds: with `Closed` where the
-    /// session is closed; with `NumbersExhausted` where only the number of the closing mark is left; with `OutOfTurn` where the item
-    /// has another number, or is a closing mark, which `close` pushes; and with `QueueFull`. The item is handed back then, and the next
-    /// number stays.
+    /// session is closed; with `NumbersExhausted` where only the number of the closing mark is left, or none; with `OutOfTurn` where
+    /// the item has another number, or is a closing mark, which `close` pushes; and with `QueueFull`. The item is handed back then, and
+    /// the next number stays.
     pub fn submit(&mut self, item: Item<A>) -> Result<(), Refused<Item<A>>>
         ensures ok { OnOk result (self.new ≡ with_item self.old (item_of item)) }
         ensures err { OnErr result (self.new ≡ self.old) }
@@ -100,22 +119,23 @@ impl<A: Allocator> SessionQueue<A> {
             return Err(Refused { value: item, fault });
         }
         self.queue.push(item)?;
-        self.pushed += 1;
+        self.last += 1;
         Ok(())
     }
 
     /// Closes the session: its closing mark is pushed, which takes no memory, and the number of the mark is answered. Refused with
-    /// `Closed` where the session is closed, and then with `QueueFull`; nothing changes then.
+    /// `Closed` where the session is closed, with `NumbersExhausted` where no number is left for the mark, as in a queue that begins
+    /// behind `MAX_NUMBER`, and then with `QueueFull`; nothing changes then.
     pub fn close(&mut self) -> Result<u64, Fault>
         ensures ok { OnOk result (self.new ≡ with_item self.old (Close (next self.old))) }
         ensures err { OnErr result (self.new ≡ self.old) }
         ensures number { IfOk result (λ number. number ≡ next self.old) }
         ensures fault { result_err result ≡ refusal_of_close self.old }
     {
-        self.check_open()?;
+        self.check_close()?;
         let number = self.next();
         self.queue.push(Item::Close { number })?;
-        self.pushed = number;
+        self.last = number;
         self.closed = true;
         Ok(number)
     }
@@ -144,6 +164,17 @@ impl<A: Allocator> SessionQueue<A> {
     {
         let next = self.next();
         if next >= MAX_NUMBER {
+            return Err(Fault::NumbersExhausted);
+        }
+        Ok(())
+    }
+
+    // Whether the closing mark may be pushed, if there is room.
+    fn check_close(&self) -> Result<(), Fault>
+        ensures { result_err result ≡ close_fault self.now }
+    {
+        self.check_open()?;
+        if self.next() > MAX_NUMBER {
             return Err(Fault::NumbersExhausted);
         }
         Ok(())

@@ -35,7 +35,7 @@ pop_as-requires-clause-rule g c =
 
 pub push_reserved-requires : goal.push_reserved-requires
 push_reserved-requires g c =
-    let below = known_room _ _ _ _ _ c.loop-item.invariant.1 c.in-Some.ensures.rule.1 in
+    let below = known_room (view c.loop-item.pass) _ _ _ _ c.loop-item.invariant.1 c.in-Some.ensures.rule.1 in
     let room = c.requires.room in
     let same = c.loop-item.invariant.2 in
     let count = c.loop-item.invariant.3 in
@@ -55,4 +55,4 @@ pub loop-item-smaller : goal.loop-item-smaller
 loop-item-smaller g c = less_left _ _ _ c.in-Some.ensures.rule.0 c.in-Some.ensures.rule.1
 
 pub returns : goal.returns
-returns g c = known_last _ _ _ _ c.loop-item.invariant.1 c.in_default.ensures.rule.1
+returns g c = known_last (view c.loop-item.pass) _ _ _ c.loop-item.invariant.1 c.in_default.ensures.rule.1

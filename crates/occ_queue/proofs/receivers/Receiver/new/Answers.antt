@@ -12,5 +12,5 @@ invariant_of-result g c =
       c.requires.takes,
       sym (ap length taken),
       sym (ap (list_any is_mark) taken),
-      unused_of_one _ _ (ap items_of c.requires.unused.0) taken,
+      unused_of_one _ _ _ c.requires.number (ap items_of c.requires.unused.0) taken,
     )

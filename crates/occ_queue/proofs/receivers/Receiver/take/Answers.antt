@@ -12,7 +12,7 @@ pop_as-requires-clause-rule g c = (takes _ _ c.self.invariant.1.0 c.self.invaria
 pub returns-in_default-clause-none : goal.returns-in_default-clause-none
 returns-in_default-clause-none g c =
     let seen = c.in_default.ensures in (
-      (λ i. record { lane = seen.queue.0 i; pushed = ap (λ v. items_of v.pushed) seen.rule.0 i; taken = ap (λ v. items_of v.taken) seen.rule.0 i }) ∙ c.self.view_is,
+      (λ i. record { lane = seen.queue.0 i; before = ap (λ v. v.before) seen.rule.0 i; pushed = ap (λ v. items_of v.pushed) seen.rule.0 i; taken = ap (λ v. items_of v.taken) seen.rule.0 i }) ∙ c.self.view_is,
       subst (λ (k : Known). IsPrefix k.pushed k.taken) c.self.view_is (nothing_left _ _ seen.rule.1),
     )
 
@@ -22,7 +22,7 @@ returns-in_default-clause-told g c =
 
 pub overflow_add-self : goal.overflow_add-self
 overflow_add-self g c =
-    let most = few _ _ c.self.invariant.4 in
+    let most = few _ _ _ c.self.invariant.4 in
     let count = c.self.invariant.2 in
     omega arith
 
@@ -36,9 +36,9 @@ invariant_of-self-2 g c =
 
 pub returns-clause-told : goal.returns-clause-told
 returns-clause-told g c =
-    next_told _ _ _ (one_more _ _ c.in-Some.item c.args.self.now (ap (λ (k : Known). k.pushed) c.self.view_is) (ap (λ (k : Known). k.taken) c.self.view_is) c.in-Some.ensures.rule.1)
+    next_told _ _ _ _ (one_more _ _ _ c.in-Some.item c.args.self.now (ap (λ (k : Known). k.pushed) c.self.view_is) (ap (λ (k : Known). k.taken) c.self.view_is) c.in-Some.ensures.rule.1)
 
 pub returns-clause-closed : goal.returns-clause-closed
 returns-clause-closed g c =
-    not_after c.args.self.now.pushed c.args.self.now.taken (item_of c.in-Some.item)
-    (one_more _ _ c.in-Some.item c.args.self.now (ap (λ (k : Known). k.pushed) c.self.view_is) (ap (λ (k : Known). k.taken) c.self.view_is) c.in-Some.ensures.rule.1)
+    not_after _ c.args.self.now.pushed c.args.self.now.taken (item_of c.in-Some.item)
+    (one_more _ _ _ c.in-Some.item c.args.self.now (ap (λ (k : Known). k.pushed) c.self.view_is) (ap (λ (k : Known). k.taken) c.self.view_is) c.in-Some.ensures.rule.1)
