@@ -19,7 +19,7 @@ use Rattle.occ_board.specs.declared.words.Words.{Words}
 use Rattle.occ_board.specs.declared.rule.Seen.{Seen}
 use Rattle.occ_board.specs.declared.rule.Known.{Known}
 use Rattle.occ_board.specs.declared.rule.Known.TheVariants.{Publishes, Reads}
-use Rattle.occ_board.specs.Words.{word_of, nothing, blank, last_of, counted, over, placed, written, HasRoom, HasSession, IsSound}
+use Rattle.occ_board.specs.Words.{word_of, nothing, blank, behind, last_of, counted, over, placed, written, HasRoom, HasSession, IsSound}
 use Rattle.occ_board.specs.Rule.{unseen, started, polled, seen_by, Rises, IsBelow, Ruled, Seated, fresh}
 use Rattle.occ_board.specs.Steps.{seated, loaded_counter, loaded_word, stored_counter, stored_word}
 use Rattle.occ_board.proofs.Codes.{one-word}
@@ -247,22 +247,48 @@ rises-over : (counter : ℕ) (last : Last) (number : ℕ) (status : Verdict) →
 rises-over counter last number Commit behind le = record { number = le; tn = behind }
 rises-over counter last number (BackUp cause) behind le = record { number = le; tn = omega arith }
 
-pub word-stored : (slots id : ℕ) (me : Mine) (words old : Words) (session number word : ℕ) (status : Verdict) (here last : Last) → words ≡ old → id ≡ 0 → me ≡ (Publishes words, []) → IsSound words
-    → HasSession old session → (last_of old session).number ≤ number → number ≤ MAX_NUMBER → here ≡ get_or words.sessions (session - 1) here → last ≡ over words.counter here number status → word ≡ word_of last
+-- what a session's word may be stored as: it has room, is no later than the counter, and says no less than before
+MayStand : Words → ℕ → Last → Type 0
+MayStand words session last = HasRoom last × (last.tn ≤ words.counter) × Rises (last_of words session) last
+
+-- A word is stored that was made of what stands.
+stored-word : (slots id : ℕ) (me : Mine) (words old : Words) (session word : ℕ) (f : Last → Last) (here last : Last) → words ≡ old → id ≡ 0 → me ≡ (Publishes words, []) → IsSound words
+    → HasSession old session → (HasSession words session → MayStand words session (f (last_of words session))) → here ≡ get_or words.sessions (session - 1) here → last ≡ f here → word ≡ word_of last
     → Allows Ruled slots id me session (λ _. word) (λ _. stored_word (step slots session word 0 none) me word)
-word-stored slots id me words old session number word status here last same first is sound has le fits found made written =
+unfolding MayStand
+stored-word slots id me words old session word f here last same first is sound has may found made written =
     let before = last_of words session in
-    let new = over words.counter before number status in
     let has' = subst (λ (w : Words). HasSession w session) (sym same) has in
     let p = has'.0 in
     let q = has'.1 in
     let e : here ≡ before = found ∙ get_or_default words.sessions (session - 1) here nothing (omega arith) in
+    let stands = may has' in
+    let made' : last ≡ f before = made ∙ ap f e in
+    subst (λ (z : ℕ × Mine × ℕ). Allows Ruled slots z.0 z.1 session (λ _. z.2) (λ _. stored_word (step slots session z.2 0 none) z.1 z.2)) (λ i. (sym first i, sym is i, sym (written ∙ ap word_of made') i))
+    (stores-word slots words session (f before) sound has' stands.0 stands.1 stands.2)
+
+-- that of a transaction that is over
+pub word-stored : (slots id : ℕ) (me : Mine) (words old : Words) (session number word : ℕ) (status : Verdict) (here last : Last) → words ≡ old → id ≡ 0 → me ≡ (Publishes words, []) → IsSound words
+    → HasSession old session → (last_of old session).number ≤ number → number ≤ MAX_NUMBER → here ≡ get_or words.sessions (session - 1) here → last ≡ over words.counter here number status → word ≡ word_of last
+    → Allows Ruled slots id me session (λ _. word) (λ _. stored_word (step slots session word 0 none) me word)
+unfolding MayStand
+word-stored slots id me words old session number word status here last same first is sound has le fits found made written =
+    let before = last_of words session in
     let stood = stands words sound session in
     let room = room-over words.counter before number status stood.0 stood.1 sound.counter fits in
     let rises = rises-over words.counter before number status stood.1 (subst (λ (w : Words). (last_of w session).number ≤ number) (sym same) le) in
-    let made' : last ≡ new = made ∙ ap (λ (l : Last). over words.counter l number status) e in
-    subst (λ (z : ℕ × Mine × ℕ). Allows Ruled slots z.0 z.1 session (λ _. z.2) (λ _. stored_word (step slots session z.2 0 none) z.1 z.2)) (λ i. (sym first i, sym is i, sym (written ∙ ap word_of made') i))
-    (stores-word slots words session new sound has' room.0 room.1 rises)
+    stored-word slots id me words old session word (λ l. over words.counter l number status) here last same first is sound has (λ _. (room.0, room.1, rises)) found made written
+
+-- that of a session that goes on behind a number
+pub behind-stored : (slots id : ℕ) (me : Mine) (words old : Words) (session number word : ℕ) (here last : Last) → words ≡ old → id ≡ 0 → me ≡ (Publishes words, []) → IsSound words
+    → HasSession old session → (last_of old session).number ≤ number → number ≤ MAX_NUMBER → here ≡ get_or words.sessions (session - 1) here → last ≡ behind here number → word ≡ word_of last
+    → Allows Ruled slots id me session (λ _. word) (λ _. stored_word (step slots session word 0 none) me word)
+unfolding MayStand
+behind-stored slots id me words old session number word here last same first is sound has le fits found made written =
+    let stood = stands words sound session in
+    let more = subst (λ (w : Words). (last_of w session).number ≤ number) (sym same) le in
+    stored-word slots id me words old session word (λ l. behind l number) here last same first is sound has
+    (λ _. (record { number = fits; tn = stood.0.tn }, stood.1, record { number = more; tn = omega arith })) found made written
 
 pub counter-loaded : (slots id : ℕ) (me : Mine) (seen : Seen) → me ≡ (Reads seen, []) → Allows Ruled slots id me 0 (λ n. n) (loaded_counter (step slots 0 0 0 none) me)
 counter-loaded slots id me seen is = subst (λ (m : Mine). Allows Ruled slots id m 0 (λ n. n) (loaded_counter (step slots 0 0 0 none) m)) (sym is) (loads-counter slots id seen)

@@ -1,5 +1,6 @@
 -- What stands on the board, and how it is written in words of 64 bits (our own choice).
 use Rattle.std.specs.Prelude.{ℕ, ◌+◌, ◌-◌, ◌*◌, ◌<◌, ◌≤◌, List, ◌∷◌, map, length, replicate, slice_index_or, slice_set, Option, None, Some, All}
+use Rattle.std.specs.List.{range_with_len}
 use Rattle.occ_types.specs.declared.limits.TheConstants.{MAX_COUNTER, MAX_NUMBER}
 use Rattle.occ_model.specs.declared.verdict.Cause.TheVariants.{Conflict, TooOld}
 use Rattle.occ_model.specs.declared.verdict.Verdict.{Verdict}
@@ -30,6 +31,14 @@ nothing = record { number = 0; status = None; tn = 0 }
 -- the board before the first transaction, with a word for each of so many sessions
 abbrev pub blank : ℕ → Words
 blank sessions = record { counter = 0; sessions = replicate sessions nothing }
+
+-- what stands of a session that goes on behind a number: how that ended is not told, and the transaction number of the last commit stays
+abbrev pub behind : Last → ℕ → Last
+behind last number = record { number = number; status = None; tn = last.tn }
+
+-- the board of a store that goes on: the counter where it stood, and each of so many sessions behind its last number
+abbrev pub continued : ℕ → (ℕ → ℕ) → ℕ → Words
+continued counter last sessions = record { counter = counter; sessions = map (λ session. behind nothing (last session)) (range_with_len 1 sessions) }
 
 -- what stands of a session; they are numbered from 1
 abbrev pub last_of : Words → ℕ → Last

@@ -4,7 +4,7 @@ ghost use Rattle.std.specs.List.{range_with_len};
 ghost use Rattle.occ_types.specs.declared.fault.Fault.TheVariants.{Memory};
 ghost use Rattle.occ_types.specs.declared.limits.TheConstants.{MAX_COUNTER, MAX_NUMBER};
 ghost use Rattle.occ_model.specs.declared.verdict.Verdict.TheVariants.{Commit};
-ghost use Rattle.occ_board.specs.Words.{HasSession, blank, last_of, counted, settled};
+ghost use Rattle.occ_board.specs.Words.{HasSession, behind, blank, last_of, counted, placed, settled};
 ghost use Rattle.occ_board.specs.Rule.{fresh};
 
 use crate::rule::{Pass, SharedWords, StoreCounter, StoreWord};
@@ -119,6 +119,21 @@ impl<A: Allocator> Publisher<A> {
             .shared
             .store::<StoreCounter>(&mut self.pass, 0, tn);
         self.counter = tn;
+    }
+
+    /// A session goes on behind a number, as one of a store that goes on from a base: its word is stored, in one atomic step. How the
+    /// transaction of this number ended is not told, and the transaction number of the session's last commit stays.
+    pub fn resumed(&mut self, session: usize, number: u64)
+        requires session { HasSession self.old.words session }
+        requires number { ((last_of self.old.words session).number ≤ number) × (number ≤ MAX_NUMBER) }
+        ensures { self.new ≡ record self.old { words = placed self.old.words session (behind (last_of self.old.words session) number) } }
+    {
+        let last = self.sessions[session - 1].behind(number);
+        let word = last.word();
+        self.board
+            .shared
+            .store::<StoreWord>(&mut self.pass, session, word);
+        self.sessions[session - 1] = last;
     }
 
     /// A transaction of a session is over: its word is stored, in one atomic step. A commit's transaction number is the counter, which is

@@ -1,6 +1,6 @@
 //! What a word of the board says.
 ghost use Rattle.std.specs.Prelude.{◌≡◌};
-ghost use Rattle.occ_board.specs.Words.{HasRoom, nothing, over, word_of};
+ghost use Rattle.occ_board.specs.Words.{HasRoom, behind, nothing, over, word_of};
 
 use occ_model::{Cause, Verdict};
 
@@ -47,6 +47,17 @@ impl Last {
             number,
             status: Some(status),
             tn,
+        }
+    }
+
+    /// What stands of a session that goes on behind a number.
+    pub(crate) fn behind(&self, number: u64) -> Last
+        ensures { result ≡ behind self.now number }
+    {
+        Last {
+            number,
+            status: None,
+            tn: self.tn,
         }
     }
 

@@ -7,7 +7,7 @@ use Rattle.std.specs.FinMap as finite
 use Rattle.std.specs.Ordering.{nat_cmp}
 use Rattle.occ_types.specs.declared.limits.TheConstants.{MAX_NUMBER}
 use Rattle.occ_model.specs.Log.{LogRow, Back, Base, last_folded}
-use Rattle.occ_model.specs.World.{Settings, World, resumed, has_session, latest}
+use Rattle.occ_model.specs.World.{Settings, World, empty_base, opened, resumed, has_session, latest}
 use Rattle.occ_model.specs.Event.{BackUp, BackedUp, EndedBack}
 use Rattle.occ_model.specs.Poll.{Poll, poll, outcome, row_numbered, settled_number}
 use Rattle.occ_model.specs.EndLaws.{BacksUp, Fades}
@@ -19,31 +19,36 @@ use Rattle.occ_model.proofs.InSchema.{same_settings}
 use Rattle.occ_model.proofs.EndsShown.{steps_show}
 use Rattle.occ_board.specs.declared.words.Last.{Last}
 use Rattle.occ_board.specs.declared.words.Words.{Words}
-use Rattle.occ_board.specs.Words.{HasSession, blank, last_of, counted, placed, over}
+use Rattle.occ_board.specs.Words.{HasSession, continued, last_of, counted, placed, over}
 use Rattle.occ_published.specs.Published.{IsShown, Published, NumbersFit, BackUpMayBeStored}
-use Rattle.occ_published.specs.Laws.{BegunIsPublished, StepsBetweenStayPublished, CommitsAreStored, BackUpsAreStored, SerialBackUpsAreStored, CausesOfRowsMayBeTold, CausesKeptMayBeTold}
-use Rattle.occ_published.proofs.Words.{placed_sessions, placed_own, placed_other, blank_shows, blank_length}
+use Rattle.occ_published.specs.Laws.{BegunIsPublished, OpenedIsPublished, StepsBetweenStayPublished, CommitsAreStored, BackUpsAreStored, SerialBackUpsAreStored, CausesOfRowsMayBeTold, CausesKeptMayBeTold}
+use Rattle.occ_published.proofs.Words.{placed_sessions, placed_own, placed_other, continued_length, continued_shows, continued_blank}
 use Rattle.occ_published.proofs.Steps.{some_is, exists, tells_none, fades, at_session, number_ends, commits, settled_most}
 
 -- ---- a store that begins
 
-begun_poll : (settings : Settings) (base : Base) → base.last ≡ finite.empty → (session : ℕ) → poll (resumed settings base 0) session ≡ record { counter = 0; settled = 0; ended = None; finished = None }
-begun_poll settings base anew session = λ i. record { counter = 0; settled = none i; ended = None; finished = None }
+begun_poll : (settings : Settings) (base : Base) (counter session : ℕ)
+    → poll (resumed settings base counter) session ≡ record { counter = counter; settled = last_folded base session; ended = None; finished = None }
+begun_poll settings base counter session = λ i. record { counter = counter; settled = number i; ended = None; finished = None }
   where
-    number : last_folded base session ≡ 0
-    number = ap (λ o. unwrap_or o 0) (ap (λ last. finite.get last session) anew ∙ finite.get-empty nat_cmp session)
-
-    none : settled_number (resumed settings base 0) session ≡ 0
-    none = ap (λ b. if b then last_folded base session - 1 else last_folded base session) (sets.contains-empty nat_cmp session) ∙ number
+    number : settled_number (resumed settings base counter) session ≡ last_folded base session
+    number = ap (λ b. if b then last_folded base session - 1 else last_folded base session) (sets.contains-empty nat_cmp session)
 
 pub begun_is_published : BegunIsPublished
-begun_is_published settings base anew = record {
-  sessions = blank_length settings.sessions;
+begun_is_published settings base counter = record {
+  sessions = continued_length counter (last_folded base) settings.sessions;
   counter = refl;
-  shown = λ session has. subst (λ p. IsShown p (last_of (blank settings.sessions) session)) (sym (begun_poll settings base anew session))
-      (subst (IsShown (record { counter = 0; settled = 0; ended = None; finished = None })) (sym (blank_shows settings.sessions (session - 1)))
+  shown = λ session has. subst (λ p. IsShown p (last_of (continued counter (last_folded base) settings.sessions) session)) (sym (begun_poll settings base counter session))
+      (subst (IsShown (record { counter = counter; settled = last_folded base session; ended = None; finished = None })) (sym (continued_shows counter (last_folded base) settings.sessions session has))
       (record { number = refl; status = λ verdict is. cc; tn = λ number is. cc }));
 }
+
+-- an empty base has no number
+pub opened_is_published : OpenedIsPublished
+opened_is_published settings = subst (Published (opened settings)) (continued_blank (last_folded empty_base) settings.sessions none) (begun_is_published settings empty_base 0)
+  where
+    none : (session : ℕ) → last_folded empty_base session ≡ 0
+    none session = ap (λ o. unwrap_or o 0) (finite.get-empty nat_cmp session)
 
 -- ---- a step that ends nothing
 

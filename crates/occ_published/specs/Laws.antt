@@ -1,8 +1,7 @@
 -- What keeps a store shown on its board. Each law is the contract of a function of this crate (our own choice).
 use Rattle.std.specs.Prelude.{◌≡◌, ℕ, ◌+◌, false, Some}
-use Rattle.occ_model.specs.Log.{LogRow, Back, Base}
-use Rattle.std.specs.FinMap as finite
-use Rattle.occ_model.specs.World.{Settings, World, resumed}
+use Rattle.occ_model.specs.Log.{LogRow, Back, Base, last_folded}
+use Rattle.occ_model.specs.World.{Settings, World, opened, resumed}
 use Rattle.occ_model.specs.Event.{Event, Reply, BackUp, BackedUp, EndedBack}
 use Rattle.occ_model.specs.Step.{Step}
 use Rattle.occ_model.specs.Invariant.{Invariant}
@@ -10,12 +9,16 @@ use Rattle.occ_model.specs.Poll.{row_numbered}
 use Rattle.occ_model.specs.EndLaws.{session_of, IsToBackUp}
 use Rattle.occ_model.specs.declared.verdict.Cause.{Cause}
 use Rattle.occ_board.specs.declared.words.Words.{Words}
-use Rattle.occ_board.specs.Words.{blank, last_of}
+use Rattle.occ_board.specs.Words.{blank, continued, last_of}
 use Rattle.occ_published.specs.Published.{Published, ends, number_told, NumbersFit, CommitMayBeStored, BackUpMayBeStored, MayTell}
 
--- A new board shows a store that was just opened, and one that goes on from a base without numbers, with the counter at 0.
+-- A board shows a store that goes on from a base, whatever its counter, where it has this counter and each session behind its last number.
 abbrev pub BegunIsPublished : Type 0
-BegunIsPublished = (settings : Settings) (base : Base) → base.last ≡ finite.empty → Published (resumed settings base 0) (blank settings.sessions)
+BegunIsPublished = (settings : Settings) (base : Base) (counter : ℕ) → Published (resumed settings base counter) (continued counter (last_folded base) settings.sessions)
+
+-- A new board shows a store that was just opened.
+abbrev pub OpenedIsPublished : Type 0
+OpenedIsPublished = (settings : Settings) → Published (opened settings) (blank settings.sessions)
 
 -- A step that ends nothing leaves a store shown by the words that stand, be it refused or a checkpoint.
 abbrev pub StepsBetweenStayPublished : Type 0

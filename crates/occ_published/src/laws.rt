@@ -1,11 +1,16 @@
 //! The laws. Each function computes nothing: its contract is the law, and the check proves it.
 
-ghost use Rattle.occ_published.specs.Laws.{BegunIsPublished, StepsBetweenStayPublished, CommitsAreStored, BackUpsAreStored, SerialBackUpsAreStored, CausesOfRowsMayBeTold, CausesKeptMayBeTold};
+ghost use Rattle.occ_published.specs.Laws.{BegunIsPublished, OpenedIsPublished, StepsBetweenStayPublished, CommitsAreStored, BackUpsAreStored, SerialBackUpsAreStored, CausesOfRowsMayBeTold, CausesKeptMayBeTold};
 
-/// A new board shows a store that was just opened, with as many sessions; and one that goes on from a base in which no session has a
-/// number, with the counter at 0.
-pub fn a_new_board_shows_a_store_that_begins()
+/// A board shows a store that goes on from a base, whatever the base and the counter, once the publisher has stored the counter and has
+/// set each session behind its last number.
+pub fn a_board_shows_a_store_that_goes_on()
     ensures { BegunIsPublished }
+{}
+
+/// A new board shows a store that was just opened, with as many sessions.
+pub fn a_new_board_shows_an_empty_store()
+    ensures { OpenedIsPublished }
 {}
 
 /// A step that ends no transaction leaves the store shown by the words that stand: nothing is to be stored after it. It may be refused
