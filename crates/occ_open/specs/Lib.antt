@@ -1,3 +1,4 @@
 pub mod Kept
 pub mod Replies
 pub mod Transactions
+pub mod Pages

@@ -5,9 +5,12 @@
 mod asking;
 mod kept_transactions;
 mod open_transactions;
+mod pages;
+mod paging;
 mod readable;
 mod writing;
 
 pub use kept_transactions::KeptTransaction;
 pub use open_transactions::OpenTransaction;
+pub use pages::Page;
 pub use readable::Readable;

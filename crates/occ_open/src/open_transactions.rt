@@ -10,10 +10,14 @@ ghost use Rattle.occ_sets.specs.Sets.{IsWriteSet};
 ghost use Rattle.occ_model.specs.State.{Found};
 ghost use Rattle.occ_model.specs.Event.{Read, Answered};
 ghost use Rattle.occ_model.specs.Step.{Step};
+ghost use Rattle.occ_model.specs.Paging as pages;
+ghost use Rattle.occ_open.specs.Pages.{paging, first_rest_of, last_rest_of, WantsPage};
 ghost use Rattle.occ_open.specs.Replies.{reading, scanning, forgetting};
 ghost use Rattle.occ_open.specs.Transactions.{IsRefusedBy, begin_fault, begun, none_open, check_written, write_fault, written, WantsRoom, Gets, WantsOwn, Scans, WantsRange, Abandons, open_after, OrStarves};
 
 use crate::asking::{get, scan};
+use crate::pages::Page;
+use crate::paging::{first_page, last_page};
 use crate::readable::Readable;
 use crate::writing::write_copy;
 use occ_sets::{PrivateCopy, RangeRows, RequestWrites, Write};
@@ -215,6 +219,53 @@ impl<A: Allocator + Copy> OpenTransaction<A> {
         match &self.copy {
             None => Err(Fault::NoReadOpen),
             Some(copy) => scan(copy, store, session, &question),
+        }
+    }
+
+    /// The first rows of a range, at most `most` of them, or one where `most` is 0, and where the rows behind them begin. The store is
+    /// asked for the part of the range up to there, which it notes, so that a row that comes in behind it is no conflict. The own
+    /// writes of that part are laid over the rows, so that the page may show more rows than `most`, or fewer.
+    ///
+    /// Refused as `scan_in`, and with `Memory` where rows are left and there is none for the key at which they begin.
+    pub fn scan_first_in<S: Readable<A>>(
+        &self,
+        store: &mut S,
+        session: usize,
+        table: usize,
+        lower: Option<Key<A>>,
+        upper: Option<Key<A>>,
+        most: usize,
+    ) -> Result<Page<A>, Fault>
+        ensures step { let rest = first_rest_of (S.world store.old) table (end_of lower) (end_of upper) most in
+            OrStarves (WantsPage (S.world store.old).settings.schema (pages.first_page table (end_of lower) (end_of upper) rest) rest self.now) (S.world store.old) (paging result) (S.world store.new)
+            (Scans (S.world store.old) session (pages.first_page table (end_of lower) (end_of upper) rest) self.now (paging result) (S.world store.new)) }
+        ensures rest { IfOk result (λ page. end_of page.rest ≡ first_rest_of (S.world store.old) table (end_of lower) (end_of upper) most) }
+    {
+        match &self.copy {
+            None => Err(Fault::NoReadOpen),
+            Some(copy) => first_page(copy, store, session, table, lower, upper, most),
+        }
+    }
+
+    /// The last rows of a range, at most `most` of them, or one where `most` is 0, and where the rows before them end. The own writes of
+    /// that part are laid over the rows, as by `scan_first_in`. Refused as that.
+    pub fn scan_last_in<S: Readable<A>>(
+        &self,
+        store: &mut S,
+        session: usize,
+        table: usize,
+        lower: Option<Key<A>>,
+        upper: Option<Key<A>>,
+        most: usize,
+    ) -> Result<Page<A>, Fault>
+        ensures step { let rest = last_rest_of (S.world store.old) table (end_of lower) (end_of upper) most in
+            OrStarves (WantsPage (S.world store.old).settings.schema (pages.last_page table (end_of lower) (end_of upper) rest) rest self.now) (S.world store.old) (paging result) (S.world store.new)
+            (Scans (S.world store.old) session (pages.last_page table (end_of lower) (end_of upper) rest) self.now (paging result) (S.world store.new)) }
+        ensures rest { IfOk result (λ page. end_of page.rest ≡ last_rest_of (S.world store.old) table (end_of lower) (end_of upper) most) }
+    {
+        match &self.copy {
+            None => Err(Fault::NoReadOpen),
+            Some(copy) => last_page(copy, store, session, table, lower, upper, most),
         }
     }
 

@@ -1,11 +1,13 @@
 //! What a transaction asks of a store in its read phase.
-ghost use Rattle.std.specs.Prelude.{◌≡◌};
+ghost use Rattle.std.specs.Prelude.{◌≡◌, IfOk, IfErr, IsSome};
 ghost use Rattle.std.specs.Option.{option_copied};
 ghost use Rattle.occ_types.specs.PlainData.{key_of, end_of};
 ghost use Rattle.occ_types.specs.Question.{One, Span};
+ghost use Rattle.occ_types.specs.declared.fault.Fault.TheVariants.{Memory};
 ghost use Rattle.occ_model.specs.World.{World};
 ghost use Rattle.occ_model.specs.Event.{Read, Forget};
 ghost use Rattle.occ_model.specs.Step.{Step};
+ghost use Rattle.occ_open.specs.Pages.{first_rest_of, last_rest_of};
 ghost use Rattle.occ_open.specs.Replies.{reading, scanning, copying, forgetting};
 
 use occ_sets::RangeRows;
@@ -56,6 +58,30 @@ pub trait Readable<A: Allocator> {
         upper: Option<&Key<A>>,
     ) -> Result<Vec<(Key<A>, Row<A>), A>, Fault>
         ensures { Step (world self.old) (Read session number start (Span table (end_of (option_copied lower.entry)) (end_of (option_copied upper.entry)))) (copying result) (world self.new) };
+
+    /// Where the rows behind the first page of a range begin, of at most `most` rows, or one where `most` is 0; none where no row is
+    /// left, or the range doesn't fit the schema. It notes nothing. Refused with `Memory` where rows are left and there is none for the
+    /// key.
+    fn first_rest(
+        &self,
+        table: usize,
+        lower: Option<&Key<A>>,
+        upper: Option<&Key<A>>,
+        most: usize,
+    ) -> Result<Option<Key<A>>, Fault>
+        ensures rest { IfOk result (λ rest. end_of rest ≡ first_rest_of (world self.now) table (end_of (option_copied lower.entry)) (end_of (option_copied upper.entry)) most) }
+        ensures memory { IfErr result (λ fault. (fault ≡ Memory) × IsSome (first_rest_of (world self.now) table (end_of (option_copied lower.entry)) (end_of (option_copied upper.entry)) most)) };
+
+    /// Where the rows before the last page of a range end. None and refused as `first_rest`.
+    fn last_rest(
+        &self,
+        table: usize,
+        lower: Option<&Key<A>>,
+        upper: Option<&Key<A>>,
+        most: usize,
+    ) -> Result<Option<Key<A>>, Fault>
+        ensures rest { IfOk result (λ rest. end_of rest ≡ last_rest_of (world self.now) table (end_of (option_copied lower.entry)) (end_of (option_copied upper.entry)) most) }
+        ensures memory { IfErr result (λ fault. (fault ≡ Memory) × IsSome (last_rest_of (world self.now) table (end_of (option_copied lower.entry)) (end_of (option_copied upper.entry)) most)) };
 
     /// Forgets what a session has read under a number, and answers whether it has read anything. It takes no memory.
     fn forget(&mut self, session: usize, number: u64) -> Result<bool, Fault>
