@@ -145,10 +145,10 @@ in_range slots (row ∷ rows) held = (
   in_range slots rows held.1,
 )
 
-abbrev count : List LogRow → ℕ
+abbrev pub count : List LogRow → ℕ
 count log = length (filter (λ row. is_active row.standing) log)
 
-count-cons : (row : LogRow) (rows : List LogRow) → count (row ∷ rows) ≡ cond (is_active row.standing) 1 0 + count rows
+pub count-cons : (row : LogRow) (rows : List LogRow) → count (row ∷ rows) ≡ cond (is_active row.standing) 1 0 + count rows
 count-cons row rows = at (is_active row.standing)
   where
     at : (b : Bool) → length (if b then row ∷ filter (λ row. is_active row.standing) rows else filter (λ row. is_active row.standing) rows) ≡ cond b 1 0 + count rows

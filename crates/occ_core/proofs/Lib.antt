@@ -20,3 +20,6 @@ pub mod Performing
 pub mod OpenRows
 pub mod OpenCases
 pub mod Resumptions
+pub mod Tallies
+pub mod Figures
+pub mod PageReads

@@ -247,4 +247,5 @@ module _ {Z : Type 0} where
     log_match = is.log_match;
     base_match = is.base_match;
     placed = is.placed;
+    counted = is.counted;
   }

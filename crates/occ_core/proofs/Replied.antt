@@ -6,6 +6,7 @@ use Rattle.occ_model.specs.World.{World}
 use Rattle.occ_model.specs.Event.{Event, Reply, Item, Refused}
 use Rattle.occ_model.specs.Step.{Step, Run}
 use Rattle.occ_core.specs.Core.{Seen, Transition}
+use Rattle.occ_core.specs.Totals.{moved}
 use Rattle.occ_model.specs.Replies.{replied}
 use Rattle.occ_core.specs.Runs.{event_of, reply_of, handed_in, handed_back, owed, IsPutOff, Answers, Runs}
 use Rattle.occ_core.specs.declared.steps.Step as code_step
@@ -21,13 +22,14 @@ replied_err answer old new event called fault is step = subst (λ r. Step old ev
 
 module _ {Z : Type 0} where
   -- a reply that is the model's
-  pub answered : (old : Seen) (step : code_step.Step Z) (reply : code_reply.Reply Z) (said : Reply) (new : Seen) → reply_of reply ≡ said → Transition old (event_of step) said new → handed_back reply ≡ owed step (reply_of reply) → Answers old step reply new
-  answered old step reply said new is stepped back = (inl (subst (λ r. Transition old (event_of step) r new) (sym is) stepped), back)
+  pub answered : (old : Seen) (step : code_step.Step Z) (reply : code_reply.Reply Z) (said : Reply) (new : Seen) → reply_of reply ≡ said → Transition old (event_of step) said new → handed_back reply ≡ owed step (reply_of reply)
+      → new.totals ≡ moved old.totals said → Answers old step reply new
+  answered old step reply said new is stepped back counts = (inl (subst (λ r. Transition old (event_of step) r new) (sym is) stepped), back, subst (λ r. new.totals ≡ moved old.totals r) (sym is) counts)
 
   -- and so where the step is known by another name
   pub answered_as : (old : Seen) (step named : code_step.Step Z) (reply : code_reply.Reply Z) (said : Reply) (new : Seen) → step ≡ named → reply_of reply ≡ said → Transition old (event_of named) said new
-      → handed_back reply ≡ owed named (reply_of reply) → Answers old step reply new
-  answered_as old step named reply said new name is stepped back = subst (λ s. Answers old s reply new) (sym name) (answered old named reply said new is stepped back)
+      → handed_back reply ≡ owed named (reply_of reply) → new.totals ≡ moved old.totals said → Answers old step reply new
+  answered_as old step named reply said new name is stepped back counts = subst (λ s. Answers old s reply new) (sym name) (answered old named reply said new is stepped back counts)
 
   -- a refusal that ends a step early
   told_err : (old : Seen) (step : code_step.Step Z) (new : Seen) (result : Result (code_reply.Reply Z) (code_reply.Reply Z)) (reply : code_reply.Reply Z) → result ≡ Err reply → Answers old step reply new
@@ -36,15 +38,15 @@ module _ {Z : Type 0} where
 
   -- of a step that is handed no item
   pub refused_as : (old : Seen) (step named : code_step.Step Z) (fault : Fault) (new : Seen) (result : Result (code_reply.Reply Z) (code_reply.Reply Z)) (reply : code_reply.Reply Z) → step ≡ named → result ≡ Err reply → reply ≡ replies.Refused fault
-      → Transition old (event_of named) (Refused fault) new → handed_in named ≡ None → MatchResult result (λ reply. Answers old step reply new) (λ refusal. Answers old step refusal new)
-  refused_as old step named fault new result reply name is said stepped none =
-      told_err old step new result reply is (answered_as old step named reply (Refused fault) new name (ap reply_of said) stepped (subst (λ r. handed_back r ≡ owed named (reply_of r)) (sym said) (sym none)))
+      → Transition old (event_of named) (Refused fault) new → new.totals ≡ old.totals → handed_in named ≡ None → MatchResult result (λ reply. Answers old step reply new) (λ refusal. Answers old step refusal new)
+  refused_as old step named fault new result reply name is said stepped counts none =
+      told_err old step new result reply is (answered_as old step named reply (Refused fault) new name (ap reply_of said) stepped (subst (λ r. handed_back r ≡ owed named (reply_of r)) (sym said) (sym none)) counts)
 
   -- of one that hands its item back
   pub refused_back : (old : Seen) (step named : code_step.Step Z) (item : Item) (refused : refusals.Refused (items.Item Z)) (new : Seen) (result : Result (code_reply.Reply Z) (code_reply.Reply Z)) (reply : code_reply.Reply Z) → step ≡ named → result ≡ Err reply → reply ≡ replies.RefusedItem refused
-      → Transition old (event_of named) (Refused refused.fault) new → item_of refused.value ≡ item → handed_in named ≡ Some item → MatchResult result (λ reply. Answers old step reply new) (λ refusal. Answers old step refusal new)
-  refused_back old step named item refused new result reply name is said stepped back given =
-      told_err old step new result reply is (answered_as old step named reply (Refused refused.fault) new name (ap reply_of said) stepped (subst (λ r. handed_back r ≡ owed named (reply_of r)) (sym said) (ap Some back ∙ sym given)))
+      → Transition old (event_of named) (Refused refused.fault) new → new.totals ≡ old.totals → item_of refused.value ≡ item → handed_in named ≡ Some item → MatchResult result (λ reply. Answers old step reply new) (λ refusal. Answers old step refusal new)
+  refused_back old step named item refused new result reply name is said stepped counts back given =
+      told_err old step new result reply is (answered_as old step named reply (Refused refused.fault) new name (ap reply_of said) stepped (subst (λ r. handed_back r ≡ owed named (reply_of r)) (sym said) (ap Some back ∙ sym given)) counts)
 
   -- one step more
   pub runs_more : (old mid new : Seen) (done : List (code_step.Step Z)) (replies : List (code_reply.Reply Z)) (step : code_step.Step Z) (reply : code_reply.Reply Z)

@@ -10,11 +10,14 @@ use Rattle.occ_book.specs.Base.{BaseContent}
 use Rattle.occ_log.specs.SessionStates.{HoldsArePlaced}
 use Rattle.occ_log.specs.Logs.{IsLogOf}
 use Rattle.occ_core.specs.CoreParts.{Parts, world_of, AreSound}
+use Rattle.occ_core.specs.Totals.{AddUp}
+use Rattle.occ_core.specs.declared.totals.Totals.{Totals}
 use Rattle.occ_core.specs.declared.core_state.Core.TheInside.{Inside}
 
--- what clauses see of a core: its world
+-- what clauses see of a core: its world, and the totals of what ended in it
 pub record Seen : Type 0 where
   pub world : World
+  pub totals : Totals
 
 -- What each call that moves a core does to it: an event happens and gets this reply, and the world makes that step of the model.
 abbrev pub Transition : Seen → Event → Reply → Seen → Type 0
@@ -45,7 +48,7 @@ module _ {Z : Type 0} where
   }
 
   abbrev pub seen_of : Inside Z → Seen
-  seen_of c = record { world = world_of (parts_of c) }
+  seen_of c = record { world = world_of (parts_of c); totals = c.totals }
 
   -- what holds of the fields of every core
   pub record IsCore (c : Inside Z) : Type 0 where
@@ -55,3 +58,4 @@ module _ {Z : Type 0} where
     pub log_match : IsLogOf c.log c.base.base.place (length c.sessions)
     pub base_match : IsBaseOf c.base (length c.schema) (length c.sessions)
     pub placed : HoldsArePlaced c.tables.tables c.sessions
+    pub counted : AddUp c.totals (world_of (parts_of c))

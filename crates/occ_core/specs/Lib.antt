@@ -1,4 +1,6 @@
 pub mod CoreParts
+pub mod Totals
+pub mod Figures
 pub mod Core
 pub mod Replies
 pub mod Reads

@@ -7,6 +7,7 @@ use Rattle.occ_model.specs.State.{Found, Rows}
 use Rattle.occ_model.specs.Event.{Event, Item, Alone, Read, Forget, Enter, Decide, WriteOne, Finish, BackUp, SerialEnd, RunAlone, Checkpoint, Reply, Refused, Answered, Forgotten, Decided, Wrote, NoMore, Finished, BackedUp, Folded}
 use Rattle.occ_model.specs.Refusal.{refusal, has_writes_left}
 use Rattle.occ_core.specs.Core.{Seen, Transition}
+use Rattle.occ_core.specs.Totals.{moved}
 use Rattle.occ_core.specs.Replies.{outcome_of}
 use Rattle.occ_sets.specs.Operations.{ops_of}
 use Rattle.occ_queue.specs.Items.{item_of}
@@ -70,6 +71,7 @@ module _ {Z : Type 0} where
   -- what a step is replied, and what it makes of the core
   abbrev pub Answers : Seen → code_step.Step Z → code_reply.Reply Z → Seen → Type 0
   Answers old step reply new = (Transition old (event_of step) (reply_of reply) new ⊎ IsPutOff old step reply new) × (handed_back reply ≡ owed step (reply_of reply))
+      × (new.totals ≡ moved old.totals (reply_of reply))
 
   -- the steps, one after another, each with its reply
   abbrev pub Runs : Seen → List (code_step.Step Z) → List (code_reply.Reply Z) → Seen → Type 0

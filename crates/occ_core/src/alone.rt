@@ -12,6 +12,7 @@ ghost use Rattle.occ_log.specs.Logs.{row_at};
 ghost use Rattle.occ_model.specs.Replies.{replied, replied_back};
 ghost use Rattle.occ_core.specs.Replies.{ran, outcome_of, IsRunAlone};
 ghost use Rattle.occ_core.specs.RunningAlone.{read_open_fault, count_fault, turn_to_run, room_to_run};
+ghost use Rattle.occ_core.specs.Totals.{moved};
 ghost use Rattle.occ_queue.specs.Items.{item_of};
 
 use crate::actives::count_active;
@@ -21,6 +22,7 @@ use crate::entry_checks::{check_log, check_numbers, check_spare};
 use crate::outcomes::Outcome;
 use crate::performed::Performed;
 use crate::serial::check_quiet;
+use crate::totals::OneStep;
 use occ_book::Marks;
 use occ_log::{Log, ReadPhases, Sessions, Transaction};
 use occ_queue::Item;
@@ -50,6 +52,7 @@ impl<A: Allocator + Copy> Core<A> {
         operations: Vec<Op<A>, A>,
     ) -> Result<(u64, Vec<Answer<A>, A>), Refused<Vec<Op<A>, A>>>
         ensures step { Transition self.old (RunAlone session number (ops_of operations.items)) (replied_back ran result) self.new }
+        ensures totals { self.new.totals ≡ moved self.old.totals (replied_back ran result) }
         ensures handed_back { IfErr result (λ refused. refused.value ≡ operations) }
     {
         match self.run(session, number, operations.as_slice()) {
@@ -69,6 +72,7 @@ impl<A: Allocator + Copy> Core<A> {
         operations: Vec<Op<A>, A>,
     ) -> Result<Outcome<A>, Refused<Item<A>>>
         ensures step { Transition self.old (RunAlone session number (ops_of operations.items)) (replied_back outcome_of result) self.new }
+        ensures totals { self.new.totals ≡ moved self.old.totals (replied_back outcome_of result) }
         ensures outcome { IfOk result IsRunAlone }
         ensures handed_back { IfErr result (λ refused. item_of refused.value ≡ Alone number (ops_of operations.items)) }
     {
@@ -91,7 +95,8 @@ impl<A: Allocator + Copy> Core<A> {
         number: u64,
         operations: &[Op<A>],
     ) -> Result<(u64, Vec<Answer<A>, A>), Fault>
-        ensures { Transition self.old (RunAlone session number (ops_of operations.now)) (replied ran result) self.new }
+        ensures step { Transition self.old (RunAlone session number (ops_of operations.now)) (replied ran result) self.new }
+        ensures totals { self.new.totals ≡ moved self.old.totals (replied ran result) }
     {
         self.law();
         self.check_alone(session, number, operations)?;
@@ -102,7 +107,7 @@ impl<A: Allocator + Copy> Core<A> {
             number,
             start: self.tnc(),
         };
-        let tn = self.commit_at_once(transaction, done.reads, done.writes)?;
+        let tn = self.commit_at_once(transaction, done.reads, done.writes, OneStep::RunAlone)?;
         Ok((tn, done.answers))
     }
 

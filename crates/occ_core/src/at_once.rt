@@ -5,11 +5,13 @@ ghost use Rattle.occ_model.specs.Content.{IsLawful};
 ghost use Rattle.occ_model.specs.State.{apply};
 ghost use Rattle.occ_model.specs.Step.{entering};
 ghost use Rattle.occ_core.specs.AtOnce.{committed, backed, MayEnd};
+ghost use Rattle.occ_core.specs.Totals.{with_one_step, with_cause};
 ghost use Rattle.occ_log.specs.Logs.{HasRoom};
 ghost use Rattle.occ_log.specs.Rows.{log_row_of, standing_of};
 ghost use Rattle.occ_sets.specs.Sets.{ArePlaced};
 
 use crate::core_state::Core;
+use crate::totals::OneStep;
 use occ_book::{LogRow, Standing, Tables};
 use occ_case::{Cause, OpenCase};
 use occ_log::{Log, Sessions, Transaction};
@@ -18,20 +20,22 @@ use occ_types::Fault;
 use std::alloc::Allocator;
 
 impl<A: Allocator + Copy> Core<A> {
-    // Commits a transaction at once that has read this and writes that: its row comes into the log, its writes are done, and it takes the next
-    // transaction number, which is answered. Its read phase is over, and its session is free. Refused with `Memory` alone, and nothing moves
+    // Commits a transaction at once, by this event, that has read this and writes that: its row comes into the log, its writes are done, and it
+    // takes the next transaction number, which is answered. Its read phase is over, and its session is free. It is counted. Refused with `Memory` alone, and nothing moves
     // then.
     pub(crate) fn commit_at_once(
         &mut self,
         transaction: Transaction,
         reads: ReadSet<A>,
         writes: WriteSet<A>,
+        by: OneStep,
     ) -> Result<u64, Fault>
         requires lawful { IsLawful (committed self.old.world transaction.session transaction.number transaction.start reads writes) }
         requires room { MayEnd self.old.world transaction.session transaction.number }
         requires placed { ArePlaced (length self.old.world.settings.schema) writes }
         ensures number { IfOk result (λ number. number ≡ self.old.world.counter + 1) }
         ensures ok { OnOk result (self.new.world ≡ committed self.old.world transaction.session transaction.number transaction.start reads writes) }
+        ensures totals { OnOk result (self.new.totals ≡ with_one_step self.old.totals by) }
         ensures err { OnErr result (self.new ≡ self.old) }
         ensures memory { IsOkUnless result Memory }
     {
@@ -42,10 +46,11 @@ impl<A: Allocator + Copy> Core<A> {
         self.counter += 1;
         settle(&mut self.log, &mut self.sessions, row);
         self.window.advance(shared);
+        self.totals.count_one_step(by);
         Ok(self.counter)
     }
 
-    // Backs a transaction up at once: its row comes into the log, its read phase is over, and its session is free. Refused with `Memory` alone,
+    // Backs a transaction up at once: its row comes into the log, its read phase is over, its session is free, and it is counted. Refused with `Memory` alone,
     // and nothing moves then.
     pub(crate) fn back_up_at_once(
         &mut self,
@@ -57,6 +62,7 @@ impl<A: Allocator + Copy> Core<A> {
         requires lawful { IsLawful (backed self.old.world transaction.session transaction.number transaction.start reads writes.now cause) }
         requires room { MayEnd self.old.world transaction.session transaction.number }
         ensures ok { OnOk result (self.new.world ≡ backed self.old.world transaction.session transaction.number transaction.start reads writes.now cause) }
+        ensures totals { OnOk result (self.new.totals ≡ with_cause self.old.totals cause) }
         ensures err { OnErr result (self.new ≡ self.old) }
         ensures memory { IsOkUnless result Memory }
     {
@@ -65,6 +71,7 @@ impl<A: Allocator + Copy> Core<A> {
         self.log.reserve(transaction.session)?;
         self.phases.discard(transaction.session, transaction.number);
         settle(&mut self.log, &mut self.sessions, row);
+        self.totals.count_cause(cause);
         Ok(())
     }
 }

@@ -36,7 +36,8 @@ impl<A: Allocator + Copy> Core<A> {
     /// The time is that of a search for each write of the folded rows, and of a walk over the sessions and, where anything is folded, over
     /// the log. No row of the tables is looked at that was not written since.
     pub fn checkpoint(&mut self) -> Result<usize, Fault>
-        ensures { Transition self.old Checkpoint (replied Folded result) self.new }
+        ensures step { Transition self.old Checkpoint (replied Folded result) self.new }
+        ensures totals { self.new.totals ≡ self.old.totals }
     {
         if has_open(&self.sessions, &self.log) {
             return Err(Fault::StoreBusy);

@@ -8,8 +8,10 @@ ghost use Rattle.occ_model.specs.Content.{IsInSchema};
 ghost use Rattle.occ_model.specs.Log.{Audited};
 ghost use Rattle.occ_model.specs.World.{opened, low, empty_base, active_count, has_session, last_entered, next_place};
 ghost use Rattle.occ_log.specs.Logs.{IsBegun};
+ghost use Rattle.occ_core.specs.Totals.{no_totals, AddUp};
 ghost use Rattle.occ_log.specs.SessionStates.{idle_slots};
 
+use crate::totals::Totals;
 use occ_book::{Base, Marks, Tables};
 use occ_log::{Log, ReadPhases, Sessions, Window};
 use occ_types::{Fault, Refused, Schema};
@@ -29,6 +31,7 @@ pub struct Core<A: Allocator> {
     pub(crate) sessions: Sessions<A>,
     pub(crate) window: Window<A>,
     pub(crate) marks: Marks<A>,
+    pub(crate) totals: Totals,
 }
 
 impl<A: Allocator> Model for Core<A> {
@@ -57,6 +60,7 @@ impl<A: Allocator + Copy> Core<A> {
         keep: usize,
     ) -> Result<Core<A>, Refused<Schema<A>>>
         ensures opened { IfOk result (λ core. core.world ≡ opened (record { schema = schema; sessions = sessions; keep = keep })) }
+        ensures totals { IfOk result (λ core. core.totals ≡ no_totals 0) }
         ensures handed_back { IfErr result (λ refused. (refused.value ≡ schema) × (refused.fault ≡ Memory)) }
     {
         let count = schema.tables().len();
@@ -80,6 +84,7 @@ impl<A: Allocator + Copy> Core<A> {
             sessions: states,
             window,
             marks,
+            totals: Totals::none(0),
         })
     }
 }
@@ -88,7 +93,7 @@ impl<A: Allocator> Core<A> {
     /// What holds of every core, between any two of its calls, for a caller to rest on: its world has the invariant that each step
     /// keeps, so its log and tables pass the audit; what stands in it fits its tables and sessions; each active transaction can still
     /// take a number; and the log, its places, and the numbers of each session, those that were folded too, are within their limits. A
-    /// log that begins at the place 0 was never folded. It computes nothing.
+    /// log that begins at the place 0 was never folded. The totals add up. It computes nothing.
     pub fn law(&self)
         ensures invariant { Invariant self.now.world }
         ensures content { IsInSchema self.now.world }
@@ -99,6 +104,7 @@ impl<A: Allocator> Core<A> {
         ensures places { next_place self.now.world < 2 ^ 64 }
         ensures begins { self.now.world.base.place ≡ 0 → self.now.world.base ≡ empty_base }
         ensures folded { (session number : ℕ) → finite.get self.now.world.base.last session ≡ Some number → number ≤ MAX_NUMBER }
+        ensures totals { AddUp self.now.totals self.now.world }
     {
         // A core is opened by a look at its fields, and what its type says is known then.
         let _opened = self.counter;

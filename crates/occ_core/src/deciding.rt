@@ -9,6 +9,7 @@ ghost use Rattle.occ_log.specs.Rows.{log_row_of, standing_of};
 ghost use Rattle.occ_core.specs.Core.{Transition};
 ghost use Rattle.occ_core.specs.Folding.{under_way_fault, verdict_on};
 ghost use Rattle.occ_core.specs.OpenCases.{open_case, IsRight};
+ghost use Rattle.occ_core.specs.Totals.{moved};
 ghost use Rattle.occ_model.specs.Replies.{replied};
 
 use crate::core_state::Core;
@@ -22,13 +23,15 @@ impl<A: Allocator> Core<A> {
     /// Decides the transaction that the session has entered: by the verdict on its case, it commits or is to be backed up. It takes no
     /// memory. Refused with the first of these that holds: `NoSession`; `NothingEntered`; `AlreadyDecided`.
     pub fn decide(&mut self, session: usize) -> Result<Verdict, Fault>
-        ensures { Transition self.old (Decide session) (replied Decided result) self.new }
+        ensures step { Transition self.old (Decide session) (replied Decided result) self.new }
+        ensures totals { self.new.totals ≡ moved self.old.totals (replied Decided result) }
     {
         let (place, row) = under_way(&self.sessions, &self.log, session)?;
         let Some(verdict) = judged(row) else {
             return Err(Fault::AlreadyDecided);
         };
         self.log.stand(place, decided(verdict));
+        self.totals.count_verdict(verdict);
         Ok(verdict)
     }
 
@@ -36,13 +39,15 @@ impl<A: Allocator> Core<A> {
     /// Refused as `decide` is, in the same order. It takes no memory.
     pub fn decide_as(&mut self, session: usize, reached: Verdict) -> Result<Verdict, Fault>
         requires right { IsRight self.old.world session reached }
-        ensures { Transition self.old (Decide session) (replied Decided result) self.new }
+        ensures step { Transition self.old (Decide session) (replied Decided result) self.new }
+        ensures totals { self.new.totals ≡ moved self.old.totals (replied Decided result) }
     {
         let (place, row) = under_way(&self.sessions, &self.log, session)?;
         let Standing::Open(_open) = &row.standing else {
             return Err(Fault::AlreadyDecided);
         };
         self.log.stand(place, decided(reached));
+        self.totals.count_verdict(reached);
         Ok(reached)
     }
 

@@ -6,6 +6,7 @@ ghost use Rattle.occ_log.specs.SessionStates.{back_fault, finish_fault};
 ghost use Rattle.occ_log.specs.Rows.{standing_of};
 ghost use Rattle.occ_core.specs.Core.{Transition};
 ghost use Rattle.occ_core.specs.Folding.{back_fault_of};
+ghost use Rattle.occ_core.specs.Totals.{moved};
 ghost use Rattle.occ_model.specs.Replies.{replied};
 
 use crate::core_state::Core;
@@ -23,7 +24,8 @@ impl<A: Allocator> Core<A> {
     /// Refused with the first of these that holds: `NoSession`; `NothingEntered`; `NotDecided`; `AlreadyDecided` where it is to be backed
     /// up; `WritesLeft`.
     pub fn finish(&mut self, session: usize) -> Result<u64, Fault>
-        ensures { Transition self.old (Finish session) (replied Finished result) self.new }
+        ensures step { Transition self.old (Finish session) (replied Finished result) self.new }
+        ensures totals { self.new.totals ≡ moved self.old.totals (replied Finished result) }
     {
         let (place, row) = under_way(&self.sessions, &self.log, session)?;
         if let Some(fault) = finish_fault(&row.standing, row.writes.len()) {
@@ -33,6 +35,7 @@ impl<A: Allocator> Core<A> {
         self.counter += 1;
         self.log.stand(place, Standing::Done(self.counter));
         self.window.advance(held.writes);
+        self.totals.count_commit();
         Ok(self.counter)
     }
 
@@ -41,7 +44,8 @@ impl<A: Allocator> Core<A> {
     ///
     /// Refused with the first of these that holds: `NoSession`; `NothingEntered`; `NotDecided`; `AlreadyDecided` where it commits.
     pub fn back_up(&mut self, session: usize) -> Result<u64, Fault>
-        ensures { Transition self.old (BackUp session) (replied BackedUp result) self.new }
+        ensures step { Transition self.old (BackUp session) (replied BackedUp result) self.new }
+        ensures totals { self.new.totals ≡ self.old.totals }
     {
         let place = row_under_way(&self.sessions, session)?;
         if let Some(fault) = back_fault_at(&self.log, place) {

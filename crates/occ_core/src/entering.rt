@@ -12,6 +12,7 @@ ghost use Rattle.occ_log.specs.Rows.{log_row_of};
 ghost use Rattle.occ_core.specs.Core.{Transition};
 ghost use Rattle.occ_model.specs.Replies.{replied, replied_back};
 ghost use Rattle.occ_core.specs.Replies.{outcome_of, CanEnter};
+ghost use Rattle.occ_core.specs.Totals.{moved};
 ghost use Rattle.occ_queue.specs.Items.{item_of};
 
 use crate::actives::with_active;
@@ -42,6 +43,7 @@ impl<A: Allocator + Copy> Core<A> {
     ///   or `TooLong` of its key, then `WrongColumns`, `WrongKind` or `TooLong` of its row); `LogFull`, `CounterExhausted`, `Memory`.
     pub fn enter(&mut self, session: usize, item: Item<A>) -> Result<Outcome<A>, Refused<Item<A>>>
         ensures step { Transition self.old (Enter session (item_of item)) (replied_back outcome_of result) self.new }
+        ensures totals { self.new.totals ≡ moved self.old.totals (replied_back outcome_of result) }
         ensures outcome { IfOk result (CanEnter (item_of item)) }
         ensures handed_back { IfErr result (λ refused. item_of refused.value ≡ item_of item) }
     {
@@ -83,6 +85,7 @@ impl<A: Allocator + Copy> Core<A> {
         writes: &mut WriteSet<A>,
     ) -> Result<usize, Fault>
         ensures step { Transition self.old (Enter transaction.session (Request transaction.number transaction.start writes.old)) (replied (λ place. Entered place place) result) self.new }
+        ensures totals { self.new.totals ≡ self.old.totals }
         ensures kept { writes.new ≡ writes.old }
     {
         let session = transaction.session;
@@ -168,7 +171,8 @@ impl<A: Allocator + Copy> Core<A> {
 impl<A: Allocator> Core<A> {
     // Enters the closing mark of a session, which takes no memory.
     pub(crate) fn enter_close(&mut self, session: usize, number: u64) -> Result<(), Fault>
-        ensures { Transition self.old (Enter session (Close number)) (replied (λ _. Closed) result) self.new }
+        ensures step { Transition self.old (Enter session (Close number)) (replied (λ _. Closed) result) self.new }
+        ensures totals { self.new.totals ≡ self.old.totals }
     {
         self.check_close(session, number)?;
         self.marks.set(session, number);

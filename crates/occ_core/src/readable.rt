@@ -49,6 +49,26 @@ impl<A: Allocator + Copy> Readable<A> for Core<A> {
         self.scan_apart(session, number, start, table, lower, upper)
     }
 
+    fn first_rest(
+        &self,
+        table: usize,
+        lower: Option<&Key<A>>,
+        upper: Option<&Key<A>>,
+        most: usize,
+    ) -> Result<Option<Key<A>>, Fault> {
+        self.first_rest(table, lower, upper, most)
+    }
+
+    fn last_rest(
+        &self,
+        table: usize,
+        lower: Option<&Key<A>>,
+        upper: Option<&Key<A>>,
+        most: usize,
+    ) -> Result<Option<Key<A>>, Fault> {
+        self.last_rest(table, lower, upper, most)
+    }
+
     fn forget(&mut self, session: usize, number: u64) -> Result<bool, Fault> {
         self.forget(session, number)
     }

@@ -28,7 +28,8 @@ impl<A: Allocator> Core<A> {
     /// Forgets what a session has read under a number, and answers whether it has read anything. The number may then be read under
     /// from another start. Refused with `NoSession` alone. It takes no memory.
     pub fn forget(&mut self, session: usize, number: u64) -> Result<bool, Fault>
-        ensures { Transition self.old (Forget session number) (replied Forgotten result) self.new }
+        ensures step { Transition self.old (Forget session number) (replied Forgotten result) self.new }
+        ensures totals { self.new.totals ≡ self.old.totals }
     {
         check_session(&self.sessions, session)?;
         let phase = self.phases.take(session, number);
@@ -54,7 +55,8 @@ impl<A: Allocator + Copy> Core<A> {
         table: usize,
         key: &Key<A>,
     ) -> Result<Option<Row<A>>, Fault>
-        ensures { Transition self.old (Read session number start (One table (key_of key.now))) (replied (λ row. Answered (Found row)) result) self.new }
+        ensures step { Transition self.old (Read session number start (One table (key_of key.now))) (replied (λ row. Answered (Found row)) result) self.new }
+        ensures totals { self.new.totals ≡ self.old.totals }
     {
         let transaction = Transaction {
             session,
@@ -81,7 +83,8 @@ impl<A: Allocator + Copy> Core<A> {
         lower: Option<&Key<A>>,
         upper: Option<&Key<A>>,
     ) -> Result<RangeRows<A>, Fault>
-        ensures { Transition self.old (Read session number start (Span table (end_of (option_copied lower.entry)) (end_of (option_copied upper.entry)))) (replied (λ rows. Answered (Rows rows)) result) self.new }
+        ensures step { Transition self.old (Read session number start (Span table (end_of (option_copied lower.entry)) (end_of (option_copied upper.entry)))) (replied (λ rows. Answered (Rows rows)) result) self.new }
+        ensures totals { self.new.totals ≡ self.old.totals }
     {
         let transaction = Transaction {
             session,
@@ -104,7 +107,8 @@ impl<A: Allocator + Copy> Core<A> {
         lower: Option<&Key<A>>,
         upper: Option<&Key<A>>,
     ) -> Result<Vec<(Key<A>, Row<A>), A>, Fault>
-        ensures { Transition self.old (Read session number start (Span table (end_of (option_copied lower.entry)) (end_of (option_copied upper.entry)))) (replied (λ rows. Answered (Rows (rows_of rows.items))) result) self.new }
+        ensures step { Transition self.old (Read session number start (Span table (end_of (option_copied lower.entry)) (end_of (option_copied upper.entry)))) (replied (λ rows. Answered (Rows (rows_of rows.items))) result) self.new }
+        ensures totals { self.new.totals ≡ self.old.totals }
     {
         let transaction = Transaction {
             session,

@@ -10,10 +10,12 @@ ghost use Rattle.occ_types.specs.Object as objects;
 ghost use Rattle.occ_model.specs.Content.{IsSession};
 ghost use Rattle.occ_model.specs.World.{resumed};
 ghost use Rattle.occ_log.specs.Logs.{IsBegun};
+ghost use Rattle.occ_core.specs.Totals.{no_totals};
 ghost use Rattle.occ_core.specs.Resuming.{row_fault, rows_fault, table_fault, tables_fault, numbers_fault, front_fault, state_fault, resume_fault, CannotGoOn, Unfolded};
 
 use crate::checkpoint::MAX_PLACE;
 use crate::core_state::Core;
+use crate::totals::Totals;
 use occ_book::{Base, KeyRef, Marks, TableRows, Tables};
 use occ_log::{Log, ReadPhases, Sessions, Window};
 use occ_types::limits::{MAX_COUNTER, MAX_NUMBER};
@@ -43,6 +45,7 @@ impl<A: Allocator + Copy> Core<A> {
         counter: u64,
     ) -> Result<Core<A>, Refused<(Schema<A>, Base<A>)>>
         ensures resumed { IfOk result (λ core. core.world ≡ resumed (record { schema = schema; sessions = sessions; keep = keep }) base.base counter) }
+        ensures totals { IfOk result (λ core. core.totals ≡ no_totals base.base.place) }
         ensures fits { IfOk result (λ _. resume_fault schema sessions base counter ≡ None) }
         ensures fault { IfErr result (λ refused. CannotGoOn schema sessions base counter refused.fault) }
         ensures handed_back { IfErr result (λ refused. refused.value ≡ (schema, base)) }
@@ -66,6 +69,7 @@ impl<A: Allocator + Copy> Core<A> {
             }
         };
         let (tables, states, window, marks, log) = room;
+        let totals = Totals::none(base.place());
         Ok(Core {
             alloc,
             schema,
@@ -77,6 +81,7 @@ impl<A: Allocator + Copy> Core<A> {
             sessions: states,
             window,
             marks,
+            totals,
         })
     }
 }

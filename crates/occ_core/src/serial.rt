@@ -13,6 +13,7 @@ ghost use Rattle.occ_core.specs.Core.{Transition};
 ghost use Rattle.occ_model.specs.Replies.{replied, replied_back};
 ghost use Rattle.occ_core.specs.Replies.{outcome_of, CanEnd};
 ghost use Rattle.occ_log.specs.Logs.{row_at};
+ghost use Rattle.occ_core.specs.Totals.{moved};
 ghost use Rattle.occ_queue.specs.Items.{item_of};
 
 use crate::actives::count_active;
@@ -21,6 +22,7 @@ use crate::entering::{check_turn_to_close, request};
 use crate::entry_checks::{check_room_to_enter, check_spare};
 use crate::outcomes::Outcome;
 use crate::read_checks::check_start;
+use crate::totals::OneStep;
 use occ_book::Marks;
 use occ_case::{Cause, Verdict};
 use occ_log::{Log, ReadPhases, Sessions, Transaction, Window};
@@ -44,6 +46,7 @@ impl<A: Allocator + Copy> Core<A> {
         item: Item<A>,
     ) -> Result<Outcome<A>, Refused<Item<A>>>
         ensures step { Transition self.old (SerialEnd session (item_of item)) (replied_back outcome_of result) self.new }
+        ensures totals { self.new.totals ≡ moved self.old.totals (replied_back outcome_of result) }
         ensures outcome { IfOk result (CanEnd (item_of item)) }
         ensures handed_back { IfErr result (λ refused. item_of refused.value ≡ item_of item) }
     {
@@ -85,6 +88,7 @@ impl<A: Allocator + Copy> Core<A> {
         writes: &mut WriteSet<A>,
     ) -> Result<Outcome<A>, Fault>
         ensures step { Transition self.old (SerialEnd transaction.session (Request transaction.number transaction.start writes.old)) (replied outcome_of result) self.new }
+        ensures totals { self.new.totals ≡ moved self.old.totals (replied outcome_of result) }
         ensures outcome { IfOk result (CanEnd (Request transaction.number transaction.start writes.old)) }
         ensures kept { writes.new ≡ writes.old }
     {
@@ -95,7 +99,7 @@ impl<A: Allocator + Copy> Core<A> {
         match self.tested(transaction, &reads) {
             Verdict::Commit => {
                 let kept = writes.clone()?;
-                let tn = self.commit_at_once(transaction, reads, kept)?;
+                let tn = self.commit_at_once(transaction, reads, kept, OneStep::SerialEnd)?;
                 Ok(Outcome::Committed { tn })
             }
             Verdict::BackUp(cause) => {

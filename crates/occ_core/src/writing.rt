@@ -39,6 +39,7 @@ impl<A: Allocator + Copy> Core<A> {
     /// up; `Memory` where there is none for the row to be put.
     pub fn write_one(&mut self, session: usize) -> Result<SingleWrite, Fault>
         ensures step { Transition self.old (WriteOne session) (replied (wrote self.new.world) result) self.new }
+        ensures totals { self.new.totals ≡ self.old.totals }
         ensures named { (row write : ℕ) → result ≡ Ok (Wrote row write) → is_some (written_in self.new.world row write) ≡ true }
         ensures own { (row write : ℕ) → result ≡ Ok (Wrote row write) → IsNextWrite self.old.world session row write }
     {

@@ -10,13 +10,13 @@ use Rattle.occ_log.proofs.Places.{length-set}
 use Rattle.occ_core.proofs.Placed.{found_in}
 use Rattle.occ_core.proofs.core_state.Core.back_up.Goals as goal
 
-pub returns-in_err-place : goal.returns-in_err-place
-returns-in_err-place g c =
+pub returns-in_err-place-clause-step : goal.returns-in_err-place-clause-step
+returns-in_err-place-clause-step g c =
     let p = err_from_is_err_and c.from_residual.result c.from_residual.ensures.1 in
     back_exit (parts_of c.self.inside) c.args.self.now.world (ap (λ s. s.world) c.self.view_is) c.self.invariant.sound c.args.session c.from_residual.result p.0 p.1 (sym c.in_err-place.ensures ∙ ap Err (sym p.2))
 
-pub returns-in-Some : goal.returns-in-Some
-returns-in-Some g c =
+pub returns-in-Some-clause-step : goal.returns-in-Some-clause-step
+returns-in-Some-clause-step g c =
     back_kept (parts_of c.self.inside) c.args.self.now.world (ap (λ s. s.world) c.self.view_is) c.self.invariant.sound c.args.session c.in_ok-place.place c.in-Some.fault (sym c.in_ok-place.ensures)
     (sym (c.in-Some.ensures ∙ ap back_fault_of (found_in c.self.inside.log c.in_ok-place.place c.self.invariant.log_match.begins)))
 
@@ -32,9 +32,10 @@ invariant_of-self g c = record {
   log_match = record { begins = c.self.invariant.log_match.begins; knows = c.self.invariant.log_match.knows ∙ sym (ap length c.release-row.ensures.released ∙ length-set c.self.inside.sessions (c.args.session - 1) _) };
   base_match = base_kept c.self.inside.base (length c.self.inside.schema) c.self.inside.sessions c.release-row.new.self _ _ c.release-row.ensures.released c.self.invariant.base_match;
   placed = subst (HoldsArePlaced c.self.inside.tables.tables) (sym c.release-row.ensures.released) (placed-free c.self.inside.tables.tables c.self.inside.sessions (c.args.session - 1) (last_of c.self.inside.sessions (c.args.session - 1)) c.self.invariant.placed);
+  counted = c.self.invariant.counted;
 }
 
-pub returns : goal.returns
-returns g c =
+pub returns-clause-step : goal.returns-clause-step
+returns-clause-step g c =
     (back_whole (parts_of c.self.inside) c.args.self.now.world (ap (λ s. s.world) c.self.view_is) c.self.invariant.sound c.args.session c.in_ok-place.place (sym c.in_ok-place.ensures)
     (sym (c.in_default.ensures ∙ ap back_fault_of (found_in c.self.inside.log c.in_ok-place.place c.self.invariant.log_match.begins))) c.last-last.result c.last-last.ensures c.release-row.new.self c.release-row.ensures.released).0

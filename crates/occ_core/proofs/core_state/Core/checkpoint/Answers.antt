@@ -8,10 +8,12 @@ use Rattle.occ_core.specs.Core.{parts_of}
 use Rattle.occ_core.specs.declared.checkpoint.TheConstants.{MAX_PLACE}
 use Rattle.occ_core.proofs.Checkpoints.{checkpoint_busy, checkpoint_whole, checkpoint_starved, nothing_folds, part_within, rows_fit, begins_later}
 use Rattle.occ_core.proofs.OpenRows.{busy_is}
+use Rattle.occ_core.proofs.Tallies.{counted_over}
+use Rattle.occ_core.specs.CoreParts.{world_of}
 use Rattle.occ_core.proofs.core_state.Core.checkpoint.Goals as goal
 
-pub returns-then-has_open : goal.returns-then-has_open
-returns-then-has_open g c = checkpoint_busy (parts_of c.self.inside) c.args.self.now.world (ap (λ s. s.world) c.self.view_is) (busy_is c.self.inside c.self.invariant _ c.if-has_open.ensures)
+pub returns-then-has_open-clause-step : goal.returns-then-has_open-clause-step
+returns-then-has_open-clause-step g c = checkpoint_busy (parts_of c.self.inside) c.args.self.now.world (ap (λ s. s.world) c.self.view_is) (busy_is c.self.inside c.self.invariant _ c.if-has_open.ensures)
 
 pub fold_front-requires-clause-count : goal.fold_front-requires-clause-count
 fold_front-requires-clause-count g c = part_within (parts_of c.self.inside) c.args.self.now.world (ap (λ s. s.world) c.self.view_is) c.foldable-count.result c.foldable-count.ensures
@@ -30,8 +32,9 @@ invariant_of-self-2 g c =
     let count = c.foldable-count.result in
     let ok = c.in_ok-fold_front.ensures.ok in
     let room = subst (λ p. p + count ≤ MAX_PLACE) c.place.ensures c.in_ok-check_place.ensures.ok in
+    let whole = checkpoint_whole parts c.args.self.now.world seen c.self.invariant.sound (busy_is c.self.inside c.self.invariant _ c.if-has_open.ensures) count c.foldable-count.ensures room c.fold_front.new.base.base (ap (λ b. b.base) ok) c.fold.new.self.rows c.fold.ensures.rows in
     record {
-      sound = (checkpoint_whole parts c.args.self.now.world seen c.self.invariant.sound (busy_is c.self.inside c.self.invariant _ c.if-has_open.ensures) count c.foldable-count.ensures room c.fold_front.new.base.base (ap (λ b. b.base) ok) c.fold.new.self.rows c.fold.ensures.rows).1;
+      sound = whole.1;
       tables_match = c.self.invariant.tables_match;
       marks_match = c.self.invariant.marks_match;
       log_match = record {
@@ -41,31 +44,34 @@ invariant_of-self-2 g c =
       };
       base_match = record { holds = ap (λ b. b.tables) ok ∙ c.self.invariant.base_match.holds; knows = ap (λ b. b.sessions) ok ∙ c.self.invariant.base_match.knows };
       placed = c.self.invariant.placed;
+      counted = counted_over c.self.inside.totals c.self.inside.totals (world_of parts) c.args.self.now.world _ Checkpoint _ seen
+          whole.0
+          refl c.self.invariant.counted;
     }
 
-pub returns : goal.returns
-returns g c =
+pub returns-clause-step : goal.returns-clause-step
+returns-clause-step g c =
     let parts = parts_of c.self.inside in
     let seen = ap (λ s. s.world) c.self.view_is in
     let count = c.foldable-count.result in
     let room = subst (λ p. p + count ≤ MAX_PLACE) c.place.ensures c.in_ok-check_place.ensures.ok in
     (checkpoint_whole parts c.args.self.now.world seen c.self.invariant.sound (busy_is c.self.inside c.self.invariant _ c.if-has_open.ensures) count c.foldable-count.ensures room c.fold_front.new.base.base (ap (λ b. b.base) c.in_ok-fold_front.ensures.ok) c.fold.new.self.rows c.fold.ensures.rows).0
 
-pub returns-then-count-eq0 : goal.returns-then-count-eq0
-returns-then-count-eq0 g c =
+pub returns-then-count-eq0-clause-step : goal.returns-then-count-eq0-clause-step
+returns-then-count-eq0-clause-step g c =
     let zero = c.if-count-eq0.true in
     let none : c.foldable-count.result ≡ 0 = omega arith in
     nothing_folds (parts_of c.self.inside) c.args.self.now.world (ap (λ s. s.world) c.self.view_is) c.self.invariant.sound (busy_is c.self.inside c.self.invariant _ c.if-has_open.ensures) c.foldable-count.result c.foldable-count.ensures none
 
-pub returns-in_err-check_place : goal.returns-in_err-check_place
-returns-in_err-check_place g c =
+pub returns-in_err-check_place-clause-step : goal.returns-in_err-check_place-clause-step
+returns-in_err-check_place-clause-step g c =
     let p = err_from_is_err_and c.from_residual.result c.from_residual.ensures.1 in
     let seen = ap (λ s. s.world) c.self.view_is in
     replied_err Folded _ _ _ _ _ (p.1 ∙ ap Err (p.2 ∙ c.in_err-check_place.ensures.memory))
     (subst (λ w. Step c.args.self.now.world Checkpoint (Refused Memory) w) seen (checkpoint_starved (parts_of c.self.inside) c.args.self.now.world seen (busy_is c.self.inside c.self.invariant _ c.if-has_open.ensures) c.self.inside.base.base refl))
 
-pub returns-in_err-fold_front : goal.returns-in_err-fold_front
-returns-in_err-fold_front g c =
+pub returns-in_err-fold_front-clause-step : goal.returns-in_err-fold_front-clause-step
+returns-in_err-fold_front-clause-step g c =
     let p = err_from_is_err_and c.from_residual-in_err-fold_front.result c.from_residual-in_err-fold_front.ensures.1 in
     replied_err Folded _ _ _ _ _ (p.1 ∙ ap Err (p.2 ∙ c.in_err-fold_front.ensures.memory))
     (checkpoint_starved (parts_of c.self.inside) c.args.self.now.world (ap (λ s. s.world) c.self.view_is) (busy_is c.self.inside c.self.invariant _ c.if-has_open.ensures) c.fold_front.new.base.base (ap (λ b. b.base) c.in_err-fold_front.ensures.err))

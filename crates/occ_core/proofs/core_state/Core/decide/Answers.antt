@@ -4,15 +4,19 @@ use Rattle.occ_core.specs.Core.{parts_of}
 use Rattle.occ_log.specs.Rows.{log_row_of, standing_of}
 use Rattle.occ_core.proofs.Calls.{decide_exit, decide_exit_late, decide_whole, unjudged, judged_open}
 use Rattle.occ_core.proofs.Placed.{fault_in, in_log, stood_in}
+use Rattle.occ_core.proofs.Tallies.{counted_over, can_count, uncounted}
+use Rattle.occ_model.specs.Event.{Decided}
+use Rattle.occ_core.specs.CoreParts.{world_of}
+use Rattle.occ_core.specs.Totals.{with_verdict}
 use Rattle.occ_core.proofs.core_state.Core.decide.Goals as goal
 
-pub returns-in_err-place : goal.returns-in_err-place
-returns-in_err-place g c =
+pub returns-in_err-place-clause-step : goal.returns-in_err-place-clause-step
+returns-in_err-place-clause-step g c =
     let p = err_from_is_err_and c.from_residual.result c.from_residual.ensures.1 in
     decide_exit (parts_of c.self.inside) c.args.self.now.world (ap (λ s. s.world) c.self.view_is) c.self.invariant.sound c.args.session c.from_residual.result p.0 p.1 (fault_in c.self.inside.log c.self.inside.sessions c.args.session c.self.invariant.log_match.begins c.in_err-place.ensures.err ∙ ap Some (sym p.2))
 
-pub returns-in_default : goal.returns-in_default
-returns-in_default g c =
+pub returns-in_default-clause-step : goal.returns-in_default-clause-step
+returns-in_default-clause-step g c =
     decide_exit_late (parts_of c.self.inside) c.args.self.now.world (ap (λ s. s.world) c.self.view_is) c.self.invariant.sound c.args.session c.in_ok-place.place (log_row_of c.in_ok-place.row.now) c.in_ok-place.ensures.place (in_log c.self.inside.log c.in_ok-place.place (log_row_of c.in_ok-place.row.now) c.self.invariant.log_match.begins c.in_ok-place.ensures.row) (unjudged (standing_of c.in_ok-place.row.now.standing) c.in_default.ensures)
 
 pub stand-requires : goal.stand-requires
@@ -21,20 +25,35 @@ stand-requires g c = ap is_some c.in_ok-place.ensures.row
 pub invariant_of-self : goal.invariant_of-self
 invariant_of-self g c =
     let j = judged_open (standing_of c.in_ok-place.row.now.standing) c.in-Some.verdict c.in-Some.ensures in
+    let whole = decide_whole (parts_of c.self.inside) c.args.self.now.world (ap (λ s. s.world) c.self.view_is) c.self.invariant.sound c.args.session c.in_ok-place.place (log_row_of c.in_ok-place.row.now) j.0 j.1
+    c.in_ok-place.ensures.place (in_log c.self.inside.log c.in_ok-place.place (log_row_of c.in_ok-place.row.now) c.self.invariant.log_match.begins c.in_ok-place.ensures.row) j.2 c.in-Some.verdict j.3 c.stand.new.self.rows
+    (stood_in c.self.inside.log c.in_ok-place.place _ c.stand.new.self.rows c.self.invariant.log_match.begins (c.stand.ensures.rows (log_row_of c.in_ok-place.row.now) c.in_ok-place.ensures.row) ∙ ap (λ s. slice_set c.self.inside.log.rows (c.in_ok-place.place - c.self.inside.base.base.place) (record (log_row_of c.in_ok-place.row.now) { standing = s })) c.decided.ensures) in
     record {
-      sound = (decide_whole (parts_of c.self.inside) c.args.self.now.world (ap (λ s. s.world) c.self.view_is) c.self.invariant.sound c.args.session c.in_ok-place.place (log_row_of c.in_ok-place.row.now) j.0 j.1
-          c.in_ok-place.ensures.place (in_log c.self.inside.log c.in_ok-place.place (log_row_of c.in_ok-place.row.now) c.self.invariant.log_match.begins c.in_ok-place.ensures.row) j.2 c.in-Some.verdict j.3 c.stand.new.self.rows
-          (stood_in c.self.inside.log c.in_ok-place.place _ c.stand.new.self.rows c.self.invariant.log_match.begins (c.stand.ensures.rows (log_row_of c.in_ok-place.row.now) c.in_ok-place.ensures.row) ∙ ap (λ s. slice_set c.self.inside.log.rows (c.in_ok-place.place - c.self.inside.base.base.place) (record (log_row_of c.in_ok-place.row.now) { standing = s })) c.decided.ensures)).1;
+      sound = whole.1;
       tables_match = c.self.invariant.tables_match;
       marks_match = c.self.invariant.marks_match;
       log_match = record { begins = c.stand.ensures.first ∙ c.self.invariant.log_match.begins; knows = c.stand.ensures.sessions ∙ c.self.invariant.log_match.knows };
       base_match = c.self.invariant.base_match;
       placed = c.self.invariant.placed;
+      counted = counted_over c.self.inside.totals c.count_verdict.new.self (world_of (parts_of c.self.inside)) c.args.self.now.world _ _ _ (ap (λ s. s.world) c.self.view_is)
+          whole.0
+          c.count_verdict.ensures c.self.invariant.counted;
     }
 
-pub returns : goal.returns
-returns g c =
+pub returns-clause-step : goal.returns-clause-step
+returns-clause-step g c =
     let j = judged_open (standing_of c.in_ok-place.row.now.standing) c.in-Some.verdict c.in-Some.ensures in
     (decide_whole (parts_of c.self.inside) c.args.self.now.world (ap (λ s. s.world) c.self.view_is) c.self.invariant.sound c.args.session c.in_ok-place.place (log_row_of c.in_ok-place.row.now) j.0 j.1
     c.in_ok-place.ensures.place (in_log c.self.inside.log c.in_ok-place.place (log_row_of c.in_ok-place.row.now) c.self.invariant.log_match.begins c.in_ok-place.ensures.row) j.2 c.in-Some.verdict j.3 c.stand.new.self.rows
     (stood_in c.self.inside.log c.in_ok-place.place _ c.stand.new.self.rows c.self.invariant.log_match.begins (c.stand.ensures.rows (log_row_of c.in_ok-place.row.now) c.in_ok-place.ensures.row) ∙ ap (λ s. slice_set c.self.inside.log.rows (c.in_ok-place.place - c.self.inside.base.base.place) (record (log_row_of c.in_ok-place.row.now) { standing = s })) c.decided.ensures)).0
+
+pub returns-in_err-place-clause-totals : goal.returns-in_err-place-clause-totals
+returns-in_err-place-clause-totals g c =
+    let p = err_from_is_err_and c.from_residual.result c.from_residual.ensures.1 in
+    uncounted Decided _ c.from_residual.result p.0 p.1
+
+pub count_verdict-requires : goal.count_verdict-requires
+count_verdict-requires g c = can_count (parts_of c.self.inside) c.self.inside.totals c.self.invariant.sound c.self.invariant.counted
+
+pub returns-clause-totals : goal.returns-clause-totals
+returns-clause-totals g c = c.count_verdict.ensures ∙ ap (λ s. with_verdict s.totals c.in-Some.verdict) c.self.view_is

@@ -14,7 +14,7 @@ pub returns-in-Alone-clause-step : goal.returns-in-Alone-clause-step
 returns-in-Alone-clause-step g c = alone_of _ _ _ _ _ _ (alone_entered _ _ _ _ _ _ c.take_alone.ensures.step) (search rules)
 
 pub returns-in-Err-enter_close-clause-step : goal.returns-in-Err-enter_close-clause-step
-returns-in-Err-enter_close-clause-step g c = close_of _ _ _ _ _ _ c.in-Err-enter_close.ensures (search rules)
+returns-in-Err-enter_close-clause-step g c = close_of _ _ _ _ _ _ c.in-Err-enter_close.ensures.step (search rules)
 
 pub returns-in-Alone-clause-handed_back : goal.returns-in-Alone-clause-handed_back
 returns-in-Alone-clause-handed_back g c = rw c.in-Alone.is c.take_alone.ensures.handed_back

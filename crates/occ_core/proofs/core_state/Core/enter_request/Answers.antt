@@ -14,6 +14,8 @@ use Rattle.occ_core.proofs.Staying.{base_kept}
 use Rattle.occ_core.proofs.Replied.{replied_err}
 use Rattle.occ_core.proofs.Entries.{entry_roomless, sound_kept, entering_place, open_row_kept, enter_from, enter_below, enter_whole, enter_placed, held_placed}
 use Rattle.occ_core.proofs.Placed.{next_kept}
+use Rattle.occ_core.proofs.Tallies.{counted_over}
+use Rattle.occ_core.specs.Totals.{AddUp}
 use Rattle.occ_core.proofs.core_state.Core.enter_request.Goals as goal
 
 pub returns-in_err-check_entry-clause-step : goal.returns-in_err-check_entry-clause-step
@@ -83,6 +85,7 @@ invariant_of-self g c = record {
   log_match = record { begins = c.in_err-reserve.ensures.first ∙ c.self.invariant.log_match.begins; knows = c.in_err-reserve.ensures.sessions ∙ c.self.invariant.log_match.knows };
   base_match = c.self.invariant.base_match;
   placed = c.self.invariant.placed;
+  counted = subst (λ log. AddUp c.self.inside.totals (world_of (record (parts_of c.self.inside) { log = log }))) (sym c.in_err-reserve.ensures.rows) c.self.invariant.counted;
 }
 
 pub invariant_of-self-2 : goal.invariant_of-self-2
@@ -97,9 +100,10 @@ invariant_of-self-2 g c =
     let pushed = c.push.ensures.rows ∙ ap (λ log. log ++ log_row_of c.in_ok-row.row ∷ []) c.in_ok-reserve.ensures.rows in
     let phases = c.take-reads.ensures.gone ∙ ap (λ p. finite.remove p (c.args.transaction.session, number)) refl in
     let slots = c.hold.ensures ∙ ap (λ ws. slice_set c.self.inside.sessions (c.args.transaction.session - 1) (record { last = number; hold = Some (record { place = c.in_ok-row.row.place; writes = ws }) })) (c.in_ok-shared.ensures.cases ∙ c.share.ensures.kept) in
+    let whole = enter_whole parts world seen c.self.invariant.sound c.args.transaction.session number c.args.transaction.start writes none (log_row_of c.in_ok-row.row) row.0 row.1 row.2
+    c.push.new.self.rows pushed c.take-reads.new.self phases c.hold.new.self slots in
     record {
-      sound = (enter_whole parts world seen c.self.invariant.sound c.args.transaction.session number c.args.transaction.start writes none (log_row_of c.in_ok-row.row) row.0 row.1 row.2
-          c.push.new.self.rows pushed c.take-reads.new.self phases c.hold.new.self slots).1;
+      sound = whole.1;
       tables_match = c.self.invariant.tables_match;
       marks_match = c.self.invariant.marks_match ∙ sym (ap length slots ∙ length-set c.self.inside.sessions (c.args.transaction.session - 1) _);
       log_match = record {
@@ -109,6 +113,9 @@ invariant_of-self-2 g c =
       base_match = base_kept c.self.inside.base (length c.self.inside.schema) c.self.inside.sessions c.hold.new.self _ _ slots c.self.invariant.base_match;
       placed = held_placed c.self.inside.tables.tables (length c.self.inside.schema) c.self.invariant.tables_match c.self.inside.sessions (c.args.transaction.session - 1) number c.in_ok-row.row.place writes c.self.invariant.placed
           (enter_placed parts world seen c.args.transaction.session number c.args.transaction.start writes none) c.hold.new.self slots;
+      counted = counted_over c.self.inside.totals c.self.inside.totals (world_of parts) world _ _ _ seen
+          whole.0
+          refl c.self.invariant.counted;
     }
 
 pub returns-clause-step : goal.returns-clause-step

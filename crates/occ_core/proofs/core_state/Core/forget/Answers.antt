@@ -4,8 +4,8 @@ use Rattle.occ_core.specs.Core.{parts_of}
 use Rattle.occ_core.proofs.ReadPhases.{forget_exit, forget_sound, phases_core}
 use Rattle.occ_core.proofs.core_state.Core.forget.Goals as goal
 
-pub returns-in_err-check_session : goal.returns-in_err-check_session
-returns-in_err-check_session g c =
+pub returns-in_err-check_session-clause-step : goal.returns-in_err-check_session-clause-step
+returns-in_err-check_session-clause-step g c =
     let p = err_from_is_err_and c.from_residual.result c.from_residual.ensures.1 in
     forget_exit (parts_of c.self.inside) c.args.self.now.world (ap (λ s. s.world) c.self.view_is) c.self.invariant.sound c.args.session c.args.number c.from_residual.result p.0 p.1 (sym c.in_err-check_session.ensures ∙ ap Some (sym p.2))
 

@@ -11,15 +11,15 @@ use Rattle.occ_core.proofs.ReadPhases.{not_read, read_roomy, read_starved, read_
 use Rattle.occ_core.proofs.Replied.{replied_err}
 use Rattle.occ_core.proofs.core_state.Core.scan_apart.Goals as goal
 
-pub returns-in_err-rows : goal.returns-in_err-rows
-returns-in_err-rows g c =
+pub returns-in_err-rows-clause-step : goal.returns-in_err-rows-clause-step
+returns-in_err-rows-clause-step g c =
     let p = err_from_is_err_and c.from_residual.result c.from_residual.ensures.1 in
     let question = Span c.args.table (end_of (option_copied c.args.lower)) (end_of (option_copied c.args.upper)) in
     replied_err (λ rows. Answered (Rows (rows_of rows.items))) _ _ _ _ _ p.1 (not_read c.args.self.now.world c.args.session c.args.number c.args.start question p.0
     (subst (IsRefusal c.args.self.now.world (Read c.args.session c.args.number c.args.start question)) (sym p.2) c.in_err-rows.ensures.refused))
 
-pub returns-in_err-seen : goal.returns-in_err-seen
-returns-in_err-seen g c =
+pub returns-in_err-seen-clause-step : goal.returns-in_err-seen-clause-step
+returns-in_err-seen-clause-step g c =
     let p = err_from_is_err_and c.from_residual-in_err-seen.result c.from_residual-in_err-seen.ensures.1 in
     replied_err (λ rows. Answered (Rows (rows_of rows.items))) _ _ _ _ _ (p.1 ∙ ap Err (p.2 ∙ c.in_err-seen.ensures.memory)) (starved c.in_ok-rows.ensures.answered.0 refl refl refl)
 
@@ -29,8 +29,8 @@ note-requires g c = record {
       (Span c.args.table (end_of (option_copied c.args.lower)) (end_of (option_copied c.args.upper))) c.in_ok-rows.ensures.answered.0;
 }
 
-pub returns-in_err-note : goal.returns-in_err-note
-returns-in_err-note g c =
+pub returns-in_err-note-clause-step : goal.returns-in_err-note-clause-step
+returns-in_err-note-clause-step g c =
     let p = err_from_is_err_and c.from_residual-in_err-note.result c.from_residual-in_err-note.ensures.1 in
     replied_err (λ rows. Answered (Rows (rows_of rows.items))) _ _ _ _ _ (p.1 ∙ ap Err (p.2 ∙ c.in_err-note.ensures.memory)) (read_starved (parts_of c.self.inside) c.args.self.now.world (ap (λ s. s.world) c.self.view_is) c.self.invariant.sound c.args.session c.args.number c.args.start
     (Span c.args.table (end_of (option_copied c.args.lower)) (end_of (option_copied c.args.upper))) c.in_ok-rows.ensures.answered.0 c.note.new.phases c.in_err-note.ensures.err).0
@@ -47,8 +47,8 @@ invariant_of-self-2 g c =
     phases_core c.self.inside c.self.invariant _ (read_whole (parts_of c.self.inside) c.args.self.now.world (ap (λ s. s.world) c.self.view_is) c.self.invariant.sound c.args.session c.args.number c.args.start question
     c.in_ok-rows.ensures.answered.0 (observation_of c.in_ok-seen.seen) (c.in_ok-seen.ensures.seen.0 ∙ ap (λ given. (question, given)) told) c.note.new.phases c.in_ok-note.ensures.ok (Rows (rows_of c.in_ok-seen.rows.items)) (ap (λ v. Rows (rows_of v.items)) c.in_ok-seen.ensures.seen.1 ∙ told)).1
 
-pub returns : goal.returns
-returns g c =
+pub returns-clause-step : goal.returns-clause-step
+returns-clause-step g c =
     let question = Span c.args.table (end_of (option_copied c.args.lower)) (end_of (option_copied c.args.upper)) in
     let told = c.in_ok-rows.ensures.answered.1 ∙ sym (ap (λ s. answer question s.world.table) c.self.view_is) in
     (read_whole (parts_of c.self.inside) c.args.self.now.world (ap (λ s. s.world) c.self.view_is) c.self.invariant.sound c.args.session c.args.number c.args.start question

@@ -13,10 +13,10 @@ pub returns-in-Alone-clause-step : goal.returns-in-Alone-clause-step
 returns-in-Alone-clause-step g c = end_of _ _ _ _ _ _ (alone_ended _ _ _ _ _ _ c.take_alone.ensures.step) (search rules)
 
 pub returns-in-Ok-enter_close-clause-step : goal.returns-in-Ok-enter_close-clause-step
-returns-in-Ok-enter_close-clause-step g c = end_of _ _ _ _ _ _ (end_marked _ _ _ _ c.in-Ok-enter_close.ensures) (search rules)
+returns-in-Ok-enter_close-clause-step g c = end_of _ _ _ _ _ _ (end_marked _ _ _ _ c.in-Ok-enter_close.ensures.step) (search rules)
 
 pub returns-in-Err-enter_close-clause-step : goal.returns-in-Err-enter_close-clause-step
-returns-in-Err-enter_close-clause-step g c = end_of _ _ _ _ _ _ (end_unmarked _ _ _ _ _ c.in-Err-enter_close.ensures) (search rules)
+returns-in-Err-enter_close-clause-step g c = end_of _ _ _ _ _ _ (end_unmarked _ _ _ _ _ c.in-Err-enter_close.ensures.step) (search rules)
 
 pub returns-in-Alone-clause-handed_back : goal.returns-in-Alone-clause-handed_back
 returns-in-Alone-clause-handed_back g c = rw c.in-Alone.is c.take_alone.ensures.handed_back

@@ -14,6 +14,8 @@ use Rattle.occ_log.specs.Rows.{log_row_of}
 use Rattle.occ_core.proofs.Finishes.{write_exit, write_kept, write_none, write_starved, write_placed, write_named, write_whole, write_err}
 use Rattle.occ_core.proofs.Placed.{fault_in, in_log, stood_in}
 use Rattle.occ_core.proofs.Nexts.{next_placed}
+use Rattle.occ_core.specs.declared.writing.SingleWrite.TheVariants as writes
+use Rattle.occ_core.proofs.Tallies.{counted_over, wrote_uncounted}
 use Rattle.occ_core.proofs.core_state.Core.write_one.Goals as goal
 
 pub returns-in_err-place-clause-step : goal.returns-in_err-place-clause-step
@@ -57,6 +59,7 @@ invariant_of-self g c = record {
   log_match = c.self.invariant.log_match;
   base_match = c.self.invariant.base_match;
   placed = subst (λ n. HoldsArePlaced n c.self.inside.sessions) (sym (ap (λ t. t.tables) c.in_err-put.ensures.err)) c.self.invariant.placed;
+  counted = c.self.invariant.counted;
 }
 
 pub stand-requires : goal.stand-requires
@@ -65,17 +68,21 @@ stand-requires g c = ap is_some c.in_ok-place.ensures.row
 pub invariant_of-self-2 : goal.invariant_of-self-2
 invariant_of-self-2 g c =
     let done = c.in_ok-put.ensures.ok in
+    let whole = write_whole (parts_of c.self.inside) c.args.self.now.world (ap (λ s. s.world) c.self.view_is) c.self.invariant.sound c.args.session c.in_ok-place.place (log_row_of c.in_ok-place.row.now) c.in_ok-done.done
+    (object_of c.in-Some.object.now, option_copied c.in-Some.write)
+    c.in_ok-place.ensures.place (in_log c.self.inside.log c.in_ok-place.place (log_row_of c.in_ok-place.row.now) c.self.invariant.log_match.begins c.in_ok-place.ensures.row) (sym c.in_ok-done.ensures)
+    (sym c.in-Some.ensures.value)
+    c.stand.new.self.rows (stood_in c.self.inside.log c.in_ok-place.place _ c.stand.new.self.rows c.self.invariant.log_match.begins (c.stand.ensures.rows (log_row_of c.in_ok-place.row.now) c.in_ok-place.ensures.row)) c.put.new.self.state (ap (λ t. t.state) done) in
     record {
-      sound = (write_whole (parts_of c.self.inside) c.args.self.now.world (ap (λ s. s.world) c.self.view_is) c.self.invariant.sound c.args.session c.in_ok-place.place (log_row_of c.in_ok-place.row.now) c.in_ok-done.done
-          (object_of c.in-Some.object.now, option_copied c.in-Some.write)
-          c.in_ok-place.ensures.place (in_log c.self.inside.log c.in_ok-place.place (log_row_of c.in_ok-place.row.now) c.self.invariant.log_match.begins c.in_ok-place.ensures.row) (sym c.in_ok-done.ensures)
-          (sym c.in-Some.ensures.value)
-          c.stand.new.self.rows (stood_in c.self.inside.log c.in_ok-place.place _ c.stand.new.self.rows c.self.invariant.log_match.begins (c.stand.ensures.rows (log_row_of c.in_ok-place.row.now) c.in_ok-place.ensures.row)) c.put.new.self.state (ap (λ t. t.state) done)).1;
+      sound = whole.1;
       tables_match = ap (λ t. t.tables) done ∙ c.self.invariant.tables_match;
       marks_match = c.self.invariant.marks_match;
       log_match = record { begins = c.stand.ensures.first ∙ c.self.invariant.log_match.begins; knows = c.stand.ensures.sessions ∙ c.self.invariant.log_match.knows };
       base_match = c.self.invariant.base_match;
       placed = subst (λ n. HoldsArePlaced n c.self.inside.sessions) (sym (ap (λ t. t.tables) done)) c.self.invariant.placed;
+      counted = counted_over c.self.inside.totals c.self.inside.totals (world_of (parts_of c.self.inside)) c.args.self.now.world _ _ _ (ap (λ s. s.world) c.self.view_is)
+          whole.0
+          (wrote_uncounted c.self.inside.totals (world_of (record (parts_of c.self.inside) { log = c.stand.new.self.rows; table = c.put.new.self.state })) (writes.Wrote c.in_ok-place.place c.in_ok-done.done)) c.self.invariant.counted;
     }
 
 pub returns-clause-step : goal.returns-clause-step
