@@ -1,3 +1,4 @@
 pub mod Committing
 pub mod Endings
 pub mod StepsFollow
+pub mod Transacting

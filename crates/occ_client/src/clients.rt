@@ -12,13 +12,15 @@ ghost use Rattle.occ_sets.specs.Operations.{ops_of};
 ghost use Rattle.occ_model.specs.Step.{Step};
 ghost use Rattle.occ_client.specs.Clients.{begin_refusal, close_refusal, closing, ending, Commits, StaysOrStops, after_alone, after_end, count_end, fresh_client, spent};
 ghost use Rattle.occ_client.specs.Ends.{Ends, WritesOut};
+ghost use Rattle.occ_model.specs.Paging.{first_page, last_page};
+ghost use Rattle.occ_open.specs.Pages.{paging, first_rest_of, last_rest_of, WantsPage};
 ghost use Rattle.occ_open.specs.Replies.{reading, scanning, forgetting};
 ghost use Rattle.occ_open.specs.Transactions.{IsRefusedBy, Unless, begun, write_fault, written, WantsRoom, Gets, WantsOwn, Scans, WantsRange, Abandons, open_after, OrStarves};
 
 use crate::by_steps::write_out;
 use crate::ending::{End, Handed, close_session, end_request};
 use occ_core::{AutoCheckpoint, Core};
-use occ_open::KeptTransaction;
+use occ_open::{KeptTransaction, Page};
 use occ_sets::{Answer, Op, RangeRows, Write};
 use occ_types::{Fault, Key, Refused, Row, Schema};
 use std::alloc::Allocator;
@@ -162,6 +164,7 @@ impl<A: Allocator + Copy> Client<A> {
         ensures err { OnErr result (self.new ≡ record self.old { returned = self.new.returned }) }
         ensures handed_back { IfErr result (λ refused. refused.value ≡ (record { table = table; key = key }, Some row)) }
         ensures fault { IfErr result (λ refused. (self.old.returned ≡ true) ⊎ IsRefusedBy (write_fault store.now.world.settings.schema (table, key_of key) (Some row) self.old.current) (WantsRoom (table, key_of key) self.old.current) refused.fault) }
+        ensures fits { OnOk result (write_fault store.now.world.settings.schema (table, key_of key) (Some row) self.old.current ≡ None) }
     {
         self.put_by(store.schema(), table, key, row)
     }
@@ -194,6 +197,7 @@ impl<A: Allocator + Copy> Client<A> {
         ensures err { OnErr result (self.new ≡ record self.old { returned = self.new.returned }) }
         ensures handed_back { IfErr result (λ refused. refused.value ≡ (record { table = table; key = key }, None)) }
         ensures fault { IfErr result (λ refused. (self.old.returned ≡ true) ⊎ IsRefusedBy (write_fault store.now.world.settings.schema (table, key_of key) None self.old.current) (WantsRoom (table, key_of key) self.old.current) refused.fault) }
+        ensures fits { OnOk result (write_fault store.now.world.settings.schema (table, key_of key) None self.old.current ≡ None) }
     {
         self.delete_by(store.schema(), table, key)
     }
@@ -245,6 +249,48 @@ impl<A: Allocator + Copy> Client<A> {
             (Scans store.old.world self.old.session (Span table (end_of lower) (end_of upper)) self.old.current (scanning result) store.new.world) }
     {
         self.kept.scan_in(store, self.session, table, lower, upper)
+    }
+
+    /// The first rows of a range, at most `most` of them, or one where `most` is 0, and where the rows behind them begin, which is the
+    /// lower end of the next page. The store is asked for the part of the range up to there, which it notes, so that a row that comes
+    /// in behind the page is no conflict. The own writes of that part are laid over the rows, so that the page may show more rows than
+    /// `most`, or fewer. Refused as `scan`, and with `Memory` where rows are left and there is none for the key at which they begin.
+    pub fn scan_first(
+        &mut self,
+        store: &mut Core<A>,
+        table: usize,
+        lower: Option<Key<A>>,
+        upper: Option<Key<A>>,
+        most: usize,
+    ) -> Result<Page<A>, Fault>
+        ensures kept { self.new ≡ record self.old { returned = self.new.returned } }
+        ensures read { let rest = first_rest_of store.old.world table (end_of lower) (end_of upper) most in
+            OrStarves ((self.old.returned ≡ true) ⊎ WantsPage store.old.world.settings.schema (first_page table (end_of lower) (end_of upper) rest) rest self.old.current) store.old.world (paging result) store.new.world
+            (Scans store.old.world self.old.session (first_page table (end_of lower) (end_of upper) rest) self.old.current (paging result) store.new.world) }
+        ensures rest { IfOk result (λ page. end_of page.rest ≡ first_rest_of store.old.world table (end_of lower) (end_of upper) most) }
+    {
+        self.kept
+            .scan_first_in(store, self.session, table, lower, upper, most)
+    }
+
+    /// The last rows of a range, at most `most` of them, or one where `most` is 0, and where the rows before them end, which is the upper
+    /// end of the page before. Noted, overlaid and refused as by `scan_first`.
+    pub fn scan_last(
+        &mut self,
+        store: &mut Core<A>,
+        table: usize,
+        lower: Option<Key<A>>,
+        upper: Option<Key<A>>,
+        most: usize,
+    ) -> Result<Page<A>, Fault>
+        ensures kept { self.new ≡ record self.old { returned = self.new.returned } }
+        ensures read { let rest = last_rest_of store.old.world table (end_of lower) (end_of upper) most in
+            OrStarves ((self.old.returned ≡ true) ⊎ WantsPage store.old.world.settings.schema (last_page table (end_of lower) (end_of upper) rest) rest self.old.current) store.old.world (paging result) store.new.world
+            (Scans store.old.world self.old.session (last_page table (end_of lower) (end_of upper) rest) self.old.current (paging result) store.new.world) }
+        ensures rest { IfOk result (λ page. end_of page.rest ≡ last_rest_of store.old.world table (end_of lower) (end_of upper) most) }
+    {
+        self.kept
+            .scan_last_in(store, self.session, table, lower, upper, most)
     }
 
     /// The store forgets what the open transaction read, and none is open then. Its number is not spent: the next transaction takes it.

@@ -10,11 +10,12 @@ pub use clients::Client;
 pub use ending::End;
 pub use occ_book::{Base, Tables};
 pub use occ_case::{Cause, Verdict};
-pub use occ_core::{AutoCheckpoint, Core, Outcome, SHORT_LOG, SingleWrite};
-pub use occ_open::{KeptTransaction, OpenTransaction, Readable};
+pub use occ_core::{AutoCheckpoint, Core, Counts, Outcome, SHORT_LOG, SingleWrite};
+pub use occ_open::{KeptTransaction, OpenTransaction, Page, Readable};
 pub use occ_queue::Item;
 pub use occ_sets::{Answer, Op, RangeRows, RequestWrites, Write, WriteSet};
 pub use occ_types::{
-    Cell, Fault, Key, KeyKind, KeyPart, Kind, Object, Pair, PartKind, Question, Refused, Row,
-    Schema, TableDef, Text, limits,
+    Cell, Fault, Key, KeyKind, KeyPart, Kind, Object, Pair, PartKind, Prefix, Question, Refused,
+    Row, Schema, TableDef, Text, limits,
 };
+pub use retries::Tried;
