@@ -9,6 +9,7 @@ use Rattle.occ_model.specs.Refusal.{refusal}
 use Rattle.occ_model.specs.Step.{Step, refused, starved, taken}
 use Rattle.occ_model.specs.declared.verdict.Verdict.{Verdict}
 use Rattle.occ_core.specs.OpenCases.{case_of, open_case}
+use Rattle.occ_core.specs.Totals.{moved}
 use Rattle.occ_model.specs.Replies.{replied}
 use Rattle.occ_filed.specs.Filed.{Filed, token_of, has_index, Moves, DecidesBy}
 
@@ -29,10 +30,10 @@ same_fault : (result : Result Verdict Fault) (fault : Fault) → replied Decided
 same_fault (Ok verdict) fault e = cc
 same_fault (Err told) fault e = let same : told ≡ fault = cc in ap Err same
 
-pub decided : (old new : Filed) (session index : ℕ) (result : Result Verdict Fault) → Step old.world (Decide session) (replied Decided result) new.world → new ≡ record old { world = new.world }
+pub decided : (old new : Filed) (session index : ℕ) (result : Result Verdict Fault) → Step old.world (Decide session) (replied Decided result) new.world → new ≡ record old { world = new.world; totals = moved old.totals (replied Decided result) }
     → (is_some (open_case old.world session) ≡ true → has_index (token_of old.tokens session) index ≡ true) → DecidesBy old session index result new
 decided old new session index result (refused fault why told same) stays own =
-    subst (λ told. By old session result new told (has_index (token_of old.tokens session) index)) (sym why) (same_fault result fault told, stays ∙ ap (λ w. record old { world = w }) same)
+    subst (λ told. By old session result new told (has_index (token_of old.tokens session) index)) (sym why) (same_fault result fault told, stays ∙ (λ i. record old { world = same i; totals = moved old.totals (told i) }))
 decided old new session index result (starved none takes told same) stays own = cc
 decided old new session index result (taken none t) stays own =
     let found : open_case old.world session ≡ Some (t.1, t.2) = ap (option_and_then (λ row. case_of row.standing)) t.3 ∙ ap case_of t.4 in

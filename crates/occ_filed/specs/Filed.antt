@@ -10,6 +10,8 @@ use Rattle.occ_model.specs.Refusal.{refusal}
 use Rattle.occ_model.specs.Step.{Step}
 use Rattle.occ_model.specs.declared.verdict.Verdict.{Verdict}
 use Rattle.occ_core.specs.OpenCases.{open_case}
+use Rattle.occ_core.specs.Totals.{moved}
+use Rattle.occ_core.specs.declared.totals.Totals.{Totals}
 use Rattle.occ_model.specs.Replies.{replied}
 use Rattle.occ_core.specs.declared.outcomes.Outcome as code_outcome
 use Rattle.occ_core.specs.declared.outcomes.Outcome.TheVariants as outcomes
@@ -18,9 +20,10 @@ use Rattle.occ_core.specs.declared.outcomes.Outcome.TheVariants as outcomes
 abbrev pub Tokens : Type 0
 Tokens = List (Option (Where Case))
 
--- what clauses see: the world, the file, and what shows the case of each session's last entry
+-- what clauses see: the world and the totals of the core, the file, and what shows the case of each session's last entry
 pub record Filed : Type 0 where
   pub world : World
+  pub totals : Totals
   pub file : Shelves
   pub tokens : Tokens
 
@@ -49,20 +52,20 @@ pub record AreTied (world : World) (file : Shelves) (tokens : Tokens) : Type 0 w
   pub of_row : (session : ℕ) (token : Where Case) → token_of tokens session ≡ Some token
       → (index : ℕ) (case : Case) → open_case world session ≡ Some (index, case) → token.value ≡ case
 
--- A call that moves the core: the world makes that step of the model, and the file and the tokens stay.
+-- A call that moves the core: the world makes that step of the model, the totals count it, and the file and the tokens stay.
 abbrev pub Moves : Filed → Event → Reply → Filed → Type 0
-Moves old event reply new = Step old.world event reply new.world × (new ≡ record old { world = new.world })
+Moves old event reply new = Step old.world event reply new.world × (new ≡ record old { world = new.world; totals = moved old.totals reply })
 
 -- a request that enters has this token for its session from then on, and all else leaves the tokens
 abbrev pub kept_after : Tokens → ℕ → Option (Where Case) → Reply → Tokens
 kept_after tokens session token (Entered place index) = kept tokens session token
 kept_after tokens session token reply = tokens
 
--- An entry: the world makes that step of the model, and a request's row has this token.
+-- An entry: the world makes that step of the model, the totals count it, and a request's row has this token.
 abbrev pub Enters : Filed → ℕ → Item → Option (Where Case) → Reply → Filed → Type 0
 Enters old session item token reply new =
     Step old.world (Enter session item) reply new.world
-    × (new ≡ record old { world = new.world; tokens = kept_after old.tokens session token reply })
+    × (new ≡ record old { world = new.world; totals = moved old.totals reply; tokens = kept_after old.tokens session token reply })
 
 module _ {Z : Type 0} where
   -- the index that the entry of a request answers: that of what is kept for its session

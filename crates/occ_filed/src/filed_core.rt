@@ -6,6 +6,7 @@ ghost use Rattle.occ_types.specs.declared.fault.Fault.TheVariants.{Memory, Store
 ghost use Rattle.occ_model.specs.Step.{folded};
 ghost use Rattle.occ_model.specs.World.{opened, resumed, active_count};
 ghost use Rattle.occ_core.specs.Resuming.{resume_fault, CannotGoOn};
+ghost use Rattle.occ_core.specs.Totals.{no_totals};
 ghost use Rattle.occ_filed.specs.Filed.{AreTied, token_of};
 
 use crate::tokens::CaseTokens;
@@ -36,7 +37,7 @@ impl<A: Allocator> Model for FiledCore<A> {
 
     ghost coded = { Prim.hlevel (codes, finite.code, shelves_coded, where_coded) };
 
-    ghost view = { λ f. record { world = f.core.world; file = f.file.value; tokens = f.tokens } };
+    ghost view = { λ f. record { world = f.core.world; totals = f.core.totals; file = f.file.value; tokens = f.tokens } };
 
     ghost invariant = { λ f. AreTied f.core.world f.file.value f.tokens };
 }
@@ -51,6 +52,7 @@ impl<A: Allocator + Copy> FiledCore<A> {
         keep: usize,
     ) -> Result<FiledCore<A>, Refused<Schema<A>>>
         ensures opened { IfOk result (λ filed. filed.world ≡ opened (record { schema = schema; sessions = sessions; keep = keep })) }
+        ensures totals { IfOk result (λ filed. filed.totals ≡ no_totals 0) }
         ensures empty { IfOk result (λ filed. (session : ℕ) → token_of filed.tokens session ≡ None) }
         ensures handed_back { IfErr result (λ refused. (refused.value ≡ schema) × (refused.fault ≡ Memory)) }
     {
@@ -80,6 +82,7 @@ impl<A: Allocator + Copy> FiledCore<A> {
         counter: u64,
     ) -> Result<(FiledCore<A>, Arc<CaseFile<A>, A>), Refused<(Schema<A>, Base<A>)>>
         ensures resumed { IfOk result (λ made. made.0.world ≡ resumed (record { schema = schema; sessions = sessions; keep = keep }) base.base counter) }
+        ensures totals { IfOk result (λ made. made.0.totals ≡ no_totals base.base.place) }
         ensures fits { IfOk result (λ _. resume_fault schema sessions base counter ≡ None) }
         ensures empty { IfOk result (λ made. (session : ℕ) → token_of made.0.tokens session ≡ None) }
         ensures shared { IfOk result (λ made. arc_value made.1 ≡ made.0.file) }
@@ -135,7 +138,8 @@ impl<A: Allocator> FiledCore<A> {
 
     /// The core, for all that it shows. It has the law of `Core::law`.
     pub fn core(&self) -> &Core<A>
-        ensures { result.now.world ≡ self.now.world }
+        ensures world { result.now.world ≡ self.now.world }
+        ensures totals { result.now.totals ≡ self.now.totals }
     {
         &self.core
     }

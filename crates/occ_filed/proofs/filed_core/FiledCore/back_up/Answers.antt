@@ -1,10 +1,12 @@
-use Rattle.std.proofs.Common.{refl}
+use Rattle.std.proofs.Common.{refl, ◌∙◌}
 use Rattle.occ_filed.proofs.Tied.{moved}
 use Rattle.occ_filed.proofs.Filing.{moves}
+use Rattle.occ_core.proofs.Tallies.{quiet}
+use Rattle.occ_model.specs.Event.{BackedUp}
 use Rattle.occ_filed.proofs.filed_core.FiledCore.back_up.Goals as goal
 
 pub invariant_of-self : goal.invariant_of-self
-invariant_of-self g c = moved _ _ _ _ _ _ refl c.back_up.ensures c.self.invariant
+invariant_of-self g c = moved _ _ _ _ _ _ refl c.back_up.ensures.step c.self.invariant
 
 pub returns : goal.returns
-returns g c = moves _ _ _ _ c.self.view_is _ _ _ c.back_up.ensures
+returns g c = moves _ _ _ _ _ c.self.view_is _ _ _ _ c.back_up.ensures.step (c.back_up.ensures.totals ∙ quiet BackedUp _ c.back_up.result (λ _. refl))

@@ -1,10 +1,12 @@
-use Rattle.std.proofs.Common.{refl}
+use Rattle.std.proofs.Common.{refl, ◌∙◌}
 use Rattle.occ_filed.proofs.Tied.{moved}
 use Rattle.occ_filed.proofs.Filing.{moves}
+use Rattle.occ_core.proofs.Tallies.{quiet}
+use Rattle.occ_model.specs.Event.{Folded}
 use Rattle.occ_filed.proofs.filed_core.FiledCore.checkpoint.Goals as goal
 
 pub invariant_of-self : goal.invariant_of-self
-invariant_of-self g c = moved _ _ _ _ _ _ refl c.checkpoint.ensures c.self.invariant
+invariant_of-self g c = moved _ _ _ _ _ _ refl c.checkpoint.ensures.step c.self.invariant
 
 pub returns : goal.returns
-returns g c = moves _ _ _ _ c.self.view_is _ _ _ c.checkpoint.ensures
+returns g c = moves _ _ _ _ _ c.self.view_is _ _ _ _ c.checkpoint.ensures.step (c.checkpoint.ensures.totals ∙ quiet Folded _ c.checkpoint.result (λ _. refl))

@@ -1,6 +1,10 @@
 use Rattle.std.proofs.Common.{refl}
 use Rattle.occ_filed.proofs.Tied.{moved}
+use Rattle.occ_filed.proofs.Filing.{moves}
 use Rattle.occ_filed.proofs.filed_core.FiledCore.decide.Goals as goal
 
 pub invariant_of-self : goal.invariant_of-self
-invariant_of-self g c = moved _ _ _ _ _ _ refl c.decide.ensures c.self.invariant
+invariant_of-self g c = moved _ _ _ _ _ _ refl c.decide.ensures.step c.self.invariant
+
+pub returns : goal.returns
+returns g c = moves _ _ _ _ _ c.self.view_is _ _ _ _ c.decide.ensures.step c.decide.ensures.totals

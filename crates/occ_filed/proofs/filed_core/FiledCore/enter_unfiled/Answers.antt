@@ -11,7 +11,7 @@ pub invariant_of-self-in-Err : goal.invariant_of-self-in-Err
 invariant_of-self-in-Err g c = entered_tied _ _ _ _ _ _ _ c.in-Err.ensures.step c.self.invariant
 
 pub returns-in-Ok-clause-step : goal.returns-in-Ok-clause-step
-returns-in-Ok-clause-step g c = enters _ _ _ _ c.self.view_is _ _ _ _ _ _ c.keep_none.ensures c.in-Ok.ensures.step
+returns-in-Ok-clause-step g c = enters _ _ _ _ _ c.self.view_is _ _ _ _ _ _ _ c.keep_none.ensures c.in-Ok.ensures.step c.in-Ok.ensures.totals
 
 pub returns-in-Err-clause-step : goal.returns-in-Err-clause-step
-returns-in-Err-clause-step g c = enters _ _ _ _ c.self.view_is _ _ _ _ None _ refl c.in-Err.ensures.step
+returns-in-Err-clause-step g c = enters _ _ _ _ _ c.self.view_is _ _ _ _ _ None _ refl c.in-Err.ensures.step c.in-Err.ensures.totals

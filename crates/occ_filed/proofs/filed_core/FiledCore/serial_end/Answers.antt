@@ -7,4 +7,4 @@ pub invariant_of-self : goal.invariant_of-self
 invariant_of-self g c = moved _ _ _ _ _ _ refl c.serial_end.ensures.step c.self.invariant
 
 pub returns-clause-step : goal.returns-clause-step
-returns-clause-step g c = moves _ _ _ _ c.self.view_is _ _ _ c.serial_end.ensures.step
+returns-clause-step g c = moves _ _ _ _ _ c.self.view_is _ _ _ _ c.serial_end.ensures.step c.serial_end.ensures.totals

@@ -17,7 +17,7 @@ use Rattle.occ_sharing.proofs.workers.Worker.checkpoint.Goals as goal
 pub give-requires : goal.give-requires
 give-requires g c = record {
   fits = held_after _ _ _ _ _ (ap (λ (w : Worker). w.settings) c.in_ok-holding.ensures.left) c.in_ok-holding.ensures.fits.are_idle (ap (λ (h : Held _). h.idle.items) c.deref_mut.ensures.value)
-      (checkpoint_keeps _ _ (is_then _ _ _ (ap (λ (h : Held _). h.core.world) c.deref_mut.ensures.value) c.in_ok-holding.ensures.fits.is_of) (replied Folded c.checkpoint-folded.result) _ c.checkpoint-folded.ensures);
+      (checkpoint_keeps _ _ (is_then _ _ _ (ap (λ (h : Held _). h.core.world) c.deref_mut.ensures.value) c.in_ok-holding.ensures.fits.is_of) (replied Folded c.checkpoint-folded.result) _ c.checkpoint-folded.ensures.step);
 }
 
 pub returns : goal.returns
@@ -25,4 +25,4 @@ returns g c = in_one _ _ _ _ c.in_ok-holding.holding.leased _ c.in_ok-holding.en
     c.give.ensures.leaves c.give.ensures.keeps
     (ap (λ (w : Worker). w.settings) c.give.ensures.client ∙ ap (λ (w : Worker). w.settings) c.in_ok-holding.ensures.left)
     (ap (λ (w : Worker). w.holdings) c.give.ensures.client ∙ ap (λ (w : Worker). w.holdings) c.in_ok-holding.ensures.left)
-    (stepped Checkpoint (replied Folded c.checkpoint-folded.result) _ _ _ (ap (λ (h : Held _). h.core.world) c.deref_mut.ensures.value) c.checkpoint-folded.ensures, (ap (λ (w : Worker). w.client) c.give.ensures.client ∙ ap (λ (w : Worker). w.client) c.in_ok-holding.ensures.left))
+    (stepped Checkpoint (replied Folded c.checkpoint-folded.result) _ _ _ (ap (λ (h : Held _). h.core.world) c.deref_mut.ensures.value) c.checkpoint-folded.ensures.step, (ap (λ (w : Worker). w.client) c.give.ensures.client ∙ ap (λ (w : Worker). w.client) c.in_ok-holding.ensures.left))
