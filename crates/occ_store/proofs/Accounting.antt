@@ -1,5 +1,5 @@
 -- What a lane took adds up, whatever happens to the lane.
-use Rattle.std.proofs.Common.{◌≡◌, ℕ, ◌+◌, ◌-◌, ◌≤◌, Bool, true, false, List, [], ◌∷◌, ◌++◌, length, Option, is_some, Result, IfSome, inl, inr, refl, sym, ap, subst, ◌∙◌, arith}
+use Rattle.std.proofs.Common.{◌≡◌, ℕ, ◌+◌, ◌≤◌, Bool, true, false, List, [], ◌∷◌, ◌++◌, length, Option, is_some, Result, IfSome, inl, inr, refl, sym, ap, subst, ◌∙◌, arith}
 use Rattle.std.specs.Prelude.{◌⊎◌, ◌&&◌, ◌||◌}
 use Rattle.std.specs.List.{list_any}
 use Rattle.std.proofs.lemmas.List.{length_push}
@@ -165,12 +165,12 @@ module _ (seen old : LaneView) (judged : Option (Where Case)) (shared new : Lock
       subst (λ (l : LaneView). GoesOn l.left l judged shared result after new) is (subst (λ x. GoesOn x seen judged shared result after new) (sym at) goes)
 
 -- the line that is made of a lane and its session
-pub line_made : (seen lane : LaneView) (told session : SessionView) (line : LineView) (next : ℕ) → seen ≡ lane → told ≡ session → next ≡ length told.sender.pushed + 1 → line.pushed ≡ next - 1
+pub line_made : (seen lane : LaneView) (told session : SessionView) (line : LineView) → seen ≡ lane → told ≡ session → line.pushed ≡ length told.sender.pushed
     → line.taken ≡ length seen.receiver.taken → line.rows ≡ seen.entered → line.kept ≡ kept_of seen.left → AddsUp seen.receiver.taken seen.entered seen.left → told.sender.pushed ≡ seen.receiver.taken ++ line.left
     → IsLine lane session line
-line_made seen lane told session line next views shows due pushed taken rows kept adds whole =
+line_made seen lane told session line views shows pushed taken rows kept adds whole =
     subst (λ (l : LaneView × SessionView). IsLine l.0 l.1 line) (λ i. (views i, shows i)) (record {
-      pushed = omega arith;
+      pushed = pushed;
       taken = taken;
       rows = rows;
       kept = kept;

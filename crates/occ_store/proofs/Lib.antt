@@ -4,7 +4,10 @@ pub mod RowsCome
 pub mod CausesTold
 pub mod Keeping
 pub mod LaneSteps
+pub mod BaseLeft
 pub mod Happening
+pub mod Begun
+pub mod EmptyBase
 pub mod PartsMade
 pub mod Performing
 pub mod BooksAudited
@@ -12,3 +15,4 @@ pub mod Points
 pub mod Rounds
 pub mod Submittable
 pub mod Working
+pub mod Waiting

@@ -6,7 +6,7 @@ use Rattle.boxcar.specs.Table.{Where}
 use Rattle.occ_types.specs.declared.fault.Fault.{Fault}
 use Rattle.occ_model.specs.Log.{Case, Writing}
 use Rattle.occ_model.specs.State.{Write, put}
-use Rattle.occ_model.specs.World.{World, turn}
+use Rattle.occ_model.specs.World.{World, Settings, turn}
 use Rattle.occ_model.specs.Event.{Item, WriteOne, Finish, BackUp, Reply, Refused, Entered, Wrote, NoMore, Finished, BackedUp}
 use Rattle.occ_model.specs.Step.{Step, refused, starved, taken}
 use Rattle.occ_model.specs.declared.verdict.Verdict.{Verdict}
@@ -20,12 +20,12 @@ use Rattle.occ_store.specs.Lanes.{LaneView, Left, Nothing, Kept, Open, Decided, 
 use Rattle.occ_store.specs.declared.serving.Point.TheVariants as points
 use Rattle.occ_store.specs.declared.serving.Served.{Served}
 use Rattle.occ_store.specs.declared.serving.Served.TheVariants as served
-use Rattle.occ_store.specs.Serving.{Stops, StandsAt, IsAt, IsSame, Moves, ComesOf, CarriesOn, Turns, TakesUp, keeping}
+use Rattle.occ_store.specs.Serving.{Stops, StandsAt, IsAt, IsSame, IsBusy, Moves, Happened, HasMoved, MayHaveMoved, RestsOn, TellsOfMove, ComesOf, CarriesOn, Turns, TakesUp, keeping}
 
 nothing_here : {X P : Type 0} {x : X} → None ≡ Some x → P
 nothing_here e = cc e
 
-untrue : {P : Type 0} → false ≡ true → P
+pub untrue : {P : Type 0} → false ≡ true → P
 untrue e = cc e
 
 -- without a number nothing is left
@@ -159,18 +159,82 @@ was_open lane nothing still = go (list_any is_mark lane.receiver.taken) (ap (λ 
     go false e = refl
 
 -- what is served after an item was taken
-pub takes_up : (stops : Stops) (old having new : LaneView) (number : ℕ) (result : Result Served Fault) (item : Item) → old.left ≡ Nothing → having ≡ keeping old item
-    → number ≡ number_of item → CarriesOn stops having number result new → TakesUp stops old result new
-takes_up stops old having new number result item nothing is n carries =
-    (item, nothing, subst (λ m. CarriesOn stops (keeping old item) m result new) n (subst (λ lane. CarriesOn stops lane number result new) is carries))
+pub takes_up : (settings : Settings) (stops : Stops) (old having new : LaneView) (number : ℕ) (result : Result Served Fault) (item : Item) → old.left ≡ Nothing → having ≡ keeping old item
+    → number ≡ number_of item → CarriesOn settings stops having number result new → TakesUp settings stops old result new
+takes_up settings stops old having new number result item nothing is n carries =
+    (item, nothing, subst (λ m. CarriesOn settings stops (keeping old item) m result new) n (subst (λ lane. CarriesOn settings stops lane number result new) is carries))
 
 -- a lane that is stopped where it took its item
-pub stops_there : (stops : Stops) (lane : LaneView) (item : Item) (number session : ℕ) → lane.left ≡ Kept item → number ≡ number_of item → session ≡ lane.session
-    → stops points.Took session number → CarriesOn stops lane number (Ok (served.Stopped points.Took)) lane
-stops_there stops lane item number session is n s may = ((refl, refl, refl, refl), ((item, is, sym n), subst (λ at. stops points.Took at number) s may))
+pub stops_there : (settings : Settings) (stops : Stops) (lane : LaneView) (item : Item) (number session : ℕ) → lane.left ≡ Kept item → number ≡ number_of item → session ≡ lane.session
+    → stops points.Took session number → CarriesOn settings stops lane number (Ok (served.Stopped points.Took)) lane
+stops_there settings stops lane item number session is n s may = (((refl, refl, refl, refl), inl refl), ((item, is, sym n), subst (λ at. stops points.Took at number) s may))
+
+-- a lane that is stopped before a decision
+pub stops_before : (settings : Settings) (stops : Stops) (lane : LaneView) (number : ℕ) → StandsAt points.Judged number lane.left → stops points.Judged lane.session number
+    → CarriesOn settings stops lane number (Ok (served.Stopped points.Judged)) lane
+stops_before settings stops lane number at may = (((refl, refl, refl, refl), inl refl), (at, may))
+
+-- what comes of an event that was not refused rests on it
+rests : (settings : Settings) (old new : LaneView) (number : ℕ) (answer : Served) → TellsOfMove answer → HasMoved settings number new → RestsOn settings old number (Ok answer) new
+rests settings old new number (served.Settled settled) told moved = moved
+rests settings old new number served.Idle told moved = told
+rests settings old new number served.Busy told moved = absurd told
+rests settings old new number (served.Stopped points.Took) told moved = inr moved
+rests settings old new number (served.Stopped points.Entered) told moved = moved
+rests settings old new number (served.Stopped points.Judged) told moved = inr moved
+rests settings old new number (served.Stopped points.Decided) told moved = moved
+rests settings old new number (served.Stopped points.Wrote) told moved = moved
+rests settings old new number (served.Stopped points.Settled) told moved = moved
+rests settings old new number served.LaneClosed told moved = moved
 
 -- what comes of an event and the gate after it
-pub turned : (stops : Stops) (old new : LaneView) (number : ℕ) (answer : Option Served) → IsSame old new → IfSome answer (λ served. ComesOf stops number (Ok served) new)
-    → IfNone answer (number_left new.left ≡ Some number) → Turns stops old number (Ok answer) new
-turned stops old new number None same some none = (same, none)
-turned stops old new number (Some served) same some none = (same, some)
+pub turned : (settings : Settings) (stops : Stops) (old new : LaneView) (number : ℕ) (point : Point) (answer : Option Served) → number_left old.left ≡ Some number → Happened settings old (Ok point) new
+    → Moves old number (Ok point) new → IfSome answer (λ served. ComesOf stops number (Ok served) new) → IfSome answer TellsOfMove → IfNone answer (number_left new.left ≡ Some number)
+    → Turns settings stops old number (Ok answer) new
+turned settings stops old new number point None left happened moves some told none = ((moves.0, (point, (old, left, happened))), none)
+turned settings stops old new number point (Some served) left happened moves some told none =
+    ((moves.0, rests settings old new number served told (point, (old, left, happened))), some)
+
+-- what is refused waits until no row is active, or is told
+pub waits : (settings : Settings) (stops : Stops) (old new : LaneView) (number : ℕ) (fault : Fault) → number_left old.left ≡ Some number → Happened settings old (Err fault) new → Moves old number (Err fault) new
+    → IsBusy fault new.left → Turns settings stops old number (Ok (Some served.Busy)) new
+waits settings stops old new number fault left happened moves busy =
+    ((moves.0, (old, left, subst (λ f. Happened settings old (Err f) new) busy.0 happened)), (ap number_left moves.1 ∙ left, busy.1))
+
+pub refuses : (settings : Settings) (stops : Stops) (old new : LaneView) (number : ℕ) (fault : Fault) → number_left old.left ≡ Some number → Happened settings old (Err fault) new → Moves old number (Err fault) new
+    → (IsBusy fault new.left → ⊥) → Turns settings stops old number (Err fault) new
+refuses settings stops old new number fault left happened moves free = ((moves.0, ((old, left, happened), free)), ap number_left moves.1 ∙ left)
+
+-- a lane that is still as it was after it came so far
+since : (settings : Settings) (old now new : LaneView) (number : ℕ) → MayHaveMoved settings old number now → MayHaveMoved settings now number new → MayHaveMoved settings old number new
+since settings old now new number before (inl same) = subst (MayHaveMoved settings old number) (sym same) before
+since settings old now new number before (inr moved) = inr moved
+
+since_rests : (settings : Settings) (old now new : LaneView) (number : ℕ) (result : Result Served Fault) → MayHaveMoved settings old number now → RestsOn settings now number result new → RestsOn settings old number result new
+since_rests settings old now new number (Ok (served.Settled settled)) before rests_on = rests_on
+since_rests settings old now new number (Ok served.Idle) before rests_on = rests_on
+since_rests settings old now new number (Ok served.Busy) before rests_on = rests_on
+since_rests settings old now new number (Ok (served.Stopped points.Took)) before rests_on = since settings old now new number before rests_on
+since_rests settings old now new number (Ok (served.Stopped points.Entered)) before rests_on = rests_on
+since_rests settings old now new number (Ok (served.Stopped points.Judged)) before rests_on = since settings old now new number before rests_on
+since_rests settings old now new number (Ok (served.Stopped points.Decided)) before rests_on = rests_on
+since_rests settings old now new number (Ok (served.Stopped points.Wrote)) before rests_on = rests_on
+since_rests settings old now new number (Ok (served.Stopped points.Settled)) before rests_on = rests_on
+since_rests settings old now new number (Ok served.LaneClosed) before rests_on = rests_on
+since_rests settings old now new number (Err fault) before rests_on = rests_on
+
+-- a turn after others that went on
+pub carried : (settings : Settings) (stops : Stops) (old now new : LaneView) (number : ℕ) (result : Result Served Fault) → IsSame old now → MayHaveMoved settings old number now
+    → CarriesOn settings stops now number result new → CarriesOn settings stops old number result new
+carried settings stops old now new number result same before ((still, rests_on), comes) =
+    (((still.0 ∙ same.0, still.1 ∙ same.1, still.2 ∙ same.2, still.3 ∙ same.3), since_rests settings old now new number result before rests_on), comes)
+
+-- a turn that goes on came by an event
+pub moved_on : (settings : Settings) (stops : Stops) (old now new : LaneView) (number : ℕ) → Turns settings stops now number (Ok None) new → MayHaveMoved settings old number new
+moved_on settings stops old now new number turn = inr turn.0.1
+
+-- a turn that ends it, after others that went on
+pub ends_so : (settings : Settings) (stops : Stops) (old now new : LaneView) (number : ℕ) (answer : Option Served) (told : Served) → answer ≡ Some told → IsSame old now → MayHaveMoved settings old number now
+    → Turns settings stops now number (Ok answer) new → CarriesOn settings stops old number (Ok told) new
+ends_so settings stops old now new number answer told is same before turn =
+    carried settings stops old now new number (Ok told) same before (subst (λ (a : Option Served). Turns settings stops now number (Ok a) new) is turn)

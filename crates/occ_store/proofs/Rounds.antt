@@ -1,14 +1,16 @@
 -- Lanes that are served in rounds.
-use Rattle.std.proofs.Common.{◌≡◌, ◌≢◌, ℕ, zero, suc, arith, ◌<◌, Bool, true, false, List, [], ◌∷◌, ◌++◌, inl, inr, length, get_or, refl, sym, ap, subst, ◌∙◌}
-use Rattle.std.specs.Prelude.{◌==◌, Result, slice_set as set}
+use Rattle.std.proofs.Common.{◌≡◌, ◌≢◌, ◌⊎◌, ℕ, zero, suc, arith, ◌<◌, Bool, true, false, List, [], ◌∷◌, ◌++◌, Option, None, Some, inl, inr, length, get_or, refl, sym, ap, subst, ◌∙◌}
+use Rattle.std.specs.Prelude.{◌==◌, Result, Err, slice_set as set}
+use Rattle.std.specs.Option.{option_or}
 use Rattle.std.proofs.lemmas.Bool.{eqb-true, eq-eqb}
 use Rattle.std.proofs.lemmas.Grind.{get_or-set_at}
 use Rattle.std.proofs.lemmas.List.{append_assoc, append-nil, get_or_default, get_or-set_other, length-set}
 use Rattle.occ_model.proofs.Tests.{decided}
 use Rattle.occ_types.specs.declared.fault.Fault.{Fault}
 use Rattle.occ_store.specs.declared.serving.Served.{Served}
+use Rattle.occ_model.specs.World.{Settings}
 use Rattle.occ_store.specs.Lanes.{LaneView}
-use Rattle.occ_store.specs.Serving.{Stops, Serves, IsServed, AreServed, IsOver, AreOver, AllAreOver}
+use Rattle.occ_store.specs.Serving.{Stops, Serves, IsServed, AreServed, IsOver, AreOver, AllAreOver, HasMet, HasEnded, HaveEnded, AllHaveEnded, IsMetMarked, IsMet, TellsFault}
 
 pub served_still : (lane : LaneView) → IsServed lane lane
 served_still lane = (refl, ([], append-nil _))
@@ -45,20 +47,86 @@ all_set lanes place old lane there is served = record {
       (λ apart. rw (get_or-set_other lanes place other lane none apart) (served_still (get_or lanes other none)));
 }
 
--- a lane that is not marked is served: those that are marked are over as before
+-- what is so of each lane that is marked
+abbrev pub EachMarked : (LaneView → Type 0) → List Bool → List LaneView → Type 0
+EachMarked Is marks lanes = (place : ℕ) (none : LaneView) → get_or marks place false ≡ true → Is (get_or lanes place none)
+
+module _ (Is : LaneView → Type 0) (marks : List Bool) (lanes : List LaneView) (place : ℕ) (lane : LaneView) where
+  -- a lane that is not marked is served: of those that are marked it is so as before
+  pub so_unmarked : get_or marks place false ≡ false → EachMarked Is marks lanes → EachMarked Is marks (set lanes place lane)
+  so_unmarked unmarked each = λ other none marked. by_place other place
+      (λ same. clash (sym marked ∙ ap (λ at. get_or marks at false) same ∙ unmarked))
+      (λ apart. rw (get_or-set_other lanes place other lane none apart) (each other none marked))
+
+  -- a lane of which it is so is marked
+  pub so_marked : place < length lanes → Is lane → EachMarked Is marks lanes → EachMarked Is (set marks place true) (set lanes place lane)
+  so_marked there is each = λ other none marked. by_place other place
+      (λ same. rw (get_or-set_at lanes place other lane none same there) is)
+      (λ apart. rw (get_or-set_other lanes place other lane none apart)
+      (each other none (sym (get_or-set_other marks place other true false apart) ∙ marked)))
+
 pub over_unmarked : (stops : Stops) (marks : List Bool) (lanes : List LaneView) (place : ℕ) (lane : LaneView) → get_or marks place false ≡ false
     → AreOver stops marks lanes → AreOver stops marks (set lanes place lane)
-over_unmarked stops marks lanes place lane unmarked over = λ other none marked. by_place other place
-    (λ same. clash (sym marked ∙ ap (λ at. get_or marks at false) same ∙ unmarked))
-    (λ apart. rw (get_or-set_other lanes place other lane none apart) (over other none marked))
+over_unmarked stops = so_unmarked (IsOver stops)
 
--- a lane that is over is marked
 pub over_marked : (stops : Stops) (marks : List Bool) (lanes : List LaneView) (place : ℕ) (lane : LaneView) → place < length lanes → IsOver stops lane
     → AreOver stops marks lanes → AreOver stops (set marks place true) (set lanes place lane)
-over_marked stops marks lanes place lane there is over = λ other none marked. by_place other place
-    (λ same. rw (get_or-set_at lanes place other lane none same there) is)
-    (λ apart. rw (get_or-set_other lanes place other lane none apart)
-    (over other none (sym (get_or-set_other marks place other true false apart) ∙ marked)))
+over_marked stops = so_marked (IsOver stops)
+
+-- a place that is marked lies within the marks
+marked_within : (marks : List Bool) (place : ℕ) → get_or marks place false ≡ true → place < length marks
+marked_within [] zero marked = clash (sym marked)
+marked_within [] (suc place) marked = clash (sym marked)
+marked_within (x ∷ xs) zero marked = omega arith
+marked_within (x ∷ xs) (suc place) marked = let within = marked_within xs place marked in omega arith
+
+-- how lanes have ended, and which fault is told
+module _ (settings : Settings) (stops : Stops) (marks : List Bool) (lanes : List LaneView) (place : ℕ) (lane : LaneView) (unmarked : get_or marks place false ≡ false) where
+  apart_from : (other : ℕ) → get_or marks other false ≡ true → other ≢ place
+  apart_from other marked = λ same. clash (sym marked ∙ ap (λ at. get_or marks at false) same ∙ unmarked)
+
+  still_met : (fault : Option Fault) → IsMetMarked settings stops fault marks lanes → IsMetMarked settings stops fault marks (set lanes place lane)
+  still_met None met = tt
+  still_met (Some fault) (other, marked, met) = (other, marked, λ none. rw (get_or-set_other lanes place other lane none (apart_from other marked)) (met none))
+
+  met_before : (fault : Option Fault) → IsMetMarked settings stops fault marks lanes → IsMetMarked settings stops fault (set marks place true) (set lanes place lane)
+  met_before None met = tt
+  met_before (Some fault) (other, marked, met) = (
+    other,
+    get_or-set_other marks place other true false (apart_from other marked) ∙ marked,
+    λ none. rw (get_or-set_other lanes place other lane none (apart_from other marked)) (met none),
+  )
+
+  -- the lane goes on, and tells no fault
+  pub met_still : (before after : Option Fault) → after ≡ before → IsMetMarked settings stops before marks lanes → IsMetMarked settings stops after marks (set lanes place lane)
+  met_still before after same met = subst (λ fault. IsMetMarked settings stops fault marks (set lanes place lane)) (sym same) (still_met before met)
+
+  -- the lane has ended, and tells a fault where it is the first
+  pub met_marked : (old : LaneView) (before after : Option Fault) → place < length marks → place < length lanes → TellsFault settings stops old before after lane
+      → IsMetMarked settings stops before marks lanes → IsMetMarked settings stops after (set marks place true) (set lanes place lane)
+  met_marked old before after within there (inl same) met =
+      subst (λ fault. IsMetMarked settings stops fault (set marks place true) (set lanes place lane)) (sym same) (met_before before met)
+  met_marked old before after within there (inr (none, (fault, is, serves))) met =
+      subst (λ f. IsMetMarked settings stops f (set marks place true) (set lanes place lane)) (sym is)
+      (place, get_or-set_at marks place place true false refl within, λ none. rw (get_or-set_at lanes place place lane none refl there) (old, serves))
+
+-- where each is marked, each has ended, and one of them met the fault
+pub ended_all : (settings : Settings) (stops : Stops) (marks : List Bool) (lanes : List LaneView) → length marks ≡ length lanes → ((place : ℕ) → place < length marks → get_or marks place false ≡ true)
+    → HaveEnded settings stops marks lanes → AllHaveEnded settings stops lanes
+ended_all settings stops marks lanes count each ended = λ place none there. ended place none (each place (omega (arith, count, there)))
+
+pub met_all : (settings : Settings) (stops : Stops) (fault : Option Fault) (marks : List Bool) (lanes : List LaneView) → length marks ≡ length lanes
+    → IsMetMarked settings stops fault marks lanes → IsMet settings stops fault lanes
+met_all settings stops None marks lanes count met = tt
+met_all settings stops (Some fault) marks lanes count (place, marked, met) = (place, (let within = marked_within marks place marked in omega (arith, count, within)), met)
+
+-- where none is marked, none has ended
+pub none_ended : (settings : Settings) (stops : Stops) (marks : List Bool) (lanes : List LaneView) → ((place : ℕ) → get_or marks place false ≡ false) → HaveEnded settings stops marks lanes
+none_ended settings stops marks lanes unmarked = λ place none marked. clash (sym marked ∙ unmarked place)
+
+-- a mark that was found not to be set
+pub not_marked : (marks : List Bool) (place : ℕ) (mark : Bool) → mark ≡ get_or marks place mark → mark ≡ false → get_or marks place false ≡ false
+not_marked marks place mark at is = subst (λ (m : Bool). get_or marks place m ≡ m) is (sym at)
 
 -- where each is marked, each is over
 pub over_all : (stops : Stops) (marks : List Bool) (lanes : List LaneView) → length marks ≡ length lanes → ((place : ℕ) → place < length marks → get_or marks place false ≡ true)
@@ -73,10 +141,25 @@ unmarked_more (x ∷ xs) none zero = none zero
 unmarked_more (x ∷ xs) none (suc place) = unmarked_more xs (λ p. none (suc p)) place
 
 -- a lane that was served once
-pub served_once : (stops : Stops) (old new : LaneView) (result : Result Served Fault) → Serves stops old result new → IsServed old new
-served_once stops old new result (inl (number, is, (same, comes))) =
+pub served_once : (settings : Settings) (stops : Stops) (old new : LaneView) (result : Result Served Fault) → Serves settings stops old result new → IsServed old new
+served_once settings stops old new result (inl (number, is, ((same, rests), comes))) =
     (same.0, ([], append-nil old.receiver.taken ∙ sym (ap (λ receiver. receiver.taken) same.1)))
-served_once stops old new result (inr (inl (item, nothing, (same, comes)))) =
+served_once settings stops old new result (inr (inl (item, nothing, ((same, rests), comes)))) =
     (same.0, (item ∷ [], sym (ap (λ receiver. receiver.taken) same.1)))
-served_once stops old new result (inr (inr (inl ((nothing, same, is), still, all)))) = subst (IsServed old) (sym same) (served_still old)
-served_once stops old new result (inr (inr (inr ((nothing, same, is), mark)))) = subst (IsServed old) (sym same) (served_still old)
+served_once settings stops old new result (inr (inr (inl ((nothing, same, is), still, all)))) = subst (IsServed old) (sym same) (served_still old)
+served_once settings stops old new result (inr (inr (inr ((nothing, same, is), mark)))) = subst (IsServed old) (sym same) (served_still old)
+
+-- the first fault that is met is told, and stays
+pub tells_first : (settings : Settings) (stops : Stops) (old new : LaneView) (before after : Option Fault) (met : Fault) → after ≡ option_or before (Some met) → Serves settings stops old (Err met) new
+    → TellsFault settings stops old before after new
+tells_first settings stops old new None after met is serves = inr (refl, (met, is, serves))
+tells_first settings stops old new (Some fault) after met is serves = inl is
+
+-- a turn that is not the last one tells no fault that is new
+pub tells_none : {T : Type 0} (turn one other : T) (before after : Option Fault) → (one ≡ other → ⊥) → turn ≡ one → (after ≡ before) ⊎ (turn ≡ other) → after ≡ before
+tells_none turn one other before after differ is (inl same) = same
+tells_none turn one other before after differ is (inr last) = absurd (differ (sym is ∙ last))
+
+-- a lane that met a fault has ended
+pub ended_at : (settings : Settings) (stops : Stops) (old new : LaneView) (met : Fault) → Serves settings stops old (Err met) new → HasEnded settings stops new
+ended_at settings stops old new met serves = inr (met, (old, serves))

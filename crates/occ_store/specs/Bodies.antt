@@ -12,13 +12,25 @@ use Rattle.occ_open.specs.Transactions.{Gets, Scans, written}
 use Rattle.occ_store.specs.Sessions.{InOneHolding}
 use Rattle.occ_store.specs.Transactions.{TransactionView}
 
--- how a run in a transaction may end, and what it may make of the transaction then
-abbrev pub Making : Type 1
-Making = TransactionView → Result (Unit {0}) Fault → TransactionView → Type 0
+-- what a run in a transaction may answer, and what it may make of the transaction then
+abbrev pub Making : Type 0 → Type 0 → Type 1
+Making Value Error = TransactionView → Result Value Error → TransactionView → Type 0
 
 -- what is made in the one way is made in the other
-abbrev pub Goes : Making → Making → Type 0
-Goes Made Other = (before : TransactionView) (ran : Result (Unit {0}) Fault) (after : TransactionView) → Made before ran after → Other before ran after
+abbrev pub Goes : {Value Error : Type 0} → Making Value Error → Making Value Error → Type 0
+Goes {Value} {Error} Made Other = (before : TransactionView) (ran : Result Value Error) (after : TransactionView) → Made before ran after → Other before ran after
+
+-- which errors of a body a fault of the store may become, by the `From` between the two
+abbrev pub Becoming : Type 0 → Type 1
+Becoming Error = Fault → Error → Type 0
+
+-- an error is what became of a fault of which this holds
+abbrev pub ComesOf : {Error : Type 0} → Becoming Error → (Fault → Type 0) → Error → Type 0
+ComesOf Becomes Is error = (fault : Fault) × Is fault × Becomes fault error
+
+-- a fault stays what it is, where the body's error is one
+abbrev pub stays_fault : Becoming Fault
+stays_fault fault error = error ≡ fault
 
 -- What a transaction sees under a question, in one holding of the lock: its own write of the key, or what the state answers with its own writes over it.
 abbrev pub Sees : Settings → TransactionView → Question → Answer → Type 0
@@ -47,5 +59,5 @@ PerformsAll settings (operation ∷ operations) before after =
     (between : TransactionView) × Performs settings operation before between × PerformsAll settings operations between after
 
 -- a run that isn't refused performs all of them
-abbrev pub Performing : Settings → List Operation → Making
+abbrev pub Performing : Settings → List Operation → Making (Unit {0}) Fault
 Performing settings operations before ran after = OnOk ran (PerformsAll settings operations before after)

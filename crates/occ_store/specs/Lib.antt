@@ -1,9 +1,13 @@
 pub mod Accounts
 pub mod Bodies
+pub mod Books
+pub mod Clients
+pub mod Counted
 pub mod Ended
 pub mod Frames
 pub mod Lanes
 pub mod Laws
+pub mod Leaving
 pub mod Locked
 pub mod Names
 pub mod Serving

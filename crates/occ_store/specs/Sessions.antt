@@ -2,7 +2,7 @@
 use Rattle.std.specs.Prelude.{◌≡◌, ℕ, Bool, true, false, nat_lt, List, [], ◌∷◌, length, Option, None, Some, is_some, IsSomeAnd}
 use Rattle.occ_types.specs.declared.fault.Fault.{Fault}
 use Rattle.occ_types.specs.declared.fault.Fault.TheVariants as faults
-use Rattle.occ_types.specs.declared.limits.TheConstants.{MAX_OPERATIONS}
+use Rattle.occ_types.specs.declared.limits.TheConstants.{MAX_NUMBER, MAX_OPERATIONS}
 use Rattle.occ_types.specs.Schema.{Schema, fault_if, first_fault}
 use Rattle.occ_model.specs.Operations.{Operation}
 use Rattle.occ_model.specs.Event.{Item, Request, Alone, Close}
@@ -28,6 +28,10 @@ pub record SessionView : Type 0 where
 abbrev pub due : SessionView → ℕ
 due session = numbering.next (as_queue session.sender)
 
+-- the number of the last one, or the one that the session began behind
+abbrev pub last_number : SessionView → ℕ
+last_number session = (as_queue session.sender).pushed
+
 -- the closing mark was pushed
 abbrev pub closed : SessionView → Option Fault
 closed session = fault_if (as_queue session.sender).closed faults.Closed
@@ -35,6 +39,10 @@ closed session = fault_if (as_queue session.sender).closed faults.Closed
 -- a transaction is open
 abbrev pub read_open : SessionView → Option Fault
 read_open session = fault_if (is_some session.draft) faults.ReadOpen
+
+-- no number is left, not even for the closing mark
+abbrev pub no_number : SessionView → Option Fault
+no_number session = fault_if (nat_lt MAX_NUMBER (due session)) faults.NumbersExhausted
 
 -- as many items were pushed as the queue holds beyond those that the session heard of as taken
 abbrev pub queue_full : SessionView → Option Fault
@@ -89,7 +97,7 @@ Submits old number new = IsSomeAnd old.draft (λ copy. (number ≡ copy.number) 
 
 -- `close`
 abbrev pub close_fault : SessionView → Option Fault
-close_fault session = first_fault (closed session ∷ read_open session ∷ [])
+close_fault session = first_fault (closed session ∷ read_open session ∷ no_number session ∷ [])
 
 -- `alone`
 abbrev pub alone_fault : SessionView → List Operation → Option Fault
@@ -108,3 +116,7 @@ IsRefusedBy known session fault = first_fault (known ∷ queue_full session ∷ 
 -- A call within one holding of the lock: some state of the store, which has the law and these settings, and what the call makes of it. No clause can name the state, since other threads move it between two holdings.
 abbrev pub InOneHolding : Settings → (World → World → Type 0) → Type 0
 InOneHolding settings Is = (old : World) × (new : World) × Invariant old × (old.settings ≡ settings) × Is old new
+
+-- A look at the state within one holding of the lock: what is seen is so of some state of the store, which has the law and these settings.
+abbrev pub InOneState : Settings → (World → Type 0) → Type 0
+InOneState settings Is = (world : World) × Invariant world × (world.settings ≡ settings) × Is world

@@ -1,4 +1,4 @@
--- What clauses see of the transaction that a worker has begun: its session, and the private copy where it is open (our own choice).
+-- What clauses see of the transaction that a body runs in: its session, and the private copy where it is open (our own choice).
 use Rattle.std.specs.Prelude.{ℕ, Option}
 use Rattle.occ_sets.specs.Sets.{Copied}
 

@@ -9,12 +9,12 @@ use Rattle.occ_sets.specs.Sets.{Copied}
 use Rattle.occ_open.specs.Transactions.{begun, Abandons}
 use Rattle.occ_core.specs.AutoCheckpoints.{is_due, counted, checked_point}
 use Rattle.occ_core.specs.declared.auto_checkpoints.AutoCheckpoint.{AutoCheckpoint}
-use Rattle.occ_store.specs.Sessions.{SessionView, due, begin_fault, submit_fault, request, handed_in, alone_fault, IsRefusedBy, InOneHolding}
+use Rattle.occ_store.specs.Sessions.{SessionView, due, last_number, begin_fault, submit_fault, request, handed_in, alone_fault, IsRefusedBy, InOneHolding}
 use Rattle.occ_store.specs.Transactions.{TransactionView}
-use Rattle.occ_store.specs.Bodies.{Making, Performing}
+use Rattle.occ_store.specs.Bodies.{Making, Becoming, ComesOf, stays_fault, Performing}
 use Rattle.occ_store.specs.Lanes.{LaneView, Nothing, number_left}
 use Rattle.occ_queue.specs.Lanes.{pushing}
-use Rattle.occ_store.specs.Ended.{IsTold}
+use Rattle.occ_store.specs.Ended.{IsTold, IsToldCommitted}
 use Rattle.occ_store.specs.declared.ended.Ended.{Ended}
 use Rattle.occ_store.specs.declared.ended.Ended.TheVariants.{Committed, BackedUp}
 
@@ -22,20 +22,25 @@ use Rattle.occ_store.specs.declared.ended.Ended.TheVariants.{Committed, BackedUp
 abbrev pub most_tries : ℕ → ℕ
 most_tries tries = if tries == 0 then 1 else tries
 
--- a request that was made so of a transaction without a write, which the session began under that number
-abbrev pub IsMade : Making → ℕ → Item → Type 0
-IsMade Made session (Request number start writes) = (began : ℕ) × (after : TransactionView)
+-- a request that was made so of a transaction without a write, which the session began under that number, by a run that answered the value
+abbrev pub IsMade : {Value Error : Type 0} → Making Value Error → ℕ → Value → Item → Type 0
+IsMade Made session value (Request number start writes) = (began : ℕ) × (after : TransactionView)
     × (after.draft ≡ Some (record { number = number; start = start; writes = writes }))
-    × Made (record { session = session; draft = Some (begun number began) }) (Ok tt) after
-IsMade Made session (Alone number operations) = ⊥
-IsMade Made session (Close number) = ⊥
+    × Made (record { session = session; draft = Some (begun number began) }) (Ok value) after
+IsMade Made session value (Alone number operations) = ⊥
+IsMade Made session value (Close number) = ⊥
 
-abbrev pub AllMade : Making → ℕ → List Item → Type 0
+-- each of them was made so, by some run
+abbrev pub AllMade : {Value Error : Type 0} → Making Value Error → ℕ → List Item → Type 0
 AllMade Made session [] = Unit {0}
-AllMade Made session (item ∷ items) = IsMade Made session item × AllMade Made session items
+AllMade {Value} Made session (item ∷ items) = ((value : Value) × IsMade Made session value item) × AllMade Made session items
+
+-- the last one was, by a run that answered the value
+abbrev pub LastMade : {Value Error : Type 0} → Making Value Error → ℕ → List Item → Value → Type 0
+LastMade Made session items value = (before : List Item) × (last : Item) × (items ≡ before ++ last ∷ []) × IsMade Made session value last
 
 -- So many requests were handed in, each of which was made so. Nothing else of the session changes but what its seat saw, and no transaction is open where none was.
-pub record Requests (Made : Making) (count : ℕ) (old new : SessionView) : Type 0 where
+pub record Requests {Value Error : Type 0} (Made : Making Value Error) (count : ℕ) (old new : SessionView) : Type 0 where
   pub items : List Item
   pub pushed : new ≡ record old { seat = new.seat; sender = record old.sender { pushed = old.sender.pushed ++ items }; draft = new.draft }
   pub many : length items ≡ count
@@ -43,41 +48,47 @@ pub record Requests (Made : Making) (count : ℕ) (old new : SessionView) : Type
   pub none_open : old.draft ≡ None → new.draft ≡ None
 
 -- all tries were made, if the last one was backed up
-abbrev pub IsLastTry : ℕ → ℕ → Ended → Type 0
-IsLastTry count most (Committed tn) = Unit {0}
+abbrev pub IsLastTry : {Value : Type 0} → ℕ → ℕ → Ended Value → Type 0
+IsLastTry count most (Committed tn value) = Unit {0}
 IsLastTry count most (BackedUp cause) = count ≡ most
 
--- So many tries were made, each of which handed in one request. The board tells how the last one ended, and no transaction is open.
-pub record Tried (Made : Making) (count : ℕ) (old : SessionView) (ended : Ended) (new : SessionView) : Type 0 where
+-- So many tries were made, each of which handed in one request. The board tells how the last one ended, with the value that the very run answered which made it, and no transaction is open.
+pub record Tried {Value Error : Type 0} (Made : Making Value Error) (count : ℕ) (old : SessionView) (ended : Ended Value) (new : SessionView) : Type 0 where
   pub requests : Requests Made count old new
-  pub told : IsTold new.seat.last (length new.sender.pushed) ended
+  pub value : Value
+  pub answered : LastMade Made old.session requests.items value
+  pub told : IsTold new.seat.last (last_number new) value ended
   pub none_open : new.draft ≡ None
 
 -- The tries of a transaction. There is at least one; and after a back-up there were as many as there may be.
-abbrev pub Ends : Making → ℕ → SessionView → Ended → SessionView → Type 0
+abbrev pub Ends : {Value Error : Type 0} → Making Value Error → ℕ → SessionView → Ended Value → SessionView → Type 0
 Ends Made most old ended new = (count : ℕ) × (0 < count) × (count ≤ most) × IsLastTry count most ended × Tried Made count old ended new
 
 -- at most so many requests were handed in
-abbrev pub HandsInUpTo : Making → ℕ → SessionView → SessionView → Type 0
+abbrev pub HandsInUpTo : {Value Error : Type 0} → Making Value Error → ℕ → SessionView → SessionView → Type 0
 HandsInUpTo Made most old new = (count : ℕ) × (count ≤ most) × Requests Made count old new
 
--- one request was handed in, with this number
-abbrev pub HandsInOne : Making → SessionView → ℕ → SessionView → Type 0
-HandsInOne Made old number new = (number ≡ due old) × ((copy : Copied) × (number ≡ copy.number)
+-- fewer requests were handed in than there may be tries, since the last try handed none in
+abbrev pub HandsInFewer : {Value Error : Type 0} → Making Value Error → ℕ → SessionView → SessionView → Type 0
+HandsInFewer Made most old new = (count : ℕ) × (count < most) × Requests Made count old new
+
+-- one request was handed in, with this number, which was made by a run that answered the value
+abbrev pub HandsInOne : {Value Error : Type 0} → Making Value Error → SessionView → ℕ → Value → SessionView → Type 0
+HandsInOne Made old number value new = (number ≡ due old) × ((copy : Copied) × (number ≡ copy.number)
     × (new ≡ record old { seat = new.seat; sender = pushing old.sender (request copy); draft = None })
-    × IsMade Made old.session (request copy))
+    × IsMade Made old.session value (request copy))
 
 -- the open transaction as it is lent to a body
 abbrev pub lent : SessionView → TransactionView
 lent session = record { session = session.session; draft = session.draft }
 
 -- it became this one, in a run that ended so
-abbrev pub RunsIn : Making → SessionView → Result (Unit {0}) Fault → Option Copied → Type 0
+abbrev pub RunsIn : {Value Error : Type 0} → Making Value Error → SessionView → Result Value Error → Option Copied → Type 0
 RunsIn Made session ran draft = (after : TransactionView) × (draft ≡ after.draft) × Made (lent session) ran after
 
--- why a run fails: it was refused, or another transaction came back than the one that was lent to it
-abbrev pub RunFails : Making → SessionView → Fault → Type 0
-RunFails Made session fault = ((draft : Option Copied) × RunsIn Made session (Err fault) draft) ⊎ (fault ≡ faults.OutOfTurn)
+-- why a run fails: by its own error, or since another transaction came back than the one that was lent to it
+abbrev pub RunFails : {Value Error : Type 0} → Making Value Error → Becoming Error → SessionView → Error → Type 0
+RunFails Made Becomes session error = ((draft : Option Copied) × RunsIn Made session (Err error) draft) ⊎ Becomes faults.OutOfTurn error
 
 -- the transaction is another one, under this number
 abbrev pub Reopens : SessionView → ℕ → SessionView → Type 0
@@ -88,27 +99,28 @@ abbrev pub GivesUp : Settings → SessionView → SessionView → Type 0
 GivesUp settings old new = (reply : Reply) × InOneHolding settings (λ before after. Abandons before old.session old.draft reply after) × (new ≡ record old { draft = None })
 
 -- why it is: a run in it failed, which began without a write; or it is refused as `submit` is
-abbrev pub IsGivenUpFor : Making → SessionView → Fault → Type 0
-IsGivenUpFor Made session fault = ((began : ℕ) × RunFails Made (record session { draft = Some (begun (due session) began) }) fault)
-    ⊎ IsRefusedBy (submit_fault session) session fault
+abbrev pub IsGivenUpFor : {Value Error : Type 0} → Making Value Error → Becoming Error → SessionView → Error → Type 0
+IsGivenUpFor Made Becomes session error = ((began : ℕ) × RunFails Made Becomes (record session { draft = Some (begun (due session) began) }) error)
+    ⊎ ComesOf Becomes (IsRefusedBy (submit_fault session) session) error
 
 -- why a transaction isn't handed in: none may begin, or it was given up
-abbrev pub NotHandedIn : Making → Settings → SessionView → Fault → Type 0
-NotHandedIn Made settings session fault = (begin_fault session ≡ Some fault)
-    ⊎ ((before : SessionView) × GivesUp settings before session × IsGivenUpFor Made before fault)
+abbrev pub NotHandedIn : {Value Error : Type 0} → Making Value Error → Becoming Error → Settings → SessionView → Error → Type 0
+NotHandedIn Made Becomes settings session error = ComesOf Becomes (λ fault. begin_fault session ≡ Some fault) error
+    ⊎ ((before : SessionView) × GivesUp settings before session × IsGivenUpFor Made Becomes before error)
 
 -- a lane has something left
 abbrev pub IsKept : LaneView → Type 0
 IsKept lane = (number : ℕ) × (number_left lane.left ≡ Some number)
 
--- Why tries are refused: serving the lane met the fault, and the lane keeps what it had; or it has nothing left, and a transaction isn't handed in.
-abbrev pub Stops : Making → Settings → SessionView → LaneView → Fault → Type 0
-Stops Made settings session lane fault = IsKept lane ⊎ ((lane.left ≡ Nothing) × NotHandedIn Made settings session fault)
+-- Why tries are refused: serving the lane met a fault, and the lane keeps what it had; or it has nothing left, and a transaction isn't handed in.
+abbrev pub Stops : {Value Error : Type 0} → Making Value Error → Becoming Error → Settings → SessionView → LaneView → Error → Type 0
+Stops Made Becomes settings session lane error = ComesOf Becomes (λ fault. IsKept lane) error
+    ⊎ ((lane.left ≡ Nothing) × NotHandedIn Made Becomes settings session error)
 
 -- operations were handed in to run alone, and committed
 abbrev pub RunsAlone : List Operation → SessionView → ℕ → SessionView → Type 0
 RunsAlone operations old tn new = (new ≡ record (handed_in old (Alone (due old) operations)) { seat = new.seat })
-    × IsTold new.seat.last (due old) (Committed tn)
+    × IsToldCommitted new.seat.last (due old) tn
 
 -- at most once they were handed in so
 abbrev pub HandsInAlone : List Operation → SessionView → SessionView → Type 0
@@ -121,7 +133,7 @@ AloneStops operations session lane fault = IsKept lane
 
 -- operations were tried: they committed, or each of the tries was backed up
 abbrev pub TriesList : Settings → ℕ → List Operation → SessionView → Option ℕ → SessionView → Type 0
-TriesList settings most operations old (Some tn) new = Ends (Performing settings operations) most old (Committed tn) new
+TriesList settings most operations old (Some tn) new = Ends (Performing settings operations) most old (Committed tn tt) new
 TriesList settings most operations old None new = Requests (Performing settings operations) most old new
 
 -- Operations commit: as a transaction in one of its tries, each of which performed them, or alone after as many as there may be.
@@ -137,19 +149,19 @@ RunsOut settings most operations old new = HandsInUpTo (Performing settings oper
 -- Why they don't: they can't be handed in; or as tries are refused; or as they don't run alone.
 abbrev pub RunStops : Settings → List Operation → SessionView → LaneView → Fault → Type 0
 RunStops settings operations session lane fault = (alone_fault session operations ≡ Some fault)
-    ⊎ (Stops (Performing settings operations) settings session lane fault ⊎ AloneStops operations session lane fault)
+    ⊎ (Stops (Performing settings operations) stays_fault settings session lane fault ⊎ AloneStops operations session lane fault)
 
 -- ---- how a worker counts its commits
 
 -- a commit is counted, and a back-up is not
-abbrev pub count_ended : Ended → AutoCheckpoint → AutoCheckpoint
-count_ended (Committed tn) auto = counted auto
+abbrev pub count_ended : {Value : Type 0} → Ended Value → AutoCheckpoint → AutoCheckpoint
+count_ended (Committed tn value) auto = counted auto
 count_ended (BackedUp cause) auto = auto
 
--- what came of tries is counted so, and a fault is not
-abbrev pub count_tried : Result Ended Fault → AutoCheckpoint → AutoCheckpoint
+-- what came of tries is counted so, and an error is not
+abbrev pub count_tried : {Value Error : Type 0} → Result (Ended Value) Error → AutoCheckpoint → AutoCheckpoint
 count_tried (Ok ended) auto = count_ended ended auto
-count_tried (Err fault) auto = auto
+count_tried (Err error) auto = auto
 
 -- operations of which each try was backed up are not counted
 abbrev pub count_listed : Result (Option ℕ) Fault → AutoCheckpoint → AutoCheckpoint

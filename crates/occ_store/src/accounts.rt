@@ -208,8 +208,10 @@ fn room_for<N: Name, A: Allocator + Copy>(
     ensures room { IfOk result (IsRoom lane.now session.now) }
     ensures memory { IsOkUnless result Memory }
 {
-    let pushed = session.sender.next() - 1;
-    let left = pushed.saturating_sub(lane.receiver.taken());
+    let left = session
+        .sender
+        .pushed()
+        .saturating_sub(lane.receiver.taken());
     Ok(Vec::with_capacity(alloc, left as usize)?)
 }
 
@@ -234,7 +236,7 @@ fn line_of<N: Name, A: Allocator + Copy, R: Wait>(
     } = lane;
     let Session { sender, .. } = session;
     let line = AccountLine {
-        pushed: sender.next() - 1,
+        pushed: sender.pushed(),
         taken: receiver.taken(),
         rows: entered,
         kept: kept(left),

@@ -1,23 +1,27 @@
 //! Frames: a store that has no name yet.
-ghost use Rattle.std.specs.Prelude.{◌≡◌, ◌<◌, ◌⊎◌, ℕ, map, length, IfOk, IfErr, IsOkUnless, None};
-ghost use Rattle.std.specs.List.{range_with_len};
+ghost use Rattle.std.specs.Prelude.{◌≡◌, ◌≤◌, ◌⊎◌, ℕ, map, length, IfOk, IfErr, IsOkUnless, None};
+ghost use Rattle.std.specs.List.{All, range_with_len};
 ghost use Rattle.atomic_table.specs.Seated.{TableId};
-ghost use Rattle.occ_board.specs.Words.{blank};
+ghost use Rattle.occ_types.specs.declared.limits.TheConstants.{MAX_NUMBER};
+ghost use Rattle.occ_model.specs.Log.{last_folded};
+ghost use Rattle.occ_model.specs.World.{empty_base, resumed};
+ghost use Rattle.occ_board.specs.Words.{blank, continued};
 ghost use Rattle.occ_board.specs.Rule.{fresh};
-ghost use Rattle.occ_store.specs.Frames.{IsPart, AreParts};
+ghost use Rattle.occ_store.specs.Frames.{IsPart, AreParts, HasRoomFor, HaveRoomFor, NumbersHaveRoom};
 ghost use Rattle.std.specs.Arc.{arc_value};
-ghost use Rattle.occ_types.specs.declared.fault.Fault.TheVariants.{Memory, OutOfTurn};
-ghost use Rattle.std.specs.FinMap as finite;
-ghost use Rattle.occ_model.specs.World.{empty_base};
+ghost use Rattle.occ_types.specs.declared.fault.Fault.TheVariants.{Memory};
 ghost use Rattle.occ_core.specs.Resuming.{resume_fault, CannotGoOn};
 
 use crate::parts::Part;
+use crate::publishing::law;
 use crate::schemas::copied;
 use occ_board::{Board, Publisher, Seat};
 use occ_book::Base;
 use occ_case::CaseFile;
+use occ_core::Core;
 use occ_filed::FiledCore;
-use occ_queue::lane;
+use occ_queue::lane_behind;
+use occ_types::limits::MAX_NUMBER;
 use occ_types::{Fault, Refused, Schema};
 use std::alloc::Allocator;
 use std::marker::Model;
@@ -46,7 +50,7 @@ impl<A: Allocator + Copy> Model for Frame<A> {
 
     ghost coded = { Prim.hlevel (codes, finite.code, shelves_coded) };
 
-    ghost view = { λ f. record { named = named_by f.filed f.publisher f.parts.items; ledger = f.rows.name; parts = f.rows.parts; base = f.filed.world.base } };
+    ghost view = { λ f. record { named = named_by f.filed f.publisher f.parts.items; ledger = f.rows.name; parts = f.rows.parts; base = f.filed.world.base; counter = f.filed.world.counter } };
 
     ghost invariant = { λ f. IsFrame f.filed (arc_value f.file) f.publisher f.parts.items f.rows.parts };
 }
@@ -64,10 +68,13 @@ impl<A: Allocator + Copy> Frame<A> {
     ) -> Result<Frame<A>, Refused<Schema<A>>>
         ensures settings { IfOk result (λ frame. frame.named.settings ≡ record { schema = schema; sessions = sessions; keep = keep }) }
         ensures empty { IfOk result (λ frame. frame.base ≡ empty_base) }
+        ensures counter { IfOk result (λ frame. frame.counter ≡ 0) }
+        ensures room { IfOk result (λ frame. All (HasRoomFor capacity) frame.named.lanes) }
         ensures handed_back { IfErr result (λ refused. (refused.value ≡ schema) × (refused.fault ≡ Memory)) }
     {
-        let (publisher, parts, spare) = match room(alloc, &schema, sessions, capacity) {
-            Ok(parts) => parts,
+        let count = schema.tables().len();
+        let base = match Base::new(alloc, count, sessions) {
+            Ok(base) => base,
             Err(fault) => {
                 return Err(Refused {
                     value: schema,
@@ -75,30 +82,23 @@ impl<A: Allocator + Copy> Frame<A> {
                 });
             }
         };
-        let filed = FiledCore::open(alloc, schema, sessions, keep)?;
-        match filed.share_file() {
-            Ok(file) => Ok(Frame {
-                alloc,
-                filed,
-                file,
-                publisher,
-                parts,
-                rows: Blank::new(sessions as u64),
-            }),
-            Err(_many) => Err(Refused {
-                value: spare,
-                fault: Fault::Memory,
-            }),
+        match Frame::resume(alloc, schema, sessions, capacity, keep, base, 0) {
+            Ok(frame) => Ok(frame),
+            Err(refused) => {
+                let (schema, _base) = refused.value;
+                Err(Refused {
+                    value: schema,
+                    fault: refused.fault,
+                })
+            }
         }
     }
-}
 
-impl<A: Allocator + Copy> Frame<A> {
-    /// The frame of a store that goes on from a base in which no session has a number (`Base::renumbered`): as `new` makes it, but with
-    /// the rows of the base. The counter begins with 0, and each session with the number 1.
+    /// The frame of a store that goes on from a base, with the transaction counter where it stood: as `new` makes it, but with the rows
+    /// of the base, and with each session behind its last number, which its next transaction follows. Until one is over, a poll shows
+    /// that last number, without a status.
     ///
-    /// Refused with `OutOfTurn` where a session has a number; as `Core::resume`; and with `Memory` where there is none for the rest. The
-    /// schema and the base are handed back then.
+    /// Refused as `Core::resume`, and with `Memory` where there is none for the rest. The schema and the base are handed back then.
     pub fn resume(
         alloc: A,
         schema: Schema<A>,
@@ -106,22 +106,18 @@ impl<A: Allocator + Copy> Frame<A> {
         capacity: usize,
         keep: usize,
         base: Base<A>,
+        counter: u64,
     ) -> Result<Frame<A>, Refused<(Schema<A>, Base<A>)>>
         ensures settings { IfOk result (λ frame. frame.named.settings ≡ record { schema = schema; sessions = sessions; keep = keep }) }
         ensures base { IfOk result (λ frame. frame.base ≡ base.base) }
-        ensures anew { IfOk result (λ _. finite.len base.base.last ≡ 0) }
-        ensures fits { IfOk result (λ _. resume_fault schema sessions base 0 ≡ None) }
-        ensures fault { IfErr result (λ refused. ((0 < finite.len base.base.last) × (refused.fault ≡ OutOfTurn)) ⊎ ((refused.fault ≡ Memory) ⊎ CannotGoOn schema sessions base 0 refused.fault)) }
+        ensures counter { IfOk result (λ frame. frame.counter ≡ counter) }
+        ensures room { IfOk result (λ frame. All (HasRoomFor capacity) frame.named.lanes) }
+        ensures fits { IfOk result (λ _. resume_fault schema sessions base counter ≡ None) }
+        ensures fault { IfErr result (λ refused. (refused.fault ≡ Memory) ⊎ CannotGoOn schema sessions base counter refused.fault) }
         ensures handed_back { IfErr result (λ refused. refused.value ≡ (schema, base)) }
     {
-        if base.numbers().len() > 0 {
-            return Err(Refused {
-                value: (schema, base),
-                fault: Fault::OutOfTurn,
-            });
-        }
-        let (publisher, parts, _spare) = match room(alloc, &schema, sessions, capacity) {
-            Ok(parts) => parts,
+        let (mut publisher, parts) = match room(alloc, &schema, sessions, capacity, &base) {
+            Ok(room) => room,
             Err(fault) => {
                 return Err(Refused {
                     value: (schema, base),
@@ -129,7 +125,9 @@ impl<A: Allocator + Copy> Frame<A> {
                 });
             }
         };
-        let (filed, file) = FiledCore::resume(alloc, schema, sessions, keep, base, 0)?;
+        let (filed, file) = FiledCore::resume(alloc, schema, sessions, keep, base, counter)?;
+        law(&filed);
+        show(&mut publisher, filed.core());
         Ok(Frame {
             alloc,
             filed,
@@ -141,25 +139,25 @@ impl<A: Allocator + Copy> Frame<A> {
     }
 }
 
-// What takes memory beside the core: the board, what becomes of each session, and a schema to hand back.
+// What takes memory beside the core: the board, and what becomes of each session.
 fn room<A: Allocator + Copy>(
     alloc: A,
     schema: &Schema<A>,
     sessions: usize,
     capacity: usize,
-) -> Result<(Publisher<A>, Vec<Part<A>, A>, Schema<A>), Fault>
+    base: &Base<A>,
+) -> Result<(Publisher<A>, Vec<Part<A>, A>), Fault>
     ensures words { IfOk result (λ made. made.0.words ≡ blank sessions) }
     ensures count { IfOk result (λ made. length made.1.items ≡ sessions) }
-    ensures parts { IfOk result (λ made. AreParts made.0.board schema.now 1 made.1.items) }
-    ensures spare { IfOk result (λ made. made.2 ≡ schema.now) }
+    ensures room { IfOk result (λ made. HaveRoomFor capacity made.1.items) }
+    ensures parts { IfOk result (λ made. NumbersHaveRoom base.now.base sessions → AreParts made.0.board schema.now base.now.base 1 made.1.items) }
     ensures memory { IsOkUnless result Memory }
 {
-    let spare = copied(alloc, schema)?;
     let tables = copied(alloc, schema)?;
     let tables = Arc::new(alloc, tables)?;
     let (publisher, seats) = Board::new(alloc, sessions)?;
-    let parts = parts(alloc, seats, &tables, capacity)?;
-    Ok((publisher, parts, spare))
+    let parts = parts(alloc, seats, &tables, capacity, base)?;
+    Ok((publisher, parts))
 }
 
 // What becomes of each session, the first session's first.
@@ -168,29 +166,47 @@ fn parts<A: Allocator + Copy>(
     seats: Vec<Seat<A>, A>,
     tables: &Arc<Schema<A>, A>,
     capacity: usize,
+    base: &Base<A>,
 ) -> Result<Vec<Part<A>, A>, Fault>
     ensures count { IfOk result (λ made. length made.items ≡ length seats.items) }
-    ensures parts { IfOk result (λ made. (board : TableId) → seats.items ≡ map (fresh board) (range_with_len 1 (length seats.items)) → AreParts board (arc_value tables.now) 1 made.items) }
+    ensures room { IfOk result (λ made. HaveRoomFor capacity made.items) }
+    ensures parts { IfOk result (λ made. (board : TableId) → seats.items ≡ map (fresh board) (range_with_len 1 (length seats.items)) → NumbersHaveRoom base.now.base (length seats.items) → AreParts board (arc_value tables.now) base.now.base 1 made.items) }
     ensures memory { IsOkUnless result Memory }
 {
     let mut parts = Vec::with_capacity(alloc, seats.len())?;
     for seat in seats {
-        parts.push(part(alloc, seat, tables, capacity)?)?;
+        let last = lane_begin(base, parts.len() + 1);
+        parts.push(part(alloc, seat, tables, capacity, last)?)?;
     }
     Ok(parts)
 }
 
-// What becomes of the session of a seat.
+// The number that a session's lane begins behind: the last one that a base has of it. For a number past its limit there is no lane, and
+// the core refuses the base.
+fn lane_begin<A: Allocator>(base: &Base<A>, session: usize) -> u64
+    ensures fits { result ≤ MAX_NUMBER }
+    ensures last { last_folded base.now.base session ≤ MAX_NUMBER → result ≡ last_folded base.now.base session }
+{
+    match base.last(session) {
+        Some(last) if last <= MAX_NUMBER => last,
+        _ => 0,
+    }
+}
+
+// What becomes of the session of a seat, behind its last number.
 fn part<A: Allocator + Copy>(
     alloc: A,
     seat: Seat<A>,
     tables: &Arc<Schema<A>, A>,
     capacity: usize,
+    last: u64,
 ) -> Result<Part<A>, Fault>
-    ensures part { IfOk result (λ made. (board : TableId) (session : ℕ) → seat ≡ fresh board session → IsPart board (arc_value tables.now) session made) }
+    requires { last ≤ MAX_NUMBER }
+    ensures room { IfOk result (λ made. HasRoomFor capacity made.receiver.lane) }
+    ensures part { IfOk result (λ made. (board : TableId) (session : ℕ) → seat ≡ fresh board session → IsPart board (arc_value tables.now) session last made) }
     ensures memory { IsOkUnless result Memory }
 {
-    let (sender, receiver) = lane(alloc, capacity.max(1))?;
+    let (sender, receiver) = lane_behind(alloc, capacity.max(1), last)?;
     let schema = Arc::try_clone(tables)?;
     Ok(Part {
         seat,
@@ -198,4 +214,19 @@ fn part<A: Allocator + Copy>(
         receiver,
         schema,
     })
+}
+
+// Stores what a board shows of a core that goes on: the counter, and the last number of each session.
+fn show<A: Allocator + Copy>(publisher: &mut Publisher<A>, core: &Core<A>)
+    requires begun { core.now.world ≡ resumed core.now.world.settings core.now.world.base core.now.world.counter }
+    requires blank { publisher.old.words ≡ blank core.now.world.settings.sessions }
+    ensures { publisher.new ≡ record publisher.old { words = continued core.now.world.counter (last_folded core.now.world.base) core.now.world.settings.sessions } }
+{
+    core.law();
+    let base = core.base();
+    publisher.counter(core.tnc());
+    for place in 0..core.sessions() {
+        let session = place + 1;
+        publisher.resumed(session, base.last(session).unwrap_or(0));
+    }
 }

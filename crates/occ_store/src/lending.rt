@@ -50,6 +50,26 @@ impl<N: Name, A: Allocator + Copy> Readable<A> for Shared<N, A> {
         self.scan_apart(session, number, start, table, lower, upper)
     }
 
+    fn first_rest(
+        &self,
+        table: usize,
+        lower: Option<&Key<A>>,
+        upper: Option<&Key<A>>,
+        most: usize,
+    ) -> Result<Option<Key<A>>, Fault> {
+        self.core().first_rest(table, lower, upper, most)
+    }
+
+    fn last_rest(
+        &self,
+        table: usize,
+        lower: Option<&Key<A>>,
+        upper: Option<&Key<A>>,
+        most: usize,
+    ) -> Result<Option<Key<A>>, Fault> {
+        self.core().last_rest(table, lower, upper, most)
+    }
+
     fn forget(&mut self, session: usize, number: u64) -> Result<bool, Fault> {
         self.forget(session, number)
     }

@@ -10,12 +10,15 @@
 
 mod accounts;
 mod advancing;
+mod awaited;
+mod counts;
 mod ended;
 mod events;
 mod frames;
 mod lanes;
 pub mod laws;
 mod leases;
+mod leaving;
 mod lending;
 mod names;
 mod operations;
@@ -24,7 +27,9 @@ mod publishing;
 mod schemas;
 mod serving;
 mod session_reads;
+mod session_tries;
 mod session_turns;
+mod session_waits;
 mod sessions;
 mod shared;
 mod short_logs;
@@ -36,6 +41,7 @@ mod validators;
 mod workers;
 
 pub use accounts::{Account, AccountLine, Parties};
+pub use awaited::{Awaited, Pending};
 pub use ended::Ended;
 pub use frames::Frame;
 pub use lanes::Lane;
@@ -44,7 +50,8 @@ pub use names::Name;
 pub use occ_board::Last;
 pub use occ_book::{Base, Book, LogRow, Marks, Standing, Tables};
 pub use occ_case::{Case, CaseFile, CaseToken, Cause, Judged, OpenCase, Verdict};
-pub use occ_core::{AutoCheckpoint, Core, SHORT_LOG};
+pub use occ_core::{AutoCheckpoint, Core, Counts, SHORT_LOG};
+pub use occ_open::Page;
 pub use occ_queue::Item;
 pub use occ_sets::{Op, RangeRows, ReadSet, RequestWrites, Write, WriteSet};
 pub use occ_types::{

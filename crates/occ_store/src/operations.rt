@@ -23,6 +23,10 @@ pub(crate) struct Operations<'o, A: Allocator + Copy> {
 }
 
 impl<N: Name, A: Allocator + Copy, R: Wait> Body<N, A, R> for Operations<'_, A> {
+    type Value = ();
+
+    type Error = Fault;
+
     ghost makes = { λ body. Performing N.named.settings (ops_of body.list.now) };
 
     fn run(

@@ -1,14 +1,13 @@
 //! How a lane is served: one holding of the lock for each event, and a gate between them.
 ghost use Rattle.std.specs.Prelude.{◌≡◌, ◌⊎◌, ℕ, Some, None, Ok, IfSome, IfNone, IsTrue, true};
-ghost use Rattle.occ_store.specs.Lanes.{Nothing, number_left, keeps_alone};
-ghost use Rattle.occ_store.specs.Serving.{StandsAt, IsAt, ComesOf, CarriesOn, Moves, Turns, Resumes, TakesNext, Serves, FindsNothing};
+ghost use Rattle.occ_store.specs.Lanes.{Nothing, number_left};
+ghost use Rattle.occ_store.specs.Serving.{StandsAt, IsAt, IsBusy, Happened, TellsOfMove, ComesOf, CarriesOn, Moves, Turns, Resumes, TakesNext, Serves, FindsNothing};
 ghost use Rattle.occ_store.specs.declared.serving.Served.TheVariants.{Idle};
 ghost use Rattle.occ_store.specs.declared.serving.Point.TheVariants as points;
 ghost use Rattle.boxcar.specs.Table.{Shows};
 
 use crate::lanes::Lane;
 use crate::names::Name;
-use crate::shared::Shared;
 use crate::stores::Store;
 use occ_case::Judged;
 use occ_types::Fault;
@@ -97,7 +96,8 @@ impl<N: Name, A: Allocator + Copy> Lane<N, A> {
 
     // Whether what was refused waits until no row is active.
     fn is_busy(&self, fault: Fault) -> bool
-        ensures { IsTrue result → keeps_alone self.now.left ≡ true }
+        ensures busy { IsTrue result → IsBusy fault self.now.left }
+        ensures all { IsBusy fault self.now.left → IsTrue result }
     {
         fault == Fault::StoreBusy && self.keeps_alone()
     }
@@ -107,6 +107,7 @@ impl<N: Name, A: Allocator + Copy> Lane<N, A> {
     fn reached<G: Gate>(&self, gate: &G, point: Point, number: u64) -> Option<Served>
         requires { IsAt point number self.now.left }
         ensures some { IfSome result (λ served. ComesOf (G.may_stop gate.now) number (Ok served) self.now) }
+        ensures told { IfSome result TellsOfMove }
         ensures none { IfNone result (number_left self.now.left ≡ Some number) }
     {
         let Some(_) = self.number() else {
@@ -121,7 +122,8 @@ impl<N: Name, A: Allocator + Copy> Lane<N, A> {
     // What it comes to where nothing is left: the closing mark has entered, or else a transaction is over.
     fn ended<G: Gate>(&self, gate: &G, number: u64) -> Served
         requires { self.now.left ≡ Nothing }
-        ensures { ComesOf (G.may_stop gate.now) number (Ok result) self.now }
+        ensures comes { ComesOf (G.may_stop gate.now) number (Ok result) self.now }
+        ensures told { TellsOfMove result }
     {
         if self.is_closed() {
             return Served::LaneClosed;
@@ -144,7 +146,7 @@ impl<N: Name, A: Allocator + Copy> Lane<N, A> {
         store: &Store<N, A>,
         gate: &G,
     ) -> Result<Served, Fault>
-        ensures { Serves (G.may_stop gate.now) self.old result self.new }
+        ensures { Serves N.named.settings (G.may_stop gate.now) self.old result self.new }
     {
         match self.number() {
             Some(number) => self.carry_on(rt, store, gate, number),
@@ -159,7 +161,7 @@ impl<N: Name, A: Allocator + Copy> Lane<N, A> {
         store: &Store<N, A>,
         gate: &G,
     ) -> Result<Served, Fault>
-        ensures { Resumes (G.may_stop gate.now) self.old result self.new ⊎ FindsNothing self.old result Idle self.new }
+        ensures { Resumes N.named.settings (G.may_stop gate.now) self.old result self.new ⊎ FindsNothing self.old result Idle self.new }
     {
         match self.number() {
             Some(number) => self.carry_on(rt, store, gate, number),
@@ -175,7 +177,7 @@ impl<N: Name, A: Allocator + Copy> Lane<N, A> {
         gate: &G,
     ) -> Result<Served, Fault>
         requires { self.old.left ≡ Nothing }
-        ensures { TakesNext (G.may_stop gate.now) self.old result self.new }
+        ensures { TakesNext N.named.settings (G.may_stop gate.now) self.old result self.new }
     {
         if self.is_closed() {
             return Ok(Served::LaneClosed);
@@ -190,6 +192,7 @@ impl<N: Name, A: Allocator + Copy> Lane<N, A> {
     }
 
     // Does all that is to be done with what is left.
+    #[tactic(auto, using(crate::proofs::Points::carried, crate::proofs::Points::moved_on))]
     fn carry_on<R: Wait, G: Gate>(
         &mut self,
         rt: &R,
@@ -198,7 +201,7 @@ impl<N: Name, A: Allocator + Copy> Lane<N, A> {
         number: u64,
     ) -> Result<Served, Fault>
         requires { number_left self.old.left ≡ Some number }
-        ensures { CarriesOn (G.may_stop gate.now) self.old number result self.new }
+        ensures { CarriesOn N.named.settings (G.may_stop gate.now) self.old number result self.new }
     {
         for _ in rt.forever() {
             match self.turn(rt, store, gate, number) {
@@ -212,6 +215,7 @@ impl<N: Name, A: Allocator + Copy> Lane<N, A> {
 
     // One event, and the gate after it. None where more is to be done. Where a decision is next, its verdict is reached first, and the
     // gate is asked, before the lock is taken.
+    #[tactic(auto, using(crate::proofs::Points::refuses))]
     fn turn<R: Wait, G: Gate>(
         &mut self,
         rt: &R,
@@ -220,14 +224,13 @@ impl<N: Name, A: Allocator + Copy> Lane<N, A> {
         number: u64,
     ) -> Result<Option<Served>, Fault>
         requires { number_left self.old.left ≡ Some number }
-        ensures { Turns (G.may_stop gate.now) self.old number result self.new }
+        ensures { Turns N.named.settings (G.may_stop gate.now) self.old number result self.new }
     {
         let judged = self.judge(store.case_file());
         if self.stops_at_verdict(gate, number) {
             return Ok(Some(Served::Stopped(Point::Judged)));
         }
-        // The lock is held to the end of this line, and no longer.
-        let moved = self.event(rt, &mut store.lock(rt), judged);
+        let moved = self.event(rt, store, judged);
         match moved {
             Ok(point) => Ok(self.reached(gate, point, number)),
             Err(fault) if self.is_busy(fault) => Ok(Some(Served::Busy)),
@@ -235,16 +238,19 @@ impl<N: Name, A: Allocator + Copy> Lane<N, A> {
         }
     }
 
-    // One event on what is left.
+    // One event on what is left. The lock is held as long as it lasts, and no longer.
     fn event<R: Wait>(
         &mut self,
         rt: &R,
-        shared: &mut Shared<N, A>,
+        store: &Store<N, A>,
         judged: Option<Judged<A>>,
     ) -> Result<Point, Fault>
         requires own_file { IfSome judged (Shows N.named.file) }
-        ensures { (number : ℕ) → number_left self.old.left ≡ Some number → Moves self.old number result self.new }
+        ensures happened { Happened N.named.settings self.old result self.new }
+        ensures moves { (number : ℕ) → number_left self.old.left ≡ Some number → Moves self.old number result self.new }
     {
-        self.advance(rt, shared, judged)
+        let mut shared = store.lock(rt);
+        shared.law();
+        self.advance(rt, &mut shared, judged)
     }
 }

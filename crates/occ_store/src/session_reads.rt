@@ -1,7 +1,9 @@
 //! What a session writes and reads in its open transaction.
-ghost use Rattle.std.specs.Prelude.{◌≡◌, None, Some, IfErr, OnOk, OnErr, MatchResult};
+ghost use Rattle.std.specs.Prelude.{◌≡◌, None, Some, IfOk, IfErr, OnOk, OnErr, MatchResult};
 ghost use Rattle.occ_types.specs.PlainData.{key_of, end_of};
 ghost use Rattle.occ_types.specs.Question.{Span};
+ghost use Rattle.occ_model.specs.Paging.{first_page, last_page};
+ghost use Rattle.occ_open.specs.Pages.{paging, first_rest_of, last_rest_of, WantsPage, ScansPage};
 ghost use Rattle.occ_open.specs.Replies.{reading, scanning, forgetting};
 ghost use Rattle.occ_open.specs.Transactions.{IsRefusedBy, write_fault, written, WantsRoom, WantsOwn, Gets, WantsRange, Scans, Abandons, open_after, OrStarves};
 ghost use Rattle.occ_store.specs.Locked.{world_of};
@@ -11,6 +13,7 @@ use crate::names::Name;
 use crate::sessions::Session;
 use crate::shared::Shared;
 use crate::stores::Store;
+use occ_open::Page;
 use occ_sets::{RangeRows, Write};
 use occ_types::{Fault, Key, Refused, Row};
 use std::alloc::Allocator;
@@ -77,6 +80,46 @@ impl<N: Name, A: Allocator + Copy> Session<N, A> {
         self.open.scan_in(shared, self.session, table, lower, upper)
     }
 
+    /// The first rows of a range, at most `most` of them, or one where `most` is 0, and where the rows behind them begin, which is the
+    /// lower end of the next page. The state is asked for the part of the range up to there, which it notes, so that a row that comes
+    /// in behind the page is no conflict. The own writes of that part are laid over the rows, so that the page may show more rows than
+    /// `most`, or fewer. Refused as `scan_in`, and with `Memory` where rows are left and there is none for the key at which they begin.
+    pub fn scan_first_in(
+        &self,
+        shared: &mut Shared<N, A>,
+        table: usize,
+        lower: Option<Key<A>>,
+        upper: Option<Key<A>>,
+        most: usize,
+    ) -> Result<Page<A>, Fault>
+        ensures step { let rest = first_rest_of (world_of shared.old) table (end_of lower) (end_of upper) most in
+            OrStarves (WantsPage (world_of shared.old).settings.schema (first_page table (end_of lower) (end_of upper) rest) rest self.now.draft) (world_of shared.old) (paging result) (world_of shared.new)
+            (Scans (world_of shared.old) self.now.session (first_page table (end_of lower) (end_of upper) rest) self.now.draft (paging result) (world_of shared.new)) }
+        ensures rest { IfOk result (λ page. end_of page.rest ≡ first_rest_of (world_of shared.old) table (end_of lower) (end_of upper) most) }
+    {
+        self.open
+            .scan_first_in(shared, self.session, table, lower, upper, most)
+    }
+
+    /// The last rows of a range, at most `most` of them, or one where `most` is 0, and where the rows before them end, which is the upper
+    /// end of the page before. Noted, overlaid and refused as by `scan_first_in`.
+    pub fn scan_last_in(
+        &self,
+        shared: &mut Shared<N, A>,
+        table: usize,
+        lower: Option<Key<A>>,
+        upper: Option<Key<A>>,
+        most: usize,
+    ) -> Result<Page<A>, Fault>
+        ensures step { let rest = last_rest_of (world_of shared.old) table (end_of lower) (end_of upper) most in
+            OrStarves (WantsPage (world_of shared.old).settings.schema (last_page table (end_of lower) (end_of upper) rest) rest self.now.draft) (world_of shared.old) (paging result) (world_of shared.new)
+            (Scans (world_of shared.old) self.now.session (last_page table (end_of lower) (end_of upper) rest) self.now.draft (paging result) (world_of shared.new)) }
+        ensures rest { IfOk result (λ page. end_of page.rest ≡ last_rest_of (world_of shared.old) table (end_of lower) (end_of upper) most) }
+    {
+        self.open
+            .scan_last_in(shared, self.session, table, lower, upper, most)
+    }
+
     /// The state forgets what the open transaction read, and none is open then. Its number is not spent. It answers whether anything was
     /// read. Refused with `NoReadOpen`, and as the core refuses it; the transaction stays open then. It takes no memory.
     pub fn abandon_in(&mut self, shared: &mut Shared<N, A>) -> Result<bool, Fault>
@@ -119,6 +162,40 @@ impl<N: Name, A: Allocator + Copy> Session<N, A> {
         let mut shared = store.lock(rt);
         shared.law();
         self.scan_in(&mut shared, table, lower, upper)
+    }
+
+    /// As `scan_first_in`, in a holding of the lock of its own.
+    pub fn scan_first<R: Wait>(
+        &self,
+        rt: &R,
+        store: &Store<N, A>,
+        table: usize,
+        lower: Option<Key<A>>,
+        upper: Option<Key<A>>,
+        most: usize,
+    ) -> Result<Page<A>, Fault>
+        ensures { InOneHolding N.named.settings (λ old new. ScansPage old self.now.session (first_page table (end_of lower) (end_of upper)) (first_rest_of old table (end_of lower) (end_of upper) most) self.now.draft result new) }
+    {
+        let mut shared = store.lock(rt);
+        shared.law();
+        self.scan_first_in(&mut shared, table, lower, upper, most)
+    }
+
+    /// As `scan_last_in`, in a holding of the lock of its own.
+    pub fn scan_last<R: Wait>(
+        &self,
+        rt: &R,
+        store: &Store<N, A>,
+        table: usize,
+        lower: Option<Key<A>>,
+        upper: Option<Key<A>>,
+        most: usize,
+    ) -> Result<Page<A>, Fault>
+        ensures { InOneHolding N.named.settings (λ old new. ScansPage old self.now.session (last_page table (end_of lower) (end_of upper)) (last_rest_of old table (end_of lower) (end_of upper) most) self.now.draft result new) }
+    {
+        let mut shared = store.lock(rt);
+        shared.law();
+        self.scan_last_in(&mut shared, table, lower, upper, most)
     }
 
     /// As `abandon_in`, in a holding of the lock of its own.

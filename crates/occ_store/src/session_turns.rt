@@ -3,10 +3,10 @@ ghost use Rattle.std.specs.Prelude.{◌≡◌, ◌⊎◌, None, Some, Ok, Err, I
 ghost use Rattle.occ_types.specs.declared.fault.Fault.TheVariants.{Memory, OutOfTurn};
 ghost use Rattle.occ_sets.specs.Operations.{ops_of};
 ghost use Rattle.occ_open.specs.Transactions.{begun as no_writes};
-ghost use Rattle.occ_store.specs.Ended.{ended_by, IsTold};
+ghost use Rattle.occ_store.specs.Bodies.{ComesOf};
+ghost use Rattle.occ_store.specs.Ended.{ended_by, IsTold, IsToldCommitted};
 ghost use Rattle.occ_store.specs.Sessions.{Submits, IsNext, MayBeSubmitted, IsRefusedBy, submit_fault};
 ghost use Rattle.occ_store.specs.Workers.{GivesUp, Reopens};
-ghost use Rattle.occ_store.specs.declared.ended.Ended.TheVariants.{Committed};
 
 use crate::ended::Ended;
 use crate::names::Name;
@@ -62,40 +62,46 @@ impl<N: Name, A: Allocator + Copy> Session<N, A> {
         Err(Fault::OutOfTurn)
     }
 
-    /// Submits the open transaction, unless the run of its body failed. Where it isn't submitted it is given up.
-    pub(crate) fn submit_or_give_up<R: Wait>(
+    /// Submits the open transaction, unless the run of its body failed, and answers its number and what the run answered. Where it isn't
+    /// submitted it is given up.
+    pub(crate) fn submit_or_give_up<R: Wait, V: Drop, E: From<Fault>>(
         &mut self,
         rt: &R,
         store: &Store<N, A>,
-        ran: Result<(), Fault>,
-    ) -> Result<u64, Fault>
-        ensures ok { IfOk result (λ number. (ran ≡ Ok tt) × Submits self.old number self.new) }
+        ran: Result<V, E>,
+    ) -> Result<(u64, V), E>
+        ensures ok { IfOk result (λ handed. (ran ≡ Ok handed.1) × Submits self.old handed.0 self.new) }
         ensures given_up { OnErr result (GivesUp N.named.settings self.old self.new) }
-        ensures fault { IfErr result (λ fault. (ran ≡ Err fault) ⊎ IsRefusedBy (submit_fault self.old) self.old fault) }
+        ensures error { IfErr result (λ error. (ran ≡ Err error) ⊎ ComesOf E.from_gives (IsRefusedBy (submit_fault self.old) self.old) error) }
     {
-        let fault = match self.submit_after(rt, ran) {
-            Ok(number) => return Ok(number),
-            Err(fault) => fault,
+        let error = match self.submit_after(rt, ran) {
+            Ok(handed) => return Ok(handed),
+            Err(error) => error,
         };
-        self.give_up(rt, store);
-        Err(fault)
+        self.give_up_open(rt, store);
+        Err(error)
     }
 
     // Submits the open transaction, unless the run of its body failed.
-    fn submit_after<R: Wait>(&mut self, rt: &R, ran: Result<(), Fault>) -> Result<u64, Fault>
-        ensures ok { IfOk result (λ number. (ran ≡ Ok tt) × Submits self.old number self.new) }
+    fn submit_after<R: Wait, V: Drop, E: From<Fault>>(
+        &mut self,
+        rt: &R,
+        ran: Result<V, E>,
+    ) -> Result<(u64, V), E>
+        ensures ok { IfOk result (λ handed. (ran ≡ Ok handed.1) × Submits self.old handed.0 self.new) }
         ensures err { OnErr result (self.new ≡ self.old) }
-        ensures fault { IfErr result (λ fault. (ran ≡ Err fault) ⊎ IsRefusedBy (submit_fault self.old) self.old fault) }
+        ensures error { IfErr result (λ error. (ran ≡ Err error) ⊎ ComesOf E.from_gives (IsRefusedBy (submit_fault self.old) self.old) error) }
     {
-        match ran {
-            Ok(()) => {}
-            Err(fault) => return Err(fault),
-        }
-        self.submit(rt)
+        let value = match ran {
+            Ok(value) => value,
+            Err(error) => return Err(error),
+        };
+        let number = self.submit(rt)?;
+        Ok((number, value))
     }
 
-    // The open transaction is given up. What the state answers isn't told: it is refused only where it has no such session.
-    fn give_up<R: Wait>(&mut self, rt: &R, store: &Store<N, A>)
+    /// The open transaction is given up. What the state answers isn't told: it is refused only where it has no such session.
+    pub(crate) fn give_up_open<R: Wait>(&mut self, rt: &R, store: &Store<N, A>)
         ensures { GivesUp N.named.settings self.old self.new }
     {
         let _forgotten = self.abandon(rt, store);
@@ -104,11 +110,11 @@ impl<N: Name, A: Allocator + Copy> Session<N, A> {
 
     /// Polls until the board tells that the transaction with a number committed, and answers its transaction number.
     pub(crate) fn committed<R: Wait>(&mut self, rt: &R, number: u64) -> u64
-        ensures told { IsTold self.new.seat.last number (Committed result) }
+        ensures told { IsToldCommitted self.new.seat.last number result }
         ensures same { self.new ≡ record self.old { seat = self.new.seat } }
     {
         for _ in rt.forever() {
-            if let Ended::Committed(tn) = self.settled(rt, number) {
+            if let Ended::Committed { tn, .. } = self.settled(rt, number, ()) {
                 return tn;
             }
         }
@@ -123,9 +129,10 @@ impl<N: Name, A: Allocator + Copy> Session<N, A> {
         copied(self.alloc, operations)
     }
 
-    /// Polls until the board tells how the transaction with a number ended. Where that is over, the first poll tells it.
-    pub(crate) fn settled<R: Wait>(&mut self, rt: &R, number: u64) -> Ended
-        ensures told { IsTold self.new.seat.last number result }
+    /// Polls until the board tells how the transaction with a number ended, whose run answered this value. Where that is over, the first
+    /// poll tells it.
+    pub(crate) fn settled<R: Wait, V: Drop>(&mut self, rt: &R, number: u64, value: V) -> Ended<V>
+        ensures told { IsTold self.new.seat.last number value result }
         ensures same { self.new ≡ record self.old { seat = self.new.seat } }
     {
         for _ in rt.forever() {
@@ -133,19 +140,19 @@ impl<N: Name, A: Allocator + Copy> Session<N, A> {
             if last.number == number
                 && let Some(status) = last.status
             {
-                return ended(last.tn, status);
+                return ended(last.tn, value, status);
             }
         }
         unreachable!()
     }
 }
 
-// How a transaction ended, by its verdict.
-fn ended(tn: u64, verdict: Verdict) -> Ended
-    ensures { result ≡ ended_by tn verdict }
+/// How a transaction ended whose run answered this value, by its verdict.
+pub(crate) fn ended<V: Drop>(tn: u64, value: V, verdict: Verdict) -> Ended<V>
+    ensures { result ≡ ended_by tn value verdict }
 {
     match verdict {
-        Verdict::Commit => Ended::Committed(tn),
+        Verdict::Commit => Ended::Committed { tn, value },
         Verdict::BackUp(cause) => Ended::BackedUp(cause),
     }
 }

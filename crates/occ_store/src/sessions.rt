@@ -111,8 +111,9 @@ impl<N: Name, A: Allocator + Copy> Session<N, A> {
 
     /// The session is closed, and the number of its closing mark answered: nothing is begun or handed in after it. It takes no memory.
     ///
-    /// Refused, the first of these that holds: with `Closed` where it was closed before; with `ReadOpen`; and with `QueueFull` as
-    /// `submit` is. Nothing changes then.
+    /// Refused, the first of these that holds: with `Closed` where it was closed before; with `ReadOpen`; with `NumbersExhausted` where no
+    /// number is left for the mark, as in a session that goes on behind the last number of all; and with `QueueFull` as `submit` is.
+    /// Nothing changes then.
     pub fn close<R: Wait>(&mut self, rt: &R) -> Result<u64, Fault>
         ensures ok { IfOk result (λ number. (number ≡ due self.old) × (self.new ≡ handed_in self.old (Close number))) }
         ensures err { OnErr result (self.new ≡ self.old) }

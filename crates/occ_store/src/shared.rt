@@ -9,8 +9,10 @@ ghost use Rattle.occ_published.specs.Published.{Published, NumbersFit};
 ghost use Rattle.occ_model.specs.Poll.{row_numbered};
 ghost use Rattle.occ_log.specs.Rows.{standing_of, log_of};
 ghost use Rattle.occ_types.specs.declared.fault.Fault.TheVariants.{Memory};
+ghost use Rattle.occ_core.specs.Totals.{AddUp};
 ghost use Rattle.occ_filed.specs.Filed.{token_of};
 ghost use Rattle.occ_store.specs.Locked.{world_of, told_standing};
+ghost use Rattle.occ_store.specs.Books.{IsBookOf};
 
 use crate::names::Name;
 use crate::publishing::law;
@@ -54,7 +56,8 @@ impl<N: Name, A: Allocator + Copy> Model for Shared<N, A> {
 impl<N: Name, A: Allocator + Copy> Shared<N, A> {
     /// The law of every store, whatever its threads did: its log is in order, serial replay explains each committed transaction, and the
     /// table with the rest of each open write phase is the replay of the whole log; what stands in it fits its tables and sessions; and
-    /// what stands on the board shows the last transaction of each session that is over. It computes nothing.
+    /// what stands on the board shows the last transaction of each session that is over; and the totals of its figures add up. It computes
+    /// nothing.
     pub fn law(&self)
         ensures invariant { Invariant (world_of self.now) }
         ensures content { IsInSchema (world_of self.now) }
@@ -63,13 +66,15 @@ impl<N: Name, A: Allocator + Copy> Shared<N, A> {
         ensures fits { NumbersFit (world_of self.now) }
         ensures settings { (world_of self.now).settings ≡ N.named.settings }
         ensures file { self.now.filed.file ≡ N.named.file }
+        ensures totals { AddUp self.now.filed.totals (world_of self.now) }
     {
         self.filed.core().law();
     }
 
     /// The core, for all that it shows.
     pub fn core(&self) -> &Core<A>
-        ensures { result.now.world ≡ world_of self.now }
+        ensures world { result.now.world ≡ world_of self.now }
+        ensures totals { result.now.totals ≡ self.now.filed.totals }
     {
         self.filed.core()
     }
@@ -116,6 +121,7 @@ impl<N: Name, A: Allocator + Copy> Shared<N, A> {
     /// All that the store shows now, as values of its own, as `Core::book` has it. Its audit is yes. Refused with `Memory` where there is
     /// none for it.
     pub fn book(&self) -> Result<occ_book::Book<A, OpenCase<A>>, Fault>
+        ensures shows { IfOk result (IsBookOf (world_of self.now)) }
         ensures log { IfOk result (λ book. log_of book.log.items ≡ (world_of self.now).log) }
         ensures state { IfOk result (λ book. book.table.state ≡ (world_of self.now).table) }
         ensures audited { IfOk result (λ book. Audited book.base.base book.marks.marks book.table.state (log_of book.log.items)) }

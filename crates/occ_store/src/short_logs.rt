@@ -30,10 +30,10 @@ pub(crate) fn checkpoint_if_due<N: Name, A: Allocator + Copy, R: Wait>(
 }
 
 /// Counts how a transaction ended, where it committed.
-pub(crate) fn count_end(checkpoints: &mut AutoCheckpoint, ended: Ended)
-    ensures { checkpoints.new ≡ count_ended ended checkpoints.old }
+pub(crate) fn count_end<V>(checkpoints: &mut AutoCheckpoint, ended: &Ended<V>)
+    ensures { checkpoints.new ≡ count_ended ended.now checkpoints.old }
 {
-    if let Ended::Committed(_) = ended {
+    if let Ended::Committed { .. } = ended {
         checkpoints.count();
     }
 }

@@ -1,10 +1,17 @@
 //! The store: what threads share.
-ghost use Rattle.std.specs.Prelude.{◌≡◌, ◌≤◌, [], vec_len, vec_capacity, IfOk, IfErr, IsOkUnless};
+ghost use Rattle.std.specs.Prelude.{◌≡◌, ◌≤◌, [], vec_len, vec_capacity, option_map, IfOk, IfErr, IsOkUnless};
 ghost use Rattle.std.specs.Arc.{arc_value};
 ghost use Rattle.occ_types.specs.declared.fault.Fault.TheVariants.{Memory};
 ghost use Rattle.occ_model.specs.Log.{Audited};
+ghost use Rattle.occ_model.specs.Event.{Checkpoint, Folded};
+ghost use Rattle.occ_model.specs.Step.{Step};
+ghost use Rattle.occ_model.specs.Poll.{row_numbered};
+ghost use Rattle.occ_model.specs.Replies.{replied};
 ghost use Rattle.occ_log.specs.Rows.{log_of};
 ghost use Rattle.occ_store.specs.Names.{lane_of};
+ghost use Rattle.occ_store.specs.Locked.{told_standing};
+ghost use Rattle.occ_store.specs.Books.{IsBookOf};
+ghost use Rattle.occ_store.specs.Sessions.{InOneHolding, InOneState};
 ghost use Rattle.occ_store.specs.Frames.{IsPart, fresh_session, fresh_lane, fresh_sessions, fresh_lanes};
 
 use crate::frames::Frame;
@@ -35,13 +42,13 @@ pub struct Store<N: Name, A: Allocator + Copy> {
 pub type Opened<N, A> = (Store<N, A>, Vec<Session<N, A>, A>, Vec<Lane<N, A>, A>);
 
 impl<N: Name, A: Allocator + Copy> Store<N, A> {
-    /// Opens the store of a frame, under its name. Refused with `Memory` where there is none for the two lists, and the frame is handed
-    /// back whole.
+    /// Opens the store of a frame, under its name; each session begins behind the last number that the frame's base has of it. Refused
+    /// with `Memory` where there is none for the two lists, and the frame is handed back whole.
     pub fn open(frame: Frame<A>) -> Result<Opened<N, A>, Refused<Frame<A>>>
         requires named { frame.named ≡ N.named }
         requires ledger { (frame.ledger ≡ N.name) × (frame.parts ≡ N.parts) }
-        ensures sessions { IfOk result (λ opened. opened.1.items ≡ fresh_sessions N.named N.named.settings.sessions) }
-        ensures lanes { IfOk result (λ opened. opened.2.items ≡ fresh_lanes N.named N.named.settings.sessions) }
+        ensures sessions { IfOk result (λ opened. opened.1.items ≡ fresh_sessions N.named frame.base N.named.settings.sessions) }
+        ensures lanes { IfOk result (λ opened. opened.2.items ≡ fresh_lanes N.named frame.base N.named.settings.sessions) }
         ensures handed_back { IfErr result (λ refused. (refused.value ≡ frame) × (refused.fault ≡ Memory)) }
     {
         let sessions = frame.parts.len();
@@ -87,16 +94,23 @@ impl<N: Name, A: Allocator + Copy> Store<N, A> {
     /// All that the store shows now, as values of its own: its audit is yes, whatever threads did. Refused with `Memory` where there is
     /// none for it. It takes the lock.
     pub fn book<R: Wait>(&self, rt: &R) -> Result<Book<A, OpenCase<A>>, Fault>
+        ensures shows { IfOk result (λ book. InOneState N.named.settings (λ world. IsBookOf world book)) }
         ensures audited { IfOk result (λ book. Audited book.base.base book.marks.marks book.table.state (log_of book.log.items)) }
         ensures memory { IsOkUnless result Memory }
     {
-        self.lock(rt).book()
+        let shared = self.lock(rt);
+        shared.law();
+        shared.book()
     }
 
     /// Folds the settled beginning of the log into the base, and answers how many rows it folded. Refused as `Core::checkpoint` is. It
     /// takes the lock.
-    pub fn checkpoint<R: Wait>(&self, rt: &R) -> Result<usize, Fault> {
-        self.lock(rt).checkpoint()
+    pub fn checkpoint<R: Wait>(&self, rt: &R) -> Result<usize, Fault>
+        ensures { InOneHolding N.named.settings (λ old new. Step old Checkpoint (replied Folded result) new) }
+    {
+        let mut shared = self.lock(rt);
+        shared.law();
+        shared.checkpoint()
     }
 }
 
@@ -115,8 +129,12 @@ impl<N: Name, A: Allocator + Copy> Store<N, A> {
 
     /// How the row of a session's transaction with this number stands; none where it does not stand in the log, as before its entry and
     /// after it was folded. It takes the lock, and no memory.
-    pub fn row<R: Wait>(&self, rt: &R, session: usize, number: u64) -> Option<Standing<()>> {
-        self.lock(rt).row(session, number)
+    pub fn row<R: Wait>(&self, rt: &R, session: usize, number: u64) -> Option<Standing<()>>
+        ensures { InOneState N.named.settings (λ world. result ≡ option_map (λ row. told_standing row.standing) (row_numbered session number world.log)) }
+    {
+        let shared = self.lock(rt);
+        shared.law();
+        shared.row(session, number)
     }
 }
 
@@ -142,11 +160,11 @@ fn named<N: Name, A: Allocator + Copy>(
     part: Part<A>,
     share: Share<N>,
 ) -> (Session<N, A>, Lane<N, A>)
-    requires part { IsPart N.named.board N.named.settings.schema session part }
+    requires part { IsPart N.named.board N.named.settings.schema session part.receiver.before part }
     requires lane { part.receiver.lane ≡ lane_of N.named session }
     requires share { (share.parts ≡ 1) × (share.amount ≡ 0) }
-    ensures session { result.0 ≡ fresh_session N.named session }
-    ensures lane { result.1 ≡ fresh_lane N.named session }
+    ensures session { result.0 ≡ fresh_session N.named session part.receiver.before }
+    ensures lane { result.1 ≡ fresh_lane N.named session part.receiver.before }
 {
     let Part {
         seat,

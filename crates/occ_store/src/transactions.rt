@@ -3,13 +3,15 @@ ghost use Rattle.std.specs.Prelude.{◌≡◌, None, Some, IfErr, OnOk, OnErr, M
 ghost use Rattle.std.specs.Arc.{arc_value};
 ghost use Rattle.occ_types.specs.PlainData.{key_of, end_of};
 ghost use Rattle.occ_types.specs.Question.{Span};
+ghost use Rattle.occ_model.specs.Paging.{first_page, last_page};
+ghost use Rattle.occ_open.specs.Pages.{first_rest_of, last_rest_of, ScansPage};
 ghost use Rattle.occ_open.specs.Replies.{reading, scanning};
 ghost use Rattle.occ_open.specs.Transactions.{IsRefusedBy, write_fault, written, WantsRoom, WantsOwn, Gets, WantsRange, Scans, OrStarves};
 ghost use Rattle.occ_store.specs.Sessions.{InOneHolding};
 
 use crate::names::Name;
 use crate::stores::Store;
-use occ_open::OpenTransaction;
+use occ_open::{OpenTransaction, Page};
 use occ_sets::{RangeRows, Write};
 use occ_types::{Fault, Key, Refused, Row, Schema};
 use std::alloc::Allocator;
@@ -17,28 +19,34 @@ use std::marker::{Model, PhantomData};
 use std::mem;
 use std::sync::{Arc, Wait};
 
-/// What a transaction reads and writes. A worker runs it, and runs it anew after a back-up, so that it begins from what it reads each
-/// time, and leaves nothing outside that a later run would see.
+/// What a transaction reads and writes, and what it answers. A worker or a session runs it, and runs it anew after a back-up, so that it
+/// begins from what it reads each time, and leaves nothing outside that a later run would see.
 pub trait Body<N: Name, A: Allocator + Copy, R: Wait> {
     ghost use Rattle.occ_store.specs.Bodies.{Making, Goes};
 
-    /// How a run may end, and what it may make of a transaction then, as far as clauses are to know: anything, where an `impl` doesn't
-    /// say.
-    ghost makes: { Self → Making } = { λ body before ran after. Unit {0} };
+    /// What a run answers. What the run answered that committed is handed on, and what the others did is dropped.
+    type Value: Drop;
 
-    /// Reads and writes in the transaction. A fault abandons the transaction, and is handed on to the worker's caller. What a later run
-    /// may make, this one may make.
+    /// Why a run doesn't want to commit. What the store refuses becomes one of these by `From`.
+    type Error: From<Fault>;
+
+    /// What a run may answer, and what it may make of a transaction then, as far as clauses are to know: anything, where an `impl` doesn't
+    /// say.
+    ghost makes: { Self → Making Self.Value Self.Error } = { λ body before ran after. Unit {0} };
+
+    /// Reads and writes in the transaction. An error abandons the transaction, and is answered as it is. What a later run may make,
+    /// this one may make.
     fn run(
         &mut self,
         rt: &R,
         store: &Store<N, A>,
         transaction: &mut Transaction<N, A>,
-    ) -> Result<(), Fault>
+    ) -> Result<Self::Value, Self::Error>
         ensures made { makes self.old transaction.old result transaction.new }
         ensures keeps { Goes (makes self.new) (makes self.old) };
 }
 
-/// The transaction that a worker has begun, for its body to read and write in.
+/// The transaction that was begun, for a body to read and write in.
 #[derive(Drop)]
 pub struct Transaction<N: Name, A: Allocator + Copy> {
     session: usize,
@@ -123,6 +131,42 @@ impl<N: Name, A: Allocator + Copy> Transaction<N, A> {
         shared.law();
         self.draft
             .scan_in(&mut *shared, self.session, table, lower, upper)
+    }
+
+    /// The first rows of a range, at most `most` of them, and where the rows behind them begin, as `Session::scan_first`.
+    pub fn scan_first<R: Wait>(
+        &self,
+        rt: &R,
+        store: &Store<N, A>,
+        table: usize,
+        lower: Option<Key<A>>,
+        upper: Option<Key<A>>,
+        most: usize,
+    ) -> Result<Page<A>, Fault>
+        ensures { InOneHolding N.named.settings (λ old new. ScansPage old self.now.session (first_page table (end_of lower) (end_of upper)) (first_rest_of old table (end_of lower) (end_of upper) most) self.now.draft result new) }
+    {
+        let mut shared = store.lock(rt);
+        shared.law();
+        self.draft
+            .scan_first_in(&mut *shared, self.session, table, lower, upper, most)
+    }
+
+    /// The last rows of a range, at most `most` of them, and where the rows before them end, as `Session::scan_last`.
+    pub fn scan_last<R: Wait>(
+        &self,
+        rt: &R,
+        store: &Store<N, A>,
+        table: usize,
+        lower: Option<Key<A>>,
+        upper: Option<Key<A>>,
+        most: usize,
+    ) -> Result<Page<A>, Fault>
+        ensures { InOneHolding N.named.settings (λ old new. ScansPage old self.now.session (last_page table (end_of lower) (end_of upper)) (last_rest_of old table (end_of lower) (end_of upper) most) self.now.draft result new) }
+    {
+        let mut shared = store.lock(rt);
+        shared.law();
+        self.draft
+            .scan_last_in(&mut *shared, self.session, table, lower, upper, most)
     }
 
     /// Writes a row under a key of a table, in the transaction alone. Refused as `Session::put`, and the write is handed back then.

@@ -3,7 +3,7 @@ ghost use Rattle.std.specs.Prelude.{◌≡◌, ◌<◌, Some, Ok, IfErr, IfOk, O
 ghost use Rattle.occ_open.specs.Transactions.{begun as no_writes};
 ghost use Rattle.occ_store.specs.Bodies.{Goes};
 ghost use Rattle.occ_store.specs.Lanes.{Nothing};
-ghost use Rattle.occ_store.specs.Workers.{Ends, Tried, HandsInUpTo, HandsInOne, NotHandedIn, Stops, IsKept, RunsIn, RunFails, Reopens};
+ghost use Rattle.occ_store.specs.Workers.{Ends, Tried, HandsInUpTo, HandsInFewer, HandsInOne, NotHandedIn, Stops, IsKept, RunsIn, RunFails, Reopens};
 
 use crate::ended::Ended;
 use crate::names::Name;
@@ -25,17 +25,18 @@ impl<N: Name, A: Allocator + Copy> Worker<N, A> {
         within: bool,
         most: usize,
         body: &mut B,
-    ) -> Result<Ended, Fault>
+    ) -> Result<Ended<B::Value>, B::Error>
         requires { 0 < most }
         ensures ended { IfOk result (λ ended. Ends (B.makes body.old) most self.old.session ended self.new.session) }
         ensures nothing_left { OnOk result (self.new.lane.left ≡ Nothing) }
         ensures few { OnErr result (HandsInUpTo (B.makes body.old) most self.old.session self.new.session) }
-        ensures fault { IfErr result (Stops (B.makes body.old) N.named.settings self.new.session self.new.lane) }
+        ensures fewer { OnErr result (self.new.lane.left ≡ Nothing → HandsInFewer (B.makes body.old) most self.old.session self.new.session) }
+        ensures error { IfErr result (Stops (B.makes body.old) B.Error.from_gives N.named.settings self.new.session self.new.lane) }
         ensures counts { self.new.checkpoints ≡ self.old.checkpoints }
     {
         let mut ended = self.try_leased(rt, store, within, body)?;
         for tried in 1..most {
-            if let Ended::Committed(_) = ended {
+            if let Ended::Committed { .. } = ended {
                 return Ok(ended);
             }
             ended = self.try_leased(rt, store, within, body)?;
@@ -50,11 +51,12 @@ impl<N: Name, A: Allocator + Copy> Worker<N, A> {
         store: &Store<N, A>,
         within: bool,
         body: &mut B,
-    ) -> Result<Ended, Fault>
+    ) -> Result<Ended<B::Value>, B::Error>
         ensures ended { IfOk result (λ ended. Tried (B.makes body.old) 1 self.old.session ended self.new.session) }
         ensures nothing_left { OnOk result (self.new.lane.left ≡ Nothing) }
         ensures few { OnErr result (HandsInUpTo (B.makes body.old) 1 self.old.session self.new.session) }
-        ensures fault { IfErr result (Stops (B.makes body.old) N.named.settings self.new.session self.new.lane) }
+        ensures fewer { OnErr result (self.new.lane.left ≡ Nothing → HandsInFewer (B.makes body.old) 1 self.old.session self.new.session) }
+        ensures error { IfErr result (Stops (B.makes body.old) B.Error.from_gives N.named.settings self.new.session self.new.lane) }
         ensures keeps { Goes (B.makes body.new) (B.makes body.old) }
         ensures counts { self.new.checkpoints ≡ self.old.checkpoints }
     {
@@ -71,37 +73,39 @@ impl<N: Name, A: Allocator + Copy> Worker<N, A> {
         rt: &R,
         store: &Store<N, A>,
         body: &mut B,
-    ) -> Result<Ended, Fault>
+    ) -> Result<Ended<B::Value>, B::Error>
         ensures ended { IfOk result (λ ended. Tried (B.makes body.old) 1 self.old.session ended self.new.session) }
         ensures nothing_left { OnOk result (self.new.lane.left ≡ Nothing) }
         ensures few { OnErr result (HandsInUpTo (B.makes body.old) 1 self.old.session self.new.session) }
-        ensures fault { IfErr result (Stops (B.makes body.old) N.named.settings self.new.session self.new.lane) }
+        ensures fewer { OnErr result (self.new.lane.left ≡ Nothing → HandsInFewer (B.makes body.old) 1 self.old.session self.new.session) }
+        ensures error { IfErr result (Stops (B.makes body.old) B.Error.from_gives N.named.settings self.new.session self.new.lane) }
         ensures keeps { Goes (B.makes body.new) (B.makes body.old) }
         ensures counts { self.new.checkpoints ≡ self.old.checkpoints }
     {
         self.serve(rt, store)?;
-        let number = self.hand_in(rt, store, body)?;
+        let (number, value) = self.hand_in(rt, store, body)?;
         self.serve(rt, store)?;
-        Ok(self.session.settled(rt, number))
+        Ok(self.session.settled(rt, number, value))
     }
 
-    // Begins a transaction, runs the body in it and hands it in. It is given up where the body is refused, or the queue has no room.
+    // Begins a transaction, runs the body in it and hands it in: its number, and what the run answered. It is given up where the run ends
+    // in an error, or the queue has no room.
     fn hand_in<R: Wait, B: Body<N, A, R>>(
         &mut self,
         rt: &R,
         store: &Store<N, A>,
         body: &mut B,
-    ) -> Result<u64, Fault>
-        ensures ok { IfOk result (λ number. HandsInOne (B.makes body.old) self.old.session number self.new.session) }
+    ) -> Result<(u64, B::Value), B::Error>
+        ensures ok { IfOk result (λ handed. HandsInOne (B.makes body.old) self.old.session handed.0 handed.1 self.new.session) }
         ensures none { OnErr result (HandsInUpTo (B.makes body.old) 0 self.old.session self.new.session) }
-        ensures fault { IfErr result (NotHandedIn (B.makes body.old) N.named.settings self.new.session) }
+        ensures error { IfErr result (NotHandedIn (B.makes body.old) B.Error.from_gives N.named.settings self.new.session) }
         ensures lane { self.new.lane ≡ self.old.lane }
         ensures keeps { Goes (B.makes body.new) (B.makes body.old) }
         ensures counts { self.new.checkpoints ≡ self.old.checkpoints }
     {
         let (number, start) = match self.session.begin() {
             Ok(begun) => begun,
-            Err(fault) => return Err(fault),
+            Err(fault) => return Err(B::Error::from(fault)),
         };
         let ran = self.run_body(rt, store, body, number, start);
         self.session.submit_or_give_up(rt, store, ran)
@@ -115,10 +119,10 @@ impl<N: Name, A: Allocator + Copy> Worker<N, A> {
         body: &mut B,
         number: u64,
         start: u64,
-    ) -> Result<(), Fault>
+    ) -> Result<B::Value, B::Error>
         requires begun { self.old.session.draft ≡ Some (no_writes number start) }
-        ensures made { OnOk result (RunsIn (B.makes body.old) self.old.session (Ok tt) self.new.session.draft) }
-        ensures fault { IfErr result (RunFails (B.makes body.old) self.old.session) }
+        ensures made { IfOk result (λ value. RunsIn (B.makes body.old) self.old.session (Ok value) self.new.session.draft) }
+        ensures error { IfErr result (RunFails (B.makes body.old) B.Error.from_gives self.old.session) }
         ensures again { Reopens self.old.session number self.new.session }
         ensures lane { self.new.lane ≡ self.old.lane }
         ensures keeps { Goes (B.makes body.new) (B.makes body.old) }
@@ -130,15 +134,15 @@ impl<N: Name, A: Allocator + Copy> Worker<N, A> {
         let ran = body.run(rt, store, &mut self.transaction);
         let back = self.transaction.replace(session, OpenTransaction::none());
         let came_back = self.session.take_back(back, number, start);
-        match ran {
-            Ok(()) => {}
-            Err(fault) => return Err(fault),
-        }
-        came_back
+        let value = match ran {
+            Ok(value) => value,
+            Err(error) => return Err(error),
+        };
+        came_back?;
+        Ok(value)
     }
 
     /// Serves the lane until nothing waits in it.
-    #[tactic(auto, using(crate::proofs::Working::kept_at_fault, crate::proofs::Working::kept_when_busy))]
     pub(crate) fn serve<R: Wait>(&mut self, rt: &R, store: &Store<N, A>) -> Result<(), Fault>
         ensures same { self.new.session ≡ self.old.session }
         ensures nothing_left { OnOk result (self.new.lane.left ≡ Nothing) }
@@ -147,7 +151,8 @@ impl<N: Name, A: Allocator + Copy> Worker<N, A> {
     {
         for _ in rt.forever() {
             match self.lane.serve_one(rt, store, &AlwaysGo) {
-                Ok(Served::Idle) | Ok(Served::LaneClosed) => return Ok(()),
+                Ok(Served::Idle) => return Ok(()),
+                Ok(Served::LaneClosed) => return Ok(()),
                 Ok(Served::Busy) => return Err(Fault::StoreBusy),
                 Ok(Served::Settled(_)) | Ok(Served::Stopped(_)) => {}
                 Err(fault) => return Err(fault),

@@ -1,7 +1,7 @@
 //! Threads that serve lanes, each a group of them.
-ghost use Rattle.std.specs.Prelude.{◌≡◌, ◌<◌, None, Some, Ok, length, IfOk, ℕ, map, false, get_or};
+ghost use Rattle.std.specs.Prelude.{◌≡◌, ◌<◌, ◌⊎◌, None, Some, Ok, length, IfOk, ℕ, map, false, get_or};
 ghost use Rattle.occ_types.specs.Schema.{first_fault};
-ghost use Rattle.occ_store.specs.Serving.{IsServed, IsOver, AreServed, AreOver, AllAreOver};
+ghost use Rattle.occ_store.specs.Serving.{IsServed, IsOver, AreServed, AreOver, AllAreOver, HasEnded, HaveEnded, AllHaveEnded, IsMetMarked, IsMet, Ends, TellsFault};
 ghost use Rattle.occ_store.specs.declared.validators.Turn.TheVariants.{Over};
 
 use crate::lanes::Lane;
@@ -56,6 +56,7 @@ impl<N: Name, A: Allocator + Copy> Group<N, A> {
     pub fn serve<R: Wait + Clock, G: Gate>(&mut self, rt: &R, store: &Store<N, A>, gate: &G)
         ensures served { AreServed self.old.lanes.items self.new.lanes.items }
         ensures over { self.new.fault ≡ None → AllAreOver (G.may_stop gate.now) self.new.lanes.items }
+        ensures ended { Ends N.named.settings (G.may_stop gate.now) self.old.lanes.items self.new.fault self.new.lanes.items }
     {
         self.fault = None;
         match unmarked(*self.lanes.allocator(), self.lanes.len()) {
@@ -74,8 +75,12 @@ impl<N: Name, A: Allocator + Copy> Group<N, A> {
     )
         requires marks { length over.old.items ≡ length self.old.lanes.items }
         requires over { self.old.fault ≡ None → AreOver (G.may_stop gate.now) over.old.items self.old.lanes.items }
+        requires ended { HaveEnded N.named.settings (G.may_stop gate.now) over.old.items self.old.lanes.items }
+        requires met { IsMetMarked N.named.settings (G.may_stop gate.now) self.old.fault over.old.items self.old.lanes.items }
         ensures served { AreServed self.old.lanes.items self.new.lanes.items }
         ensures over { self.new.fault ≡ None → AllAreOver (G.may_stop gate.now) self.new.lanes.items }
+        ensures ended { AllHaveEnded N.named.settings (G.may_stop gate.now) self.new.lanes.items }
+        ensures met { IsMet N.named.settings (G.may_stop gate.now) self.new.fault self.new.lanes.items }
     {
         let mut idle = 0u64;
         for _ in rt.forever() {
@@ -99,9 +104,13 @@ impl<N: Name, A: Allocator + Copy> Group<N, A> {
     ) -> bool
         requires marks { length over.old.items ≡ length self.old.lanes.items }
         requires over { self.old.fault ≡ None → AreOver (G.may_stop gate.now) over.old.items self.old.lanes.items }
+        requires ended { HaveEnded N.named.settings (G.may_stop gate.now) over.old.items self.old.lanes.items }
+        requires met { IsMetMarked N.named.settings (G.may_stop gate.now) self.old.fault over.old.items self.old.lanes.items }
         ensures marks { length over.new.items ≡ length self.new.lanes.items }
         ensures served { AreServed self.old.lanes.items self.new.lanes.items }
         ensures over { self.new.fault ≡ None → AreOver (G.may_stop gate.now) over.new.items self.new.lanes.items }
+        ensures ended { HaveEnded N.named.settings (G.may_stop gate.now) over.new.items self.new.lanes.items }
+        ensures met { IsMetMarked N.named.settings (G.may_stop gate.now) self.new.fault over.new.items self.new.lanes.items }
     {
         let mut moved = false;
         for place in 0..self.lanes.len() {
@@ -124,9 +133,13 @@ impl<N: Name, A: Allocator + Copy> Group<N, A> {
         requires there { place < length self.old.lanes.items }
         requires marks { length over.old.items ≡ length self.old.lanes.items }
         requires over { self.old.fault ≡ None → AreOver (G.may_stop gate.now) over.old.items self.old.lanes.items }
+        requires ended { HaveEnded N.named.settings (G.may_stop gate.now) over.old.items self.old.lanes.items }
+        requires met { IsMetMarked N.named.settings (G.may_stop gate.now) self.old.fault over.old.items self.old.lanes.items }
         ensures marks { length over.new.items ≡ length self.new.lanes.items }
         ensures served { AreServed self.old.lanes.items self.new.lanes.items }
         ensures over { self.new.fault ≡ None → AreOver (G.may_stop gate.now) over.new.items self.new.lanes.items }
+        ensures ended { HaveEnded N.named.settings (G.may_stop gate.now) over.new.items self.new.lanes.items }
+        ensures met { IsMetMarked N.named.settings (G.may_stop gate.now) self.new.fault over.new.items self.new.lanes.items }
     {
         if over[place] {
             return false;
@@ -143,7 +156,7 @@ impl<N: Name, A: Allocator + Copy> Group<N, A> {
 }
 
 // A lane's turn. The first fault is kept.
-#[tactic(auto, using(crate::proofs::Rounds::served_once))]
+#[tactic(auto, using(crate::proofs::Rounds::served_once, crate::proofs::Rounds::tells_first, crate::proofs::Rounds::ended_at))]
 fn serve_lane<N: Name, A: Allocator + Copy, R: Wait, G: Gate>(
     lane: &mut Lane<N, A>,
     fault: &mut Option<Fault>,
@@ -154,6 +167,9 @@ fn serve_lane<N: Name, A: Allocator + Copy, R: Wait, G: Gate>(
     ensures served { IsServed lane.old lane.new }
     ensures over { result ≡ Over → fault.new ≡ None → IsOver (G.may_stop gate.now) lane.new }
     ensures first { fault.new ≡ None → fault.old ≡ None }
+    ensures ended { result ≡ Over → HasEnded N.named.settings (G.may_stop gate.now) lane.new }
+    ensures still { (fault.new ≡ fault.old) ⊎ (result ≡ Over) }
+    ensures tells { TellsFault N.named.settings (G.may_stop gate.now) lane.old fault.old fault.new lane.new }
 {
     match lane.serve_one(rt, store, gate) {
         Ok(Served::Settled(_)) => Turn::Moved,
@@ -178,8 +194,8 @@ fn unmarked<A: Allocator + Copy>(alloc: A, lanes: usize) -> Result<Vec<bool, A>,
     Ok(marks)
 }
 
-// Lets others run, after so many rounds in a row in which nothing was to be done.
-fn rest<R: Clock>(rt: &R, idle: u64) {
+/// Lets others run, after so many rounds in a row in which nothing was to be done.
+pub(crate) fn rest<R: Clock>(rt: &R, idle: u64) {
     if idle >= PATIENCE {
         thread::sleep(
             rt,

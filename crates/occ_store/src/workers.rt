@@ -5,8 +5,8 @@ ghost use Rattle.occ_types.specs.declared.fault.Fault.TheVariants.{NoSession, Me
 ghost use Rattle.occ_sets.specs.Operations.{ops_of};
 ghost use Rattle.occ_store.specs.Lanes.{Nothing};
 ghost use Rattle.occ_store.specs.Sessions.{alone_fault};
-ghost use Rattle.occ_store.specs.Bodies.{Performing};
-ghost use Rattle.occ_store.specs.Workers.{Ends, HandsInUpTo, Stops, IsKept, most_tries, TriesList, Runs, RunsOut, RunStops, RunsAlone, HandsInAlone, AloneStops, Counts, count_tried, count_listed, count_run};
+ghost use Rattle.occ_store.specs.Bodies.{stays_fault, Performing};
+ghost use Rattle.occ_store.specs.Workers.{Ends, HandsInUpTo, HandsInFewer, Stops, IsKept, most_tries, TriesList, Runs, RunsOut, RunStops, RunsAlone, HandsInAlone, AloneStops, Counts, count_tried, count_listed, count_run};
 
 use crate::ended::Ended;
 use crate::lanes::Lane;
@@ -102,17 +102,20 @@ impl<N: Name, A: Allocator + Copy> Worker<N, A> {
 
 impl<N: Name, A: Allocator + Copy> Worker<N, A> {
     /// Tries a transaction until it commits, at most so many times and at least once, each time in a lease of its own, and tells how the
-    /// last try ended: by its transaction number, or by the cause for which it was backed up. A try begins a transaction, runs the body
-    /// in it, hands it in and serves it to its end: what it hands in is what the body made, as far as `Body::makes` tells.
+    /// last try ended: by its transaction number and what its run of the body answered, or by the cause for which it was backed up. A try
+    /// begins a transaction, runs the body in it, hands it in and serves it to its end: what it hands in is what that run made, as far as
+    /// `Body::makes` tells.
     ///
     /// What an earlier call left, as after a fault, is ended first; how that ended is not told.
     ///
-    /// Refused with the first of these that holds; no transaction is open then, unless one was before:
+    /// An error is the first of these that holds, where a fault comes as what the body's `From` makes of it. No transaction is open then,
+    /// unless one was before:
     /// - the fault that ending what was left meets, or `StoreBusy` where operations that run alone are left and a row of another session
     ///   is under way;
-    /// - as `Session::begin`;
-    /// - the body's fault, or `OutOfTurn` where it left another transaction in the place of its own: the transaction is abandoned then;
-    /// - as `Session::submit`;
+    /// - the fault of `Session::begin`;
+    /// - the error that the run of the body answered, as it is, or `OutOfTurn` where it left another transaction in the place of its own:
+    ///   the transaction is abandoned then, and nothing of it handed in;
+    /// - the fault of `Session::submit`: likewise;
     /// - the fault that serving it meets: the lane keeps it then, and the next call ends it.
     pub fn transact<R: Wait, B: Body<N, A, R>>(
         &mut self,
@@ -120,11 +123,12 @@ impl<N: Name, A: Allocator + Copy> Worker<N, A> {
         store: &Store<N, A>,
         tries: usize,
         body: &mut B,
-    ) -> Result<Ended, Fault>
+    ) -> Result<Ended<B::Value>, B::Error>
         ensures ended { IfOk result (λ ended. Ends (B.makes body.old) (most_tries tries) self.old.session ended self.new.session) }
         ensures nothing_left { OnOk result (self.new.lane.left ≡ Nothing) }
         ensures few { OnErr result (HandsInUpTo (B.makes body.old) (most_tries tries) self.old.session self.new.session) }
-        ensures fault { IfErr result (Stops (B.makes body.old) N.named.settings self.new.session self.new.lane) }
+        ensures fewer { OnErr result (self.new.lane.left ≡ Nothing → HandsInFewer (B.makes body.old) (most_tries tries) self.old.session self.new.session) }
+        ensures error { IfErr result (Stops (B.makes body.old) B.Error.from_gives N.named.settings self.new.session self.new.lane) }
         ensures counts { Counts (count_tried result) self.old.checkpoints self.new.checkpoints }
     {
         let _made = checkpoint_if_due(&mut self.checkpoints, rt, store);
@@ -139,11 +143,12 @@ impl<N: Name, A: Allocator + Copy> Worker<N, A> {
         _lease: &Lease<'_, N>,
         tries: usize,
         body: &mut B,
-    ) -> Result<Ended, Fault>
+    ) -> Result<Ended<B::Value>, B::Error>
         ensures ended { IfOk result (λ ended. Ends (B.makes body.old) (most_tries tries) self.old.session ended self.new.session) }
         ensures nothing_left { OnOk result (self.new.lane.left ≡ Nothing) }
         ensures few { OnErr result (HandsInUpTo (B.makes body.old) (most_tries tries) self.old.session self.new.session) }
-        ensures fault { IfErr result (Stops (B.makes body.old) N.named.settings self.new.session self.new.lane) }
+        ensures fewer { OnErr result (self.new.lane.left ≡ Nothing → HandsInFewer (B.makes body.old) (most_tries tries) self.old.session self.new.session) }
+        ensures error { IfErr result (Stops (B.makes body.old) B.Error.from_gives N.named.settings self.new.session self.new.lane) }
         ensures counts { Counts (count_tried result) self.old.checkpoints self.new.checkpoints }
     {
         let _made = checkpoint_if_due(&mut self.checkpoints, rt, store);
@@ -158,16 +163,17 @@ impl<N: Name, A: Allocator + Copy> Worker<N, A> {
         within: bool,
         most: usize,
         body: &mut B,
-    ) -> Result<Ended, Fault>
+    ) -> Result<Ended<B::Value>, B::Error>
         requires { 0 < most }
         ensures ended { IfOk result (λ ended. Ends (B.makes body.old) most self.old.session ended self.new.session) }
         ensures nothing_left { OnOk result (self.new.lane.left ≡ Nothing) }
         ensures few { OnErr result (HandsInUpTo (B.makes body.old) most self.old.session self.new.session) }
-        ensures fault { IfErr result (Stops (B.makes body.old) N.named.settings self.new.session self.new.lane) }
+        ensures fewer { OnErr result (self.new.lane.left ≡ Nothing → HandsInFewer (B.makes body.old) most self.old.session self.new.session) }
+        ensures error { IfErr result (Stops (B.makes body.old) B.Error.from_gives N.named.settings self.new.session self.new.lane) }
         ensures counts { self.new.checkpoints ≡ count_tried result self.old.checkpoints }
     {
         let ended = self.try_up_to(rt, store, within, most, body)?;
-        count_end(&mut self.checkpoints, ended);
+        count_end(&mut self.checkpoints, &ended);
         Ok(ended)
     }
 
@@ -208,7 +214,7 @@ impl<N: Name, A: Allocator + Copy> Worker<N, A> {
         ensures committed { IfOk result (λ tn. Runs N.named.settings tries (ops_of operations.now) self.old.session tn self.new.session) }
         ensures nothing_left { OnOk result (self.new.lane.left ≡ Nothing) }
         ensures few { OnErr result (RunsOut N.named.settings tries (ops_of operations.now) self.old.session self.new.session) }
-        ensures fault { IfErr result (λ fault. Stops (Performing N.named.settings (ops_of operations.now)) N.named.settings self.new.session self.new.lane fault ⊎ AloneStops (ops_of operations.now) self.new.session self.new.lane fault) }
+        ensures fault { IfErr result (λ fault. Stops (Performing N.named.settings (ops_of operations.now)) stays_fault N.named.settings self.new.session self.new.lane fault ⊎ AloneStops (ops_of operations.now) self.new.session self.new.lane fault) }
         ensures counts { self.new.checkpoints ≡ count_run result self.old.checkpoints }
     {
         let Some(tn) = self.try_list(rt, store, tries, operations)? else {
@@ -228,7 +234,7 @@ impl<N: Name, A: Allocator + Copy> Worker<N, A> {
         ensures tried { IfOk result (λ tn. TriesList N.named.settings tries (ops_of operations.now) self.old.session tn self.new.session) }
         ensures committed { IfOk result (λ tn. is_some tn ≡ true → self.new.lane.left ≡ Nothing) }
         ensures few { OnErr result (HandsInUpTo (Performing N.named.settings (ops_of operations.now)) tries self.old.session self.new.session) }
-        ensures fault { IfErr result (Stops (Performing N.named.settings (ops_of operations.now)) N.named.settings self.new.session self.new.lane) }
+        ensures fault { IfErr result (Stops (Performing N.named.settings (ops_of operations.now)) stays_fault N.named.settings self.new.session self.new.lane) }
         ensures counts { self.new.checkpoints ≡ count_listed result self.old.checkpoints }
     {
         if tries == 0 {
@@ -288,8 +294,8 @@ impl<N: Name, A: Allocator + Copy> Worker<N, A> {
     }
 }
 
-// A number of tries, where 0 stands for 1.
-fn at_least_one(tries: usize) -> usize
+/// A number of tries, where 0 stands for 1.
+pub(crate) fn at_least_one(tries: usize) -> usize
     ensures most { result ≡ most_tries tries }
     ensures some { 0 < result }
 {

@@ -12,4 +12,4 @@ drain-requires-clause-lane g c =
 
 pub returns-clause-line : goal.returns-clause-line
 returns-clause-line g c =
-    line_made _ _ _ _ _ c.next.result c.lane.view_is c.session.view_is c.next.ensures.number refl c.taken.ensures.number refl c.kept.ensures c.lane.invariant.5 c.drain.ensures
+    line_made _ _ _ _ _ c.lane.view_is c.session.view_is c.pushed.ensures c.taken.ensures.number refl c.kept.ensures c.lane.invariant.5 c.drain.ensures

@@ -1,13 +1,28 @@
-use Rattle.std.proofs.Common.{◌≡◌, ap, ◌∙◌, arith}
+use Rattle.std.proofs.Common.{ap, ◌∙◌, sym}
+use Rattle.std.proofs.lemmas.List.Elements.{All-map}
 use Rattle.std.specs.Arc.{arc_value}
-use Rattle.std.specs.FinMap.{len, empty_of_len}
-use Rattle.occ_book.specs.Marks.{Marked}
+use Rattle.occ_model.specs.Log.{last_folded}
+use Rattle.occ_model.specs.World.{Settings, World}
+use Rattle.occ_board.specs.Rule.{Posted}
+use Rattle.occ_board.specs.Words.{blank, continued}
+use Rattle.occ_store.specs.Frames.{PartView, HasRoomFor}
+use Rattle.occ_store.proofs.Begun.{begun_itself, numbers_room}
 use Rattle.occ_store.proofs.PartsMade.{frame_is}
 use Rattle.occ_store.proofs.frames.Frame.resume.Goals as goal
 
+pub show-requires-clause-begun : goal.show-requires-clause-begun
+show-requires-clause-begun g c = begun_itself _ (record { schema = c.args.schema; sessions = c.args.sessions; keep = c.args.keep }) c.args.base.base c.args.counter (c.core.ensures.world ∙ c.in_ok-filed.ensures.resumed)
+
+pub show-requires-clause-blank : goal.show-requires-clause-blank
+show-requires-clause-blank g c = c.in-Ok.ensures.words ∙ ap (λ (w : World). blank w.settings.sessions) (sym (c.core.ensures.world ∙ c.in_ok-filed.ensures.resumed))
+
 pub invariant_of-result : goal.invariant_of-result
 invariant_of-result g c =
-    let counted = c.len.ensures ∙ ap (λ (m : Marked). len m.marks) c.numbers.ensures in
-    let none : len c.args.base.base.last ≡ 0 = omega arith in
-    frame_is c.in_ok-filed.filed (arc_value c.in_ok-filed.file) c.in-Ok.parts.0 c.in-Ok.parts.1.items c.new.result.parts (record { schema = c.args.schema; sessions = c.args.sessions; keep = c.args.keep })
-    c.args.base.base (empty_of_len c.args.base.base.last none) c.in_ok-filed.ensures.resumed c.in_ok-filed.ensures.shared c.in-Ok.ensures.words c.in-Ok.ensures.count c.in-Ok.ensures.parts c.new.ensures
+    let settings : Settings = record { schema = c.args.schema; sessions = c.args.sessions; keep = c.args.keep } in
+    let before : Posted = c.in-Ok.room.0 in
+    let shown = c.show.ensures ∙ ap (λ (w : World). record before { words = continued w.counter (last_folded w.base) w.settings.sessions }) c.core.ensures.world in
+    frame_is c.in_ok-filed.filed (arc_value c.in_ok-filed.file) before c.show.new.publisher c.in-Ok.room.1.items c.new.result.parts settings c.args.base.base c.args.counter c.in_ok-filed.ensures.resumed
+    c.in_ok-filed.ensures.shared shown c.in-Ok.ensures.count (c.in-Ok.ensures.parts (numbers_room c.in_ok-filed.filed.world settings c.args.base.base c.args.counter c.in_ok-filed.ensures.resumed c.law.ensures.fits)) c.new.ensures
+
+pub returns-clause-room : goal.returns-clause-room
+returns-clause-room g c = All-map (HasRoomFor c.args.capacity) (λ (p : PartView). p.receiver.lane) _ c.in-Ok.ensures.room

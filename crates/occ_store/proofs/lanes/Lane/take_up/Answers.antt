@@ -17,8 +17,8 @@ pub returns-in-Stop : goal.returns-in-Stop
 returns-in-Stop g c =
     let stops = g.G.Gate.may_stop c.args.gate.now in
     let some = c.in-Some.ensures.some in
-    inl (takes_up stops c.args.self.now c.take.new.self c.take.new.self c.in-Some.number (Ok (Stopped Took)) some.0 c.requires some.2 some.1
-    (stops_there stops c.take.new.self some.0 c.in-Some.number c.session.result (ap (λ lane. lane.left) some.2) some.1 c.session.ensures (c.pass.ensures c.in-Stop.is)))
+    inl (takes_up _ stops c.args.self.now c.take.new.self c.take.new.self c.in-Some.number (Ok (Stopped Took)) some.0 c.requires some.2 some.1
+    (stops_there _ stops c.take.new.self some.0 c.in-Some.number c.session.result (ap (λ lane. lane.left) some.2) some.1 c.session.ensures (c.pass.ensures c.in-Stop.is)))
 
 pub carry_on-requires : goal.carry_on-requires
 carry_on-requires g c = let some = c.in-Some.ensures.some in ap (λ lane. number_left lane.left) some.2 ∙ ap Some (sym some.1)
@@ -26,4 +26,4 @@ carry_on-requires g c = let some = c.in-Some.ensures.some in ap (λ lane. number
 pub returns-in-Go : goal.returns-in-Go
 returns-in-Go g c =
     let some = c.in-Some.ensures.some in
-    inl (takes_up (g.G.Gate.may_stop c.args.gate.now) c.args.self.now c.take.new.self c.carry_on.new.self c.in-Some.number c.carry_on.result some.0 c.requires some.2 some.1 c.carry_on.ensures)
+    inl (takes_up _ (g.G.Gate.may_stop c.args.gate.now) c.args.self.now c.take.new.self c.carry_on.new.self c.in-Some.number c.carry_on.result some.0 c.requires some.2 some.1 c.carry_on.ensures)

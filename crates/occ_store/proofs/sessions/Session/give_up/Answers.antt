@@ -1,11 +1,11 @@
-use Rattle.std.proofs.Common.{None, ap, ◌∙◌}
-use Rattle.occ_open.specs.Replies.{forgetting}
-use Rattle.occ_store.specs.Sessions.{SessionView}
+use Rattle.occ_store.proofs.Waiting.{gave_up, gave_up_unclosed, gave_up_refused}
 use Rattle.occ_store.proofs.sessions.Session.give_up.Goals as goal
 
-pub returns : goal.returns
-returns g c = (
-  forgetting c.abandon-forgotten.result,
-  c.abandon-forgotten.ensures.step,
-  c.lend-none.ensures.left ∙ ap (λ (v : SessionView). record v { draft = None }) c.abandon-forgotten.ensures.left,
-)
+pub returns-clause-ok : goal.returns-clause-ok
+returns-clause-ok g c = gave_up c.args.self.now c.let_go.new.self c.close_patiently.new.self c.close_patiently.result c.let_go.ensures.none c.close_patiently.ensures.ok
+
+pub returns-clause-err : goal.returns-clause-err
+returns-clause-err g c = gave_up_unclosed c.args.self.now c.let_go.new.self c.close_patiently.new.self c.close_patiently.result c.let_go.ensures.none c.close_patiently.ensures.err
+
+pub returns-clause-fault : goal.returns-clause-fault
+returns-clause-fault g c = gave_up_refused c.args.self.now c.let_go.new.self c.close_patiently.result c.let_go.ensures.none c.close_patiently.ensures.fault

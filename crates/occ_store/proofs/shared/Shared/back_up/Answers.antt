@@ -21,7 +21,7 @@ pub invariant_of-self : goal.invariant_of-self
 invariant_of-self g c =
     let stored = back_up_stored _ _ _ _ _ c.args.kept c.law.ensures.invariant c.in-Ok.ensures.0 c.law-in-Ok.ensures.fits c.self.invariant.published in
     let cause : c.cause_told-cause.result ≡ cause_told c.args.kept (row_numbered c.args.session c.in-Ok.number c.back_up.new.self.world.log) =
-    c.cause_told-cause.ensures ∙ ap (λ (w : World). cause_told c.args.kept (row_numbered c.args.session c.in-Ok.number w.log)) c.core.ensures in
+    c.cause_told-cause.ensures ∙ ap (λ (w : World). cause_told c.args.kept (row_numbered c.args.session c.in-Ok.number w.log)) c.core.ensures.world in
     over_end _ _ _ c.self.inside.publisher _ _ _ _ refl c.in-Ok.ensures.0 (ap (λ f. f.file) c.in-Ok.ensures.1) (ap (λ p. p.board) c.settled.ensures)
     (shown_after _ c.self.inside.publisher _ _
     (c.settled.ensures ∙ ap (λ (x : Cause). record c.self.inside.publisher { words = settled c.self.inside.publisher.words c.args.session c.in-Ok.number (BackUp x) }) cause) stored.1)
@@ -33,7 +33,7 @@ invariant_of-self-in-Err g c = between _ _ _ _ _ _ _ c.law.ensures.invariant ref
 pub returns-in-Ok : goal.returns-in-Ok
 returns-in-Ok g c =
     let cause : c.cause_told-cause.result ≡ cause_told c.args.kept (row_numbered c.args.session c.in-Ok.number c.back_up.new.self.world.log) =
-    c.cause_told-cause.ensures ∙ ap (λ (w : World). cause_told c.args.kept (row_numbered c.args.session c.in-Ok.number w.log)) c.core.ensures in
+    c.cause_told-cause.ensures ∙ ap (λ (w : World). cause_told c.args.kept (row_numbered c.args.session c.in-Ok.number w.log)) c.core.ensures.world in
     backs_up _ _ _ c.self.view_is _ _ _ _ _
     (ap (λ p. p.words) c.settled.ensures ∙ ap (λ (x : Cause). settled c.self.inside.publisher.words c.args.session c.in-Ok.number (BackUp x)) cause) c.in-Ok.ensures
 

@@ -8,9 +8,9 @@ use Rattle.occ_store.proofs.workers.Worker.hand_in.Goals as goal
 pub returns-in-Err-clause-none : goal.returns-in-Err-clause-none
 returns-in-Err-clause-none g c = stays (g.B.Body.makes c.args.body.now) 0 c.args.self.now.session c.begin.new.self c.in-Err.ensures.err
 
-pub returns-in-Err-clause-fault : goal.returns-in-Err-clause-fault
-returns-in-Err-clause-fault g c =
-    not_begun (g.B.Body.makes c.args.body.now) g.N.Name.named.settings c.args.self.now.session c.begin.new.self c.in-Err.fault c.in-Err.ensures.err c.in-Err.ensures.fault
+pub returns-in-Err-clause-error : goal.returns-in-Err-clause-error
+returns-in-Err-clause-error g c =
+    not_begun (g.B.Body.makes c.args.body.now) g.B.Error.From.from_gives g.N.Name.named.settings c.args.self.now.session c.begin.new.self c.in-Err.fault c.from.result c.in-Err.ensures.err c.in-Err.ensures.fault c.from.ensures
 
 pub run_body-ran-requires : goal.run_body-ran-requires
 run_body-ran-requires g c = record {
@@ -29,8 +29,8 @@ returns-clause-none g c =
     c.in-Ok.begun.1 c.in-Ok.begun.0 c.submit_or_give_up.result
     c.in-Ok.ensures.ok.1 c.run_body-ran.ensures.again c.submit_or_give_up.ensures.given_up
 
-pub returns-clause-fault : goal.returns-clause-fault
-returns-clause-fault g c =
-    not_handed_in (g.B.Body.makes c.args.body.now) g.N.Name.named.settings c.args.self.now.session c.begin.new.self c.run_body-ran.new.self.session c.submit_or_give_up.new.self
+pub returns-clause-error : goal.returns-clause-error
+returns-clause-error g c =
+    not_handed_in (g.B.Body.makes c.args.body.now) g.B.Error.From.from_gives g.N.Name.named.settings c.args.self.now.session c.begin.new.self c.run_body-ran.new.self.session c.submit_or_give_up.new.self
     c.in-Ok.begun.1 c.in-Ok.begun.0 c.run_body-ran.result c.submit_or_give_up.result
-    c.in-Ok.ensures.ok.1 c.run_body-ran.ensures.fault c.run_body-ran.ensures.again c.submit_or_give_up.ensures.given_up c.submit_or_give_up.ensures.fault
+    c.in-Ok.ensures.ok.1 c.run_body-ran.ensures.error c.run_body-ran.ensures.again c.submit_or_give_up.ensures.given_up c.submit_or_give_up.ensures.error

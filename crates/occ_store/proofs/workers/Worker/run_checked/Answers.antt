@@ -1,14 +1,14 @@
 use Rattle.std.proofs.Common.{inl, ◌⊎◌}
 use Rattle.occ_types.specs.declared.fault.Fault.{Fault}
 use Rattle.occ_sets.specs.Operations.{ops_of}
-use Rattle.occ_store.specs.Bodies.{Performing}
+use Rattle.occ_store.specs.Bodies.{Performing, stays_fault}
 use Rattle.occ_store.specs.Workers.{Stops, AloneStops}
-use Rattle.occ_store.proofs.Working.{at_fault, runs_out_after}
+use Rattle.occ_store.proofs.Working.{at_error, runs_out_after}
 use Rattle.occ_store.proofs.workers.Worker.run_checked.Goals as goal
 
 pub returns-in_err-tn-clause-fault : goal.returns-in_err-tn-clause-fault
 returns-in_err-tn-clause-fault g c =
-    at_fault (λ (fault : Fault). Stops (Performing g.N.Name.named.settings (ops_of c.args.operations.now)) g.N.Name.named.settings c.try_list.new.self.session c.try_list.new.self.lane fault
+    at_error (λ (fault : Fault). Stops (Performing g.N.Name.named.settings (ops_of c.args.operations.now)) stays_fault g.N.Name.named.settings c.try_list.new.self.session c.try_list.new.self.lane fault
     ⊎ AloneStops (ops_of c.args.operations.now) c.try_list.new.self.session c.try_list.new.self.lane fault)
     c.from_residual.result c.in_err-tn.field-0.0 c.from_residual.ensures.1 (inl c.in_err-tn.ensures.fault)
 
