@@ -1,5 +1,6 @@
 -- No refusal of the store or of a client is a want of memory: that comes after all of them.
 use Rattle.std.proofs.Common.{◌≡◌, ℕ, zero, suc, ◌+◌, List, [], ◌∷◌, length, Option, Some, None, Result, Ok, Err, refl, Bool, true, false, not, ◌==◌, is_some, slice_get, nat_le, nat_lt, nat_eq, ◌||◌, ok_or}
+use Rattle.occ_cli.specs.Replaying.{close_fault}
 use Rattle.occ_cli.proofs.Common.{list_any, Fault, Key, Question, One, Span, Row, Schema, Table, fault_if, first_fault, in_table, key_has_kind, key_is_too_long, cell_has_kind, cell_is_too_long, check_key, check_key_in, check_cell, check_cells, check_row, check_row_in, check_end, is_empty_range, check_question, MAX_QUESTIONS, MAX_OPERATIONS, MAX_ANSWER_ROWS, MAX_LOG_ROWS, MAX_COUNTER, MAX_NUMBER, READ_AHEAD, Write, answer, answer_size, is_open, is_active, Operation, Get, Scan, Put, Delete, Add, World, ReadPhase, due, reads_under, active_count, has_session, has_mark, has_phase, is_held, Request, Alone, Close, Event, Read, Forget, Enter, Decide, WriteOne, Finish, BackUp, SerialEnd, RunAlone, Checkpoint, refusal, row_is_open, row_is_back, has_writes_left, wrong_start, check_writes, check_number, check_operation, check_operations, refusal_of_request, refusal_of_close, refusal_of_alone, Numbered, next, is_full, Copied, is_full_for, Client, and_then, unless, client_of, copy_of, next_number, submitted, mark_of, unfit, handed_in, begin_fault, check_written, write_fault, written}
 use Rattle.occ_types.specs.Object.{Object}
 use Rattle.occ_types.specs.Row.{Cell}
@@ -242,9 +243,11 @@ submitted_other client = by_both (unless (fault_if client.queue.closed faults.Cl
 
 pub mark_other : (client : Client) → wants (mark_of client) ≡ false
 mark_other client = by_unless _ (next client.queue)
+    (first (close_fault client) _
     (guard client.queue.closed faults.Closed _ refl
     (guard (is_some client.copy) faults.ReadOpen _ refl
-    (guard (is_full client.queue) faults.QueueFull [] refl refl)))
+    (guard (nat_lt MAX_NUMBER (next client.queue)) faults.NumbersExhausted [] refl refl)))
+    (guard (is_full client.queue) faults.QueueFull [] refl refl))
 
 pub handed_in_other : (schema : Schema) (list : List Operation) (client : Client) → wants (handed_in schema list client) ≡ false
 handed_in_other schema list client = by_both (unless (unfit schema list client) client) _

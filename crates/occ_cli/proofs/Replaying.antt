@@ -75,13 +75,13 @@ module _ {Z : Type 0} where
 
   pub by_entry : (old : Seen) (session : ℕ) (item : code_item.Item Z) (reply : code_reply.Reply Z) (new : Seen)
       → Answers old (calls.Enter session item) reply new → IsHandedOver (events.Enter session) item old.world reply new.world
-  by_entry old session item reply new (inl step, back) = record { step = step; back = back ∙ (owed_kept session item (reply_of reply)).0 }
-  by_entry old session item reply new (inr off, back) = absurd off
+  by_entry old session item reply new (inl step, back, _) = record { step = step; back = back ∙ (owed_kept session item (reply_of reply)).0 }
+  by_entry old session item reply new (inr off, back, _) = absurd off
 
   pub by_serial_end : (old : Seen) (session : ℕ) (item : code_item.Item Z) (reply : code_reply.Reply Z) (new : Seen)
       → Answers old (calls.SerialEnd session item) reply new → IsHandedOver (events.SerialEnd session) item old.world reply new.world
-  by_serial_end old session item reply new (inl step, back) = record { step = step; back = back ∙ (owed_kept session item (reply_of reply)).1 }
-  by_serial_end old session item reply new (inr off, back) = absurd off
+  by_serial_end old session item reply new (inl step, back, _) = record { step = step; back = back ∙ (owed_kept session item (reply_of reply)).1 }
+  by_serial_end old session item reply new (inr off, back, _) = absurd off
 
   module _ (asks : Item → Event) (old : World) (client : Client) (item : code_item.Item Z) (next : Client) (new : World) (is : Some (item_of item) ≡ next_item client) where
     -- what the store replied to the item that was next
@@ -123,6 +123,10 @@ client_at clients (suc p) place client is lt at =
 set_same : (clients : List Client) (place : ℕ) (client next : Client) → client ≡ get_or clients place client → next ≡ client → slice_set clients place next ≡ clients
 set_same clients place client next at same = ap (λ (c : Client). slice_set clients place c) (same ∙ at) ∙ set-get_or clients place client
 
+-- the replay of a store with these clients
+abbrev pub replay_of : List Client → Seen → Replayed
+replay_of clients core = record { world = core.world; clients = clients }
+
 module _ {Z : Type 0} where
   -- a call that is answered by what the store replied
   abbrev replying : code_reply.Reply Z → Result (code_answer.Answer Z) Fault
@@ -136,22 +140,22 @@ module _ {Z : Type 0} where
   stepped Off old event reply next (inl step) = inr ((reply_of reply, step, refl), refl)
   stepped Off old event reply next (inr off) = absurd off
 
-  write_stepped : (old : Replayed) (session : ℕ) (reply : code_reply.Reply Z) (next : World) → Step old.world (events.WriteOne session) (reply_of reply) next ⊎ IsPutOff (record { world = old.world }) (calls.WriteOne session) reply (record { world = next })
-      → CalledBy (PutOff {Z = Z} (calls.WriteOne session) old (record old { world = next })) old (events.WriteOne session) reply (record old { world = next })
-  write_stepped old session reply next (inl step) = inr ((reply_of reply, step, refl), refl)
-  write_stepped old session (replies.Refused fault) next (inr off) = inl (ap says.refused off.2, ((off.0, off.1), ap (λ (s : Seen). record old { world = s.world }) off.3))
-  write_stepped old session reply next (inr off) = absurd off
+  write_stepped : (clients : List Client) (old : Seen) (session : ℕ) (reply : code_reply.Reply Z) (next : Seen) → Step old.world (events.WriteOne session) (reply_of reply) next.world ⊎ IsPutOff old (calls.WriteOne session) reply next
+      → CalledBy (PutOff {Z = Z} (calls.WriteOne session) (replay_of clients old) (replay_of clients next)) (replay_of clients old) (events.WriteOne session) reply (replay_of clients next)
+  write_stepped clients old session reply next (inl step) = inr ((reply_of reply, step, refl), refl)
+  write_stepped clients old session (replies.Refused fault) next (inr off) = inl (ap says.refused off.2, ((off.0, off.1), ap (replay_of clients) off.3))
+  write_stepped clients old session reply next (inr off) = absurd off
 
-  by_call : (old : Replayed) (call : code_step.Step Z) (reply : code_reply.Reply Z) (next : World) → Answers (record { world = old.world }) call reply (record { world = next }) → CalledBy (PutOff call old (record old { world = next })) old (event_of call) reply (record old { world = next })
-  by_call old (calls.WriteOne session) reply next h = write_stepped old session reply next h.0
-  by_call old call reply next h = stepped _ old (event_of call) reply next h.0
+  by_call : (clients : List Client) (old : Seen) (call : code_step.Step Z) (reply : code_reply.Reply Z) (next : Seen) → Answers old call reply next → CalledBy (PutOff call (replay_of clients old) (replay_of clients next)) (replay_of clients old) (event_of call) reply (replay_of clients next)
+  by_call clients old (calls.WriteOne session) reply next h = write_stepped clients old session reply next h.0
+  by_call clients old call reply next h = stepped _ (replay_of clients old) (event_of call) reply next.world h.0
 
   -- the same of a replay that is seen so
-  pub by_calling : (world : World) (clients : List Client) (self : Replayed) → record { world = world; clients = clients } ≡ self → (call : code_step.Step Z) (reply : code_reply.Reply Z) (next : World) → Answers (record { world = world }) call reply (record { world = next })
-      → CalledBy (PutOff call self (record { world = next; clients = clients })) self (event_of call) reply (record { world = next; clients = clients })
-  by_calling world clients self view call reply next h =
-      subst (λ (s : Replayed). CalledBy (PutOff call s (record { world = next; clients = clients })) s (event_of call) reply (record { world = next; clients = clients })) view
-      (by_call (record { world = world; clients = clients }) call reply next h)
+  pub by_calling : (core : Seen) (clients : List Client) (self : Replayed) → replay_of clients core ≡ self → (call : code_step.Step Z) (reply : code_reply.Reply Z) (next : Seen) → Answers core call reply next
+      → CalledBy (PutOff call self (replay_of clients next)) self (event_of call) reply (replay_of clients next)
+  by_calling core clients self view call reply next h =
+      subst (λ (s : Replayed). CalledBy (PutOff call s (replay_of clients next)) s (event_of call) reply (replay_of clients next)) view
+      (by_call clients core call reply next h)
 
 module _ {Z : Type 0} (world : World) (clients : List Client) (self : Replayed) (view : record { world = world; clients = clients } ≡ self) (r : Result (code_answer.Answer Z) Fault) where
   -- what the lemmas start from

@@ -9,10 +9,11 @@ use Rattle.occ_types.specs.Question.{Question, One, Span}
 use Rattle.occ_types.specs.Row.{Row}
 use Rattle.occ_types.specs.Schema.{Schema, fault_if, first_fault, check_key, has_name}
 use Rattle.occ_types.specs.declared.fault.Fault.{Fault}
-use Rattle.occ_types.specs.declared.limits.TheConstants.{MAX_OPERATIONS}
+use Rattle.occ_types.specs.declared.limits.TheConstants.{MAX_NUMBER, MAX_OPERATIONS}
 use Rattle.occ_types.specs.declared.fault.Fault.TheVariants as faults
 use Rattle.occ_model.specs.Overlay.{own}
-use Rattle.occ_model.specs.World.{World, Settings, opened, low, active_count}
+use Rattle.occ_model.specs.World.{World, Settings, opened, resumed, low, active_count}
+use Rattle.occ_model.specs.Log.{Base}
 use Rattle.occ_model.specs.Refusal.{numbers_exhausted, refusal, takes_memory, has_writes_left, check_operations}
 use Rattle.occ_model.specs.Operations.{Operation}
 use Rattle.occ_model.specs.Operations as operations
@@ -51,6 +52,10 @@ fresh limit = record { copy = None; queue = unused limit; kept = None }
 -- a replay that begins
 abbrev pub started : Settings → ℕ → Replayed
 started settings limit = record { world = opened settings; clients = replicate settings.sessions (fresh limit) }
+
+-- a replay that goes on from a base, in which no session has a number
+abbrev pub going_on : Settings → Base → ℕ → Replayed
+going_on settings base limit = record { world = resumed settings base 0; clients = replicate settings.sessions (fresh limit) }
 
 -- what goes on with a value; or a fault stands in its place, is answered, and nothing changes
 abbrev pub Given : {X Y : Type 0} → Result X Fault → Y → Answer → Y → (X → Type 0) → Type 0
@@ -128,13 +133,16 @@ Submits old answer new = Given (submitted old) old answer new (λ copy.
     (answer ≡ says.Queued copy.number)
     × (new ≡ record old { copy = None; queue = with_item old.queue (request copy) }))
 
--- `close`: the number of the closing mark
-abbrev pub mark_of : Client → Result ℕ Fault
-mark_of client = unless (first_fault (
+-- `close`: why it is refused even where there is room, and the number of the closing mark
+abbrev pub close_fault : Client → Option Fault
+close_fault client = first_fault (
     fault_if client.queue.closed faults.Closed
     ∷ fault_if (is_some client.copy) faults.ReadOpen
-    ∷ fault_if (is_full client.queue) faults.QueueFull
-    ∷ [])) (next client.queue)
+    ∷ fault_if (nat_lt MAX_NUMBER (next client.queue)) faults.NumbersExhausted
+    ∷ [])
+
+abbrev pub mark_of : Client → Result ℕ Fault
+mark_of client = unless (first_fault (close_fault client ∷ fault_if (is_full client.queue) faults.QueueFull ∷ [])) (next client.queue)
 
 abbrev pub Closes : Client → Answer → Client → Type 0
 Closes old answer new = Given (mark_of old) old answer new (λ number.

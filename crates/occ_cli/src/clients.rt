@@ -76,7 +76,7 @@ impl<A: Allocator> Client<A> {
         Ok(Answer::Queued(number))
     }
 
-    /// `close`: the closing mark waits from now on, and nothing is begun or submitted behind it. It takes no memory. Refused with `Closed`, `ReadOpen` or `QueueFull`.
+    /// `close`: the closing mark waits from now on, and nothing is begun or submitted behind it. It takes no memory. Refused with `Closed`, `ReadOpen`, `NumbersExhausted` where no number is left for it, or `QueueFull`.
     pub(crate) fn close(&mut self) -> Result<Answer<A>, Fault>
         ensures { Closes self.old (played result) self.new }
     {

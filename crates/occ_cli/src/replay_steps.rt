@@ -1,19 +1,22 @@
 //! A replay of a schedule, step by step.
 
-ghost use Rattle.std.specs.Prelude.{◌≡◌, ◌≢◌, map, IfOk, IfErr, OnErr, IsOkAnd};
+ghost use Rattle.std.specs.Prelude.{◌≡◌, ◌≢◌, ◌<◌, ◌⊎◌, map, IfOk, IfErr, OnErr, IsOkAnd, None};
+ghost use Rattle.std.specs.FinMap as finite;
 ghost use Rattle.occ_types.specs.PlainData.{key_of, end_of};
 ghost use Rattle.occ_text.specs.declared.steps.Act.TheVariants as acts;
 ghost use Rattle.occ_types.specs.declared.fault.Fault.TheVariants as faults;
+ghost use Rattle.occ_core.specs.Resuming.{CannotGoOn, resume_fault};
 ghost use Rattle.occ_core.specs.Runs.{event_of};
 ghost use Rattle.occ_cli.specs.Answers.{answer_of};
 ghost use Rattle.occ_cli.specs.Answers as says;
 ghost use Rattle.occ_text.specs.Steps.{step_of, Does, Get, Scan, Forge, RawRead, Alone, Show, Checkpoint};
 ghost use Rattle.occ_text.specs.Operations.{operation_of};
-ghost use Rattle.occ_cli.specs.Replaying.{started, client_of, counts_of, ByClient, ByStore, Writes, Plays, Played, PlayedIn, PutOff, Starved, WantsWrite, object_named, played};
+ghost use Rattle.occ_cli.specs.Replaying.{started, going_on, client_of, counts_of, ByClient, ByStore, Writes, Plays, Played, PlayedIn, PutOff, Starved, WantsWrite, object_named, played};
 
 use crate::answers::{Answer, Counts, answered, refused};
 use crate::clients::{Client, fresh_clients, place_of};
 use crate::table_names::place_named;
+use occ_book::Base;
 use occ_core::{Core, Reply, Step as Call};
 use occ_queue::Item;
 use occ_sets::RequestWrites;
@@ -64,6 +67,46 @@ impl<A: Allocator + Copy> Replay<A> {
             }
         };
         let core = Core::open(alloc, schema, limits.sessions, limits.keep)?;
+        Ok(Replay {
+            alloc,
+            core,
+            clients,
+        })
+    }
+
+    /// A store that goes on from a base in which no session has a number (`Base::renumbered`), with these tables, and a client for each
+    /// of its sessions, which begins with the number 1. The counter begins with 0.
+    ///
+    /// Refused with `OutOfTurn` where a session has a number; as `Core::resume`; and with `Memory` where there is none for the clients.
+    /// The schema and the base are handed back then.
+    pub fn resume(
+        alloc: A,
+        schema: Schema<A>,
+        limits: Limits,
+        base: Base<A>,
+    ) -> Result<Replay<A>, Refused<(Schema<A>, Base<A>)>>
+        ensures resumed { IfOk result (λ replay. replay ≡ going_on (record { schema = schema; sessions = limits.sessions; keep = limits.keep }) base.base limits.queue) }
+        ensures anew { IfOk result (λ _. finite.len base.base.last ≡ 0) }
+        ensures fits { IfOk result (λ _. resume_fault schema limits.sessions base 0 ≡ None) }
+        ensures fault { IfErr result (λ refused. ((0 < finite.len base.base.last) × (refused.fault ≡ faults.OutOfTurn)) ⊎ ((refused.fault ≡ faults.Memory) ⊎ CannotGoOn schema limits.sessions base 0 refused.fault)) }
+        ensures handed_back { IfErr result (λ refused. refused.value ≡ (schema, base)) }
+    {
+        if base.numbers().len() > 0 {
+            return Err(Refused {
+                value: (schema, base),
+                fault: Fault::OutOfTurn,
+            });
+        }
+        let clients = match fresh_clients(alloc, limits.sessions, limits.queue) {
+            Ok(clients) => clients,
+            Err(fault) => {
+                return Err(Refused {
+                    value: (schema, base),
+                    fault,
+                });
+            }
+        };
+        let core = Core::resume(alloc, schema, limits.sessions, limits.keep, base, 0)?;
         Ok(Replay {
             alloc,
             core,

@@ -1,6 +1,7 @@
 //! The commands, and what help says of them.
 
 use crate::formats::FORMATS;
+use clap::builder::ValueParser;
 use clap::{Arg, ArgAction, Command};
 use std::alloc::{AllocError, Global};
 
@@ -10,7 +11,19 @@ Exit status:
   0  all is right
   1  a file can't be read or written, memory was refused, or a run gave up
   2  a line is malformed, or the words are no command
-  3  explain found something wrong, a run did nothing, or its audit says no";
+  3  explain found something wrong, no store can go on from a book, a run did nothing, or its audit
+     says no";
+
+/// What stands below the words of `load`.
+const RECORDS: &str = "\
+The first record names the table and the kinds of its key and of its cells, in the words of a table
+line: accounts,num,int,text. Each further record is a key and its cells; a key of two parts takes two
+fields. Texts stand as they are, and not in the spelling of a book.
+
+Exit status:
+  0  the book is written
+  1  a file can't be read or written, or memory was refused
+  2  a record is no row, which standard error tells with its line, or the words are no command";
 
 /// What stands below the list of commands.
 const WAYS: &str = "\
@@ -22,7 +35,8 @@ Exit status:
   0  all is right
   1  a file can't be read or written, memory was refused, or a run gave up
   2  a line is malformed, or the words are no command
-  3  explain found something wrong, a run did nothing, or its audit says no";
+  3  explain found something wrong, no store can go on from a book, a run did nothing, or its audit
+     says no";
 
 /// The program with its commands.
 pub(crate) fn program<'a>(alloc: Global) -> Result<Command<'a>, AllocError> {
@@ -36,6 +50,7 @@ pub(crate) fn program<'a>(alloc: Global) -> Result<Command<'a>, AllocError> {
     let program = with(program, picture(alloc))?;
     let program = with(program, shell(alloc))?;
     let program = with(program, run(alloc))?;
+    let program = with(program, load(alloc))?;
     program.subcommand(formats(alloc))
 }
 
@@ -67,15 +82,25 @@ fn picture<'a>(alloc: Global) -> Result<Command<'a>, AllocError> {
         .arg(file(alloc, "A schedule, which is replayed, or a book"))
 }
 
-/// `occ_lab shell [FILE]`.
+/// `occ_lab shell [--from BOOK] [FILE]`.
 fn shell<'a>(alloc: Global) -> Result<Command<'a>, AllocError> {
     Command::new(alloc, "shell")
         .about("Answers the steps on standard input one by one; help and quit are two of its words")
         .after_help(STATUSES)
-        .arg(file(alloc, "A schedule whose header and steps stand first").required(false))
+        .arg(option(
+            alloc,
+            "from",
+            "BOOK",
+            "The store goes on from this book, with its header",
+        ))?
+        .arg(
+            file(alloc, "A schedule whose header and steps stand first")
+                .required(false)
+                .conflicts_with("from")?,
+        )
 }
 
-/// `occ_lab run [--workers] [--json] [--book OUT] [--picture OUT] FILE`.
+/// `occ_lab run [--workers] [--json] [--from BOOK] [--book OUT] [--picture OUT] FILE`.
 fn run<'a>(alloc: Global) -> Result<Command<'a>, AllocError> {
     let run = Command::new(alloc, "run")
         .about("Runs a workload, and tells its time, commits, back-ups and memory")
@@ -85,8 +110,31 @@ fn run<'a>(alloc: Global) -> Result<Command<'a>, AllocError> {
             "workers",
             "Each session's thread serves itself, in place of validators",
         ))?
-        .arg(flag(alloc, "json", "Writes one object of JSON"))?;
+        .arg(flag(alloc, "json", "Writes one object of JSON"))?
+        .arg(option(
+            alloc,
+            "from",
+            "BOOK",
+            "The store goes on from this book, which has the tables of the workload",
+        ))?;
     with_outputs(alloc, run)?.arg(file(alloc, "A workload"))
+}
+
+/// `occ_lab load [--sessions N] FILE`.
+fn load<'a>(alloc: Global) -> Result<Command<'a>, AllocError> {
+    let sessions = option(
+        alloc,
+        "sessions",
+        "N",
+        "How many sessions its header names, 1 to 64",
+    )
+    .value_parser(ValueParser::unsigned(1, 64))
+    .default_value("1");
+    Command::new(alloc, "load")
+        .about("Makes a book of the rows of a table, to go on from with shell or run")
+        .after_help(RECORDS)
+        .arg(sessions)?
+        .arg(file(alloc, "A file of CSV; - is standard input"))
 }
 
 /// `occ_lab formats`.
@@ -99,8 +147,8 @@ fn formats<'a>(alloc: Global) -> Command<'a> {
 /// A command that may write a book and a picture.
 fn with_outputs<'a>(alloc: Global, command: Command<'a>) -> Result<Command<'a>, AllocError> {
     command
-        .arg(out(alloc, "book", "Writes the book there"))?
-        .arg(out(alloc, "picture", "Writes the picture there, as SVG"))
+        .arg(option(alloc, "book", "OUT", "Writes the book there"))?
+        .arg(option(alloc, "picture", "OUT", "Writes the picture there, as SVG"))
 }
 
 /// The file that a command needs.
@@ -119,11 +167,11 @@ fn flag<'a>(alloc: Global, name: &'a str, help: &'a str) -> Arg<'a> {
         .help(help)
 }
 
-/// A file that is written.
-fn out<'a>(alloc: Global, name: &'a str, help: &'a str) -> Arg<'a> {
+/// An option with a value.
+fn option<'a>(alloc: Global, name: &'a str, value: &'a str, help: &'a str) -> Arg<'a> {
     Arg::new(alloc, name)
         .long(name)
         .action(ArgAction::Set)
-        .value_name("OUT")
+        .value_name(value)
         .help(help)
 }

@@ -1,4 +1,4 @@
-//! The program `occ_lab`: what is wrong with a schedule or a book in words, a history as a picture, a shell, and a run to watch.
+//! The program `occ_lab`: what is wrong with a schedule or a book in words, a history as a picture, a shell, a run to watch, and rows of CSV as a book.
 #![tactic(auto)]
 
 use anyhow::Result;
@@ -9,11 +9,16 @@ use std::sync::Wait;
 use std::thread::Threads;
 use std::time::Clock;
 
+mod agreement;
+mod books;
 mod commands;
+mod csv_rows;
+mod csv_tables;
 mod explain;
 mod files;
 mod formats;
 mod fronts;
+mod loading;
 mod loads;
 mod memory;
 mod picture;
@@ -67,7 +72,14 @@ fn serve<H: Threads + Wait + Clock + Sync>(
         return picture::picture(rt, file(found));
     }
     if let Some(found) = matches.subcommand_matches("shell") {
-        return shell::shell(rt, found.get_str("file"));
+        return match found.get_str("from") {
+            Some(book) => shell::shell_from(rt, book),
+            None => shell::shell(rt, found.get_str("file")),
+        };
+    }
+    if let Some(found) = matches.subcommand_matches("load") {
+        let sessions = found.get_one::<usize>("sessions").unwrap_or(1);
+        return loading::load(rt, file(found), sessions);
     }
     let Some(found) = matches.subcommand_matches("run") else {
         print!(rt; "{}", formats::FORMATS)?;
@@ -76,6 +88,7 @@ fn serve<H: Threads + Wait + Clock + Sync>(
     let wanted = running::Wanted {
         way: running::way_of(found.get_flag("workers")),
         json: found.get_flag("json"),
+        from: found.get_str("from"),
         book: found.get_str("book"),
         picture: found.get_str("picture"),
     };

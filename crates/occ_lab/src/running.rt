@@ -1,15 +1,23 @@
 //! `occ_lab run`.
 
+use crate::agreement::disagreement;
+use crate::books::{NoStore, base_of, tell_no_store};
 use crate::files::{name_of, open_output, read_file, tell_trouble};
 use crate::loads::{take_load, tell_refused};
 use crate::memory::peak_memory;
 use crate::picture::draw_book;
 use crate::watching::Watcher;
 use anyhow::{Context, Result};
-use occ_run::{PATIENCE, Ran, Way, run_watched};
+use occ_book::Base;
+use occ_run::workloads::Workload;
+use occ_run::{PATIENCE, Ran, Way, run_in, run_watched};
+use occ_store::Frame;
+use occ_text::headers::Header;
 use occ_text::trouble::Trouble;
+use occ_types::Fault;
 use occ_words::run_summaries::{Summary, ends_of};
 use occ_words::telling::{Style, Told};
+use std::alloc::Global;
 use std::fs::File;
 use std::io::Write;
 use std::sync::Wait;
@@ -23,6 +31,8 @@ pub(crate) struct Wanted<'w> {
     pub(crate) way: Way,
     /// Whether what is told is an object of JSON.
     pub(crate) json: bool,
+    /// The book that the store goes on from.
+    pub(crate) from: Option<&'w str>,
     /// Where the book is written.
     pub(crate) book: Option<&'w str>,
     /// Where the picture is written.
@@ -54,6 +64,13 @@ pub(crate) fn way_of(workers: bool) -> Way {
     }
 }
 
+/// A workload with the base that its store goes on from.
+#[derive(Drop)]
+struct Resumed {
+    workload: Workload<Global>,
+    base: Base<Global>,
+}
+
 /// Runs a workload, and tells what it came to.
 pub(crate) fn run_file<H: Threads + Wait + Clock + Sync>(
     rt: &HostRuntime,
@@ -62,9 +79,37 @@ pub(crate) fn run_file<H: Threads + Wait + Clock + Sync>(
     wanted: &Wanted<'_>,
 ) -> Result<u8> {
     let text = read_file(rt, path)?;
-    match look_at(rt, path, text.as_slice())? {
-        Ok(asked) => run_text(rt, threads, path, text.as_slice(), asked, wanted),
-        Err(trouble) => tell_trouble(rt, path, text.as_slice(), trouble),
+    let asked = match look_at(rt, path, text.as_slice())? {
+        Ok(asked) => asked,
+        Err(trouble) => return tell_trouble(rt, path, text.as_slice(), trouble),
+    };
+    let Some(from) = wanted.from else {
+        return run_text(rt, threads, path, text.as_slice(), None, asked, wanted);
+    };
+    let book = read_file(rt, from)?;
+    let (workload, header, base) = match beginning(rt.alloc(), text.as_slice(), book.as_slice()) {
+        Ok(parts) => parts,
+        Err(cause) => return tell_no_store(rt, from, book.as_slice(), cause),
+    };
+    if let Some(why) = disagreement(rt.alloc(), &workload, &header)? {
+        let name = name_of(path);
+        eprintln!(rt; "occ_lab: {name}: it can't go on from {from}: {why}")?;
+        return Ok(3);
+    }
+    let resumed = Some(Resumed { workload, base });
+    run_text(rt, threads, path, text.as_slice(), resumed, asked, wanted)
+}
+
+// A workload, the header of a book, and what the book leaves.
+fn beginning(
+    alloc: Global,
+    text: &[u8],
+    book: &[u8],
+) -> Result<(Workload<Global>, Header<Global>, Base<Global>), NoStore> {
+    let (header, base) = base_of(alloc, book)?;
+    match take_load(alloc, text) {
+        Ok(workload) => Ok((workload, header, base)),
+        Err(trouble) => Err(NoStore::Text(trouble)),
     }
 }
 
@@ -89,6 +134,7 @@ fn run_text<H: Threads + Wait + Clock + Sync>(
     threads: &H,
     path: &str,
     text: &[u8],
+    resumed: Option<Resumed>,
     asked: Asked,
     wanted: &Wanted<'_>,
 ) -> Result<u8> {
@@ -97,18 +143,18 @@ fn run_text<H: Threads + Wait + Clock + Sync>(
         picture: open_output(rt, wanted.picture)?,
     };
     let watcher = Watcher::new(rt);
-    let mut reader = text;
     let mut book = Vec::new(rt.alloc());
-    let ran = run_watched(
-        threads,
-        rt.alloc(),
-        &mut reader,
-        &mut book,
-        true,
-        wanted.way,
-        PATIENCE,
-        &watcher,
-    );
+    let ran = match resumed {
+        None => run_anew(threads, rt.alloc(), text, &mut book, wanted.way, &watcher),
+        Some(resumed) => run_on(
+            threads,
+            rt.alloc(),
+            resumed,
+            &mut book,
+            wanted.way,
+            &watcher,
+        ),
+    };
     watcher.end_line();
     match ran {
         Ok(Ran::Audit(holds)) => {
@@ -124,8 +170,79 @@ fn run_text<H: Threads + Wait + Clock + Sync>(
             }
             Ok(1)
         }
+        Err(cause) => tell_not_run(rt, path, wanted.from, cause),
+    }
+}
+
+// Runs a workload in an empty store.
+fn run_anew<H: Threads + Wait + Clock + Sync>(
+    threads: &H,
+    alloc: Global,
+    text: &[u8],
+    book: &mut Vec<u8>,
+    way: Way,
+    watcher: &Watcher<'_>,
+) -> Result<Ran<Global>, NoStore> {
+    let mut reader = text;
+    match run_watched(
+        threads,
+        alloc,
+        &mut reader,
+        book,
+        true,
+        way,
+        PATIENCE,
+        watcher,
+    ) {
+        Ok(ran) => Ok(ran),
+        Err(trouble) => Err(NoStore::Text(trouble)),
+    }
+}
+
+// Runs a workload in a store that goes on from a base.
+fn run_on<H: Threads + Wait + Clock + Sync>(
+    threads: &H,
+    alloc: Global,
+    resumed: Resumed,
+    book: &mut Vec<u8>,
+    way: Way,
+    watcher: &Watcher<'_>,
+) -> Result<Ran<Global>, NoStore> {
+    let Resumed { workload, base } = resumed;
+    let Workload {
+        settings,
+        schema,
+        plans,
+    } = workload;
+    let limits = settings.limits;
+    let frame = match Frame::resume(
+        alloc,
+        schema,
+        limits.sessions,
+        limits.queue,
+        limits.keep,
+        base,
+        0,
+    ) {
+        Ok(frame) => frame,
+        Err(refused) => return Err(NoStore::Store(refused.fault)),
+    };
+    match run_in(
+        threads, alloc, book, frame, settings, plans, true, way, PATIENCE, watcher,
+    ) {
+        Ok(ran) => Ok(ran),
+        Err(trouble) => Err(NoStore::Text(trouble)),
+    }
+}
+
+// Tells why a workload was not run, and answers the status.
+fn tell_not_run(rt: &HostRuntime, path: &str, from: Option<&str>, cause: NoStore) -> Result<u8> {
+    match (cause, from) {
+        (NoStore::Store(fault), Some(from)) if fault != Fault::Memory => tell_no_store(
+            rt, from, b"", cause,
+        ),
         // the workload was read before, and it and the book stand in memory, so nothing else can be refused
-        Err(_trouble) => {
+        _ => {
             let name = name_of(path);
             eprintln!(rt; "occ_lab: {name}: no memory, or a thread can't be started")?;
             Ok(1)

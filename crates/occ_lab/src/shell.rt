@@ -1,10 +1,13 @@
 //! `occ_lab shell`.
 
+use crate::books::{NoStore, base_of, tell_no_store};
 use crate::files::tell_trouble;
 use crate::fronts::read_text;
 use anyhow::Result;
 use occ_text::trouble::Trouble;
-use occ_words::shells::shell_text;
+use occ_words::schedule_steps::Steps;
+use occ_words::shells::{shell_steps, shell_text};
+use std::alloc::Global;
 use std::io::{self, IsTerminal, Read};
 
 /// Standard input, before each reading of which a prompt is written where it is a terminal.
@@ -44,6 +47,28 @@ pub(crate) fn shell(rt: &HostRuntime, path: Option<&str>) -> Result<u8> {
     let opening = Some(text.as_slice());
     let ended = shell_text(rt.alloc(), opening, &mut steps, &mut rt.stdout());
     end(rt, path, text.as_slice(), ended)
+}
+
+/// Answers the steps of standard input one by one, in a store that goes on from a book.
+pub(crate) fn shell_from(rt: &HostRuntime, path: &str) -> Result<u8> {
+    let text = read_text(rt, path)?;
+    match steps_from(rt.alloc(), text.as_slice()) {
+        Ok(mut steps) => {
+            let mut lines = Prompted::new(rt);
+            let ended = shell_steps(rt.alloc(), &mut steps, &mut lines, &mut rt.stdout());
+            end(rt, "standard input", b"", ended)
+        }
+        Err(cause) => tell_no_store(rt, path, text.as_slice(), cause),
+    }
+}
+
+// A store that goes on from a book.
+fn steps_from(alloc: Global, text: &[u8]) -> Result<Steps, NoStore> {
+    let (header, base) = base_of(alloc, text)?;
+    match Steps::resume(alloc, header, base) {
+        Ok(steps) => Ok(steps),
+        Err(fault) => Err(NoStore::Store(fault)),
+    }
 }
 
 // Tells on a terminal what comes first.

@@ -17,5 +17,6 @@ pub mod TableLeads
 pub mod BookLeads
 pub mod TextLines
 pub mod BookLaws
+pub mod LeftBases
 pub mod CoreContent
 pub mod CoreBooks

@@ -4,5 +4,6 @@ pub mod RowLines
 pub mod Taking
 pub mod Places
 pub mod WholeBooks
+pub mod Bases
 pub mod PlainRows
 pub mod Cores

@@ -38,7 +38,10 @@ pub fn audit_text<R: Read, W: Write, A: Allocator + Copy>(
 }
 
 /// Whether the audit of a book holds.
-fn judge<A: Allocator + Copy>(alloc: A, printed: &PrintedBook<A>) -> Result<bool, Trouble>
+pub(crate) fn judge<A: Allocator + Copy>(
+    alloc: A,
+    printed: &PrintedBook<A>,
+) -> Result<bool, Trouble>
     ensures ok { IfOk result (λ verdict. Decides verdict (Audited (printed_book printed.now).base (printed_book printed.now).marks (printed_book printed.now).state (printed_book printed.now).log)) }
     ensures err { IfErr result (λ trouble. trouble ≡ Memory) }
 {

@@ -2,6 +2,7 @@
 #![tactic(auto)]
 
 pub mod audits;
+pub mod bases;
 pub mod laws;
 pub mod number_lines;
 pub mod row_lines;

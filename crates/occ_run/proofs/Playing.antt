@@ -6,6 +6,7 @@ use Rattle.std.proofs.lemmas.List.{append-nil, map-append, take_more}
 use Rattle.std.proofs.lemmas.List.Concat.{flat_map-append}
 use Rattle.std.proofs.lemmas.List.Elements.{All-same, All-map}
 use Rattle.occ_model.specs.Event.{Item, Close}
+use Rattle.occ_model.specs.Log.{Base, last_folded}
 use Rattle.occ_model.specs.Operations.{Operation}
 use Rattle.occ_sets.specs.Sets.{Copied}
 use Rattle.occ_store.specs.Sessions.{SessionView, due, handed_in}
@@ -21,7 +22,7 @@ use Rattle.occ_run.proofs.Tries.{pushes_then}
 -- ---- one transaction after another
 
 pub nothing_played : (retries : ℕ) (v : SessionView) → Played retries [] 0 v v
-nothing_played retries v = record { items = []; pushes = record { pushed = sym (append-nil v.sender.pushed); session = refl }; plays = (refl, refl) }
+nothing_played retries v = record { items = []; pushes = record { before = refl; pushed = sym (append-nil v.sender.pushed); session = refl }; plays = (refl, refl) }
 
 one_played : (retries : ℕ) (operations : List Operation) (refused : Bool) (old new : SessionView) → PlanGives retries operations refused old new → Played retries (operations ∷ []) (one_if refused) old new
 one_played retries operations refused old new h = record {
@@ -157,7 +158,7 @@ gathered_more f xs i x before now given lt is so_far more is_it =
 pub fresh_at : (xs : List SessionView) (place : ℕ) (x : SessionView) → place < length xs → x ≡ get_or xs place x → All (λ (session : SessionView). session.sender.pushed ≡ []) xs → x.sender.pushed ≡ []
 fresh_at xs place x lt is all = ap (λ (v : SessionView). v.sender.pushed) is ∙ all place x lt
 
-pub all_fresh : (named : Named) (count : ℕ) (xs : List SessionView) → xs ≡ fresh_sessions named count → All (λ (session : SessionView). session.sender.pushed ≡ []) xs
-all_fresh named count xs is =
-    All-same (λ (session : SessionView). session.sender.pushed ≡ []) xs (fresh_sessions named count) is
-    (All-map (λ (session : SessionView). session.sender.pushed ≡ []) (fresh_session named) (range_with_len 1 count) (λ place d lt. refl))
+pub all_fresh : (named : Named) (base : Base) (count : ℕ) (xs : List SessionView) → xs ≡ fresh_sessions named base count → All (λ (session : SessionView). session.sender.pushed ≡ []) xs
+all_fresh named base count xs is =
+    All-same (λ (session : SessionView). session.sender.pushed ≡ []) xs (fresh_sessions named base count) is
+    (All-map (λ (session : SessionView). session.sender.pushed ≡ []) (λ session. fresh_session named session (last_folded base session)) (range_with_len 1 count) (λ place d lt. refl))

@@ -12,7 +12,7 @@ use Rattle.occ_model.specs.declared.verdict.Verdict.{Verdict}
 use Rattle.occ_model.specs.declared.verdict.Verdict.TheVariants.{Commit, BackUp}
 use Rattle.occ_sets.specs.Sets.{Copied}
 use Rattle.occ_open.specs.Transactions.{written}
-use Rattle.occ_store.specs.Sessions.{SessionView, due, Submits, handed_in, request, begun}
+use Rattle.occ_store.specs.Sessions.{SessionView, due, last_number, Submits, handed_in, request, begun}
 use Rattle.occ_run.specs.declared.ends.Try.{Try}
 use Rattle.occ_run.specs.declared.ends.Try.TheVariants as outcome
 use Rattle.occ_run.specs.Clients.{SameButWrites, is_request, Requests, Pushes, Told, CameTo, handed_by, try_of, Tries, LastTry, RunsAlone, PlanGives}
@@ -62,6 +62,7 @@ abandoned {draft} old mid new first second =
 
 pushes_none : (old new : SessionView) → SameQueue old new → Pushes [] old new
 pushes_none old new same = record {
+  before = ap (λ (v : SessionView). v.sender.before) same;
   pushed = ap (λ (v : SessionView). v.sender.pushed) same ∙ sym (append-nil old.sender.pushed);
   session = ap (λ (v : SessionView). v.session) same;
 }
@@ -89,6 +90,7 @@ handed old mid new number same numbered submits = by mid.draft refl submits
           item = request copy;
           is_one = refl;
           pushes = record {
+            before = ap (λ (v : SessionView). v.sender.before) h.1 ∙ ap (λ (v : SessionView). v.sender.before) same;
             pushed = ap (λ (v : SessionView). v.sender.pushed) h.1 ∙ ap (λ (v : SessionView). v.sender.pushed ++ request copy ∷ []) same;
             session = ap (λ (v : SessionView). v.session) h.1 ∙ ap (λ (v : SessionView). v.session) same;
           };
@@ -102,11 +104,14 @@ came_to (BackUp cause) new told = (cause, told)
 told_now : (old sub new : SessionView) (items : List Item) (number : ℕ) (verdict : Verdict) → number ≡ due old → Pushes (items) old sub → length items ≡ 1 → new ≡ record sub { seat = new.seat }
     → (new.seat.last.number ≡ number) × (new.seat.last.status ≡ Some verdict) → Told verdict new
 told_now old sub new items number verdict is pushes one seated told =
+    let before : sub.sender.before ≡ old.sender.before = pushes.before in
     let long : length sub.sender.pushed ≡ length old.sender.pushed + 1 = ap length pushes.pushed ∙ length-append old.sender.pushed items ∙ ap (λ (n : ℕ). length old.sender.pushed + n) one in
-    record { number = told.0 ∙ is ∙ sym (ap (λ (v : SessionView). length v.sender.pushed) seated ∙ long); status = told.1 }
+    let next : due old ≡ sub.sender.before + length sub.sender.pushed = omega arith in
+    record { number = told.0 ∙ is ∙ next ∙ sym (ap last_number seated); status = told.1 }
 
 seated_pushes : (old sub new : SessionView) (items : List Item) → Pushes items old sub → new ≡ record sub { seat = new.seat } → Pushes items old new
 seated_pushes old sub new items pushes seated = record {
+  before = ap (λ (v : SessionView). v.sender.before) seated ∙ pushes.before;
   pushed = ap (λ (v : SessionView). v.sender.pushed) seated ∙ pushes.pushed;
   session = ap (λ (v : SessionView). v.session) seated ∙ pushes.session;
 }
@@ -136,7 +141,7 @@ alone_again old mid new number now was same list h =
 pub ran_alone : (operations : List Operation) (old sub new : SessionView) (number : ℕ) (verdict : Verdict) → (number ≡ due old) × (sub ≡ handed_in old (Alone number operations)) → new ≡ record sub { seat = new.seat }
     → (new.seat.last.number ≡ number) × (new.seat.last.status ≡ Some verdict) → verdict ≡ Commit → RunsAlone operations old new
 ran_alone operations old sub new number verdict h seated told is =
-    let pushes : Pushes (Alone number operations ∷ []) old sub = record { pushed = ap (λ (v : SessionView). v.sender.pushed) h.1; session = ap (λ (v : SessionView). v.session) h.1 } in
+    let pushes : Pushes (Alone number operations ∷ []) old sub = record { before = ap (λ (v : SessionView). v.sender.before) h.1; pushed = ap (λ (v : SessionView). v.sender.pushed) h.1; session = ap (λ (v : SessionView). v.session) h.1 } in
     record {
       number = number;
       pushes = seated_pushes old sub new (Alone number operations ∷ []) pushes seated;
@@ -147,6 +152,7 @@ ran_alone operations old sub new number verdict h seated told is =
 
 pub pushes_then : {xs ys : List Item} (a b c : SessionView) → Pushes xs a b → Pushes ys b c → Pushes (xs ++ ys) a c
 pushes_then {xs} {ys} a b c first second = record {
+  before = second.before ∙ first.before;
   pushed = second.pushed ∙ ap (λ (items : List Item). items ++ ys) first.pushed ∙ append_assoc a.sender.pushed xs ys;
   session = second.session ∙ first.session;
 }

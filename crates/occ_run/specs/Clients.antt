@@ -6,7 +6,7 @@ use Rattle.occ_model.specs.Operations.{Operation}
 use Rattle.occ_model.specs.declared.verdict.Verdict.{Verdict}
 use Rattle.occ_model.specs.declared.verdict.Verdict.TheVariants.{Commit, BackUp}
 use Rattle.occ_model.specs.declared.verdict.Cause.{Cause}
-use Rattle.occ_store.specs.Sessions.{SessionView}
+use Rattle.occ_store.specs.Sessions.{SessionView, last_number}
 use Rattle.occ_run.specs.Plans.{Planned}
 use Rattle.occ_run.specs.declared.ends.Try.{Try}
 use Rattle.occ_run.specs.declared.ends.Try.TheVariants.{Refused, Committed, BackedUp}
@@ -30,14 +30,15 @@ pub record Requests (count : ℕ) (items : List Item) : Type 0 where
   pub many : length items ≡ count
   pub each : list_all is_request items ≡ true
 
--- these items were handed in
+-- these items were handed in, behind those of before
 pub record Pushes (items : List Item) (old new : SessionView) : Type 0 where
+  pub before : new.sender.before ≡ old.sender.before
   pub pushed : new.sender.pushed ≡ old.sender.pushed ++ items
   pub session : new.session ≡ old.session
 
 -- the board told how what was handed in last ended
 pub record Told (verdict : Verdict) (session : SessionView) : Type 0 where
-  pub number : session.seat.last.number ≡ length session.sender.pushed
+  pub number : session.seat.last.number ≡ last_number session
   pub status : session.seat.last.status ≡ Some verdict
 
 -- what a try came to; where one of its operations was refused, nothing was handed in

@@ -22,4 +22,4 @@ pub mod workloads;
 
 pub use observers::{Observer, Progress, Unwatched};
 pub use occ_text::trouble::{Trouble, status_of};
-pub use runs::{PATIENCE, Ran, Way, run_text, run_watched};
+pub use runs::{PATIENCE, Ran, Way, run_in, run_text, run_watched};

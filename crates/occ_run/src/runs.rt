@@ -144,6 +144,34 @@ fn run_workload<
     let Ok(frame) = Frame::new(alloc, schema, limits.sessions, limits.queue, limits.keep) else {
         return Err(Trouble::Memory);
     };
+    run_in(
+        rt, alloc, writer, frame, settings, plans, book, way, patience, observer,
+    )
+}
+
+/// Runs the transactions of a workload in the store of a frame, which may go on from a base. All else is as `run_watched` tells of a
+/// workload that was read.
+pub fn run_in<
+    W: Write,
+    H: Threads + Wait + Clock + Sync,
+    A: Allocator + Copy + Send + Sync,
+    O: Observer,
+>(
+    rt: &H,
+    alloc: A,
+    writer: &mut W,
+    frame: Frame<A>,
+    settings: Settings,
+    plans: Vec<Plan<A>, A>,
+    book: bool,
+    way: Way,
+    patience: u64,
+    observer: &O,
+) -> Result<Ran<A>, Trouble>
+    requires sessions { frame.named.settings.sessions ≡ settings.limits.sessions }
+    ensures { RunEnds book (Appends (W.contents writer.old) (W.contents writer.new)) (AppendsFront (W.contents writer.old) (W.contents writer.new))
+        frame.named.settings settings.retries (map plan_of plans.items) settings.limits result }
+{
     run_named::<Brand, Brand, W, H, A, O>(
         rt, alloc, writer, frame, settings, plans, way, patience, book, observer,
     )

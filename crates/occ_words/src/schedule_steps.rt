@@ -4,6 +4,7 @@ use crate::line_walk::token_at;
 use crate::meetings::{Meeting, StoreRow, meeting_of_last};
 use crate::sayings::Saying;
 use crate::step_words::{say_backed_up, say_refused};
+use occ_book::Base;
 use occ_case::{Cause, Verdict};
 use occ_cli::answers::{Answer, write_answer};
 use occ_cli::replay_steps::Replay;
@@ -36,15 +37,32 @@ impl Steps {
     pub fn open(alloc: Global, header: Header<Global>) -> Result<Steps, AllocError> {
         let limits = header.limits;
         match Replay::open(alloc, header.schema, limits) {
-            Ok(replay) => Ok(Steps {
-                replay: Box::new(alloc, replay)?,
-                limits,
-                refused: 0,
-                backed_up: 0,
-                met: Vec::new(alloc),
-            }),
+            Ok(replay) => Steps::of(alloc, replay, limits),
             Err(_memory) => Err(AllocError),
         }
+    }
+
+    /// A store that goes on from a base. Refused as `Replay::resume`.
+    pub fn resume(
+        alloc: Global,
+        header: Header<Global>,
+        base: Base<Global>,
+    ) -> Result<Steps, Fault> {
+        let limits = header.limits;
+        let replay = Replay::resume(alloc, header.schema, limits, base)?;
+        let steps = Steps::of(alloc, replay, limits)?;
+        Ok(steps)
+    }
+
+    // A store in which no step was done yet.
+    fn of(alloc: Global, replay: Replay<Global>, limits: Limits) -> Result<Steps, AllocError> {
+        Ok(Steps {
+            replay: Box::new(alloc, replay)?,
+            limits,
+            refused: 0,
+            backed_up: 0,
+            met: Vec::new(alloc),
+        })
     }
 
     /// Does the step of the line of a number, appends its answer to a text, and tells what there is to be said of a refusal or a back-up.

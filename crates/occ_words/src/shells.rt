@@ -39,7 +39,22 @@ pub fn shell_text<R: Read, W: Write>(
     end(alloc, heard, &mut output, writer)
 }
 
-// Tells that a header is whole.
+/// Answers each line behind a header, of a store that stands: as `shell_text` does.
+///
+/// Answers whether the reader came to its end; `Read`, `Write` and `Memory` as there.
+pub fn shell_steps<R: Read, W: Write>(
+    alloc: Global,
+    steps: &mut Steps,
+    reader: &mut R,
+    writer: &mut W,
+) -> Result<bool, Trouble> {
+    let mut input = Input::new(alloc)?;
+    let mut output = Output::new(alloc);
+    greet(alloc, &mut output, writer)?;
+    converse(alloc, steps, &mut input, reader, &mut output, writer)
+}
+
+// Tells that a store is open.
 fn greet<W: Write>(
     alloc: Global,
     output: &mut Output<Global>,

@@ -6,7 +6,7 @@ use Rattle.occ_run.proofs.outcomes.write_state.Goals as goal
 
 pub returns : goal.returns
 returns g c =
-    let is = c.core.ensures in
+    let is = c.core.ensures.world in
     reported c.args.book (g.W.Write.contents c.args.writer.now) (g.W.Write.contents c.write_whole.new.writer) g.N.Name.named.settings g.L.Load.retries g.L.Load.plans c.args.limits c.write_whole.result (record {
       world = c.core.result.now.world;
       law = subst Invariant (sym is) c.law.ensures.invariant;

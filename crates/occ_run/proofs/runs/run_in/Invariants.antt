@@ -1,6 +1,6 @@
 use Rattle.std.proofs.Common.{map}
 use Rattle.occ_run.specs.Plans.{plan_of}
-use Rattle.occ_run.proofs.runs.run_workload.Given as goal
+use Rattle.occ_run.proofs.runs.run_in.Given as goal
 
 -- the name that the store of the frame has
 abbrev pub ghosts-run_named-N-Ledger : goal.ghosts-run_named-N-Ledger
