@@ -13,22 +13,24 @@ use std::sync::Wait;
 use std::sync::atomic::{AtomicU64, Ordering};
 use std::thread::{self, Threads};
 
-/// Adds an amount to each of two accounts, which may be below 0, and sums all accounts then.
+/// Adds an amount to each of two accounts, which may be below 0, and answers the sum of all accounts then.
 #[derive(Clone, Copy)]
 struct Add {
     amounts: [(u64, i64); 2],
-    sum: i64,
 }
 
 impl<N: Name, A: Allocator + Copy, R: Wait> Body<N, A, R> for Add {
-    fn run(&mut self, rt: &R, bank: &Store<N, A>, work: &mut Work<N, A>) -> Result<(), Fault> {
+    type Value = i64;
+
+    type Error = Fault;
+
+    fn run(&mut self, rt: &R, bank: &Store<N, A>, work: &mut Work<N, A>) -> Result<i64, Fault> {
         for (account, amount) in self.amounts {
             let row = work.get(rt, bank, 0, account.into())?;
             let balance = row.as_ref().and_then(|row| row.int(0)).unwrap_or(0);
             work.put(0, account.into(), balance.saturating_add(amount).into())?;
         }
-        self.sum = sum(&work.scan(rt, bank, 0, None, None)?);
-        Ok(())
+        Ok(sum(&work.scan(rt, bank, 0, None, None)?))
     }
 }
 
@@ -51,10 +53,10 @@ fn work<N: Name, A: Allocator + Copy, R: Wait>(
     worker.checkpoint_each(Some(1));
     for round in 0..200u64 {
         let amounts = [(round % 7, -1), (round % 10, 1)];
-        let mut moved = Add { amounts, sum: 0 };
-        let ended = worker.transact(rt, bank, 1_000, &mut moved);
-        let is_right = ended.is_ok() && moved.sum == 1_000;
-        right.fetch_add(is_right as u64, Ordering::SeqCst);
+        if let Ok(ended) = worker.transact(rt, bank, 1_000, &mut Add { amounts }) {
+            let is_right = ended.value() == Some(1_000);
+            right.fetch_add(is_right as u64, Ordering::SeqCst);
+        }
     }
 }
 

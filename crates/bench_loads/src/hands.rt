@@ -66,7 +66,7 @@ fn tried<N: Name, A: Allocator + Copy, R: Wait, B: Body<N, A, R>>(
     worker: &mut Worker<N, A>,
     lease: Option<&Lease<'_, N>>,
     body: &mut B,
-) -> Result<Ended, Fault> {
+) -> Result<Ended<B::Value>, B::Error> {
     match lease {
         Some(lease) => worker.transact_within(rt, store, lease, TRIES, body),
         None => worker.transact(rt, store, TRIES, body),

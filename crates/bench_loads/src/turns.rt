@@ -151,6 +151,10 @@ impl Turn {
 }
 
 impl<N: Name, A: Allocator + Copy, R: Wait> Body<N, A, R> for Turn {
+    type Value = ();
+
+    type Error = Fault;
+
     fn run(
         &mut self,
         rt: &R,

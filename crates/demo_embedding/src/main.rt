@@ -80,10 +80,11 @@ fn pay(a: &mut One, b: &mut One, store: &mut Store, lines: &mut String) -> Resul
     Ok(writeln!(lines, "{first:?}, {second:?}, again {again:?}")?)
 }
 
-/// Adds to the balance of an account, which is 0 where there is none.
-fn add(client: &mut One, store: &mut Store, account: u64, amount: i64) -> Result<(), Fault> {
+/// Adds to the balance of an account, which is 0 where there is none, and answers the sum.
+fn add(client: &mut One, store: &mut Store, account: u64, amount: i64) -> Result<i64, Fault> {
     let sum = balance(client, store, account)?.saturating_add(amount);
-    Ok(client.put(store, ACCOUNTS, account.into(), sum.into())?)
+    client.put(store, ACCOUNTS, account.into(), sum.into())?;
+    Ok(sum)
 }
 
 /// The balance of an account, which is 0 where there is none.
@@ -134,8 +135,8 @@ fn find(client: &mut One, store: &mut Store, owner: Key<Global>) -> Result<(i64,
 /// Two sessions count on one account in turn, and the log is folded after every thousand commits.
 fn count(a: &mut One, b: &mut One, store: &mut Store, lines: &mut String) -> Result<(), Fault> {
     for turn in 1..=1_250u64 {
-        let _end = a.transact(store, 3, |a, store| add(a, store, 1, 1))?;
-        let _end = b.transact(store, 3, |b, store| add(b, store, 1, 1))?;
+        let _counted = a.transact(store, 3, |a, store| add(a, store, 1, 1))?;
+        let _counted = b.transact(store, 3, |b, store| add(b, store, 1, 1))?;
         if turn % 500 == 0 {
             let (folded, left) = (store.checkpoint()?, store.log().len());
             writeln!(lines, "{folded} rows are folded, {left} are left")?;

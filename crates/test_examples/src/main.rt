@@ -3,6 +3,7 @@
 
 mod again;
 mod altered;
+mod bases;
 mod cuts;
 mod devices;
 mod handed_back;
@@ -16,6 +17,7 @@ mod spoiled;
 mod summaries;
 
 use altered::{tell_changed_schedule, tell_changes, tell_lines};
+use bases::{tell_bases, tell_wrong};
 use cuts::tell_cuts;
 use devices::tell_devices;
 use handed_back::tell_handed_back;
@@ -170,7 +172,7 @@ fn tell_examples(rt: &HostRuntime) -> io::Result<()> {
     tell_changed_schedule(rt, "no-step-of-one-session")
 }
 
-/// Prints a line for each book.
+/// Prints a line for each book, and of how many books of the examples a store goes on.
 fn tell_books(rt: &HostRuntime) -> io::Result<()> {
     for name in BOOKS {
         tell_book(rt, name)?;
@@ -178,7 +180,9 @@ fn tell_books(rt: &HostRuntime) -> io::Result<()> {
     for name in CHANGED_BOOKS {
         tell_changes(rt, name)?;
     }
-    Ok(())
+    tell_wrong(rt, BOOKS)?;
+    tell_bases(rt, EXAMPLES)?;
+    tell_bases(rt, OTHERS)
 }
 
 /// Prints what is said in words, and of the pictures.

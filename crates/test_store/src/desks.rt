@@ -4,8 +4,10 @@ ghost use Rattle.std.specs.Prelude.{◌≡◌};
 use crate::clients::{begin, close_once, hand_in, hand_in_alone, put};
 use crate::plays::{Scene, play};
 use occ_audit::audit_rows;
-use occ_store::{AlwaysGo, Frame, Gate, Group, Lane, Name, Op, Served, Session, Store};
-use occ_types::{Cell, Fault, Key, KeyKind, Kind, Row, Schema};
+use occ_store::{
+    AlwaysGo, Base, Frame, Gate, Group, Lane, Marks, Name, Op, Served, Session, Store, Tables,
+};
+use occ_types::{Cell, Fault, Key, KeyKind, Kind, Refused, Row, Schema};
 use std::alloc::Allocator;
 use std::marker::Brand;
 use std::sync::Wait;
@@ -24,6 +26,10 @@ pub(crate) struct Settings {
     pub(crate) keep: usize,
     /// Into how many groups its lanes are dealt.
     pub(crate) groups: usize,
+    /// The counter that it goes on with; it begins empty where this is 0.
+    pub(crate) counter: u64,
+    /// The last number of its first session in the base that it goes on from.
+    pub(crate) last: u64,
     /// Whether its opening finds no memory at one of its requests, and is tried again.
     pub(crate) starved: bool,
 }
@@ -60,8 +66,21 @@ pub(crate) fn played<A: Allocator + Copy + Send + Sync, R: Threads + Wait + Cloc
     played_on::<Brand, A, R>(rt, alloc, frame, settings.groups, scene)
 }
 
-// The frame of a store. Where it finds no memory it is made of the schema that came back.
+// The frame of a store, which begins empty or goes on.
 fn framed<A: Allocator + Copy>(
+    alloc: A,
+    schema: Schema<A>,
+    settings: Settings,
+) -> Result<Frame<A>, Fault> {
+    if settings.counter == 0 {
+        empty(alloc, schema, settings)
+    } else {
+        resumed(alloc, schema, settings)
+    }
+}
+
+// The frame of an empty store. Where it finds no memory it is made of the schema that came back.
+fn empty<A: Allocator + Copy>(
     alloc: A,
     schema: Schema<A>,
     settings: Settings,
@@ -78,6 +97,65 @@ fn framed<A: Allocator + Copy>(
             let frame = Frame::new(alloc, refused.value, sessions, capacity, keep)?;
             Ok(frame)
         }
+    }
+}
+
+// The frame of a store that goes on. Where it finds no memory it is made of the schema and the base that came back.
+fn resumed<A: Allocator + Copy>(
+    alloc: A,
+    schema: Schema<A>,
+    settings: Settings,
+) -> Result<Frame<A>, Fault> {
+    let base = match left(alloc, settings) {
+        Ok(base) => base,
+        Err(_fault) => left(alloc, settings)?,
+    };
+    match resume(alloc, schema, base, settings) {
+        Ok(frame) => Ok(frame),
+        Err(refused) => {
+            let (schema, base) = refused.value;
+            resume_again(alloc, schema, base, settings)
+        }
+    }
+}
+
+// A base without rows, in which the first session has its last number.
+fn left<A: Allocator + Copy>(alloc: A, settings: Settings) -> Result<Base<A>, Fault> {
+    let tables = Tables::new(alloc, 1)?;
+    let mut numbers = Marks::new(alloc, settings.sessions)?;
+    if settings.sessions > 0 {
+        numbers.set(1, settings.last);
+    }
+    Ok(Base::from_parts(tables, numbers, 1))
+}
+
+// The frame of a store that goes on from a base.
+fn resume<A: Allocator + Copy>(
+    alloc: A,
+    schema: Schema<A>,
+    base: Base<A>,
+    settings: Settings,
+) -> Result<Frame<A>, Refused<(Schema<A>, Base<A>)>> {
+    let Settings {
+        sessions,
+        capacity,
+        keep,
+        counter,
+        ..
+    } = settings;
+    Frame::resume(alloc, schema, sessions, capacity, keep, base, counter)
+}
+
+// The same where that was the second try.
+fn resume_again<A: Allocator + Copy>(
+    alloc: A,
+    schema: Schema<A>,
+    base: Base<A>,
+    settings: Settings,
+) -> Result<Frame<A>, Fault> {
+    match resume(alloc, schema, base, settings) {
+        Ok(frame) => Ok(frame),
+        Err(refused) => Err(refused.fault),
     }
 }
 

@@ -1,5 +1,6 @@
 //! Plays the scenarios of `scenarios.txt`, each on a store of its own, and prints a line for each: a few steps on one thread, validators in
-//! threads that stop or meet at a point, many clients and validators, or what is to find no memory at each of its requests in turn.
+//! threads that stop or meet at a point, many clients and validators, or what is to find no memory at each of its requests in turn. At last
+//! a worker withdraws money, and clients wait with patience.
 #![tactic(auto)]
 
 mod accounts;
@@ -8,9 +9,11 @@ mod clients;
 mod desks;
 mod gates;
 mod loads;
+mod patience;
 mod plays;
 mod scenarios;
 mod steps;
+mod withdrawals;
 
 use std::process::ExitCode;
 use std::sync::Wait;
@@ -31,5 +34,6 @@ fn tell_all<R: Threads + Wait + Clock + Sync>(rt: &HostRuntime, threads: &R) -> 
     for paragraph in text.split("\n\n").filter(|part| !part.starts_with('#')) {
         scenarios::tell(rt, threads, paragraph)?;
     }
-    Ok(())
+    withdrawals::tell(rt, threads)?;
+    patience::tell(rt, threads)
 }

@@ -61,7 +61,7 @@ fn tell_outcome(rt: &HostRuntime, outcome: Outcome) -> io::Result<()> {
 fn told(paragraph: &str) -> Option<Scenario<'_>> {
     let (name, rest) = paragraph.split_once('\n')?;
     let (settings, steps) = rest.split_once('\n')?;
-    let [sessions, capacity, keep, groups] = numbers_in(settings);
+    let [sessions, capacity, keep, groups, counter, last] = numbers_in(settings);
     Some(Scenario {
         name,
         settings: Settings {
@@ -69,6 +69,8 @@ fn told(paragraph: &str) -> Option<Scenario<'_>> {
             capacity: capacity as usize,
             keep: keep as usize,
             groups: groups as usize,
+            counter,
+            last,
             starved: settings.starts_with("starved "),
         },
         steps,

@@ -47,7 +47,7 @@ pub(crate) enum Step {
 impl Step {
     /// The step that a line tells, as `put 1 2 2`: a verb, numbers and at most one point.
     pub(crate) fn told(line: &str) -> Option<Step> {
-        let [first, second, third, _] = numbers_in(line);
+        let [first, second, third, _, _, _] = numbers_in(line);
         let session = first as usize;
         match line.split(' ').next()? {
             "put" => Some(Step::Put(session, second, third)),
@@ -74,9 +74,9 @@ impl Step {
     }
 }
 
-/// The first four numbers in a line; 0 where there are fewer.
-pub(crate) fn numbers_in(line: &str) -> [u64; 4] {
-    let mut numbers = [0; 4];
+/// The first six numbers in a line; 0 where there are fewer.
+pub(crate) fn numbers_in(line: &str) -> [u64; 6] {
+    let mut numbers = [0; 6];
     let mut count = 0usize;
     for word in line.split(' ') {
         if let (Ok(number), Some(place)) = (word.parse::<u64>(), numbers.get_mut(count)) {

@@ -84,6 +84,43 @@ fn a_seat_sees_what_was_stored(rt: HostRuntime) -> Result<(), Fail> {
     Ok(())
 }
 
+// A session goes on behind a number and the board at a counter, near their limits, if the board has room for them.
+fn go_on(publisher: &mut Publisher<Global>, session: usize, number: u64, counter: u64) -> bool {
+    if session == 0 || publisher.sessions() < session {
+        return false;
+    }
+    let rises = publisher.number(session) <= number && publisher.tnc() <= counter;
+    if !rises || number > MAX_NUMBER || counter > MAX_COUNTER {
+        return false;
+    }
+    publisher.counter(counter);
+    publisher.resumed(session, number);
+    true
+}
+
+// Whether a seat sees where its session and the board go on, and then the last commits.
+fn sees_where_it_goes_on(publisher: &mut Publisher<Global>, seat: &mut Seat<Global>) -> bool {
+    let commit = Verdict::Commit;
+    let begun = go_on(publisher, 1, MAX_NUMBER - 1, MAX_COUNTER - 1)
+        && seat.start() == MAX_COUNTER - 1
+        && seat.last() == told(MAX_NUMBER - 1, None, 0);
+    let over = settle(publisher, 1, commit)
+        && seat.start() == MAX_COUNTER
+        && seat.last() == told(MAX_NUMBER, Some(commit), MAX_COUNTER);
+    begun && over && !settle(publisher, 2, commit)
+}
+
+#[test]
+fn a_seat_sees_where_its_session_goes_on(rt: HostRuntime) -> Result<(), Fail> {
+    let (mut publisher, mut seats) = Board::new(rt.alloc(), 2)?;
+    let right = match seats.get_mut(0) {
+        Some(seat) => sees_where_it_goes_on(&mut publisher, seat),
+        None => false,
+    };
+    assert!(rt; right);
+    Ok(())
+}
+
 // Each third transaction is backed up. Whether there was room for all.
 fn publish(publisher: &mut Publisher<Global>, rounds: u64) -> bool {
     for round in 0..rounds {

@@ -1,7 +1,8 @@
 //! A lane between two threads.
-use occ_queue::{Item, Receiver, Sender, lane};
+use occ_queue::{Item, Receiver, Sender, lane, lane_behind};
 use occ_sets::{RequestWrites, WriteSet};
-use occ_types::{Cell, Fault, Key, Object, Row};
+use occ_types::limits::MAX_NUMBER;
+use occ_types::{Cell, Fault, Key, Object, Refused, Row};
 use std::alloc::Global;
 use std::sync::Wait;
 use std::test::Fail;
@@ -147,5 +148,55 @@ fn what_one_thread_submits_another_takes(rt: HostRuntime) -> Result<(), Fail> {
     let (mut sender, mut receiver) = lane(alloc, ROOM)?;
     let came = send_and_receive(&rt, alloc, &mut sender, &mut receiver);
     assert!(rt; came == (Ok(REQUESTS + 1), Some(REQUESTS + 1)));
+    Ok(())
+}
+
+// Whether a request of this number is refused with this fault.
+fn is_refused(
+    rt: &impl Wait,
+    sender: &mut Sender<Global>,
+    item: Item<Global>,
+    with: Fault,
+) -> bool {
+    match sender.submit(rt, item) {
+        Ok(()) => false,
+        Err(Refused { fault, .. }) => fault == with,
+    }
+}
+
+// Whether a lane that begins two numbers before the last one carries a request and the mark, and nothing else.
+fn goes_on(rt: &impl Wait, alloc: Global) -> Result<bool, Fault> {
+    let (mut sender, mut receiver) = lane_behind(alloc, ROOM, MAX_NUMBER - 2)?;
+    let early = is_refused(rt, &mut sender, request(alloc, 1)?, Fault::OutOfTurn);
+    sender.submit(rt, request(alloc, MAX_NUMBER - 1)?)?;
+    let item = request(alloc, MAX_NUMBER)?;
+    let last = is_refused(rt, &mut sender, item, Fault::NumbersExhausted);
+    let mark = sender.close(rt)?;
+    let came = match receiver.take(rt) {
+        Some(item) => is_request(&item, MAX_NUMBER - 1),
+        None => false,
+    };
+    let closed = match receiver.take(rt) {
+        Some(item) => item.is_mark() && item.number() == mark,
+        None => false,
+    };
+    Ok(early && last && mark == MAX_NUMBER && came && closed && receiver.taken() == 2)
+}
+
+// Whether a lane behind the last number of all carries nothing, and none begins behind a number above it.
+fn is_used_up(rt: &impl Wait, alloc: Global) -> Result<bool, Fault> {
+    let (mut sender, mut receiver) = lane_behind(alloc, ROOM, MAX_NUMBER)?;
+    let next = sender.next();
+    let item = request(alloc, next)?;
+    let refused = is_refused(rt, &mut sender, item, Fault::NumbersExhausted);
+    let mark = sender.close(rt) == Err(Fault::NumbersExhausted);
+    let above = lane_behind(alloc, ROOM, next).err() == Some(Fault::NumbersExhausted);
+    Ok(refused && mark && above && !sender.is_closed() && receiver.take(rt).is_none())
+}
+
+#[test]
+fn lanes_begin_behind_a_number(rt: HostRuntime) -> Result<(), Fail> {
+    assert!(rt; goes_on(&rt, rt.alloc())?);
+    assert!(rt; is_used_up(&rt, rt.alloc())?);
     Ok(())
 }

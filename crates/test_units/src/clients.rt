@@ -1,6 +1,6 @@
 //! Clients of a store, and how often they try.
 use crate::stores::{putting, store};
-use occ_client::{Client, Core, End};
+use occ_client::{Client, Core, End, Tried};
 use occ_types::Fault;
 use occ_types::limits::MAX_WRITES;
 use std::alloc::Global;
@@ -89,15 +89,16 @@ fn finish(core: &mut Core<Global>) {
     let _number = core.finish(2);
 }
 
-// Puts a row under a key that it has read, and that the open row writes meanwhile.
-fn read_and_put(client: &mut Client<Global>, core: &mut Core<Global>) -> Result<(), Fault> {
-    let _row = client.get(core, 0, 3.into())?;
+// Puts a row under a key that it has read, and that the open row writes meanwhile. It answers whether a row was there.
+fn read_and_put(client: &mut Client<Global>, core: &mut Core<Global>) -> Result<bool, Fault> {
+    let row = client.get(core, 0, 3.into())?;
     finish(core);
-    Ok(client.put(core, 0, 3.into(), 2.into())?)
+    client.put(core, 0, 3.into(), 2.into())?;
+    Ok(row.is_some())
 }
 
 // How it ends, with three tries.
-fn tried(client: &mut Client<Global>, core: &mut Core<Global>) -> Result<End, Fault> {
+fn tried(client: &mut Client<Global>, core: &mut Core<Global>) -> Result<Tried<bool>, Fault> {
     client.transact(core, 3, |client, core| read_and_put(client, core))
 }
 
@@ -105,16 +106,62 @@ fn tried(client: &mut Client<Global>, core: &mut Core<Global>) -> Result<End, Fa
 fn a_client_tries_again(rt: HostRuntime) -> Result<(), Fail> {
     let mut core = beside(rt.alloc())?;
     let mut client = Client::new(rt.alloc(), 1);
-    let end = tried(&mut client, &mut core)?;
-    assert!(rt; end == End::Committed { tn: 2 });
+    // the first try found no row, and was backed up
+    let (value, tn) = (true, 2);
+    assert!(rt; tried(&mut client, &mut core)? == Tried::Committed { value, tn });
     Ok(())
+}
+
+// Why a body gives up.
+#[derive(Debug, PartialEq, Eq, Drop)]
+enum Refusal {
+    // The store refused a call.
+    Store(Fault),
+    // The body wants it so.
+    Own(usize),
+}
+
+impl From<Fault> for Refusal {
+    fn from(fault: Fault) -> Refusal {
+        Refusal::Store(fault)
+    }
+}
+
+// Puts a row and gives up then.
+fn put_and_refuse(client: &mut Client<Global>, core: &mut Core<Global>) -> Result<(), Refusal> {
+    client
+        .put(core, 0, 4.into(), 2.into())
+        .map_err(Fault::from)?;
+    Err(Refusal::Own(7))
+}
+
+// Whether nothing is open or done where a body gives up, or where a transaction is open already.
+fn gives_up(client: &mut Client<Global>, core: &mut Core<Global>) -> Result<bool, Fault> {
+    let own = client.transact(core, 3, |client, core| put_and_refuse(client, core));
+    let left = client.is_open() || core.log().len() > 0;
+    client.begin(core)?;
+    let twice = client.transact(core, 3, |client, core| put_and_refuse(client, core));
+    let known = client.abandon(core)?;
+    let told = own == Err(Refusal::Own(7)) && twice == Err(Refusal::Store(Fault::ReadOpen));
+    Ok(told && !left && !known)
+}
+
+#[test]
+fn an_error_of_the_body_abandons(rt: HostRuntime) -> Result<(), Fail> {
+    let mut core = store(rt.alloc())?;
+    let mut client = Client::new(rt.alloc(), 1);
+    assert!(rt; gives_up(&mut client, &mut core)?);
+    Ok(())
+}
+
+// Puts a row.
+fn put_one(client: &mut Client<Global>, core: &mut Core<Global>) -> Result<(), Fault> {
+    Ok(client.put(core, 0, 4.into(), 2.into())?)
 }
 
 // A client that puts a row in a whole transaction.
 fn put_whole(client: &mut Client<Global>, core: &mut Core<Global>) -> Result<(), Fault> {
-    let _end = client.transact(core, 1, |client, core| {
-        Ok(client.put(core, 0, 4.into(), 2.into())?)
-    })?;
+    let _tried = client.transact(core, 1, |client, core| put_one(client, core))?;
     Ok(())
 }
 

@@ -12,9 +12,15 @@ mod clients;
 #[cfg(test)]
 mod cores;
 #[cfg(test)]
+mod counts;
+#[cfg(test)]
 mod log;
 #[cfg(test)]
+mod paging;
+#[cfg(test)]
 mod queue;
+#[cfg(test)]
+mod refused_resuming;
 #[cfg(test)]
 mod refusing;
 #[cfg(test)]
