@@ -46,11 +46,10 @@ def owner_of(line, module, homes):
     head = without_generics(line.removeprefix("unsafe ")[4:].split(" where ")[0]).strip()
     trait, _, owner = head.rpartition(" for ")
     name = re.match(r"&?(?:'\w+ )?(?:\w+::)*(\w+)", owner)[1]
-    home = homes.get(name, module)
     if trait:
         trait, of = re.match(r"(?:\w+::)*(\w+)(?:<(\w+))?", trait).groups()
-        return None if trait in ("Model", "Drop") else (*home, f"{name}{trait}{of[0].upper() + of[1:] if trait == 'From' else ''}")
-    return (*module, f"{name}+Global") if re.search(r"Global|<(Fault|usize|u64)", owner) else (*home, name)
+        return None if trait in ("Model", "Drop") else (*module, f"{name}{trait}{of[0].upper() + of[1:] if trait == 'From' else ''}")
+    return (*module, f"{name}+Global") if re.search(r"Global|<(Fault|usize|u64)", owner) else (*homes.get(name, module), name)
 
 
 def body_of(lines, head, indent):

@@ -117,7 +117,7 @@ impl Desk {
         ensures { GetsAt self.old self.new table key.now result }
     {
         let key = self.key(table, key)?;
-        match self.worker.get(table, key) {
+        match self.worker.get(table, &key) {
             Ok(Ok(Some(row))) => Ok(row),
             Ok(Ok(None)) => Err(NO_ROW),
             Ok(Err(fault)) => Err(of_fault(fault)),
@@ -152,7 +152,7 @@ impl Desk {
     {
         let lower = self.end(table, lower)?;
         let upper = self.end(table, upper)?;
-        let rows = answered(self.worker.scan(table, lower, upper))?;
+        let rows = answered(self.worker.scan(table, lower.as_ref(), upper.as_ref()))?;
         Ok(self.keep(rows))
     }
 

@@ -1,6 +1,6 @@
 //! The clients of a replay, one for each session.
 ghost use Rattle.std.specs.Prelude.{◌≡◌, ◌<◌, suc, None, Some, Err, length, map, replicate, IfOk, IsOkUnless, MatchResult};
-ghost use Rattle.std.specs.Option.{option_map};
+ghost use Rattle.std.specs.Option.{option_copied, option_map};
 ghost use Rattle.occ_types.specs.PlainData.{key_of, end_of};
 ghost use Rattle.occ_types.specs.Question.{Span};
 ghost use Rattle.occ_types.specs.declared.fault.Fault.TheVariants as faults;
@@ -164,9 +164,9 @@ impl<A: Allocator + Copy> Client<A> {
         core: &mut Core<A>,
         session: usize,
         table: usize,
-        key: Key<A>,
+        key: &Key<A>,
     ) -> Result<Answer<A>, Fault>
-        ensures { PlayedIn core.old.world core.new.world result (WantsGet core.old.world session (table, key_of key) self.now) (λ answer. Gets core.old.world session (table, key_of key) self.now answer core.new.world) }
+        ensures { PlayedIn core.old.world core.new.world result (WantsGet core.old.world session (table, key_of key.now) self.now) (λ answer. Gets core.old.world session (table, key_of key.now) self.now answer core.new.world) }
     {
         match self.transaction.get_in(core, session, table, key) {
             Ok(row) => Ok(Answer::Replied(Reply::Found(row))),
@@ -180,10 +180,10 @@ impl<A: Allocator + Copy> Client<A> {
         core: &mut Core<A>,
         session: usize,
         table: usize,
-        lower: Option<Key<A>>,
-        upper: Option<Key<A>>,
+        lower: Option<&Key<A>>,
+        upper: Option<&Key<A>>,
     ) -> Result<Answer<A>, Fault>
-        ensures { PlayedIn core.old.world core.new.world result (WantsScan core.old.world (Span table (end_of lower) (end_of upper)) self.now) (λ answer. Scans core.old.world session (Span table (end_of lower) (end_of upper)) self.now answer core.new.world) }
+        ensures { PlayedIn core.old.world core.new.world result (WantsScan core.old.world (Span table (end_of (option_copied lower.entry)) (end_of (option_copied upper.entry))) self.now) (λ answer. Scans core.old.world session (Span table (end_of (option_copied lower.entry)) (end_of (option_copied upper.entry))) self.now answer core.new.world) }
     {
         match self.transaction.scan_in(core, session, table, lower, upper) {
             Ok(rows) => Ok(Answer::Replied(Reply::Rows(rows))),

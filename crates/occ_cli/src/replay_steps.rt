@@ -248,7 +248,7 @@ impl<A: Allocator + Copy> Replay<A> {
         let place = place_of(self.clients.as_slice(), session)?;
         let table = place_named(self.core.schema(), table);
         let client = &self.clients[place];
-        client.get(&mut self.core, session, table, key)
+        client.get(&mut self.core, session, table, &key)
     }
 
     fn scan(
@@ -263,7 +263,13 @@ impl<A: Allocator + Copy> Replay<A> {
         let place = place_of(self.clients.as_slice(), session)?;
         let table = place_named(self.core.schema(), table);
         let client = &self.clients[place];
-        client.scan(&mut self.core, session, table, lower, upper)
+        client.scan(
+            &mut self.core,
+            session,
+            table,
+            lower.as_ref(),
+            upper.as_ref(),
+        )
     }
 
     // `put`, and `delete` where `row` is none.

@@ -17,8 +17,8 @@ use Rattle.occ_core.specs.Core.{Seen}
 use Rattle.occ_open.specs.Transactions.{Abandons, open_after}
 use Rattle.occ_client.specs.Clients.{Client, Commits, StaysOrStops, IsLastEnd, end_reply}
 use Rattle.occ_client.specs.declared.ending.End.TheVariants as ends
-use Rattle.occ_client.specs.declared.retries.Tried.{Tried}
-use Rattle.occ_client.specs.declared.retries.Tried.TheVariants as tried
+use Rattle.occ_case.specs.declared.ended.Ended.{Ended}
+use Rattle.occ_case.specs.declared.ended.Ended.TheVariants as tried
 use Rattle.occ_client.specs.Transacts.{Moment, end_of, Begins, CalledAtBoth, GivesUp, NoneOpen, EndsSo, EndFails, Prepares, Runs, IsTried, TriesOnce, BackedUpEach, AreAll, Tries, Transacts}
 use Rattle.occ_client.proofs.Committing.{last_end, none_after}
 
@@ -73,19 +73,19 @@ given_up before after gives = go before.client.current refl gives.step
 
 module _ {F T E : Type 0} (Calls : F → Client → Seen → Result T E → F → Client → Seen → Type 0) (Gives : Fault → E → Type 0) where
   -- so the last try ended
-  once_ended : (f : F) (before : Moment) (ended : Tried T) (f' : F) (after : Moment) → TriesOnce Calls Gives f before (Ok ended) f' after
+  once_ended : (f : F) (before : Moment) (ended : Ended T) (f' : F) (after : Moment) → TriesOnce Calls Gives f before (Ok ended) f' after
       → (left : Moment) × EndsSo (end_of ended) left after
-  once_ended f before (tried.Committed value tn) f' after once = (once.left, once.ends)
+  once_ended f before (tried.Committed tn value) f' after once = (once.left, once.ends)
   once_ended f before (tried.BackedUp cause) f' after once = (once.1.left, once.1.ends)
 
-  pub last : (most : ℕ) (f : F) (before : Moment) (result : Result (Tried T) E) (after : Moment) → Transacts Calls Gives most f before result after
+  pub last : (most : ℕ) (f : F) (before : Moment) (result : Result (Ended T) E) (after : Moment) → Transacts Calls Gives most f before result after
       → IfOk result (λ ended. IsLastEnd (end_reply (end_of ended)) after.store.world)
   last most f before (Ok ended) after whole =
       let so = once_ended whole.tries.between whole.tries.meanwhile ended whole.kept after whole.tries.last in
       last_end so.0.client so.0.store.world after.client.writing (end_reply (end_of ended)) after.store.world so.1.ends
   last most f before (Err error) after whole = tt
 
-  pub none_open : (most : ℕ) (f : F) (before : Moment) (result : Result (Tried T) E) (after : Moment) → Transacts Calls Gives most f before result after
+  pub none_open : (most : ℕ) (f : F) (before : Moment) (result : Result (Ended T) E) (after : Moment) → Transacts Calls Gives most f before result after
       → OnOk result (after.client.current ≡ None)
   none_open most f before (Ok ended) after whole =
       let so = once_ended whole.tries.between whole.tries.meanwhile ended whole.kept after whole.tries.last in
@@ -106,7 +106,7 @@ module _ {F T E : Type 0} (Calls : F → Client → Seen → Result T E → F �
   none_failed f before error f' after none (inr (inl body)) = given_up body.left after body.gives_up
   none_failed f before error f' after none (inr (inr end)) = given_up end.fails.refused after end.fails.gives_up
 
-  pub none_left : (most : ℕ) (f : F) (before : Moment) (result : Result (Tried T) E) (after : Moment) → Transacts Calls Gives most f before result after
+  pub none_left : (most : ℕ) (f : F) (before : Moment) (result : Result (Ended T) E) (after : Moment) → Transacts Calls Gives most f before result after
       → before.client.current ≡ None → OnErr result (NoneOpen after)
   none_left most f before (Ok ended) after whole none = tt
   none_left most f before (Err error) after whole none =
@@ -122,9 +122,9 @@ module _ {F T E : Type 0} (Calls : F → Client → Seen → Result T E → F �
   runs f before begun ran f' left begins calls = record { begun = begun; begins = begins; calls = calls }
 
   -- it is ended
-  pub ended_so : (f : F) (before begun : Moment) (value : T) (f' : F) (left : Moment) (ended : Tried T) (after : Moment) → Begins before begun
+  pub ended_so : (f : F) (before begun : Moment) (value : T) (f' : F) (left : Moment) (ended : Ended T) (after : Moment) → Begins before begun
       → Calls f begun.client begun.store (Ok value) f' left.client left.store → IsTried value left (Ok ended) after → TriesOnce Calls Gives f before (Ok ended) f' after
-  ended_so f before begun value f' left (tried.Committed given tn) after begins calls so = record {
+  ended_so f before begun value f' left (tried.Committed tn given) after begins calls so = record {
     left = left;
     runs = runs f before begun (Ok given) f' left begins (subst (λ (v : T). Calls f begun.client begun.store (Ok v) f' left.client left.store) (sym so.0) calls);
     ends = so.1;
@@ -147,15 +147,15 @@ module _ {F T E : Type 0} (Calls : F → Client → Seen → Result T E → F �
   -- ---- all tries
 
   -- the first one
-  pub first : (f : F) (before : Moment) (ended : Tried T) (f' : F) (after : Moment) → TriesOnce Calls Gives f before (Ok ended) f' after → Tries Calls Gives 1 f before (Ok ended) f' after
+  pub first : (f : F) (before : Moment) (ended : Ended T) (f' : F) (after : Moment) → TriesOnce Calls Gives f before (Ok ended) f' after → Tries Calls Gives 1 f before (Ok ended) f' after
   first f before ended f' after once = record { earlier = 0; few = omega arith; all = all ended; between = f; meanwhile = before; backed_up = (refl, refl); last = once }
     where
-      all : (ended : Tried T) → AreAll {T = T} {E = E} (Ok ended) 1 1
-      all (tried.Committed value tn) = tt
+      all : (ended : Ended T) → AreAll {T = T} {E = E} (Ok ended) 1 1
+      all (tried.Committed tn value) = tt
       all (tried.BackedUp cause) = refl
 
   -- one that committed is the last
-  pub committed : (most done : ℕ) (f : F) (before : Moment) (ended : Tried T) (value : T) (tn : ℕ) (f' : F) (after : Moment) → ended ≡ tried.Committed value tn → done < most
+  pub committed : (most done : ℕ) (f : F) (before : Moment) (ended : Ended T) (value : T) (tn : ℕ) (f' : F) (after : Moment) → ended ≡ tried.Committed tn value → done < most
       → Tries Calls Gives done f before (Ok ended) f' after → Tries Calls Gives most f before (Ok ended) f' after
   committed most done f before ended value tn f' after is below tries = record {
     earlier = tries.earlier;
@@ -168,12 +168,12 @@ module _ {F T E : Type 0} (Calls : F → Client → Seen → Result T E → F �
   }
 
   -- all were made
-  pub all_made : (most done : ℕ) (f : F) (before : Moment) (ended : Tried T) (f' : F) (after : Moment) → done ≡ most
+  pub all_made : (most done : ℕ) (f : F) (before : Moment) (ended : Ended T) (f' : F) (after : Moment) → done ≡ most
       → Tries Calls Gives done f before (Ok ended) f' after → Tries Calls Gives most f before (Ok ended) f' after
   all_made most done f before ended f' after is tries = subst (λ n. Tries Calls Gives n f before (Ok ended) f' after) is tries
 
   -- one more after one that was backed up
-  pub one_more : (count most : ℕ) (f : F) (before : Moment) (ended : Tried T) (cause : Cause) (between : F) (meanwhile : Moment) (result : Result (Tried T) E) (f' : F) (after : Moment)
+  pub one_more : (count most : ℕ) (f : F) (before : Moment) (ended : Ended T) (cause : Cause) (between : F) (meanwhile : Moment) (result : Result (Ended T) E) (f' : F) (after : Moment)
       → ended ≡ tried.BackedUp cause → count < most → AreAll result (count + 1) most → Tries Calls Gives count f before (Ok ended) between meanwhile → TriesOnce Calls Gives between meanwhile result f' after
       → Tries Calls Gives most f before result f' after
   one_more count most f before ended cause between meanwhile result f' after is below all tries once =
@@ -194,18 +194,18 @@ module _ {F T E : Type 0} (Calls : F → Client → Seen → Result T E → F �
           many = let all : so.earlier + 1 ≡ count = so.all in omega arith
 
   -- and it is the last so far
-  pub one_more_ended : (count : ℕ) (f : F) (before : Moment) (ended : Tried T) (cause : Cause) (between : F) (meanwhile : Moment) (next : Tried T) (f' : F) (after : Moment)
+  pub one_more_ended : (count : ℕ) (f : F) (before : Moment) (ended : Ended T) (cause : Cause) (between : F) (meanwhile : Moment) (next : Ended T) (f' : F) (after : Moment)
       → ended ≡ tried.BackedUp cause → Tries Calls Gives count f before (Ok ended) between meanwhile → TriesOnce Calls Gives between meanwhile (Ok next) f' after
       → Tries Calls Gives (count + 1) f before (Ok next) f' after
   one_more_ended count f before ended cause between meanwhile next f' after is tries once =
       one_more count (count + 1) f before ended cause between meanwhile (Ok next) f' after is (omega arith) (all next) tries once
     where
-      all : (next : Tried T) → AreAll {T = T} {E = E} (Ok next) (count + 1) (count + 1)
-      all (tried.Committed value tn) = tt
+      all : (next : Ended T) → AreAll {T = T} {E = E} (Ok next) (count + 1) (count + 1)
+      all (tried.Committed tn value) = tt
       all (tried.BackedUp cause) = refl
 
   -- after the checkpoint that was due
-  pub transacts : (most done : ℕ) (f : F) (before prepared : Moment) (result : Result (Tried T) E) (kept : F) (after : Moment) → Prepares before prepared → done ≡ most
+  pub transacts : (most done : ℕ) (f : F) (before prepared : Moment) (result : Result (Ended T) E) (kept : F) (after : Moment) → Prepares before prepared → done ≡ most
       → Tries Calls Gives done f prepared result kept after → Transacts Calls Gives most f before result after
   transacts most done f before prepared result kept after prepares is tries =
       record { prepared = prepared; prepares = prepares; kept = kept; tries = subst (λ n. Tries Calls Gives n f prepared result kept after) is tries }

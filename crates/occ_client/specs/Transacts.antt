@@ -14,8 +14,8 @@ use Rattle.occ_core.specs.AutoCheckpoints.{is_due, checked_point}
 use Rattle.occ_client.specs.Clients.{Client, begin_refusal, Commits, StaysOrStops, after_end, end_reply}
 use Rattle.occ_client.specs.declared.ending.End.{End}
 use Rattle.occ_client.specs.declared.ending.End.TheVariants as ends
-use Rattle.occ_client.specs.declared.retries.Tried.{Tried}
-use Rattle.occ_client.specs.declared.retries.Tried.TheVariants as tried
+use Rattle.occ_case.specs.declared.ended.Ended.{Ended}
+use Rattle.occ_case.specs.declared.ended.Ended.TheVariants as tried
 
 -- a client and its store at one moment
 pub record Moment : Type 0 where
@@ -26,8 +26,8 @@ abbrev pub moment : Client → Seen → Moment
 moment client store = record { client = client; store = store }
 
 -- how a try ended, without its value
-abbrev pub end_of : {T : Type 0} → Tried T → End
-end_of (tried.Committed value tn) = ends.Committed tn
+abbrev pub end_of : {T : Type 0} → Ended T → End
+end_of (tried.Committed tn value) = ends.Committed tn
 end_of (tried.BackedUp cause) = ends.BackedUp cause
 
 -- a call of f at a `&mut` to x and one to y may give r, and leave f', x' and y'
@@ -75,14 +75,14 @@ pub record EndFails (fault : Fault) (before after : Moment) : Type 0 where
   pub gives_up : GivesUp refused after
 
 -- the try whose body answered this value is ended
-abbrev pub IsTried : {T : Type 0} → T → Moment → Result (Tried T) Fault → Moment → Type 0
-IsTried value before (Ok (tried.Committed given tn)) after = (given ≡ value) × EndsSo (ends.Committed tn) before after
+abbrev pub IsTried : {T : Type 0} → T → Moment → Result (Ended T) Fault → Moment → Type 0
+IsTried value before (Ok (tried.Committed tn given)) after = (given ≡ value) × EndsSo (ends.Committed tn) before after
 IsTried value before (Ok (tried.BackedUp cause)) after = EndsSo (ends.BackedUp cause) before after
 IsTried value before (Err fault) after = EndFails fault before after
 
 -- so many tries are all that there may be, if the last one was backed up
-abbrev pub AreAll : {T E : Type 0} → Result (Tried T) E → ℕ → ℕ → Type 0
-AreAll (Ok (tried.Committed value tn)) count most = ⊤
+abbrev pub AreAll : {T E : Type 0} → Result (Ended T) E → ℕ → ℕ → Type 0
+AreAll (Ok (tried.Committed tn value)) count most = ⊤
 AreAll (Ok (tried.BackedUp cause)) count most = count ≡ most
 AreAll (Err error) count most = ⊤
 
@@ -123,8 +123,8 @@ module _ {F T E : Type 0} (Calls : F → Client → Seen → Result T E → F �
     pub gives : Gives fault error
 
   -- one try
-  abbrev pub TriesOnce : F → Moment → Result (Tried T) E → F → Moment → Type 0
-  TriesOnce f before (Ok (tried.Committed value tn)) f' after = IsEnded f before value (ends.Committed tn) f' after
+  abbrev pub TriesOnce : F → Moment → Result (Ended T) E → F → Moment → Type 0
+  TriesOnce f before (Ok (tried.Committed tn value)) f' after = IsEnded f before value (ends.Committed tn) f' after
   TriesOnce f before (Ok (tried.BackedUp cause)) f' after = (value : T) × IsEnded f before value (ends.BackedUp cause) f' after
   TriesOnce f before (Err error) f' after = NotBegun f before error f' after ⊎ (BodyFails f before error f' after ⊎ NotEnded f before error f' after)
 
@@ -135,7 +135,7 @@ module _ {F T E : Type 0} (Calls : F → Client → Seen → Result T E → F �
       × BackedUpEach count f before between meanwhile × TriesOnce between meanwhile (Ok (tried.BackedUp cause)) f' after
 
   -- tries, at most so many: each but the last one was backed up, and the last one came to this
-  pub record Tries (most : ℕ) (f : F) (before : Moment) (result : Result (Tried T) E) (f' : F) (after : Moment) : Type 0 where
+  pub record Tries (most : ℕ) (f : F) (before : Moment) (result : Result (Ended T) E) (f' : F) (after : Moment) : Type 0 where
     pub earlier : ℕ
     pub few : earlier < most
     pub all : AreAll result (earlier + 1) most
@@ -145,7 +145,7 @@ module _ {F T E : Type 0} (Calls : F → Client → Seen → Result T E → F �
     pub last : TriesOnce between meanwhile result f' after
 
   -- a whole transaction
-  pub record Transacts (most : ℕ) (f : F) (before : Moment) (result : Result (Tried T) E) (after : Moment) : Type 0 where
+  pub record Transacts (most : ℕ) (f : F) (before : Moment) (result : Result (Ended T) E) (after : Moment) : Type 0 where
     pub prepared : Moment
     pub prepares : Prepares before prepared
     pub kept : F

@@ -1,5 +1,6 @@
 //! A client of one session, for a store that has one owner.
 ghost use Rattle.std.specs.Prelude.{◌≡◌, ◌⊎◌, ◌+◌, None, Some, true, false, is_some, option_map, IfOk, IfErr, OnOk, OnErr, MatchOption, MatchResult};
+ghost use Rattle.std.specs.Option.{option_copied};
 ghost use Rattle.std.specs.Result.{result_err};
 ghost use Rattle.occ_types.specs.PlainData.{key_of, end_of};
 ghost use Rattle.occ_types.specs.Question.{Span};
@@ -225,11 +226,11 @@ impl<A: Allocator + Copy> Client<A> {
         &mut self,
         store: &mut Core<A>,
         table: usize,
-        key: Key<A>,
+        key: &Key<A>,
     ) -> Result<Option<Row<A>>, Fault>
         ensures kept { self.new ≡ record self.old { returned = self.new.returned } }
-        ensures read { OrStarves ((self.old.returned ≡ true) ⊎ WantsOwn store.old.world.settings.schema (table, key_of key) self.old.current) store.old.world (reading result) store.new.world
-            (Gets store.old.world self.old.session (table, key_of key) self.old.current (reading result) store.new.world) }
+        ensures read { OrStarves ((self.old.returned ≡ true) ⊎ WantsOwn store.old.world.settings.schema (table, key_of key.now) self.old.current) store.old.world (reading result) store.new.world
+            (Gets store.old.world self.old.session (table, key_of key.now) self.old.current (reading result) store.new.world) }
     {
         self.kept.get_in(store, self.session, table, key)
     }
@@ -241,12 +242,12 @@ impl<A: Allocator + Copy> Client<A> {
         &mut self,
         store: &mut Core<A>,
         table: usize,
-        lower: Option<Key<A>>,
-        upper: Option<Key<A>>,
+        lower: Option<&Key<A>>,
+        upper: Option<&Key<A>>,
     ) -> Result<RangeRows<A>, Fault>
         ensures kept { self.new ≡ record self.old { returned = self.new.returned } }
-        ensures read { OrStarves ((self.old.returned ≡ true) ⊎ WantsRange store.old.world.settings.schema (Span table (end_of lower) (end_of upper)) self.old.current) store.old.world (scanning result) store.new.world
-            (Scans store.old.world self.old.session (Span table (end_of lower) (end_of upper)) self.old.current (scanning result) store.new.world) }
+        ensures read { OrStarves ((self.old.returned ≡ true) ⊎ WantsRange store.old.world.settings.schema (Span table (end_of (option_copied lower.entry)) (end_of (option_copied upper.entry))) self.old.current) store.old.world (scanning result) store.new.world
+            (Scans store.old.world self.old.session (Span table (end_of (option_copied lower.entry)) (end_of (option_copied upper.entry))) self.old.current (scanning result) store.new.world) }
     {
         self.kept.scan_in(store, self.session, table, lower, upper)
     }
@@ -259,15 +260,15 @@ impl<A: Allocator + Copy> Client<A> {
         &mut self,
         store: &mut Core<A>,
         table: usize,
-        lower: Option<Key<A>>,
-        upper: Option<Key<A>>,
+        lower: Option<&Key<A>>,
+        upper: Option<&Key<A>>,
         most: usize,
     ) -> Result<Page<A>, Fault>
         ensures kept { self.new ≡ record self.old { returned = self.new.returned } }
-        ensures read { let rest = first_rest_of store.old.world table (end_of lower) (end_of upper) most in
-            OrStarves ((self.old.returned ≡ true) ⊎ WantsPage store.old.world.settings.schema (first_page table (end_of lower) (end_of upper) rest) rest self.old.current) store.old.world (paging result) store.new.world
-            (Scans store.old.world self.old.session (first_page table (end_of lower) (end_of upper) rest) self.old.current (paging result) store.new.world) }
-        ensures rest { IfOk result (λ page. end_of page.rest ≡ first_rest_of store.old.world table (end_of lower) (end_of upper) most) }
+        ensures read { let rest = first_rest_of store.old.world table (end_of (option_copied lower.entry)) (end_of (option_copied upper.entry)) most in
+            OrStarves ((self.old.returned ≡ true) ⊎ WantsPage store.old.world.settings.schema (first_page table (end_of (option_copied lower.entry)) (end_of (option_copied upper.entry)) rest) rest self.old.current) store.old.world (paging result) store.new.world
+            (Scans store.old.world self.old.session (first_page table (end_of (option_copied lower.entry)) (end_of (option_copied upper.entry)) rest) self.old.current (paging result) store.new.world) }
+        ensures rest { IfOk result (λ page. end_of page.rest ≡ first_rest_of store.old.world table (end_of (option_copied lower.entry)) (end_of (option_copied upper.entry)) most) }
     {
         self.kept
             .scan_first_in(store, self.session, table, lower, upper, most)
@@ -279,15 +280,15 @@ impl<A: Allocator + Copy> Client<A> {
         &mut self,
         store: &mut Core<A>,
         table: usize,
-        lower: Option<Key<A>>,
-        upper: Option<Key<A>>,
+        lower: Option<&Key<A>>,
+        upper: Option<&Key<A>>,
         most: usize,
     ) -> Result<Page<A>, Fault>
         ensures kept { self.new ≡ record self.old { returned = self.new.returned } }
-        ensures read { let rest = last_rest_of store.old.world table (end_of lower) (end_of upper) most in
-            OrStarves ((self.old.returned ≡ true) ⊎ WantsPage store.old.world.settings.schema (last_page table (end_of lower) (end_of upper) rest) rest self.old.current) store.old.world (paging result) store.new.world
-            (Scans store.old.world self.old.session (last_page table (end_of lower) (end_of upper) rest) self.old.current (paging result) store.new.world) }
-        ensures rest { IfOk result (λ page. end_of page.rest ≡ last_rest_of store.old.world table (end_of lower) (end_of upper) most) }
+        ensures read { let rest = last_rest_of store.old.world table (end_of (option_copied lower.entry)) (end_of (option_copied upper.entry)) most in
+            OrStarves ((self.old.returned ≡ true) ⊎ WantsPage store.old.world.settings.schema (last_page table (end_of (option_copied lower.entry)) (end_of (option_copied upper.entry)) rest) rest self.old.current) store.old.world (paging result) store.new.world
+            (Scans store.old.world self.old.session (last_page table (end_of (option_copied lower.entry)) (end_of (option_copied upper.entry)) rest) self.old.current (paging result) store.new.world) }
+        ensures rest { IfOk result (λ page. end_of page.rest ≡ last_rest_of store.old.world table (end_of (option_copied lower.entry)) (end_of (option_copied upper.entry)) most) }
     {
         self.kept
             .scan_last_in(store, self.session, table, lower, upper, most)

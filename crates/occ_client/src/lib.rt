@@ -9,7 +9,7 @@ mod retries;
 pub use clients::Client;
 pub use ending::End;
 pub use occ_book::{Base, Tables};
-pub use occ_case::{Cause, Verdict};
+pub use occ_case::{Cause, Ended, Verdict};
 pub use occ_core::{AutoCheckpoint, Core, Counts, Outcome, SHORT_LOG, SingleWrite};
 pub use occ_open::{KeptTransaction, OpenTransaction, Page, Readable};
 pub use occ_queue::Item;
@@ -18,4 +18,3 @@ pub use occ_types::{
     Cell, Fault, Key, KeyKind, KeyPart, Kind, Object, Pair, PartKind, Prefix, Question, Refused,
     Row, Schema, TableDef, Text, limits,
 };
-pub use retries::Tried;

@@ -6,24 +6,10 @@ ghost use Rattle.occ_client.specs.Transacts.{CalledAtBoth, GivesUp, IsTried, Non
 
 use crate::clients::Client;
 use crate::ending::End;
-use occ_case::Cause;
+use occ_case::Ended;
 use occ_core::Core;
 use occ_types::Fault;
 use std::alloc::Global;
-
-/// How the last try of a whole transaction ended.
-#[derive(Debug, PartialEq, Eq, Drop)]
-pub enum Tried<T> {
-    /// It committed, and all its writes are done.
-    Committed {
-        /// What its body answered.
-        value: T,
-        /// The transaction number.
-        tn: u64,
-    },
-    /// It was backed up, as each try before it was, and none of its writes is done.
-    BackedUp(Cause),
-}
 
 impl Client<Global> {
     /// Does a whole transaction: begins it, lets `body` read and write, and ends it. After a back-up it begins anew, under the next number
@@ -40,7 +26,7 @@ impl Client<Global> {
         T: Drop,
         E: From<Fault>,
         F: FnMut(&mut Client<Global>, &mut Core<Global>) -> Result<T, E>,
-    >(&mut self, store: &mut Core<Global>, tries: usize, mut body: F) -> Result<Tried<T>, E>
+    >(&mut self, store: &mut Core<Global>, tries: usize, mut body: F) -> Result<Ended<T>, E>
         requires { F.IsAlwaysCallable body }
         ensures tries { Transacts (CalledAtBoth F.FnMut) E.from_gives (most_tries tries) body (moment self.old store.old) result (moment self.new store.new) }
         ensures last { IfOk result (λ tried. IsLastEnd (end_reply (end_of tried)) store.new.world) }
@@ -64,7 +50,7 @@ impl Client<Global> {
         T: Drop,
         E: From<Fault>,
         F: FnMut(&mut Client<Global>, &mut Core<Global>) -> Result<T, E>,
-    >(&mut self, store: &mut Core<Global>, most: usize, body: &mut F) -> Result<Tried<T>, E>
+    >(&mut self, store: &mut Core<Global>, most: usize, body: &mut F) -> Result<Ended<T>, E>
         requires callable { F.IsAlwaysCallable body.old }
         requires some { 0 < most }
         ensures { Tries (CalledAtBoth F.FnMut) E.from_gives most body.old (moment self.old store.old) result body.new (moment self.new store.new) }
@@ -74,7 +60,7 @@ impl Client<Global> {
             Err(error) => return Err(error),
         };
         for tried in 1..most {
-            if let Tried::Committed { .. } = ended {
+            if let Ended::Committed { .. } = ended {
                 return Ok(ended);
             }
             ended = match self.try_once(store, body) {
@@ -90,7 +76,7 @@ impl Client<Global> {
         T: Drop,
         E: From<Fault>,
         F: FnMut(&mut Client<Global>, &mut Core<Global>) -> Result<T, E>,
-    >(&mut self, store: &mut Core<Global>, body: &mut F) -> Result<Tried<T>, E>
+    >(&mut self, store: &mut Core<Global>, body: &mut F) -> Result<Ended<T>, E>
         requires callable { F.IsAlwaysCallable body.old }
         ensures callable { F.IsAlwaysCallable body.new }
         ensures tries { TriesOnce (CalledAtBoth F.FnMut) E.from_gives body.old (moment self.old store.old) result body.new (moment self.new store.new) }
@@ -122,12 +108,12 @@ impl Client<Global> {
     }
 
     // Ends the try whose body answered this value. It is abandoned where that is refused.
-    fn end_try<T: Drop>(&mut self, store: &mut Core<Global>, value: T) -> Result<Tried<T>, Fault>
+    fn end_try<T: Drop>(&mut self, store: &mut Core<Global>, value: T) -> Result<Ended<T>, Fault>
         ensures { IsTried value (moment self.old store.old) result (moment self.new store.new) }
     {
         match self.commit(store) {
-            Ok(End::Committed { tn }) => Ok(Tried::Committed { value, tn }),
-            Ok(End::BackedUp(cause)) => Ok(Tried::BackedUp(cause)),
+            Ok(End::Committed { tn }) => Ok(Ended::Committed { tn, value }),
+            Ok(End::BackedUp(cause)) => Ok(Ended::BackedUp(cause)),
             Err(fault) => Err(self.give_up_for(store, fault)),
         }
     }

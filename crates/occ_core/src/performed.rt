@@ -1,5 +1,5 @@
 //! What a list of operations did.
-ghost use Rattle.std.specs.Prelude.{◌≡◌, IfOk, OnOk, IsOkUnless, Some, None};
+ghost use Rattle.std.specs.Prelude.{◌≡◌, ◌≤◌, length, IfOk, OnOk, IsOkUnless, Some, None};
 ghost use Rattle.std.specs.Option.{option_copied};
 ghost use Rattle.occ_types.specs.declared.fault.Fault.TheVariants.{Memory};
 ghost use Rattle.occ_types.specs.PlainData.{key_of, end_of};
@@ -182,16 +182,18 @@ impl<A: Allocator + Copy> Performed<A> {
     }
 }
 
-// How many operations ask for something, and how many answer it. Room alone depends on it.
-fn count_questions<A: Allocator>(operations: &[Op<A>]) -> (usize, usize) {
+// How many operations ask for something, and how many answer it: no more than there are. Room alone depends on it.
+fn count_questions<A: Allocator>(operations: &[Op<A>]) -> (usize, usize)
+    ensures few { (result.0 ≤ length operations.now) × (result.1 ≤ length operations.now) }
+{
     let (mut reads, mut answers) = (0usize, 0usize);
     for operation in operations {
         match operation {
             Op::Get { .. } | Op::Scan { .. } => {
-                reads = reads.saturating_add(1);
-                answers = answers.saturating_add(1);
+                reads += 1;
+                answers += 1;
             }
-            Op::Add { .. } => reads = reads.saturating_add(1),
+            Op::Add { .. } => reads += 1,
             Op::Put { .. } | Op::Delete { .. } => {}
         }
     }

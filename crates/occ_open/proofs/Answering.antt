@@ -1,6 +1,8 @@
 -- What a store answers to an open transaction, and what is shown of it.
-use Rattle.std.proofs.Common.{◌≡◌, ℕ, ◌≤◌, Bool, true, false, nat_lt, List, length, Option, None, refl, sym, ap, subst, ◌∙◌, arith, MatchOption}
+use Rattle.std.proofs.Common.{◌≡◌, ◌==◌, ℕ, ◌≤◌, Bool, true, false, nat_lt, List, length, Option, None, refl, sym, ap, subst, ◌∙◌, arith, MatchOption}
+use Rattle.std.proofs.lemmas.Bool.{eqb-true}
 use Rattle.std.proofs.lemmas.Bool.Decides.{nat_tests}
+use Rattle.std.proofs.lemmas.List.{nil_from_length}
 use Rattle.occ_types.specs.declared.fault.Fault.{Fault}
 use Rattle.occ_types.specs.declared.fault.Fault.TheVariants as faults
 use Rattle.occ_types.specs.declared.limits.TheConstants.{MAX_ANSWER_ROWS}
@@ -77,6 +79,10 @@ shown question (table, lower, upper, is) writes rows over e =
     ∙ ap (λ q. Answered (Rows (rows_over q writes rows))) is
     ∙ ap Answered (overlay-Span table lower upper writes rows)
     ∙ ap (λ q. Answered (overlay q writes (Rows rows))) (sym is)
+
+-- where nothing is written, no key has an own write
+pub nothing_own : (writes : List Write) (object : Object) → (length writes == 0) ≡ true → None ≡ own writes object
+nothing_own writes object none = ap (λ (w : List Write). own w object) (sym (nil_from_length writes (eqb-true (length writes) 0 none)))
 
 -- a key that fits and has no own write is asked for
 pub got : (old : World) (session : ℕ) (object : Object) (copy : Copied) (reply : Reply) (new : World) (schema : Schema)

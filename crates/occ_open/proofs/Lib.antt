@@ -1,3 +1,4 @@
 pub mod Answering
 pub mod Forgetting
 pub mod PageScans
+pub mod Walking

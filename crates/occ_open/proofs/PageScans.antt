@@ -1,9 +1,9 @@
 -- A page of a range as a transaction sees it.
-use Rattle.std.proofs.Common.{◌≡◌, ℕ, Option, IfOk, Result, Ok, Err, inl, inr, subst, ap, ◌∙◌}
-use Rattle.occ_types.specs.declared.fault.Fault.{Fault}
+use Rattle.std.proofs.Common.{◌≡◌, ℕ, Option, None, Some, inl, inr, refl, subst}
+use Rattle.std.specs.Borrow.{Bor}
+use Rattle.std.specs.Option.{option_copied, option_or}
 use Rattle.occ_types.specs.declared.keys.Key as code_key
 use Rattle.occ_types.specs.PlainData.{end_of}
-use Rattle.occ_open.specs.declared.pages.Page as code
 use Rattle.occ_types.specs.Key.{Key}
 use Rattle.occ_types.specs.Question.{Question}
 use Rattle.occ_model.specs.Event.{Reply}
@@ -26,7 +26,7 @@ page_scanned {old} {new} session copy asked question rest reply same scanned =
     for_page old new question rest reply (CopyScans old session question copy reply new)
     (subst (λ q. OrStarves (CopyWantsRange old.settings.schema q) old reply new (CopyScans old session q copy reply new)) same scanned)
 
--- the page tells where the rest begins
-pub rest_told : {Z : Type 0} (result : Result (code.Page Z) Fault) (rest : Option (code_key.Key Z)) (told : Option Key) → IfOk result (λ page. page.rest ≡ rest) → end_of rest ≡ told → IfOk result (λ page. end_of page.rest ≡ told)
-rest_told (Ok page) rest told e is = ap end_of e ∙ is
-rest_told (Err fault) rest told e is = tt
+-- the end of a page: where the rest begins, or else the end that was asked for
+pub nearer_end : {Z : Type 0} (rest end : Option (Bor (code_key.Key Z))) → end_of (option_copied (option_or rest end)) ≡ option_or (end_of (option_copied rest)) (end_of (option_copied end))
+nearer_end None end = refl
+nearer_end (Some key) end = refl

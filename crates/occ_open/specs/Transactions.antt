@@ -119,3 +119,7 @@ open_after current reply = None
 -- the reply of a call; or it wanted memory, which moves nothing
 abbrev pub OrStarves : Type 0 → World → Reply → World → Type 0 → Type 0
 OrStarves Wanting old reply new Is = ((reply ≡ Refused faults.Memory) × Wanting × (new ≡ old)) ⊎ Is
+
+-- a store of which a call keeps this, unless it leaves all as it is
+abbrev pub Leaves : {X : Type 0} → (X → X → Type 0) → X → X → Type 0
+Leaves Keeps old new = (new ≡ old) ⊎ Keeps old new

@@ -1,5 +1,6 @@
 //! The transaction that a session has open, which comes back when what it was handed in as is refused.
 ghost use Rattle.std.specs.Prelude.{◌≡◌, ◌≤◌, ◌⊎◌, None, Some, true, false, is_some, length, option_map, IfOk, IfErr, OnOk, OnErr, MatchResult};
+ghost use Rattle.std.specs.Option.{option_copied};
 ghost use Rattle.std.specs.Result.{result_err};
 ghost use Rattle.occ_types.specs.PlainData.{key_of, end_of};
 ghost use Rattle.occ_types.specs.Question.{Span};
@@ -186,11 +187,11 @@ impl<A: Allocator + Copy> KeptTransaction<A> {
         store: &mut S,
         session: usize,
         table: usize,
-        key: Key<A>,
+        key: &Key<A>,
     ) -> Result<Option<Row<A>>, Fault>
         ensures current { self.new.current ≡ self.old.current }
-        ensures read { OrStarves (IsShared self.old ⊎ WantsOwn (S.world store.old).settings.schema (table, key_of key) self.old.current) (S.world store.old) (reading result) (S.world store.new)
-            (Gets (S.world store.old) session (table, key_of key) self.old.current (reading result) (S.world store.new)) }
+        ensures read { OrStarves (IsShared self.old ⊎ WantsOwn (S.world store.old).settings.schema (table, key_of key.now) self.old.current) (S.world store.old) (reading result) (S.world store.new)
+            (Gets (S.world store.old) session (table, key_of key.now) self.old.current (reading result) (S.world store.new)) }
     {
         self.restore();
         match &self.content {
@@ -206,12 +207,12 @@ impl<A: Allocator + Copy> KeptTransaction<A> {
         store: &mut S,
         session: usize,
         table: usize,
-        lower: Option<Key<A>>,
-        upper: Option<Key<A>>,
+        lower: Option<&Key<A>>,
+        upper: Option<&Key<A>>,
     ) -> Result<RangeRows<A>, Fault>
         ensures current { self.new.current ≡ self.old.current }
-        ensures read { OrStarves (IsShared self.old ⊎ WantsRange (S.world store.old).settings.schema (Span table (end_of lower) (end_of upper)) self.old.current) (S.world store.old) (scanning result) (S.world store.new)
-            (Scans (S.world store.old) session (Span table (end_of lower) (end_of upper)) self.old.current (scanning result) (S.world store.new)) }
+        ensures read { OrStarves (IsShared self.old ⊎ WantsRange (S.world store.old).settings.schema (Span table (end_of (option_copied lower.entry)) (end_of (option_copied upper.entry))) self.old.current) (S.world store.old) (scanning result) (S.world store.new)
+            (Scans (S.world store.old) session (Span table (end_of (option_copied lower.entry)) (end_of (option_copied upper.entry))) self.old.current (scanning result) (S.world store.new)) }
     {
         self.restore();
         match &self.content {
@@ -226,15 +227,15 @@ impl<A: Allocator + Copy> KeptTransaction<A> {
         store: &mut S,
         session: usize,
         table: usize,
-        lower: Option<Key<A>>,
-        upper: Option<Key<A>>,
+        lower: Option<&Key<A>>,
+        upper: Option<&Key<A>>,
         most: usize,
     ) -> Result<Page<A>, Fault>
         ensures current { self.new.current ≡ self.old.current }
-        ensures read { let rest = first_rest_of (S.world store.old) table (end_of lower) (end_of upper) most in
-            OrStarves (IsShared self.old ⊎ WantsPage (S.world store.old).settings.schema (first_page table (end_of lower) (end_of upper) rest) rest self.old.current) (S.world store.old) (paging result) (S.world store.new)
-            (Scans (S.world store.old) session (first_page table (end_of lower) (end_of upper) rest) self.old.current (paging result) (S.world store.new)) }
-        ensures rest { IfOk result (λ page. end_of page.rest ≡ first_rest_of (S.world store.old) table (end_of lower) (end_of upper) most) }
+        ensures read { let rest = first_rest_of (S.world store.old) table (end_of (option_copied lower.entry)) (end_of (option_copied upper.entry)) most in
+            OrStarves (IsShared self.old ⊎ WantsPage (S.world store.old).settings.schema (first_page table (end_of (option_copied lower.entry)) (end_of (option_copied upper.entry)) rest) rest self.old.current) (S.world store.old) (paging result) (S.world store.new)
+            (Scans (S.world store.old) session (first_page table (end_of (option_copied lower.entry)) (end_of (option_copied upper.entry)) rest) self.old.current (paging result) (S.world store.new)) }
+        ensures rest { IfOk result (λ page. end_of page.rest ≡ first_rest_of (S.world store.old) table (end_of (option_copied lower.entry)) (end_of (option_copied upper.entry)) most) }
     {
         self.restore();
         match &self.content {
@@ -251,15 +252,15 @@ impl<A: Allocator + Copy> KeptTransaction<A> {
         store: &mut S,
         session: usize,
         table: usize,
-        lower: Option<Key<A>>,
-        upper: Option<Key<A>>,
+        lower: Option<&Key<A>>,
+        upper: Option<&Key<A>>,
         most: usize,
     ) -> Result<Page<A>, Fault>
         ensures current { self.new.current ≡ self.old.current }
-        ensures read { let rest = last_rest_of (S.world store.old) table (end_of lower) (end_of upper) most in
-            OrStarves (IsShared self.old ⊎ WantsPage (S.world store.old).settings.schema (last_page table (end_of lower) (end_of upper) rest) rest self.old.current) (S.world store.old) (paging result) (S.world store.new)
-            (Scans (S.world store.old) session (last_page table (end_of lower) (end_of upper) rest) self.old.current (paging result) (S.world store.new)) }
-        ensures rest { IfOk result (λ page. end_of page.rest ≡ last_rest_of (S.world store.old) table (end_of lower) (end_of upper) most) }
+        ensures read { let rest = last_rest_of (S.world store.old) table (end_of (option_copied lower.entry)) (end_of (option_copied upper.entry)) most in
+            OrStarves (IsShared self.old ⊎ WantsPage (S.world store.old).settings.schema (last_page table (end_of (option_copied lower.entry)) (end_of (option_copied upper.entry)) rest) rest self.old.current) (S.world store.old) (paging result) (S.world store.new)
+            (Scans (S.world store.old) session (last_page table (end_of (option_copied lower.entry)) (end_of (option_copied upper.entry)) rest) self.old.current (paging result) (S.world store.new)) }
+        ensures rest { IfOk result (λ page. end_of page.rest ≡ last_rest_of (S.world store.old) table (end_of (option_copied lower.entry)) (end_of (option_copied upper.entry)) most) }
     {
         self.restore();
         match &self.content {

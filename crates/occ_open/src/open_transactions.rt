@@ -13,7 +13,7 @@ ghost use Rattle.occ_model.specs.Step.{Step};
 ghost use Rattle.occ_model.specs.Paging as pages;
 ghost use Rattle.occ_open.specs.Pages.{paging, first_rest_of, last_rest_of, WantsPage};
 ghost use Rattle.occ_open.specs.Replies.{reading, scanning, forgetting};
-ghost use Rattle.occ_open.specs.Transactions.{IsRefusedBy, begin_fault, begun, none_open, check_written, write_fault, written, WantsRoom, Gets, WantsOwn, Scans, WantsRange, Abandons, open_after, OrStarves};
+ghost use Rattle.occ_open.specs.Transactions.{IsRefusedBy, begin_fault, begun, none_open, check_written, write_fault, written, WantsRoom, Gets, WantsOwn, Scans, WantsRange, Abandons, open_after, OrStarves, Leaves};
 
 use crate::asking::{get, scan};
 use crate::pages::Page;
@@ -22,7 +22,7 @@ use crate::readable::Readable;
 use crate::writing::write_copy;
 use occ_sets::{PrivateCopy, RangeRows, RequestWrites, Write};
 use occ_types::limits::MAX_NUMBER;
-use occ_types::{Fault, Key, Object, Question, Refused, Row, Schema};
+use occ_types::{Fault, Key, Object, Refused, Row, Schema};
 use std::alloc::Allocator;
 use std::marker::Model;
 
@@ -184,15 +184,15 @@ impl<A: Allocator + Copy> OpenTransaction<A> {
         store: &mut S,
         session: usize,
         table: usize,
-        key: Key<A>,
+        key: &Key<A>,
     ) -> Result<Option<Row<A>>, Fault>
-        ensures { OrStarves (WantsOwn (S.world store.old).settings.schema (table, key_of key) self.now) (S.world store.old) (reading result) (S.world store.new)
-            (Gets (S.world store.old) session (table, key_of key) self.now (reading result) (S.world store.new)) }
+        ensures step { OrStarves (WantsOwn (S.world store.old).settings.schema (table, key_of key.now) self.now) (S.world store.old) (reading result) (S.world store.new)
+            (Gets (S.world store.old) session (table, key_of key.now) self.now (reading result) (S.world store.new)) }
+        ensures keeps { Leaves S.keeps store.old store.new }
     {
-        let object = Object { table, key };
         match &self.copy {
             None => Err(Fault::NoReadOpen),
-            Some(copy) => get(copy, store, session, &object),
+            Some(copy) => get(copy, store, session, table, key),
         }
     }
 
@@ -205,20 +205,16 @@ impl<A: Allocator + Copy> OpenTransaction<A> {
         store: &mut S,
         session: usize,
         table: usize,
-        lower: Option<Key<A>>,
-        upper: Option<Key<A>>,
+        lower: Option<&Key<A>>,
+        upper: Option<&Key<A>>,
     ) -> Result<RangeRows<A>, Fault>
-        ensures { OrStarves (WantsRange (S.world store.old).settings.schema (Span table (end_of lower) (end_of upper)) self.now) (S.world store.old) (scanning result) (S.world store.new)
-            (Scans (S.world store.old) session (Span table (end_of lower) (end_of upper)) self.now (scanning result) (S.world store.new)) }
+        ensures step { OrStarves (WantsRange (S.world store.old).settings.schema (Span table (end_of (option_copied lower.entry)) (end_of (option_copied upper.entry))) self.now) (S.world store.old) (scanning result) (S.world store.new)
+            (Scans (S.world store.old) session (Span table (end_of (option_copied lower.entry)) (end_of (option_copied upper.entry))) self.now (scanning result) (S.world store.new)) }
+        ensures keeps { Leaves S.keeps store.old store.new }
     {
-        let question = Question::Span {
-            table,
-            lower,
-            upper,
-        };
         match &self.copy {
             None => Err(Fault::NoReadOpen),
-            Some(copy) => scan(copy, store, session, &question),
+            Some(copy) => scan(copy, store, session, table, lower, upper),
         }
     }
 
@@ -232,14 +228,15 @@ impl<A: Allocator + Copy> OpenTransaction<A> {
         store: &mut S,
         session: usize,
         table: usize,
-        lower: Option<Key<A>>,
-        upper: Option<Key<A>>,
+        lower: Option<&Key<A>>,
+        upper: Option<&Key<A>>,
         most: usize,
     ) -> Result<Page<A>, Fault>
-        ensures step { let rest = first_rest_of (S.world store.old) table (end_of lower) (end_of upper) most in
-            OrStarves (WantsPage (S.world store.old).settings.schema (pages.first_page table (end_of lower) (end_of upper) rest) rest self.now) (S.world store.old) (paging result) (S.world store.new)
-            (Scans (S.world store.old) session (pages.first_page table (end_of lower) (end_of upper) rest) self.now (paging result) (S.world store.new)) }
-        ensures rest { IfOk result (λ page. end_of page.rest ≡ first_rest_of (S.world store.old) table (end_of lower) (end_of upper) most) }
+        ensures step { let rest = first_rest_of (S.world store.old) table (end_of (option_copied lower.entry)) (end_of (option_copied upper.entry)) most in
+            OrStarves (WantsPage (S.world store.old).settings.schema (pages.first_page table (end_of (option_copied lower.entry)) (end_of (option_copied upper.entry)) rest) rest self.now) (S.world store.old) (paging result) (S.world store.new)
+            (Scans (S.world store.old) session (pages.first_page table (end_of (option_copied lower.entry)) (end_of (option_copied upper.entry)) rest) self.now (paging result) (S.world store.new)) }
+        ensures rest { IfOk result (λ page. end_of page.rest ≡ first_rest_of (S.world store.old) table (end_of (option_copied lower.entry)) (end_of (option_copied upper.entry)) most) }
+        ensures keeps { Leaves S.keeps store.old store.new }
     {
         match &self.copy {
             None => Err(Fault::NoReadOpen),
@@ -254,14 +251,15 @@ impl<A: Allocator + Copy> OpenTransaction<A> {
         store: &mut S,
         session: usize,
         table: usize,
-        lower: Option<Key<A>>,
-        upper: Option<Key<A>>,
+        lower: Option<&Key<A>>,
+        upper: Option<&Key<A>>,
         most: usize,
     ) -> Result<Page<A>, Fault>
-        ensures step { let rest = last_rest_of (S.world store.old) table (end_of lower) (end_of upper) most in
-            OrStarves (WantsPage (S.world store.old).settings.schema (pages.last_page table (end_of lower) (end_of upper) rest) rest self.now) (S.world store.old) (paging result) (S.world store.new)
-            (Scans (S.world store.old) session (pages.last_page table (end_of lower) (end_of upper) rest) self.now (paging result) (S.world store.new)) }
-        ensures rest { IfOk result (λ page. end_of page.rest ≡ last_rest_of (S.world store.old) table (end_of lower) (end_of upper) most) }
+        ensures step { let rest = last_rest_of (S.world store.old) table (end_of (option_copied lower.entry)) (end_of (option_copied upper.entry)) most in
+            OrStarves (WantsPage (S.world store.old).settings.schema (pages.last_page table (end_of (option_copied lower.entry)) (end_of (option_copied upper.entry)) rest) rest self.now) (S.world store.old) (paging result) (S.world store.new)
+            (Scans (S.world store.old) session (pages.last_page table (end_of (option_copied lower.entry)) (end_of (option_copied upper.entry)) rest) self.now (paging result) (S.world store.new)) }
+        ensures rest { IfOk result (λ page. end_of page.rest ≡ last_rest_of (S.world store.old) table (end_of (option_copied lower.entry)) (end_of (option_copied upper.entry)) most) }
+        ensures keeps { Leaves S.keeps store.old store.new }
     {
         match &self.copy {
             None => Err(Fault::NoReadOpen),
@@ -278,6 +276,7 @@ impl<A: Allocator + Copy> OpenTransaction<A> {
     ) -> Result<bool, Fault>
         ensures step { Abandons (S.world store.old) session self.old (forgetting result) (S.world store.new) }
         ensures left { self.new ≡ open_after self.old (forgetting result) }
+        ensures keeps { Leaves S.keeps store.old store.new }
     {
         let Some(copy) = &self.copy else {
             return Err(Fault::NoReadOpen);

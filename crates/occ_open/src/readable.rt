@@ -18,6 +18,9 @@ use std::alloc::Allocator;
 pub trait Readable<A: Allocator> {
     ghost world: { Self → World };
 
+    /// What each call keeps of it beside its world, by how it was and how it is: nothing that clauses know, where an `impl` doesn't say.
+    ghost keeps: { Self → Self → Type 0 } = { λ old new. Unit {0} };
+
     /// The tables of the store, and what fits them.
     fn schema(&self) -> &Schema<A>
         ensures { result.now ≡ (world self.now).settings.schema };
@@ -32,7 +35,8 @@ pub trait Readable<A: Allocator> {
         table: usize,
         key: &Key<A>,
     ) -> Result<Option<Row<A>>, Fault>
-        ensures { Step (world self.old) (Read session number start (One table (key_of key.now))) (reading result) (world self.new) };
+        ensures step { Step (world self.old) (Read session number start (One table (key_of key.now))) (reading result) (world self.new) }
+        ensures keeps { keeps self.old self.new };
 
     /// The rows of a table from the lower end on and below the upper one, with their keys and in the order of the keys. The question is
     /// noted with its answer as by `read`, which may share the rows.
@@ -45,7 +49,8 @@ pub trait Readable<A: Allocator> {
         lower: Option<&Key<A>>,
         upper: Option<&Key<A>>,
     ) -> Result<RangeRows<A>, Fault>
-        ensures { Step (world self.old) (Read session number start (Span table (end_of (option_copied lower.entry)) (end_of (option_copied upper.entry)))) (scanning result) (world self.new) };
+        ensures step { Step (world self.old) (Read session number start (Span table (end_of (option_copied lower.entry)) (end_of (option_copied upper.entry)))) (scanning result) (world self.new) }
+        ensures keeps { keeps self.old self.new };
 
     /// The same, as copies of the rows that the caller alone owns.
     fn scan_apart(
@@ -57,7 +62,8 @@ pub trait Readable<A: Allocator> {
         lower: Option<&Key<A>>,
         upper: Option<&Key<A>>,
     ) -> Result<Vec<(Key<A>, Row<A>), A>, Fault>
-        ensures { Step (world self.old) (Read session number start (Span table (end_of (option_copied lower.entry)) (end_of (option_copied upper.entry)))) (copying result) (world self.new) };
+        ensures step { Step (world self.old) (Read session number start (Span table (end_of (option_copied lower.entry)) (end_of (option_copied upper.entry)))) (copying result) (world self.new) }
+        ensures keeps { keeps self.old self.new };
 
     /// Where the rows behind the first page of a range begin, of at most `most` rows, or one where `most` is 0; none where no row is
     /// left, or the range doesn't fit the schema. It notes nothing. Refused with `Memory` where rows are left and there is none for the
@@ -85,5 +91,6 @@ pub trait Readable<A: Allocator> {
 
     /// Forgets what a session has read under a number, and answers whether it has read anything. It takes no memory.
     fn forget(&mut self, session: usize, number: u64) -> Result<bool, Fault>
-        ensures { Step (world self.old) (Forget session number) (forgetting result) (world self.new) };
+        ensures step { Step (world self.old) (Forget session number) (forgetting result) (world self.new) }
+        ensures keeps { keeps self.old self.new };
 }

@@ -1,5 +1,6 @@
 //! The calls of a transaction, each in one holding.
 ghost use Rattle.std.specs.Prelude.{◌≡◌, ◌⊎◌, ◌+◌, None, Some, true, false, is_some, IfOk, IfErr, OnOk, OnErr, MatchResult};
+ghost use Rattle.std.specs.Option.{option_copied};
 ghost use Rattle.occ_types.specs.PlainData.{key_of, end_of};
 ghost use Rattle.occ_types.specs.Question.{Span};
 ghost use Rattle.occ_client.specs.Clients.{count_end, ending, spent};
@@ -58,12 +59,12 @@ impl<A: Allocator + Copy> Worker<A> {
     pub fn get(
         &mut self,
         table: usize,
-        key: Key<A>,
+        key: &Key<A>,
     ) -> Result<Result<Option<Row<A>>, Fault>, Missed>
         ensures { MatchResult result
             (λ done. InOneHolding self.old self.new (λ before after. IsKept self.old.client self.new.client
-            × OrStarves ((self.old.client.returned ≡ true) ⊎ WantsOwn before.settings.schema (table, key_of key) self.old.client.current) before (reading done) after
-            (Gets before self.old.client.session (table, key_of key) self.old.client.current (reading done) after)))
+            × OrStarves ((self.old.client.returned ≡ true) ⊎ WantsOwn before.settings.schema (table, key_of key.now) self.old.client.current) before (reading done) after
+            (Gets before self.old.client.session (table, key_of key.now) self.old.client.current (reading done) after)))
             (λ _. DidNothing self.old self.new) }
     {
         let mut holding = self.take()?;
@@ -76,13 +77,13 @@ impl<A: Allocator + Copy> Worker<A> {
     pub fn scan(
         &mut self,
         table: usize,
-        lower: Option<Key<A>>,
-        upper: Option<Key<A>>,
+        lower: Option<&Key<A>>,
+        upper: Option<&Key<A>>,
     ) -> Result<Result<RangeRows<A>, Fault>, Missed>
         ensures { MatchResult result
             (λ done. InOneHolding self.old self.new (λ before after. IsKept self.old.client self.new.client
-            × OrStarves ((self.old.client.returned ≡ true) ⊎ WantsRange before.settings.schema (Span table (end_of lower) (end_of upper)) self.old.client.current) before (scanning done) after
-            (Scans before self.old.client.session (Span table (end_of lower) (end_of upper)) self.old.client.current (scanning done) after)))
+            × OrStarves ((self.old.client.returned ≡ true) ⊎ WantsRange before.settings.schema (Span table (end_of (option_copied lower.entry)) (end_of (option_copied upper.entry))) self.old.client.current) before (scanning done) after
+            (Scans before self.old.client.session (Span table (end_of (option_copied lower.entry)) (end_of (option_copied upper.entry))) self.old.client.current (scanning done) after)))
             (λ _. DidNothing self.old self.new) }
     {
         let mut holding = self.take()?;

@@ -4,7 +4,7 @@ use Rattle.occ_types.specs.Question.{Span}
 use Rattle.occ_open.proofs.Answering.{asked_so}
 use Rattle.occ_open.proofs.asking.ask.Goals as goal
 
-pub returns : goal.returns
-returns g c =
+pub returns-clause-step : goal.returns-clause-step
+returns-clause-step g c =
     asked_so (g.S.Readable.world c.args.store.now) c.args.session c.number.result c.start.result c.args.copy.now.number c.args.copy.now.start _ (question_of c.args.question.now) _ _
-    c.number.ensures c.start.ensures (ap question_of c.in-Span.is ∙ (λ i. Span c.in-Span.table (end_of (sym c.as_ref.ensures.value i)) (end_of (sym c.as_ref-in-Span.ensures.value i)))) c.scan.ensures
+    c.number.ensures c.start.ensures (ap question_of c.in-Span.is ∙ (λ i. Span c.in-Span.table (end_of (sym c.as_ref.ensures.value i)) (end_of (sym c.as_ref-in-Span.ensures.value i)))) c.scan.ensures.step

@@ -1,30 +1,25 @@
-use Rattle.std.proofs.Common.{Err, ap, sym, ◌∙◌, inr}
-use Rattle.std.proofs.lemmas.Result.{err_from_is_err_and}
+use Rattle.std.proofs.Common.{ap, sym, subst, ◌∙◌}
+use Rattle.std.specs.Option.{option_copied}
+use Rattle.occ_types.specs.PlainData.{end_of}
+use Rattle.occ_types.specs.Question.{Question, Span}
 use Rattle.occ_types.specs.Schema.{check_question}
-use Rattle.occ_types.specs.PlainData.{question_of}
-use Rattle.occ_model.specs.State.{Rows}
-use Rattle.occ_model.specs.Event.{Answered, Refused}
 use Rattle.occ_open.specs.Replies.{scanning}
-use Rattle.occ_open.proofs.Answering.{answered, scanned, shown}
+use Rattle.occ_open.specs.Transactions.{CopyScans, CopyWantsRange, OrStarves}
 use Rattle.occ_open.proofs.asking.scan.Goals as goal
 
--- the range fits the schema
-pub scan_over-requires-clause-fits : goal.scan_over-requires-clause-fits
-scan_over-requires-clause-fits g c =
-    sym (c.in_ok-check_question.ensures ∙ ap (λ s. check_question s (question_of c.args.question.now)) c.schema.ensures)
+-- the question is for this range
+pub scan_asked-requires-clause-range : goal.scan_asked-requires-clause-range
+scan_asked-requires-clause-range g c = (c.args.table, end_of (option_copied c.args.lower), end_of (option_copied c.args.upper), c.in_ok-question.ensures.value)
 
--- the store refused it
-pub returns-in_err-rows : goal.returns-in_err-rows
-returns-in_err-rows g c =
-    let p = err_from_is_err_and c.from_residual-in_err-rows.result c.from_residual-in_err-rows.ensures.1 in
-    inr (scanned (g.S.Readable.world c.args.store.now) c.args.session (question_of c.args.question.now) c.args.copy.now (Refused c.in_err-rows.field-0.0) (scanning c.from_residual-in_err-rows.result) _ c.schema.result.now
-    c.in_ok-check_question.ensures c.schema.ensures c.in_err-rows.ensures (ap scanning (p.1 ∙ ap Err p.2)))
+-- which fits the schema
+pub scan_asked-requires-clause-fits : goal.scan_asked-requires-clause-fits
+scan_asked-requires-clause-fits g c =
+    ap (check_question (g.S.Readable.world c.args.store.now).settings.schema) c.in_ok-question.ensures.value
+    ∙ sym (c.in_ok-check_range.ensures ∙ ap (λ s. check_question s (Span c.args.table (end_of (option_copied c.args.lower)) (end_of (option_copied c.args.upper)))) c.schema.ensures)
 
--- nothing of it is written, so it is seen as it is
-pub returns : goal.returns
-returns g c =
-    let rows = c.in_ok-rows.rows in
-    let a = answered (g.S.Readable.world c.args.store.now) c.args.session _ _ _ _ _ c.in_ok-rows.ensures in
-    inr (scanned (g.S.Readable.world c.args.store.now) c.args.session (question_of c.args.question.now) c.args.copy.now (Answered (Rows rows)) _ _ c.schema.result.now
-    c.in_ok-check_question.ensures c.schema.ensures c.in_ok-rows.ensures
-    (shown (question_of c.args.question.now) c.requires.range c.args.copy.now.writes rows rows (sym (c.meets.ensures.untouched c.if-meets.false a.state rows a.answers))))
+pub returns-clause-step : goal.returns-clause-step
+returns-clause-step g c =
+    let old = g.S.Readable.world c.args.store.now in
+    let new = g.S.Readable.world c.scan_asked.new.store in
+    let reply = scanning c.scan_asked.result in
+    subst (λ (q : Question). OrStarves (CopyWantsRange old.settings.schema q) old reply new (CopyScans old c.args.session q c.args.copy.now reply new)) c.in_ok-question.ensures.value c.scan_asked.ensures.step

@@ -1,22 +1,39 @@
-use Rattle.std.proofs.Common.{ap, ◌∙◌}
-use Rattle.std.specs.Option.{option_or}
+use Rattle.std.proofs.Common.{Err, ap, sym, subst, ◌∙◌}
+use Rattle.std.proofs.lemmas.Result.{err_from_is_err_and}
+use Rattle.std.specs.Option.{option_copied, option_or}
 use Rattle.occ_types.specs.PlainData.{end_of}
 use Rattle.occ_types.specs.Question.{Span}
+use Rattle.occ_model.specs.State.{Rows}
+use Rattle.occ_model.specs.Event.{Reply, Answered, Refused}
 use Rattle.occ_model.specs.Paging as pages
-use Rattle.occ_open.specs.Pages.{paging, first_rest_of}
-use Rattle.occ_open.proofs.PageScans.{page_scanned, rest_told}
+use Rattle.occ_open.specs.Pages.{paging, first_rest_of, CopyWantsPage}
+use Rattle.occ_open.specs.Transactions.{CopyScans, OrStarves}
+use Rattle.occ_open.proofs.PageScans.{nearer_end, page_scanned}
 use Rattle.occ_open.proofs.paging.first_page.Goals as goal
 
+-- the page was refused
+pub returns-in_err-rows-clause-step : goal.returns-in_err-rows-clause-step
+returns-in_err-rows-clause-step g c =
+    let a = end_of (option_copied c.args.lower) in
+    let b = end_of (option_copied c.args.upper) in
+    let rest = first_rest_of (g.S.Readable.world c.args.store.now) c.args.table a b c.args.most in
+    let nearer =
+    ap (λ r. end_of (option_copied r)) c.or-upper.ensures ∙ nearer_end c.as_ref.result c.args.upper
+    ∙ ap (λ r. option_or (end_of r) b) c.as_ref.ensures.value ∙ ap (λ r. option_or r b) c.in_ok-rest.ensures.rest in
+    let p = err_from_is_err_and c.from_residual-in_err-rows.result c.from_residual-in_err-rows.ensures.1 in
+    let old = g.S.Readable.world c.args.store.now in
+    let new = g.S.Readable.world c.scan.new.store in
+    let question = pages.first_page c.args.table a b rest in
+    subst (λ (reply : Reply). OrStarves (CopyWantsPage old.settings.schema question rest) old reply new (CopyScans old c.args.session question c.args.copy.now reply new)) (sym (ap paging (p.1 ∙ ap Err p.2)))
+    (page_scanned c.args.session c.args.copy.now (Span c.args.table a (end_of (option_copied c.or-upper.result))) question rest (Refused c.in_err-rows.field-0.0) (ap (λ e. Span c.args.table a e) nearer) c.in_err-rows.ensures.step)
+
+-- and it was answered
 pub returns-clause-step : goal.returns-clause-step
 returns-clause-step g c =
-    let a = end_of c.args.lower in
-    let b = end_of c.args.upper in
+    let a = end_of (option_copied c.args.lower) in
+    let b = end_of (option_copied c.args.upper) in
     let rest = first_rest_of (g.S.Readable.world c.args.store.now) c.args.table a b c.args.most in
-    let begins = c.in_ok-rest.ensures.rest ∙ (λ i. first_rest_of (g.S.Readable.world c.args.store.now) c.args.table (end_of (c.as_ref.ensures.value i)) (end_of (c.as_ref-2.ensures.value i)) c.args.most) in
-    let either = c.in_ok-upper.ensures.ok ∙ (λ i. option_or (end_of (c.as_ref-3.ensures.value i)) b) ∙ ap (λ r. option_or r b) begins in
-    page_scanned c.args.session c.args.copy.now (Span c.args.table a (end_of c.in_ok-upper.upper)) (pages.first_page c.args.table a b rest) rest (paging c.page_of.result) (ap (λ e. Span c.args.table a e) either) c.page_of.ensures.step
-
-pub returns-clause-rest : goal.returns-clause-rest
-returns-clause-rest g c =
-    rest_told c.page_of.result c.in_ok-rest.rest _ c.page_of.ensures.rest
-    (c.in_ok-rest.ensures.rest ∙ (λ i. first_rest_of (g.S.Readable.world c.args.store.now) c.args.table (end_of (c.as_ref.ensures.value i)) (end_of (c.as_ref-2.ensures.value i)) c.args.most))
+    let nearer =
+    ap (λ r. end_of (option_copied r)) c.or-upper.ensures ∙ nearer_end c.as_ref.result c.args.upper
+    ∙ ap (λ r. option_or (end_of r) b) c.as_ref.ensures.value ∙ ap (λ r. option_or r b) c.in_ok-rest.ensures.rest in
+    page_scanned c.args.session c.args.copy.now (Span c.args.table a (end_of (option_copied c.or-upper.result))) (pages.first_page c.args.table a b rest) rest (Answered (Rows c.in_ok-rows.rows)) (ap (λ e. Span c.args.table a e) nearer) c.in_ok-rows.ensures.step

@@ -1,4 +1,5 @@
 use Rattle.std.proofs.Common.{ℕ, ap, subst, ◌∙◌, inr}
+use Rattle.occ_types.specs.Question.{Question}
 use Rattle.occ_cli.proofs.Common.{Span, end_of, PlayedIn, Scans, WantsScan, place_named, span_named}
 use Rattle.occ_cli.proofs.Replaying.{by_asking, no_asker}
 use Rattle.occ_cli.proofs.replay_steps.Replay.scan.Goals as goal
@@ -20,4 +21,6 @@ returns g c =
     (λ w client. WantsScan w (span_named w.settings.schema c.args.table.now lower upper) client)
     (λ w answer client. Scans w c.args.session (span_named w.settings.schema c.args.table.now lower upper) client answer c.scan.new.core.world)
     (subst (λ (table : ℕ). PlayedIn world c.scan.new.core.world c.scan.result (WantsScan world (Span table lower upper) client) (λ answer. Scans world c.args.session (Span table lower upper) client answer c.scan.new.core.world))
-    (c.place_named-table.ensures ∙ ap (λ s. place_named s c.args.table.now) c.schema.ensures) c.scan.ensures)
+    (c.place_named-table.ensures ∙ ap (λ s. place_named s c.args.table.now) c.schema.ensures)
+    (subst (λ (q : Question). PlayedIn world c.scan.new.core.world c.scan.result (WantsScan world q client) (λ answer. Scans world c.args.session q client answer c.scan.new.core.world))
+    (λ i. Span c.place_named-table.result (end_of (c.as_ref.ensures.value i)) (end_of (c.as_ref-2.ensures.value i))) c.scan.ensures))

@@ -5,4 +5,4 @@ use Rattle.occ_open.proofs.kept_transactions.KeptTransaction.abandon_in.Goals as
 
 pub returns-in-Err-clause-step : goal.returns-in-Err-clause-step
 returns-in-Err-clause-step g c = told_to_forget _ _ _ _ (record { number = c.in-Returned.number; start = c.in-Returned.start; writes = c.in-Returned.writes }) _
-    (sym (ap (λ (k : Kept). k.current) c.self.view_is) ∙ ap (λ content. (kept_of content).current) c.in-Returned.is) c.in-Err.ensures
+    (sym (ap (λ (k : Kept). k.current) c.self.view_is) ∙ ap (λ content. (kept_of content).current) c.in-Returned.is) c.in-Err.ensures.step

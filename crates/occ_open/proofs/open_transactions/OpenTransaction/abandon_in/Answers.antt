@@ -12,4 +12,4 @@ returns-in-Err-clause-step g c =
     let new = g.S.Readable.world c.forget.new.self in
     let is : c.args.self.now ≡ Some c.in-Some.copy = sym c.self.view_is ∙ c.in-Some.is in
     subst (λ (current : Option Copied). Abandons old c.args.session current (Refused c.in-Err.fault) new) (sym is)
-    (subst (λ (n : ℕ). Step old (Forget c.args.session n) (Refused c.in-Err.fault) new) c.number.ensures c.in-Err.ensures)
+    (subst (λ (n : ℕ). Step old (Forget c.args.session n) (Refused c.in-Err.fault) new) c.number.ensures c.in-Err.ensures.step)

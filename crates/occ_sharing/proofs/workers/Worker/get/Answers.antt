@@ -17,7 +17,7 @@ use Rattle.occ_sharing.proofs.workers.Worker.get.Goals as goal
 pub give-requires : goal.give-requires
 give-requires g c = record {
   fits = held_after _ _ _ _ _ (ap (λ (w : Worker). w.settings) (c.self.view_is ∙ c.in_ok-holding.ensures.left)) c.in_ok-holding.ensures.fits.are_idle (ap (λ (h : Held _). h.idle.items) c.deref_mut.ensures.value)
-      (get_keeps _ _ (is_then _ _ _ (ap (λ (h : Held _). h.core.world) c.deref_mut.ensures.value) c.in_ok-holding.ensures.fits.is_of) _ c.self.inside.client.session (c.args.table, key_of c.args.key) c.self.inside.client.current (reading c.get-row.result) _ c.get-row.ensures.read);
+      (get_keeps _ _ (is_then _ _ _ (ap (λ (h : Held _). h.core.world) c.deref_mut.ensures.value) c.in_ok-holding.ensures.fits.is_of) _ c.self.inside.client.session (c.args.table, key_of c.args.key.now) c.self.inside.client.current (reading c.get-row.result) _ c.get-row.ensures.read);
 }
 
 pub returns : goal.returns
@@ -25,4 +25,4 @@ returns g c = in_one _ _ _ _ c.in_ok-holding.holding.leased _ c.in_ok-holding.en
     c.give.ensures.leaves c.give.ensures.keeps
     (ap (λ (w : Worker). w.settings) c.give.ensures.client ∙ ap (λ (w : Worker). w.settings) (c.self.view_is ∙ c.in_ok-holding.ensures.left))
     (ap (λ (w : Worker). w.holdings) c.give.ensures.client ∙ ap (λ (w : Worker). w.holdings) (c.self.view_is ∙ c.in_ok-holding.ensures.left))
-    (got_in _ _ _ _ _ _ (ap (λ (w : Worker). w.client) (c.self.view_is ∙ c.in_ok-holding.ensures.left)) (ap (λ (w : Worker). w.client) c.give.ensures.client) (ap (λ (h : Held _). h.core.world) c.deref_mut.ensures.value) (c.args.table, key_of c.args.key) (reading c.get-row.result) _ c.get-row.ensures.kept c.get-row.ensures.read)
+    (got_in _ _ _ _ _ _ (ap (λ (w : Worker). w.client) (c.self.view_is ∙ c.in_ok-holding.ensures.left)) (ap (λ (w : Worker). w.client) c.give.ensures.client) (ap (λ (h : Held _). h.core.world) c.deref_mut.ensures.value) (c.args.table, key_of c.args.key.now) (reading c.get-row.result) _ c.get-row.ensures.kept c.get-row.ensures.read)

@@ -1,4 +1,5 @@
 use Rattle.std.proofs.Common.{◌≡◌, ap, sym, refl, ◌∙◌}
+use Rattle.std.specs.Option.{option_copied}
 use Rattle.occ_model.specs.World.{World}
 use Rattle.occ_types.specs.PlainData.{key_of, end_of}
 use Rattle.occ_types.specs.Question.{Span}
@@ -17,7 +18,7 @@ use Rattle.occ_sharing.proofs.workers.Worker.scan.Goals as goal
 pub give-requires : goal.give-requires
 give-requires g c = record {
   fits = held_after _ _ _ _ _ (ap (λ (w : Worker). w.settings) (c.self.view_is ∙ c.in_ok-holding.ensures.left)) c.in_ok-holding.ensures.fits.are_idle (ap (λ (h : Held _). h.idle.items) c.deref_mut.ensures.value)
-      (scan_keeps _ _ (is_then _ _ _ (ap (λ (h : Held _). h.core.world) c.deref_mut.ensures.value) c.in_ok-holding.ensures.fits.is_of) _ c.self.inside.client.session (Span c.args.table (end_of c.args.lower) (end_of c.args.upper)) c.self.inside.client.current (scanning c.scan-rows.result) _ c.scan-rows.ensures.read);
+      (scan_keeps _ _ (is_then _ _ _ (ap (λ (h : Held _). h.core.world) c.deref_mut.ensures.value) c.in_ok-holding.ensures.fits.is_of) _ c.self.inside.client.session (Span c.args.table (end_of (option_copied c.args.lower)) (end_of (option_copied c.args.upper))) c.self.inside.client.current (scanning c.scan-rows.result) _ c.scan-rows.ensures.read);
 }
 
 pub returns : goal.returns
@@ -25,4 +26,4 @@ returns g c = in_one _ _ _ _ c.in_ok-holding.holding.leased _ c.in_ok-holding.en
     c.give.ensures.leaves c.give.ensures.keeps
     (ap (λ (w : Worker). w.settings) c.give.ensures.client ∙ ap (λ (w : Worker). w.settings) (c.self.view_is ∙ c.in_ok-holding.ensures.left))
     (ap (λ (w : Worker). w.holdings) c.give.ensures.client ∙ ap (λ (w : Worker). w.holdings) (c.self.view_is ∙ c.in_ok-holding.ensures.left))
-    (scanned_in _ _ _ _ _ _ (ap (λ (w : Worker). w.client) (c.self.view_is ∙ c.in_ok-holding.ensures.left)) (ap (λ (w : Worker). w.client) c.give.ensures.client) (ap (λ (h : Held _). h.core.world) c.deref_mut.ensures.value) (Span c.args.table (end_of c.args.lower) (end_of c.args.upper)) (scanning c.scan-rows.result) _ c.scan-rows.ensures.kept c.scan-rows.ensures.read)
+    (scanned_in _ _ _ _ _ _ (ap (λ (w : Worker). w.client) (c.self.view_is ∙ c.in_ok-holding.ensures.left)) (ap (λ (w : Worker). w.client) c.give.ensures.client) (ap (λ (h : Held _). h.core.world) c.deref_mut.ensures.value) (Span c.args.table (end_of (option_copied c.args.lower)) (end_of (option_copied c.args.upper))) (scanning c.scan-rows.result) _ c.scan-rows.ensures.kept c.scan-rows.ensures.read)
