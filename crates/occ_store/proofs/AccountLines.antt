@@ -1,15 +1,17 @@
--- Lanes and sessions that end together.
-use Rattle.std.proofs.Common.{◌≡◌, ◌≢◌, ℕ, suc, ◌+◌, ◌≤◌, ◌<◌, Bool, true, false, List, [], ◌∷◌, ◌++◌, length, get_or, take, refl, sym, ap, subst, ◌∙◌, arith, append_assoc}
-use Rattle.std.specs.Prelude.{◌==◌, ◌&&◌, if◌then◌else◌, drop, Vec}
+-- Workers that end, and lanes and sessions that end together.
+use Rattle.std.proofs.Common.{◌≡◌, ◌≢◌, ℕ, suc, ◌+◌, ◌-◌, ◌≤◌, ◌<◌, Bool, true, false, List, [], ◌∷◌, ◌++◌, length, get_or, take, refl, sym, ap, subst, ◌∙◌, arith, append_assoc}
+use Rattle.std.specs.Prelude.{◌==◌, ◌&&◌, if◌then◌else◌, drop, sum_by, Vec}
 use Rattle.std.proofs.lemmas.Bool.{eqb-true, eq-eqb}
 use Rattle.std.proofs.lemmas.List.Sums.{sum_by-append}
 use Rattle.std.proofs.Math.ListN.{drop_of_length-le}
-use Rattle.std.proofs.lemmas.List.{drop_more, take_more, length_push, append-nil, nil_from_length, length-append}
+use Rattle.std.proofs.lemmas.List.{drop_more, take_all, take_more, length_push, append-nil, nil_from_length, length-append}
 use Rattle.occ_model.proofs.Tests.{and_true}
 use Rattle.occ_queue.specs.declared.items.Item as code_item
 use Rattle.occ_store.specs.Lanes.{LaneView}
+use Rattle.occ_store.specs.Names.{Named}
+use Rattle.occ_store.specs.Workers.{WorkerView}
 use Rattle.occ_store.specs.Sessions.{SessionView}
-use Rattle.occ_store.specs.Accounts.{LineView, IsLine, AreLines, IsRoom, AreRooms, are_numbered, is_complete, end_fault, rows_of}
+use Rattle.occ_store.specs.Accounts.{LineView, IsLine, IsWorkerLine, AreLines, AreAllLines, IsRoom, AreRooms, are_hired, are_numbered, is_complete, end_fault}
 use Rattle.occ_types.specs.declared.fault.Fault.{Fault}
 use Rattle.occ_types.specs.declared.fault.Fault.TheVariants.{Memory, NoSession}
 
@@ -58,6 +60,12 @@ module _ {Z : Type 0} where
       subst (λ (l : List LaneView × List SessionView × List (Vec (code_item.Item Z) Z)). AreRooms l.0 l.1 l.2) (λ i. (sym one i, sym two i, sym pushed i))
       (rooms_more (take place lanes) (take place sessions) rooms lane session room are is)
 
+  -- and of all
+  pub rooms_all : (lanes : List LaneView) (sessions : List SessionView) (rooms : List (Vec (code_item.Item Z) Z)) (place : ℕ) → length lanes ≤ place → length lanes ≡ length sessions → AreRooms (take place lanes) (take place sessions) rooms
+      → AreRooms lanes sessions rooms
+  rooms_all lanes sessions rooms place over same are =
+      subst (λ (l : List LaneView × List SessionView). AreRooms l.0 l.1 rooms) (λ i. (take_all place lanes over i, take_all place sessions (omega arith) i)) are
+
   -- where a lane is left, a session and a room are
   pub both_left : (lane : LaneView) (rest : List LaneView) (sessions : List SessionView) (rooms : List (Vec (code_item.Item Z) Z)) → AreRooms (lane ∷ rest) sessions rooms
       → (0 < length sessions) × (0 < length rooms)
@@ -66,31 +74,51 @@ module _ {Z : Type 0} where
   both_left lane rest (s ∷ ss) [] are = absurd are
   both_left lane rest (s ∷ ss) (r ∷ rs) are = (omega arith, omega arith)
 
--- of the lanes and sessions from a place on, those at the place come first
-from_here : (lanes : List LaneView) (sessions : List SessionView) (place : ℕ) (lane : LaneView) (session : SessionView) → place < length lanes → place < length sessions
-    → lane ≡ get_or lanes place lane → session ≡ get_or sessions place session
-    → are_numbered (suc place) (drop place lanes) (drop place sessions) ≡ are_numbered (suc place) (lane ∷ drop (place + 1) lanes) (session ∷ drop (place + 1) sessions)
-from_here lanes sessions place lane session in_lanes in_sessions at_lane at_session =
-    (λ i. are_numbered (suc place) (drop_more lanes place lane in_lanes i) (drop_more sessions place session in_sessions i))
-    ∙ (λ i. are_numbered (suc place) (sym at_lane i ∷ drop (place + 1) lanes) (sym at_session i ∷ drop (place + 1) sessions))
+not_equal : (a b : ℕ) → a ≢ b → false ≡ (a == b)
+not_equal a b other = go (a == b) refl
+  where
+    go : (x : Bool) → (a == b) ≡ x → false ≡ (a == b)
+    go true e = absurd (other (eqb-true a b e))
+    go false e = sym e
 
-suc_of : (place : ℕ) → place + 1 ≡ suc place
-suc_of place = omega arith
+true_false : true ≡ false → ⊥
+true_false e = cc e
+
+-- one number is another one's rest where their sum is the whole
+pub same_sum : (workers lanes count : ℕ) → workers ≤ count → (lanes == count - workers) ≡ (workers + lanes == count)
+same_sum workers lanes count within = go (lanes == count - workers) refl
+  where
+    go : (b : Bool) → (lanes == count - workers) ≡ b → (lanes == count - workers) ≡ (workers + lanes == count)
+    go true e =
+        let rest = eqb-true lanes (count - workers) e in
+        e ∙ sym (eq-eqb (workers + lanes) count (omega arith))
+    go false e = e ∙ not_equal (workers + lanes) count (λ (whole : workers + lanes ≡ count). true_false (sym (eq-eqb lanes (count - workers) (omega arith)) ∙ e))
+
+pub too_many : (workers lanes count : ℕ) → count < workers → false ≡ (workers + lanes == count)
+too_many workers lanes count over = not_equal (workers + lanes) count (λ (whole : workers + lanes ≡ count). absurd (omega arith))
+
+-- of the lanes and sessions from a place on, those at the place come first
+from_here : (from : ℕ) (lanes : List LaneView) (sessions : List SessionView) (place : ℕ) (lane : LaneView) (session : SessionView) → place < length lanes → place < length sessions
+    → lane ≡ get_or lanes place lane → session ≡ get_or sessions place session
+    → are_numbered from (drop place lanes) (drop place sessions) ≡ are_numbered from (lane ∷ drop (place + 1) lanes) (session ∷ drop (place + 1) sessions)
+from_here from lanes sessions place lane session in_lanes in_sessions at_lane at_session =
+    (λ i. are_numbered from (drop_more lanes place lane in_lanes i) (drop_more sessions place session in_sessions i))
+    ∙ (λ i. are_numbered from (sym at_lane i ∷ drop (place + 1) lanes) (sym at_session i ∷ drop (place + 1) sessions))
 
 -- they have their number
-module _ (lanes : List LaneView) (sessions : List SessionView) (place : ℕ) (lane : LaneView) (session : SessionView) (have : Bool) (all : Bool) (in_lanes : place < length lanes) (in_sessions : place < length sessions)
-    (at_lane : lane ≡ get_or lanes place lane) (at_session : session ≡ get_or sessions place session) (is : have ≡ (lane.session == place + 1 && session.session == place + 1))
-    (before : are_numbered (suc place) (drop place lanes) (drop place sessions) ≡ all) where
-  said : have ≡ (lane.session == suc place && session.session == suc place)
-  said = is ∙ ap (λ n. lane.session == n && session.session == n) (suc_of place)
+module _ (lanes : List LaneView) (sessions : List SessionView) (place from number next : ℕ) (lane : LaneView) (session : SessionView) (have : Bool) (all : Bool) (in_lanes : place < length lanes) (in_sessions : place < length sessions)
+    (at_lane : lane ≡ get_or lanes place lane) (at_session : session ≡ get_or sessions place session) (is : have ≡ (lane.session == number && session.session == number))
+    (same : number ≡ from) (more : suc from ≡ next) (before : are_numbered from (drop place lanes) (drop place sessions) ≡ all) where
+  said : have ≡ (lane.session == from && session.session == from)
+  said = is ∙ ap (λ n. lane.session == n && session.session == n) same
 
-  told : (lane.session == suc place && (session.session == suc place && are_numbered (suc (suc place)) (drop (place + 1) lanes) (drop (place + 1) sessions))) ≡ all
-  told = sym (from_here lanes sessions place lane session in_lanes in_sessions at_lane at_session) ∙ before
+  told : (lane.session == from && (session.session == from && are_numbered (suc from) (drop (place + 1) lanes) (drop (place + 1) sessions))) ≡ all
+  told = sym (from_here from lanes sessions place lane session in_lanes in_sessions at_lane at_session) ∙ before
 
-  pub numbered_on : have ≡ true → are_numbered (suc (place + 1)) (drop (place + 1) lanes) (drop (place + 1) sessions) ≡ all
+  pub numbered_on : have ≡ true → are_numbered next (drop (place + 1) lanes) (drop (place + 1) sessions) ≡ all
   numbered_on so =
-      ap (λ n. are_numbered (suc n) (drop (place + 1) lanes) (drop (place + 1) sessions)) (suc_of place)
-      ∙ go (lane.session == suc place) (session.session == suc place) (are_numbered (suc (suc place)) (drop (place + 1) lanes) (drop (place + 1) sessions)) (sym said ∙ so)
+      ap (λ n. are_numbered n (drop (place + 1) lanes) (drop (place + 1) sessions)) (sym more)
+      ∙ go (lane.session == from) (session.session == from) (are_numbered (suc from) (drop (place + 1) lanes) (drop (place + 1) sessions)) (sym said ∙ so)
       ∙ told
     where
       go : (a b c : Bool) → (a && b) ≡ true → c ≡ (a && (b && c))
@@ -100,21 +128,39 @@ module _ (lanes : List LaneView) (sessions : List SessionView) (place : ℕ) (la
 
   -- one of them has another
   pub numbered_not : have ≡ false → false ≡ all
-  numbered_not not = go (lane.session == suc place) (session.session == suc place) (are_numbered (suc (suc place)) (drop (place + 1) lanes) (drop (place + 1) sessions)) (sym said ∙ not) ∙ told
+  numbered_not not = go (lane.session == from) (session.session == from) (are_numbered (suc from) (drop (place + 1) lanes) (drop (place + 1) sessions)) (sym said ∙ not) ∙ told
     where
       go : (a b c : Bool) → (a && b) ≡ false → false ≡ (a && (b && c))
       go true true c e = cc
       go true false c e = refl
       go false b c e = refl
 
+none_left : {X : Type 0} (xs : List X) (place : ℕ) → length xs ≤ place → [] ≡ drop place xs
+none_left xs place over = sym (drop_of_length-le xs over)
+
 -- and nothing is left
-pub numbered_all : (lanes : List LaneView) (sessions : List SessionView) (place : ℕ) (all : Bool) → place ≡ length lanes → length lanes ≡ length sessions
-    → are_numbered (suc place) (drop place lanes) (drop place sessions) ≡ all → true ≡ all
-numbered_all lanes sessions place all end same before =
-    (λ i. are_numbered (suc place) (none lanes (omega arith) i) (none sessions (omega arith) i)) ∙ before
-  where
-    none : {X : Type 0} (xs : List X) → length xs ≤ place → [] ≡ drop place xs
-    none xs over = sym (drop_of_length-le xs over)
+pub numbered_all : (lanes : List LaneView) (sessions : List SessionView) (place from : ℕ) (all : Bool) → place ≡ length lanes → length lanes ≡ length sessions
+    → are_numbered from (drop place lanes) (drop place sessions) ≡ all → true ≡ all
+numbered_all lanes sessions place from all end same before =
+    (λ i. are_numbered from (none_left lanes place (omega arith) i) (none_left sessions place (omega arith) i)) ∙ before
+
+-- a worker has its number, or another
+module _ (workers : List WorkerView) (place number session : ℕ) (worker : WorkerView) (all : Bool) (below : place < length workers) (at : worker ≡ get_or workers place worker) (own : session ≡ worker.session)
+    (same : number ≡ suc place) (before : are_hired (suc place) (drop place workers) ≡ all) where
+  hired_here : (worker.session == suc place && are_hired (suc (suc place)) (drop (place + 1) workers)) ≡ all
+  hired_here = sym (ap (are_hired (suc place)) (drop_more workers place worker below ∙ (λ i. sym at i ∷ drop (place + 1) workers))) ∙ before
+
+  pub hired_on : session ≡ number → are_hired (suc (place + 1)) (drop (place + 1) workers) ≡ all
+  hired_on so =
+      let next : suc (place + 1) ≡ suc (suc place) = omega arith in
+      ap (λ n. are_hired n (drop (place + 1) workers)) next ∙ ap (λ b. b && are_hired (suc (suc place)) (drop (place + 1) workers)) (sym (eq-eqb worker.session (suc place) (sym own ∙ so ∙ same))) ∙ hired_here
+
+  pub hired_not : session ≢ number → false ≡ all
+  hired_not not =
+      ap (λ b. b && are_hired (suc (suc place)) (drop (place + 1) workers)) (not_equal worker.session (suc place) (λ e. not (own ∙ e ∙ sym same))) ∙ hired_here
+
+pub hired_all : (workers : List WorkerView) (place : ℕ) (all : Bool) → place ≡ length workers → are_hired (suc place) (drop place workers) ≡ all → true ≡ all
+hired_all workers place all end before = ap (are_hired (suc place)) (none_left workers place (omega arith)) ∙ before
 
 -- of lanes and sessions that are numbered the first ones have the same number, and the others are numbered too
 pub numbered_next : (from : ℕ) (lane : LaneView) (session : SessionView) (lanes : List LaneView) (sessions : List SessionView) → are_numbered from (lane ∷ lanes) (session ∷ sessions) ≡ true
@@ -124,21 +170,90 @@ numbered_next from lane session lanes sessions numbered =
     let second = and_true (session.session == from) (are_numbered (suc from) lanes sessions) first.1 in
     (eqb-true lane.session from first.0 ∙ sym (eqb-true session.session from second.0), second.1)
 
--- the two lists have as many as the store has sessions
-pub count_complete : (count : ℕ) (lanes : List LaneView) (sessions : List SessionView) → is_complete count lanes sessions ≡ true
-    → (length lanes ≡ count) × (length sessions ≡ count) × (are_numbered 1 lanes sessions ≡ true)
-count_complete count lanes sessions complete =
-    let first = and_true (length lanes == count) (length sessions == count && are_numbered 1 lanes sessions) complete in
-    let second = and_true (length sessions == count) (are_numbered 1 lanes sessions) first.1 in
-    (eqb-true (length lanes) count first.0, eqb-true (length sessions) count second.0, second.1)
+-- ---- whether they are all
 
-plus_one : (n : ℕ) → n + 1 ≡ suc n
-plus_one n = omega arith
+module _ (named : Named) (workers : List WorkerView) (lanes : List LaneView) (sessions : List SessionView) where
+  -- all have as many as the store has sessions, and are numbered
+  pub count_complete : is_complete named workers lanes sessions ≡ true
+      → (length workers + length lanes ≡ named.settings.sessions) × (length sessions ≡ length lanes) × (are_numbered (suc (length workers)) lanes sessions ≡ true)
+  count_complete complete =
+      let first = and_true (length workers + length lanes == named.settings.sessions) (length sessions == length lanes && (are_hired 1 workers && are_numbered (suc (length workers)) lanes sessions)) complete in
+      let second = and_true (length sessions == length lanes) (are_hired 1 workers && are_numbered (suc (length workers)) lanes sessions) first.1 in
+      let third = and_true (are_hired 1 workers) (are_numbered (suc (length workers)) lanes sessions) second.1 in
+      (eqb-true (length workers + length lanes) named.settings.sessions first.0, eqb-true (length sessions) (length lanes) second.0, third.1)
 
-rows_more : (lanes : List LaneView) (lane : LaneView) → rows_of (lanes ++ lane ∷ []) ≡ rows_of lanes + lane.entered
-rows_more lanes lane =
-    let one : 0 + lane.entered ≡ lane.entered = omega arith in
-    sum_by-append (λ (l : LaneView). l.entered) lanes (lane ∷ []) ∙ ap (λ n. rows_of lanes + n) one
+  -- there are too many or too few
+  module _ (tested : Bool) (is : tested ≡ (length workers + length lanes == named.settings.sessions)) where
+    pub other_count : tested ≡ false → false ≡ is_complete named workers lanes sessions
+    other_count not = ap (λ b. b && (length sessions == length lanes && (are_hired 1 workers && are_numbered (suc (length workers)) lanes sessions))) (sym not ∙ is)
+
+    pub same_count : tested ≡ true → length workers + length lanes ≡ named.settings.sessions
+    same_count so = eqb-true (length workers + length lanes) named.settings.sessions (sym is ∙ so)
+
+  module _ (same : length workers + length lanes ≡ named.settings.sessions) where
+    pub other_sessions : length sessions ≢ length lanes → false ≡ is_complete named workers lanes sessions
+    other_sessions other =
+        ap (λ b. b && (are_hired 1 workers && are_numbered (suc (length workers)) lanes sessions)) (not_equal (length sessions) (length lanes) other)
+        ∙ ap (λ b. b && (length sessions == length lanes && (are_hired 1 workers && are_numbered (suc (length workers)) lanes sessions))) (sym (eq-eqb (length workers + length lanes) named.settings.sessions same))
+
+    -- and where there are as many the numbers decide
+    module _ (so : length sessions ≡ length lanes) where
+      pub by_numbers : (hired numbered : Bool) → hired ≡ are_hired 1 workers → numbered ≡ are_numbered (suc (length workers)) lanes sessions → (hired && numbered) ≡ is_complete named workers lanes sessions
+      by_numbers hired numbered is are =
+          (λ i. is i && are i)
+          ∙ (λ i. sym (eq-eqb (length workers + length lanes) named.settings.sessions same) i && (sym (eq-eqb (length sessions) (length lanes) so) i && (are_hired 1 workers && are_numbered (suc (length workers)) lanes sessions)))
+
+      pub by_hired : false ≡ are_hired 1 workers → false ≡ is_complete named workers lanes sessions
+      by_hired is = ap (λ b. b && are_numbered (suc (length workers)) lanes sessions) is ∙ by_numbers (are_hired 1 workers) (are_numbered (suc (length workers)) lanes sessions) refl refl
+
+  -- whether they were tested as complete
+  pub no_session : (tested : Bool) → tested ≡ is_complete named workers lanes sessions → tested ≡ false → NoSession ≡ end_fault named workers lanes sessions
+  no_session tested is not = ap (λ b. if b then Memory else NoSession) (sym not ∙ is)
+
+  pub no_memory : (fault : Fault) → is_complete named workers lanes sessions ≡ true → fault ≡ Memory → fault ≡ end_fault named workers lanes sessions
+  no_memory fault complete is = is ∙ ap (λ b. if b then Memory else NoSession) (sym complete)
+
+-- ---- workers
+
+-- one line more
+pub worker_lines_more : (workers : List WorkerView) (lines : List LineView) (worker : WorkerView) (line : LineView) → AreAllLines workers [] [] lines → IsWorkerLine worker line → AreAllLines (workers ++ worker ∷ []) [] [] (lines ++ line ∷ [])
+worker_lines_more [] [] worker line are is = (is, tt)
+worker_lines_more [] (y ∷ ys) worker line are is = absurd are
+worker_lines_more (x ∷ xs) [] worker line are is = absurd are
+worker_lines_more (x ∷ xs) (y ∷ ys) worker line are is = (are.0, worker_lines_more xs ys worker line are.1 is)
+
+-- the lines of the lanes come behind
+pub all_lines : (workers : List WorkerView) (lanes : List LaneView) (sessions : List SessionView) (first own : List LineView) → AreAllLines workers [] [] first → AreLines lanes sessions own → AreAllLines workers lanes sessions (first ++ own)
+all_lines [] lanes sessions [] own are is = is
+all_lines [] lanes sessions (y ∷ ys) own are is = absurd are
+all_lines (x ∷ xs) lanes sessions [] own are is = absurd are
+all_lines (x ∷ xs) lanes sessions (y ∷ ys) own are is = (are.0, all_lines xs lanes sessions ys own are.1 is)
+
+-- a sum over one more
+pub sum_more : {X : Type 0} (measure : X → ℕ) (before : List X) (x : X) → sum_by measure (before ++ x ∷ []) ≡ sum_by measure before + measure x
+sum_more measure before x =
+    let one : 0 + measure x ≡ measure x = omega arith in
+    sum_by-append measure before (x ∷ []) ∙ ap (λ n. sum_by measure before + n) one
+
+-- what is held of so many counts one more, and its measure
+pub counted_more : (now old before one : ℕ) {X : Type 0} (yielded : List X) (x : X) → now ≡ before + one → one ≡ 1 → before ≡ old + length yielded → now ≡ old + length (yielded ++ x ∷ [])
+counted_more now old before one yielded x is single so =
+    let many = length_push yielded x in
+    omega arith
+
+pub measured_more : {X : Type 0} (measure : X → ℕ) (now old before one : ℕ) (yielded : List X) (x : X) → now ≡ before + one → one ≡ measure x → before ≡ old + sum_by measure yielded → now ≡ old + sum_by measure (yielded ++ x ∷ [])
+measured_more measure now old before one yielded x is single so =
+    let many = sum_more measure yielded x in
+    omega arith
+
+-- and over all
+pub measured_all : {X : Type 0} (measure : X → ℕ) (now old : ℕ) (yielded all : List X) → now ≡ old + sum_by measure yielded → yielded ≡ all → now ≡ old + sum_by measure all
+measured_all measure now old yielded all so same = so ∙ ap (λ l. old + sum_by measure l) same
+
+pub worker_lines_end : (workers yielded : List WorkerView) (lines : List LineView) → AreAllLines yielded [] [] lines → yielded ≡ workers → AreAllLines workers [] [] lines
+worker_lines_end workers yielded lines are same = subst (λ (w : List WorkerView). AreAllLines w [] [] lines) same are
+
+-- ---- lanes and sessions together
 
 -- a list that is itself with more behind it has nothing more
 nothing_more : (lanes left : List LaneView) → lanes ≡ lanes ++ left → left ≡ []
@@ -146,72 +261,42 @@ nothing_more lanes left is =
     let count : length lanes ≡ length lanes + length left = ap length is ∙ length-append lanes left in
     nil_from_length left (omega arith)
 
-not_equal : (a b : ℕ) → a ≢ b → false ≡ (a == b)
-not_equal a b other = go (a == b) refl
-  where
-    go : (x : Bool) → (a == b) ≡ x → false ≡ (a == b)
-    go true e = absurd (other (eqb-true a b e))
-    go false e = sym e
-
--- one list has another length
-pub other_lanes : (count : ℕ) (lanes : List LaneView) (sessions : List SessionView) → length lanes ≢ count → false ≡ is_complete count lanes sessions
-other_lanes count lanes sessions other = ap (λ b. b && (length sessions == count && are_numbered 1 lanes sessions)) (not_equal (length lanes) count other)
-
-pub other_sessions : (count : ℕ) (lanes : List LaneView) (sessions : List SessionView) → length lanes ≡ count → length sessions ≢ count → false ≡ is_complete count lanes sessions
-other_sessions count lanes sessions same other =
-    ap (λ b. b && are_numbered 1 lanes sessions) (not_equal (length sessions) count other)
-    ∙ ap (λ b. b && (length sessions == count && are_numbered 1 lanes sessions)) (sym (eq-eqb (length lanes) count same))
-
--- and where both have it the numbers decide
-pub by_numbers : (count : ℕ) (lanes : List LaneView) (sessions : List SessionView) (numbered : Bool) → length lanes ≡ count → length sessions ≡ count → numbered ≡ are_numbered 1 lanes sessions → numbered ≡ is_complete count lanes sessions
-by_numbers count lanes sessions numbered same so is =
-    is ∙ (λ i. sym (eq-eqb (length lanes) count same) i && (sym (eq-eqb (length sessions) count so) i && are_numbered 1 lanes sessions))
-
--- whether the lists were tested as complete
-module _ (tested : Bool) (count all : ℕ) (lanes : List LaneView) (sessions : List SessionView) (is : tested ≡ is_complete count lanes sessions) (same : count ≡ all) where
-  pub complete_by : tested ≡ true → is_complete all lanes sessions ≡ true
-  complete_by so = ap (λ n. is_complete n lanes sessions) (sym same) ∙ sym is ∙ so
-
-  pub no_session : tested ≡ false → NoSession ≡ end_fault all lanes sessions
-  no_session not = ap (λ b. if b then Memory else NoSession) (sym not ∙ is ∙ ap (λ n. is_complete n lanes sessions) same)
-
-pub no_memory : (all : ℕ) (lanes : List LaneView) (sessions : List SessionView) (fault : Fault) → is_complete all lanes sessions ≡ true → fault ≡ Memory → fault ≡ end_fault all lanes sessions
-no_memory all lanes sessions fault complete is = is ∙ ap (λ b. if b then Memory else NoSession) (sym complete)
-
 module _ {Z : Type 0} where
   nobody : (clients : List SessionView) (rooms : List (Vec (code_item.Item Z) Z)) → AreRooms [] clients rooms → clients ≡ []
   nobody [] rooms are = refl
   nobody (s ∷ ss) [] are = absurd are
   nobody (s ∷ ss) (r ∷ rs) are = absurd are
 
-  -- So far: the lines of the lanes and sessions that ended, a room for each that is to come, and what the parts of the ledger that are here count.
-  pub record Walked (lanes yielded : List LaneView) (sessions clients : List SessionView) (rooms : List (Vec (code_item.Item Z) Z)) (lines : List LineView) (parts amount : ℕ) : Type 0 where
+  -- So far: the lines of the lanes and sessions that ended, behind those that were there, and a room for each that is to come.
+  pub record Walked (lanes yielded : List LaneView) (sessions clients : List SessionView) (rooms : List (Vec (code_item.Item Z) Z)) (before lines : List LineView) : Type 0 where
     pub done : List SessionView
     pub left : List LaneView
+    pub own : List LineView
+    pub next : ℕ
     pub clients_left : sessions ≡ done ++ clients
     pub lanes_left : lanes ≡ yielded ++ left
-    pub are_lines : AreLines yielded done lines
+    pub own_lines : lines ≡ before ++ own
+    pub are_lines : AreLines yielded done own
     pub are_rooms : AreRooms left clients rooms
-    pub numbered : are_numbered (suc (length yielded)) left clients ≡ true
-    pub parts_here : parts ≡ length yielded
-    pub rows_here : amount ≡ rows_of yielded
+    pub numbered : are_numbered next left clients ≡ true
 
-  pub walk_begins : (count : ℕ) (lanes : List LaneView) (sessions clients : List SessionView) (rooms given : List (Vec (code_item.Item Z) Z)) (lines : List LineView) → is_complete count lanes sessions ≡ true → AreRooms lanes sessions rooms
-      → clients ≡ sessions → given ≡ rooms → lines ≡ [] → Walked lanes [] sessions clients given lines 0 0
-  walk_begins count lanes sessions clients rooms given lines complete are same own none =
-      subst (λ (l : List SessionView × List (Vec (code_item.Item Z) Z) × List LineView). Walked lanes [] sessions l.0 l.1 l.2 0 0) (λ i. (sym same i, sym own i, sym none i)) (record {
+  pub walk_begins : (from : ℕ) (lanes : List LaneView) (sessions clients : List SessionView) (rooms given : List (Vec (code_item.Item Z) Z)) (before : List LineView) → are_numbered from lanes sessions ≡ true → AreRooms lanes sessions rooms
+      → clients ≡ sessions → given ≡ rooms → Walked lanes [] sessions clients given before before
+  walk_begins from lanes sessions clients rooms given before numbered are same own =
+      subst (λ (l : List SessionView × List (Vec (code_item.Item Z) Z)). Walked lanes [] sessions l.0 l.1 before before) (λ i. (sym same i, sym own i)) (record {
         done = [];
         left = lanes;
+        own = [];
+        next = from;
         clients_left = refl;
         lanes_left = refl;
+        own_lines = sym (append-nil before);
         are_lines = tt;
         are_rooms = are;
-        numbered = (count_complete count lanes sessions complete).2;
-        parts_here = refl;
-        rows_here = refl;
+        numbered = numbered;
       })
 
-  module _ (lanes yielded : List LaneView) (sessions clients : List SessionView) (rooms : List (Vec (code_item.Item Z) Z)) (lines : List LineView) (parts amount : ℕ) (walked : Walked lanes yielded sessions clients rooms lines parts amount)
+  module _ (lanes yielded : List LaneView) (sessions clients : List SessionView) (rooms : List (Vec (code_item.Item Z) Z)) (before lines : List LineView) (walked : Walked lanes yielded sessions clients rooms before lines)
       (lane : LaneView) (below : length yielded < length lanes) (at : lane ≡ get_or lanes (length yielded) lane) where
     here : (rest : List LaneView) × (walked.left ≡ lane ∷ rest)
     here = first_left lanes yielded walked.left lane walked.lanes_left below at
@@ -219,8 +304,8 @@ module _ {Z : Type 0} where
     here_rooms : AreRooms (lane ∷ here.0) clients rooms
     here_rooms = subst (λ (l : List LaneView). AreRooms l clients rooms) here.1 walked.are_rooms
 
-    here_numbered : are_numbered (suc (length yielded)) (lane ∷ here.0) clients ≡ true
-    here_numbered = ap (λ (l : List LaneView). are_numbered (suc (length yielded)) l clients) (sym here.1) ∙ walked.numbered
+    here_numbered : are_numbered walked.next (lane ∷ here.0) clients ≡ true
+    here_numbered = ap (λ (l : List LaneView). are_numbered walked.next l clients) (sym here.1) ∙ walked.numbered
 
     -- a session and a room are there
     pub both_here : (0 < length clients) × (0 < length rooms)
@@ -231,8 +316,8 @@ module _ {Z : Type 0} where
       theirs : IsRoom lane session room × AreRooms here.0 others spare
       theirs = subst (λ (l : List SessionView × List (Vec (code_item.Item Z) Z)). AreRooms (lane ∷ here.0) l.0 l.1) (λ i. (first i, next i)) here_rooms
 
-      both_numbered : (lane.session ≡ session.session) × (are_numbered (suc (suc (length yielded))) here.0 others ≡ true)
-      both_numbered = numbered_next (suc (length yielded)) lane session here.0 others (ap (λ (l : List SessionView). are_numbered (suc (length yielded)) (lane ∷ here.0) l) (sym first) ∙ here_numbered)
+      both_numbered : (lane.session ≡ session.session) × (are_numbered (suc walked.next) here.0 others ≡ true)
+      both_numbered = numbered_next walked.next lane session here.0 others (ap (λ (l : List SessionView). are_numbered walked.next (lane ∷ here.0) l) (sym first) ∙ here_numbered)
 
       pub own_room : IsRoom lane session room
       own_room = theirs.0
@@ -240,29 +325,28 @@ module _ {Z : Type 0} where
       pub own_session : lane.session ≡ session.session
       own_session = both_numbered.0
 
-      pub walk_on : (line : LineView) (after : List LineView) (more sum : ℕ) → IsLine lane session line → after ≡ lines ++ line ∷ [] → more ≡ parts + 1 → sum ≡ amount + lane.entered
-          → Walked lanes (yielded ++ lane ∷ []) sessions others spare after more sum
-      walk_on line after more sum is pushed one counts =
-          let count = length_push yielded lane in record {
-            done = walked.done ++ session ∷ [];
-            left = here.0;
-            clients_left = walked.clients_left ∙ ap (λ (l : List SessionView). walked.done ++ l) first ∙ sym (append_assoc walked.done (session ∷ []) others);
-            lanes_left = walked.lanes_left ∙ ap (λ (l : List LaneView). yielded ++ l) here.1 ∙ sym (append_assoc yielded (lane ∷ []) here.0);
-            are_lines = subst (AreLines (yielded ++ lane ∷ []) (walked.done ++ session ∷ [])) (sym pushed) (lines_more yielded walked.done lines lane session line walked.are_lines is);
-            are_rooms = theirs.1;
-            numbered = ap (λ n. are_numbered (suc n) here.0 others) (count ∙ plus_one (length yielded)) ∙ both_numbered.1;
-            parts_here = one ∙ ap (λ n. n + 1) walked.parts_here ∙ sym count;
-            rows_here = counts ∙ ap (λ n. n + lane.entered) walked.rows_here ∙ sym (rows_more yielded lane);
-          }
+      pub walk_on : (line : LineView) (after : List LineView) → IsLine lane session line → after ≡ lines ++ line ∷ [] → Walked lanes (yielded ++ lane ∷ []) sessions others spare before after
+      walk_on line after is pushed = record {
+        done = walked.done ++ session ∷ [];
+        left = here.0;
+        own = walked.own ++ line ∷ [];
+        next = suc walked.next;
+        clients_left = walked.clients_left ∙ ap (λ (l : List SessionView). walked.done ++ l) first ∙ sym (append_assoc walked.done (session ∷ []) others);
+        lanes_left = walked.lanes_left ∙ ap (λ (l : List LaneView). yielded ++ l) here.1 ∙ sym (append_assoc yielded (lane ∷ []) here.0);
+        own_lines = pushed ∙ ap (λ (l : List LineView). l ++ line ∷ []) walked.own_lines ∙ append_assoc before walked.own (line ∷ []);
+        are_lines = lines_more yielded walked.done walked.own lane session line walked.are_lines is;
+        are_rooms = theirs.1;
+        numbered = both_numbered.1;
+      }
 
   -- all have ended
-  pub walk_ends : (lanes yielded : List LaneView) (sessions clients : List SessionView) (rooms : List (Vec (code_item.Item Z) Z)) (lines : List LineView) (parts amount : ℕ) → Walked lanes yielded sessions clients rooms lines parts amount
-      → yielded ≡ lanes → AreLines lanes sessions lines × (parts ≡ length lanes) × (amount ≡ rows_of lanes)
-  walk_ends lanes yielded sessions clients rooms lines parts amount walked all =
+  pub walk_ends : (lanes yielded : List LaneView) (sessions clients : List SessionView) (rooms : List (Vec (code_item.Item Z) Z)) (before lines : List LineView) → Walked lanes yielded sessions clients rooms before lines
+      → yielded ≡ lanes → (own : List LineView) × (lines ≡ before ++ own) × AreLines lanes sessions own
+  walk_ends lanes yielded sessions clients rooms before lines walked all =
       let none : walked.left ≡ [] = nothing_more lanes walked.left (walked.lanes_left ∙ ap (λ (l : List LaneView). l ++ walked.left) all) in
       let gone : clients ≡ [] = nobody clients rooms (subst (λ (l : List LaneView). AreRooms l clients rooms) none walked.are_rooms) in
       let whole : sessions ≡ walked.done = walked.clients_left ∙ ap (λ (l : List SessionView). walked.done ++ l) gone ∙ append-nil walked.done in (
-        subst (λ (l : List LaneView × List SessionView). AreLines l.0 l.1 lines) (λ i. (all i, sym whole i)) walked.are_lines,
-        walked.parts_here ∙ ap length all,
-        walked.rows_here ∙ ap rows_of all,
+        walked.own,
+        walked.own_lines,
+        subst (λ (l : List LaneView × List SessionView). AreLines l.0 l.1 walked.own) (λ i. (all i, sym whole i)) walked.are_lines,
       )

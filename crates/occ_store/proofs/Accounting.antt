@@ -1,5 +1,5 @@
 -- What a lane took adds up, whatever happens to the lane.
-use Rattle.std.proofs.Common.{◌≡◌, ℕ, ◌+◌, ◌≤◌, Bool, true, false, List, [], ◌∷◌, ◌++◌, length, Option, is_some, Result, IfSome, inl, inr, refl, sym, ap, subst, ◌∙◌, arith}
+use Rattle.std.proofs.Common.{◌≡◌, ℕ, ◌+◌, ◌-◌, ◌≤◌, Bool, true, false, List, [], ◌∷◌, ◌++◌, length, Option, is_some, Result, IfSome, inl, inr, refl, sym, ap, subst, ◌∙◌, arith}
 use Rattle.std.specs.Prelude.{◌⊎◌, ◌&&◌, ◌||◌}
 use Rattle.std.specs.List.{list_any}
 use Rattle.std.proofs.lemmas.List.{length_push}
@@ -17,7 +17,8 @@ use Rattle.occ_filed.specs.Filed.{token_of}
 use Rattle.occ_store.specs.Locked.{Locked, rows_entered}
 use Rattle.occ_store.specs.Lanes.{Left, Nothing, Kept, Open, Decided, LaneView, AddsUp, count_if, is_closed, is_nothing, open_rows, token_left, left_entering, TakesIn, reached, Advances, GoesOn}
 use Rattle.occ_store.specs.Sessions.{SessionView}
-use Rattle.occ_store.specs.Accounts.{kept_of, LineView, IsLine}
+use Rattle.occ_store.specs.Workers.{WorkerView, HandedIn, unentered}
+use Rattle.occ_store.specs.Accounts.{kept_of, LineView, IsLine, IsWorkerLine}
 use Rattle.occ_store.specs.declared.serving.Point.{Point}
 use Rattle.occ_store.proofs.LaneSteps.{own_entering, room_entering}
 
@@ -178,4 +179,26 @@ line_made seen lane told session line views shows pushed taken rows kept adds wh
           ∙ all_taken seen.receiver.taken seen.entered seen.left adds
           ∙ (λ i. sym rows i + count_if (is_closed seen) + count_if (is_some (sym kept i)));
       whole = whole;
+    })
+
+unentered_kept : (left : Left) → unentered left ≡ count_if (is_some (kept_of left))
+unentered_kept Nothing = refl
+unentered_kept (Kept item) = refl
+unentered_kept (Open number token) = refl
+unentered_kept (Decided number verdict) = refl
+
+-- the line that is made of a worker
+pub worker_line_made : (seen worker : WorkerView) (line : LineView) → seen ≡ worker → line.pushed ≡ seen.last - seen.first → line.taken ≡ seen.last - seen.first → line.rows ≡ seen.entered → line.kept ≡ kept_of seen.left
+    → HandedIn seen.first seen.last seen.entered seen.left → line.left ≡ [] → IsWorkerLine worker line
+worker_line_made seen worker line views pushed taken rows kept handed none =
+    subst (λ (w : WorkerView). IsWorkerLine w line) views (record {
+      pushed = pushed;
+      taken = taken ∙ sym pushed;
+      rows = rows;
+      kept = kept;
+      adds_up =
+          let is : seen.last ≡ seen.first + (seen.entered + unentered seen.left) = handed in
+          let all : seen.last - seen.first ≡ seen.entered + unentered seen.left = omega arith in
+          pushed ∙ all ∙ ap (λ n. seen.entered + n) (unentered_kept seen.left) ∙ (λ i. sym rows i + count_if (is_some (sym kept i)));
+      whole = none;
     })

@@ -16,3 +16,5 @@ pub mod Rounds
 pub mod Submittable
 pub mod Working
 pub mod Waiting
+pub mod Ending
+pub mod WorkerTries

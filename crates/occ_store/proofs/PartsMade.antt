@@ -1,11 +1,10 @@
--- What becomes of the sessions of a frame, part by part.
-use Rattle.std.proofs.Common.{◌≡◌, ℕ, suc, ◌+◌, ◌-◌, ◌<◌, ◌≤◌, List, [], ◌∷◌, ◌++◌, map, length, get_or, refl, sym, ap, subst, ◌∙◌, arith, zero}
+-- What becomes of the workers and of the other sessions of a frame, one after another.
+use Rattle.std.proofs.Common.{◌≡◌, ℕ, suc, ◌+◌, ◌-◌, ◌<◌, ◌≤◌, List, [], ◌∷◌, ◌++◌, map, length, get_or, take, drop, refl, sym, ap, subst, ◌∙◌, arith, zero}
 use Rattle.std.specs.List.{range_with_len}
 use Rattle.std.proofs.lemmas.List.{get_or-map}
-use Rattle.std.proofs.lemmas.List.FromFn.{get_or-map-range_with_len, map-range_with_len_more}
+use Rattle.std.proofs.lemmas.List.FromFn.{get_or-map-range_with_len, length-map-range_with_len, take-map-range_with_len, map-range_with_len_more}
 use Rattle.atomic_table.specs.Seated.{TableId}
 use Rattle.occ_types.specs.Schema.{Schema}
-use Rattle.occ_types.specs.declared.limits.TheConstants.{MAX_NUMBER}
 use Rattle.boxcar.specs.Table.{Shelves}
 use Rattle.occ_model.specs.Log.{Base, last_folded}
 use Rattle.occ_model.specs.World.{Settings, World, resumed, next_place}
@@ -20,52 +19,145 @@ use Rattle.occ_store.specs.Names.{Named, nowhere, lane_of}
 use Rattle.occ_store.specs.Locked.{IsLocked}
 use Rattle.occ_store.specs.Sessions.{SessionView}
 use Rattle.occ_store.specs.Lanes.{LaneView}
-use Rattle.occ_store.specs.Frames.{PartView, IsPart, AreParts, NumbersHaveRoom, IsFrame, named_by, fresh_session, fresh_lane, fresh_sessions, fresh_lanes}
+use Rattle.occ_store.specs.Workers.{WorkerView}
+use Rattle.occ_store.specs.Frames.{PartView, PlaceView, AreSeats, NumbersHaveRoom, IsPart, AreParts, IsPlace, ArePlaces, IsFrame, named_by, fresh_worker, fresh_session, fresh_lane, workers_from, sessions_from, lanes_from}
+
+-- ---- the seats
+
+range_dropped : {X : Type 0} (f : ℕ → X) (from count over : ℕ) → drop over (map f (range_with_len from count)) ≡ map f (range_with_len (from + over) (count - over))
+range_dropped f from count zero =
+    let same : from ≡ from + zero = omega arith in
+    let all : count ≡ count - zero = omega arith in
+    (λ i. map f (range_with_len (same i) (all i)))
+range_dropped f from zero (suc over) =
+    let none : zero - suc over ≡ zero = omega arith in
+    ap (λ n. map f (range_with_len (from + suc over) n)) (sym none)
+range_dropped f from (suc count) (suc over) =
+    let number : from + 1 + over ≡ from + suc over = omega arith in
+    let left : count - over ≡ suc count - suc over = omega arith in
+    range_dropped f (from + 1) count over ∙ (λ i. map f (range_with_len (number i) (left i)))
+
+-- of the seats of a board, the first ones
+pub first_seats : (board : TableId) (seats kept : List Seated) (count sessions : ℕ) → seats ≡ map (fresh board) (range_with_len 1 sessions) → count ≤ sessions → kept ≡ take count seats → AreSeats board 1 kept × (length kept ≡ count)
+first_seats board seats kept count sessions are within is =
+    let cut : kept ≡ map (fresh board) (range_with_len 1 count) = is ∙ ap (take count) are ∙ take-map-range_with_len (fresh board) 1 sessions count within in
+    let many : length kept ≡ count = ap length cut ∙ length-map-range_with_len (fresh board) 1 count in
+    (cut ∙ ap (λ n. map (fresh board) (range_with_len 1 n)) (sym many), many)
+
+-- and the others
+pub other_seats : (board : TableId) (seats others : List Seated) (count sessions : ℕ) → seats ≡ map (fresh board) (range_with_len 1 sessions) → count ≤ sessions → others ≡ drop count seats
+    → AreSeats board (suc count) others × (count + length others ≡ sessions)
+other_seats board seats others count sessions are within is =
+    let next : 1 + count ≡ suc count = omega arith in
+    let cut : others ≡ map (fresh board) (range_with_len (suc count) (sessions - count)) = is ∙ ap (drop count) are ∙ range_dropped (fresh board) 1 sessions count ∙ ap (λ n. map (fresh board) (range_with_len n (sessions - count))) next in
+    let many : length others ≡ sessions - count = ap length cut ∙ length-map-range_with_len (fresh board) (suc count) (sessions - count) in
+    (cut ∙ ap (λ n. map (fresh board) (range_with_len (suc count) n)) (sym many), omega arith)
+
+-- where the numbers of so many sessions have room, those of fewer have
+pub fewer_have_room : (base : Base) (sessions count : ℕ) → NumbersHaveRoom base sessions → count ≤ sessions → NumbersHaveRoom base count
+fewer_have_room base sessions count room within session from to = room session from (omega arith)
 
 -- the seat at a place
-pub seat_at : (board : TableId) (seats : List Seated) (count place : ℕ) (seat : Seated) → seats ≡ map (fresh board) (range_with_len 1 count) → place < count → seat ≡ get_or seats place seat
-    → seat ≡ fresh board (1 + place)
-seat_at board seats count place seat are below at =
-    at ∙ ap (λ (l : List Seated). get_or l place seat) are ∙ get_or-map-range_with_len (fresh board) 1 count place (1 + place) seat below refl
+pub seat_at : (board : TableId) (from : ℕ) (seats : List Seated) (place session : ℕ) (seat : Seated) → AreSeats board from seats → place < length seats → seat ≡ get_or seats place seat → from + place ≡ session
+    → seat ≡ fresh board session
+seat_at board from seats place session seat are below at number =
+    at ∙ ap (λ (l : List Seated). get_or l place seat) are ∙ get_or-map-range_with_len (fresh board) from (length seats) place session seat below number
+
+-- ---- places and parts
+
+-- one place more
+pub places_more : (board : TableId) (schema : Schema) (base : Base) (from : ℕ) (places : List PlaceView) (session last : ℕ) (place : PlaceView) → ArePlaces board schema base from places
+    → session ≡ from + length places → last ≡ last_folded base session → IsPlace board schema session last place → ArePlaces board schema base from (places ++ place ∷ [])
+places_more board schema base from [] session last place are number behind is =
+    let here : session ≡ from = omega arith in
+    (subst (λ n. IsPlace board schema n (last_folded base n) place) here (subst (λ n. IsPlace board schema session n place) behind is), tt)
+places_more board schema base from (first ∷ places) session last place are number behind is = (are.0, places_more board schema base (suc from) places session last place are.1 (omega arith) behind is)
 
 -- one part more
-pub parts_more : (board : TableId) (schema : Schema) (base : Base) (from : ℕ) (parts : List PartView) (part : PartView) → AreParts board schema base from parts
-    → IsPart board schema (from + length parts) (last_folded base (from + length parts)) part → AreParts board schema base from (parts ++ part ∷ [])
-parts_more board schema base from [] part are is = (subst (λ n. IsPart board schema n (last_folded base n) part) (omega arith) is, tt)
-parts_more board schema base from (first ∷ parts) part are is =
-    (are.0, parts_more board schema base (suc from) parts part are.1 (subst (λ n. IsPart board schema n (last_folded base n) part) (omega arith) is))
+pub parts_more : (board : TableId) (schema : Schema) (base : Base) (from : ℕ) (parts : List PartView) (session last : ℕ) (part : PartView) → AreParts board schema base from parts
+    → session ≡ from + length parts → last ≡ last_folded base session → IsPart board schema session last part → AreParts board schema base from (parts ++ part ∷ [])
+parts_more board schema base from [] session last part are number behind is =
+    let here : session ≡ from = omega arith in
+    (subst (λ n. IsPart board schema n (last_folded base n) part) here (subst (λ n. IsPart board schema session n part) behind is), tt)
+parts_more board schema base from (first ∷ parts) session last part are number behind is = (are.0, parts_more board schema base (suc from) parts session last part are.1 (omega arith) behind is)
 
--- a part of the number that comes after so many
-pub placed : (board : TableId) (schema : Schema) (base : Base) (part : PartView) (before yielded last : ℕ) → before ≡ yielded → last ≡ last_folded base (1 + yielded) → IsPart board schema (1 + yielded) last part
-    → IsPart board schema (1 + before) (last_folded base (1 + before)) part
-placed board schema base part before yielded last same number is =
-    subst (λ n. IsPart board schema (1 + n) (last_folded base (1 + n)) part) (sym same) (subst (λ n. IsPart board schema (1 + yielded) n part) number is)
-
--- the number that its lane begins behind
-pub last_is : (base : Base) (sessions yielded count last : ℕ) → count ≡ yielded → yielded < sessions → NumbersHaveRoom base sessions → (last_folded base (count + 1) ≤ MAX_NUMBER → last ≡ last_folded base (count + 1))
-    → last ≡ last_folded base (1 + yielded)
-last_is base sessions yielded count last same below room is =
-    let next : count + 1 ≡ 1 + yielded = omega arith in
-    is (subst (λ n. last_folded base n ≤ MAX_NUMBER) (sym next) (room (1 + yielded) (omega arith) (omega arith))) ∙ ap (last_folded base) next
+-- the place of a worker, among those from a number on
+pub place_at : (board : TableId) (schema : Schema) (base : Base) (from : ℕ) (places : List PlaceView) (at : ℕ) (place : PlaceView) → ArePlaces board schema base from places → at < length places
+    → IsPlace board schema (from + at) (last_folded base (from + at)) (get_or places at place)
+place_at board schema base from [] at place are below = absurd (omega arith)
+place_at board schema base from (first ∷ places) zero place are below = subst (λ n. IsPlace board schema n (last_folded base n) first) (omega arith) are.0
+place_at board schema base from (first ∷ places) (suc at) place are below =
+    subst (λ n. IsPlace board schema n (last_folded base n) (get_or places at place)) (omega arith) (place_at board schema base (suc from) places at place are.1 (omega arith))
 
 -- the part at a place
-pub part_at : (board : TableId) (schema : Schema) (base : Base) (from : ℕ) (parts : List PartView) (place : ℕ) (part : PartView) → AreParts board schema base from parts → place < length parts
-    → IsPart board schema (from + place) (last_folded base (from + place)) (get_or parts place part)
-part_at board schema base from [] place part are below = absurd (omega arith)
+pub part_at : (board : TableId) (schema : Schema) (base : Base) (from : ℕ) (parts : List PartView) (at : ℕ) (part : PartView) → AreParts board schema base from parts → at < length parts
+    → IsPart board schema (from + at) (last_folded base (from + at)) (get_or parts at part)
+part_at board schema base from [] at part are below = absurd (omega arith)
 part_at board schema base from (first ∷ parts) zero part are below = subst (λ n. IsPart board schema n (last_folded base n) first) (omega arith) are.0
-part_at board schema base from (first ∷ parts) (suc place) part are below =
-    subst (λ n. IsPart board schema n (last_folded base n) (get_or parts place part)) (omega arith) (part_at board schema base (suc from) parts place part are.1 (omega arith))
+part_at board schema base from (first ∷ parts) (suc at) part are below =
+    subst (λ n. IsPart board schema n (last_folded base n) (get_or parts at part)) (omega arith) (part_at board schema base (suc from) parts at part are.1 (omega arith))
 
 -- its lane
 pub lane_at : (parts : List PartView) (place : ℕ) (part : PartView) → place < length parts → part ≡ get_or parts place part
     → get_or (map (λ (p : PartView). p.receiver.lane) parts) place nowhere ≡ part.receiver.lane
 lane_at parts place part below at = get_or-map (λ (p : PartView). p.receiver.lane) parts place part nowhere below ∙ ap (λ (p : PartView). p.receiver.lane) (sym at)
 
--- a store that goes on, with its parts, makes a frame
-pub frame_is : (filed : Filed) (file : Shelves) (before posted : Posted) (parts : List PartView) (ledger_parts : ℕ) (settings : Settings) (base : Base) (counter : ℕ) → filed.world ≡ resumed settings base counter
-    → file ≡ filed.file → posted ≡ record before { words = continued filed.world.counter (last_folded filed.world.base) filed.world.settings.sessions } → length parts ≡ settings.sessions
-    → AreParts before.board settings.schema base 1 parts → ledger_parts ≡ settings.sessions → IsFrame filed file posted parts ledger_parts
-frame_is filed file before posted parts ledger_parts settings base counter world file_is words count are ledger =
+-- ---- a worker of its place
+
+module _ (named : Named) (base : Base) (places : List PlaceView) (are : ArePlaces named.board named.settings.schema base 1 places) (at : ℕ) (place : PlaceView) (below : at < length places) (is : place ≡ get_or places at place) where
+  its_place : IsPlace named.board named.settings.schema (1 + at) (last_folded base (1 + at)) place
+  its_place = subst (IsPlace named.board named.settings.schema (1 + at) (last_folded base (1 + at))) (sym is) (place_at named.board named.settings.schema base 1 places at place are below)
+
+  pub own_place : IsPlace named.board named.settings.schema place.session place.last place
+  own_place = subst (λ (n : ℕ × ℕ). IsPlace named.board named.settings.schema n.0 n.1 place) (λ i. (sym its_place.number i, sym its_place.behind i)) its_place
+
+  -- one worker more
+  pub workers_more : (before after : List WorkerView) (worker : WorkerView) → before ≡ workers_from named base at → worker ≡ fresh_worker named place.session place.last → after ≡ before ++ worker ∷ []
+      → after ≡ workers_from named base (at + 1)
+  workers_more before after worker so fresh pushed =
+      let told : worker ≡ fresh_worker named (1 + at) (last_folded base (1 + at)) = fresh ∙ (λ i. fresh_worker named (its_place.number i) (its_place.behind i)) in
+      pushed ∙ (λ i. so i ++ told i ∷ []) ∙ sym (map-range_with_len_more (λ s. fresh_worker named s (last_folded base s)) 1 at (1 + at) refl)
+
+-- ---- a session and its lane, of their part
+
+module _ (named : Named) (base : Base) (parts : List PartView) (are : AreParts named.board named.settings.schema base (suc named.workers) parts) (at : ℕ) (part : PartView) (below : at < length parts) (is : part ≡ get_or parts at part) where
+  its_part : IsPart named.board named.settings.schema (suc named.workers + at) (last_folded base (suc named.workers + at)) part
+  its_part = subst (IsPart named.board named.settings.schema (suc named.workers + at) (last_folded base (suc named.workers + at))) (sym is)
+      (part_at named.board named.settings.schema base (suc named.workers) parts at part are below)
+
+  its_last : part.receiver.before ≡ last_folded base (suc named.workers + at)
+  its_last = ap (λ (k : Known). k.before) its_part.receiver
+
+  pub own_part : IsPart named.board named.settings.schema part.session part.receiver.before part
+  own_part = subst (λ (n : ℕ × ℕ). IsPart named.board named.settings.schema n.0 n.1 part) (λ i. (sym its_part.number i, sym its_last i)) its_part
+
+  pub own_lane : named.lanes ≡ map (λ (p : PartView). p.receiver.lane) parts → part.receiver.lane ≡ lane_of named part.session
+  own_lane lanes =
+      let number_is = its_part.number in
+      let back : at ≡ part.session - suc named.workers = omega arith in
+      sym (lane_at parts at part below is) ∙ (λ i. get_or (sym lanes i) (back i) nowhere)
+
+  -- one session more, and one lane
+  pub sessions_more : (before after : List SessionView) (session : SessionView) → before ≡ sessions_from named base at → session ≡ fresh_session named part.session part.receiver.before → after ≡ before ++ session ∷ []
+      → after ≡ sessions_from named base (at + 1)
+  sessions_more before after session so fresh pushed =
+      let told : session ≡ fresh_session named (suc named.workers + at) (last_folded base (suc named.workers + at)) = fresh ∙ (λ i. fresh_session named (its_part.number i) (its_last i)) in
+      pushed ∙ (λ i. so i ++ told i ∷ []) ∙ sym (map-range_with_len_more (λ s. fresh_session named s (last_folded base s)) (suc named.workers) at (suc named.workers + at) refl)
+
+  pub lanes_more : (before after : List LaneView) (lane : LaneView) → before ≡ lanes_from named base at → lane ≡ fresh_lane named part.session part.receiver.before → after ≡ before ++ lane ∷ []
+      → after ≡ lanes_from named base (at + 1)
+  lanes_more before after lane so fresh pushed =
+      let told : lane ≡ fresh_lane named (suc named.workers + at) (last_folded base (suc named.workers + at)) = fresh ∙ (λ i. fresh_lane named (its_part.number i) (its_last i)) in
+      pushed ∙ (λ i. so i ++ told i ∷ []) ∙ sym (map-range_with_len_more (λ s. fresh_lane named s (last_folded base s)) (suc named.workers) at (suc named.workers + at) refl)
+
+-- ---- the frame
+
+-- a store that goes on, with its places and parts, makes a frame
+pub frame_is : (filed : Filed) (file : Shelves) (before posted : Posted) (places : List PlaceView) (parts : List PartView) (ledger_parts : ℕ) (settings : Settings) (base : Base) (counter : ℕ)
+    → filed.world ≡ resumed settings base counter → file ≡ filed.file
+    → posted ≡ record before { words = continued filed.world.counter (last_folded filed.world.base) filed.world.settings.sessions } → length places + length parts ≡ settings.sessions
+    → ArePlaces before.board settings.schema base 1 places → AreParts before.board settings.schema base (suc (length places)) parts → ledger_parts ≡ settings.sessions → IsFrame filed file posted places parts ledger_parts
+frame_is filed file before posted places parts ledger_parts settings base counter world file_is words count hired are ledger =
     let same : settings ≡ filed.world.settings = sym (ap (λ (w : World). w.settings) world) in
     let from : base ≡ filed.world.base = sym (ap (λ (w : World). w.base) world) in
     let board : before.board ≡ posted.board = sym (ap (λ (p : Posted). p.board) words) in
@@ -74,59 +166,44 @@ frame_is filed file before posted parts ledger_parts settings base counter world
       shared = file_is;
       words = ap (λ (p : Posted). p.words) words;
       count = count ∙ ap (λ (s : Settings). s.sessions) same;
-      parts = subst (λ (z : TableId × Settings × Base). AreParts z.0 z.1.schema z.2 1 parts) (λ i. (board i, same i, from i)) are;
+      places = subst (λ (z : TableId × Settings × Base). ArePlaces z.0 z.1.schema z.2 1 places) (λ i. (board i, same i, from i)) hired;
+      parts = subst (λ (z : TableId × Settings × Base). AreParts z.0 z.1.schema z.2 (suc (length places)) parts) (λ i. (board i, same i, from i)) are;
       ledger = ledger ∙ ap (λ (s : Settings). s.sessions) same;
     }
 
--- and what stands behind the lock of its store
-pub frame_locked : (named : Named) (filed : Filed) (file : Shelves) (posted : Posted) (parts : List PartView) (ledger_parts rows : ℕ) → IsFrame filed file posted parts ledger_parts
-    → named_by filed posted parts ≡ named → rows ≡ filed.world.base.place → IsLocked named filed posted rows
-frame_locked named filed file posted parts ledger_parts rows is names before = record {
-  published = subst (λ w. Published w posted.words) (sym is.begun)
-      (subst (Published (resumed filed.world.settings filed.world.base filed.world.counter)) (sym is.words) (begun_is_published filed.world.settings filed.world.base filed.world.counter));
-  settings = ap (λ (n : Named). n.settings) names;
-  file = ap (λ (n : Named). n.file) names;
-  board = ap (λ (n : Named). n.board) names;
-  counted = (let place = ap next_place is.begun in omega arith);
-}
+-- of a named frame: what stands behind the lock of its store, its places and parts, and how many there are
+module _ (named : Named) (filed : Filed) (handle : Shelves) (posted : Posted) (places : List PlaceView) (parts : List PartView) (cut : ℕ) (is : IsFrame filed handle posted places parts cut)
+    (names : named_by filed posted places parts ≡ named) where
+  pub frame_locked : (rows : ℕ) → rows ≡ filed.world.base.place → IsLocked named filed posted rows
+  frame_locked rows before = record {
+    published = subst (λ w. Published w posted.words) (sym is.begun)
+        (subst (Published (resumed filed.world.settings filed.world.base filed.world.counter)) (sym is.words) (begun_is_published filed.world.settings filed.world.base filed.world.counter));
+    settings = ap (λ (n : Named). n.settings) names;
+    file = ap (λ (n : Named). n.file) names;
+    board = ap (λ (n : Named). n.board) names;
+    counted = (let place = ap next_place is.begun in omega arith);
+  }
 
--- one session more, and one lane
-pub sessions_more : (named : Named) (base : Base) (count : ℕ) (before after : List SessionView) (session : SessionView) → before ≡ fresh_sessions named base count
-    → session ≡ fresh_session named (count + 1) (last_folded base (count + 1)) → after ≡ before ++ session ∷ [] → after ≡ fresh_sessions named base (count + 1)
-sessions_more named base count before after session so is pushed =
-    pushed ∙ (λ i. so i ++ is i ∷ []) ∙ sym (map-range_with_len_more (λ s. fresh_session named s (last_folded base s)) 1 count (count + 1) (omega arith))
+  pub places_named : ArePlaces named.board named.settings.schema filed.world.base 1 places
+  places_named = subst (λ (n : Named). ArePlaces n.board n.settings.schema filed.world.base 1 places) names is.places
 
-pub lanes_more : (named : Named) (base : Base) (count : ℕ) (before after : List LaneView) (lane : LaneView) → before ≡ fresh_lanes named base count
-    → lane ≡ fresh_lane named (count + 1) (last_folded base (count + 1)) → after ≡ before ++ lane ∷ [] → after ≡ fresh_lanes named base (count + 1)
-lanes_more named base count before after lane so is pushed =
-    pushed ∙ (λ i. so i ++ is i ∷ []) ∙ sym (map-range_with_len_more (λ s. fresh_lane named s (last_folded base s)) 1 count (count + 1) (omega arith))
+  pub parts_named : AreParts named.board named.settings.schema filed.world.base (suc named.workers) parts
+  parts_named = subst (λ (n : Named). AreParts n.board n.settings.schema filed.world.base (suc n.workers) parts) names is.parts
 
--- of a named frame, the part at a place, its lane, and how many there are
-module _ (named : Named) (filed : Filed) (handle : Shelves) (posted : Posted) (parts : List PartView) (cut : ℕ) (is : IsFrame filed handle posted parts cut) (names : named_by filed posted parts ≡ named) where
-  pub part_numbered : (place number : ℕ) (part : PartView) → place < length parts → part ≡ get_or parts place part → number ≡ place
-      → IsPart named.board named.settings.schema (number + 1) (last_folded filed.world.base (number + 1)) part
-  part_numbered place number part below at same =
-      subst (λ (n : Named). IsPart n.board n.settings.schema (number + 1) (last_folded filed.world.base (number + 1)) part) names
-      (subst (λ k. IsPart posted.board filed.world.settings.schema k (last_folded filed.world.base k) part) (omega arith)
-      (subst (λ (p : PartView). IsPart posted.board filed.world.settings.schema (1 + place) (last_folded filed.world.base (1 + place)) p) (sym at)
-      (part_at posted.board filed.world.settings.schema filed.world.base 1 parts place part is.parts below)))
+  pub lanes_named : named.lanes ≡ map (λ (p : PartView). p.receiver.lane) parts
+  lanes_named = sym (ap (λ (n : Named). n.lanes) names)
 
-  -- the number that its lane begins behind
-  pub last_named : (place number : ℕ) (part : PartView) → place < length parts → part ≡ get_or parts place part → number ≡ place → part.receiver.before ≡ last_folded filed.world.base (number + 1)
-  last_named place number part below at same = ap (λ (k : Known). k.before) (part_numbered place number part below at same).receiver
+  pub workers_named : length places ≡ named.workers
+  workers_named = ap (λ (n : Named). n.workers) names
 
-  pub part_named : (place number : ℕ) (part : PartView) → place < length parts → part ≡ get_or parts place part → number ≡ place
-      → IsPart named.board named.settings.schema (number + 1) part.receiver.before part
-  part_named place number part below at same =
-      subst (λ k. IsPart named.board named.settings.schema (number + 1) k part) (sym (last_named place number part below at same)) (part_numbered place number part below at same)
-
-  pub lane_named : (place number : ℕ) (part : PartView) → place < length parts → part ≡ get_or parts place part → number ≡ place → part.receiver.lane ≡ lane_of named (number + 1)
-  lane_named place number part below at same =
-      let back : number + 1 - 1 ≡ place = omega arith in
-      sym (lane_at parts place part below at) ∙ ap (λ k. get_or (map (λ (p : PartView). p.receiver.lane) parts) k nowhere) (sym back) ∙ ap (λ (n : Named). lane_of n (number + 1)) names
-
-  pub count_named : length parts ≡ named.settings.sessions
+  pub count_named : length places + length parts ≡ named.settings.sessions
   count_named = is.count ∙ ap (λ (n : Named). n.settings.sessions) names
+
+  pub others_named : length parts ≡ named.settings.sessions - named.workers
+  others_named =
+      let all = count_named in
+      let first = workers_named in
+      omega arith
 
   pub cut_named : cut ≡ named.settings.sessions
   cut_named = is.ledger ∙ ap (λ (n : Named). n.settings.sessions) names

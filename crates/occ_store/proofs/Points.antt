@@ -20,7 +20,7 @@ use Rattle.occ_store.specs.Lanes.{LaneView, Left, Nothing, Kept, Open, Decided, 
 use Rattle.occ_store.specs.declared.serving.Point.TheVariants as points
 use Rattle.occ_store.specs.declared.serving.Served.{Served}
 use Rattle.occ_store.specs.declared.serving.Served.TheVariants as served
-use Rattle.occ_store.specs.Serving.{Stops, StandsAt, IsAt, IsSame, IsBusy, Moves, Happened, HasMoved, MayHaveMoved, RestsOn, TellsOfMove, ComesOf, CarriesOn, Turns, TakesUp, keeping}
+use Rattle.occ_store.specs.Serving.{Stops, StandsAt, IsAt, IsSame, IsBusy, Moves, Happened, HasMoved, MayHaveMoved, RestsOn, TellsOfMove, Heeds, HeedsAll, HeedsTurn, CameBy, ComesOf, CarriesOn, Turns, TakesUp, keeping}
 
 nothing_here : {X P : Type 0} {x : X} → None ≡ Some x → P
 nothing_here e = cc e
@@ -238,3 +238,14 @@ pub ends_so : (settings : Settings) (stops : Stops) (old now new : LaneView) (nu
     → Turns settings stops now number (Ok answer) new → CarriesOn settings stops old number (Ok told) new
 ends_so settings stops old now new number answer told is same before turn =
     carried settings stops old now new number (Ok told) same before (subst (λ (a : Option Served). Turns settings stops now number (Ok a) new) is turn)
+
+-- where a gate has to stop a lane it is heeded
+pub heeds_turn : (settings : Settings) (must : Stops) (old new : LaneView) (number : ℕ) (point : Point) (answer : Option Served) → number_left old.left ≡ Some number → Happened settings old (Ok point) new
+    → (is_open old.left ≡ true → must points.Judged old.session number → ⊥) → IfNone answer (must point new.session number → ⊥) → IfSome answer (Heeds must new.session)
+    → HeedsTurn settings must old number (Ok answer) new
+heeds_turn settings must old new number point None left happened before none some = (before, (point, (old, left, happened), none))
+heeds_turn settings must old new number point (Some served) left happened before none some = some
+
+pub heeds_so : (settings : Settings) (must : Stops) (old new : LaneView) (number : ℕ) (answer : Option Served) (told : Served) → answer ≡ Some told
+    → HeedsTurn settings must old number (Ok answer) new → HeedsAll must new.session (Ok told)
+heeds_so settings must old new number answer told is heeds = subst (λ (a : Option Served). HeedsTurn settings must old number (Ok a) new) is heeds

@@ -1,8 +1,7 @@
 -- What the tries of a client come to that waits for them.
-use Rattle.std.proofs.Common.{◌≡◌, inl, inr, ℕ, ◌+◌, ◌<◌, ◌≤◌, List, [], ◌∷◌, ◌++◌, true, false, Option, None, Some, Result, Ok, Err, OnErr, IfOk, IfErr, length, refl, sym, ap, subst, ◌∙◌, arith, length-append}
+use Rattle.std.proofs.Common.{◌≡◌, ℕ, ◌+◌, ◌<◌, ◌≤◌, List, [], ◌∷◌, ◌++◌, true, false, Option, None, Some, Result, Ok, Err, OnErr, IfOk, IfErr, length, refl, sym, ap, subst, ◌∙◌, arith, length-append}
 use Rattle.std.specs.Prelude.{IsErrAnd, MatchResult}
 use Rattle.occ_types.specs.declared.fault.Fault.{Fault}
-use Rattle.occ_types.specs.declared.fault.Fault.TheVariants as faults
 use Rattle.occ_types.specs.Schema.{first_fault}
 use Rattle.occ_sets.specs.Sets.{Copied}
 use Rattle.occ_model.specs.Event.{Close}
@@ -11,15 +10,15 @@ use Rattle.occ_queue.specs.Lanes.{pushing}
 use Rattle.occ_board.specs.declared.rule.Seen.{Seen}
 use Rattle.occ_board.specs.Rule.{polled}
 use Rattle.occ_open.specs.Transactions.{Abandons}
-use Rattle.occ_store.specs.declared.ended.Ended.TheVariants.{Committed, BackedUp}
+use Rattle.occ_case.specs.declared.ended.Ended.TheVariants.{Committed, BackedUp}
 use Rattle.occ_store.specs.declared.awaited.Pending as pendings
 use Rattle.occ_store.specs.declared.awaited.Awaited.{Awaited}
 use Rattle.occ_store.specs.declared.awaited.Awaited.TheVariants.{Settled, Pending}
 use Rattle.occ_store.specs.Bodies.{Making, Goes, Becoming}
 use Rattle.occ_store.specs.Sessions.{SessionView, due, last_number, begun, request, Submits, handed_in, closed, no_number, close_fault, IsRefusedBy, InOneHolding}
-use Rattle.occ_store.specs.Workers.{most_tries, Requests, HandsInUpTo, HandsInFewer, HandsInOne, RunsIn, Reopens, GivesUp, NotHandedIn}
-use Rattle.occ_store.specs.Clients.{IsPolled, was_backed_up, IsUntold, IsAwaited, Waits, TriedSo, Awaits, TriesStop, without_draft, give_up_fault, Forgets}
-use Rattle.occ_store.proofs.Working.{requests_more, requests_so, last_more, tried_more, one_handed, tried_one, made_handed, ends_last, fewer_more, hands_in_fewer, stays, at_error, not_handed_in_so}
+use Rattle.occ_store.specs.Tries.{Requests, HandsInUpTo, HandsInFewer, HandsInOne, RunsIn, Reopens, GivesUp, NotHandedIn}
+use Rattle.occ_store.specs.Clients.{IsPolled, was_backed_up, IsUntold, IsAwaited, Waits, TriedSo, Awaits, without_draft, give_up_fault, Forgets}
+use Rattle.occ_store.proofs.Working.{requests_more, requests_so, last_more, tried_more, one_handed, tried_one, made_handed, ends_last, fewer_more, hands_in_fewer, at_error, not_handed_in_so}
 
 absurd : {P : Type 0} → false ≡ true → P
 absurd e = cc e
@@ -103,18 +102,6 @@ hands_in_pending {V} {E} Made old begins ran new start number body (Ok pending) 
     made_handed Made old begins ran new start number pending.number pending.value due_is begins_is
     (subst (λ (r : Result V E). IfOk r (λ value. RunsIn Made begins (Ok value) ran.draft)) went.0 runs) again went.1
 hands_in_pending Made old begins ran new start number body (Err error) due_is begins_is runs again went = tt
-
--- none was handed in, and there is no transaction to lend
-pub none_yet : {V E : Type 0} (Made : Making V E) (tries most : ℕ) (old new : SessionView) → most ≡ most_tries tries → 0 < most → new ≡ old → HandsInFewer Made (most_tries tries) old new
-none_yet Made tries most old new is some same =
-    subst (λ (m : ℕ). HandsInFewer Made m old new) is (fewer_more Made 0 most old old new some refl (stays Made 0 old new same))
-
-pub none_to_lend : {V E : Type 0} (Made : Making V E) (Becomes : Becoming E) (settings : Settings) (old new : SessionView) (error : E) → Becomes faults.Memory error → new ≡ old → TriesStop Made Becomes settings old new error
-none_to_lend Made Becomes settings old new error becomes same = inl ((faults.Memory, refl, becomes), same)
-
-pub tries_stop : {X V E : Type 0} (Made : Making V E) (Becomes : Becoming E) (settings : Settings) (old new : SessionView) (result : Result X E) → IfErr result (NotHandedIn Made Becomes settings new) → IfErr result (TriesStop Made Becomes settings old new)
-tries_stop Made Becomes settings old new (Ok x) why = tt
-tries_stop Made Becomes settings old new (Err error) why = inr why
 
 -- one more poll
 pub polls_more : (first old new : Seen) (count : ℕ) → old ≡ record first { last = old.last; polls = first.polls + count } → new ≡ polled old new.last → new ≡ record first { last = new.last; polls = first.polls + (count + 1) }

@@ -1,29 +1,21 @@
--- What the tries of a worker come to.
-use Rattle.std.proofs.Common.{◌≡◌, true, inl, inr, ◌⊎◌, ℕ, ◌+◌, ◌<◌, ◌≤◌, List, [], ◌∷◌, ◌++◌, length, Option, None, Some, Result, Ok, Err, OnOk, OnErr, IfOk, IfErr, refl, sym, ap, subst, ◌∙◌, append_assoc, arith, length-append}
-use Rattle.std.specs.Prelude.{IsSomeAnd, IsErrAnd, IsOkUnless}
-use Rattle.std.specs.List.{list_any}
-use Rattle.occ_model.proofs.Tests.{and_true}
+-- What the tries of a session come to.
+use Rattle.std.proofs.Common.{◌≡◌, inl, inr, ◌⊎◌, ℕ, ◌+◌, ◌<◌, List, [], ◌∷◌, ◌++◌, length, Option, None, Some, Result, Ok, Err, OnErr, IfErr, refl, sym, ap, subst, ◌∙◌, append_assoc, arith, length-append}
+use Rattle.std.specs.Prelude.{IsSomeAnd, IsErrAnd}
 use Rattle.occ_types.specs.declared.fault.Fault.{Fault}
 use Rattle.occ_types.specs.declared.fault.Fault.TheVariants.{OutOfTurn}
 use Rattle.occ_model.specs.Event.{Item, Request, Alone, Close}
 use Rattle.occ_model.specs.World.{Settings}
-use Rattle.occ_model.specs.Operations.{Operation}
 use Rattle.occ_sets.specs.Sets.{Copied}
 use Rattle.occ_open.specs.Transactions.{begun as no_writes}
-use Rattle.occ_queue.specs.Items.{number_of, is_mark}
 use Rattle.occ_queue.specs.Lanes.{pushing}
 use Rattle.occ_board.specs.declared.rule.Seen.{Seen}
-use Rattle.occ_store.specs.declared.ended.Ended.{Ended}
-use Rattle.occ_store.specs.declared.ended.Ended.TheVariants.{Committed, BackedUp}
-use Rattle.occ_store.specs.declared.serving.Served.{Served}
-use Rattle.occ_store.specs.declared.serving.Served.TheVariants as served
+use Rattle.occ_case.specs.declared.ended.Ended.{Ended}
+use Rattle.occ_case.specs.declared.ended.Ended.TheVariants.{Committed, BackedUp}
 use Rattle.occ_store.specs.Transactions.{TransactionView}
-use Rattle.occ_store.specs.Bodies.{Making, Goes, Becoming, ComesOf, Performing}
-use Rattle.occ_store.specs.Lanes.{LaneView, Left, Nothing, Kept, Open, Decided, number_left, is_nothing}
-use Rattle.occ_store.specs.Serving.{Stops as MayStop, Serves, CarriesOn, keeping}
+use Rattle.occ_store.specs.Bodies.{Making, Goes, Becoming, ComesOf}
 use Rattle.occ_store.specs.Sessions.{SessionView, due, last_number, begun, begin_fault, submit_fault, request, handed_in, Submits, IsRefusedBy}
-use Rattle.occ_store.specs.Ended.{IsTold, tn_of}
-use Rattle.occ_store.specs.Workers.{IsMade, AllMade, LastMade, Requests, IsLastTry, Tried, Ends, HandsInUpTo, HandsInFewer, HandsInOne, lent, RunsIn, RunFails, Reopens, GivesUp, IsGivenUpFor, NotHandedIn, IsKept, Stops, TriesList, HandsInAlone, RunsOut}
+use Rattle.occ_store.specs.Ended.{IsTold}
+use Rattle.occ_store.specs.Tries.{IsMade, AllMade, LastMade, Requests, IsLastTry, Tried, Ends, HandsInUpTo, HandsInFewer, HandsInOne, lent, RunsIn, RunFails, Reopens, GivesUp, IsGivenUpFor, NotHandedIn}
 
 made_so : {V E : Type 0} (Made Other : Making V E) (session : ℕ) (value : V) (item : Item) → Goes Made Other → IsMade Made session value item → IsMade Other session value item
 made_so Made Other session value (Request number start writes) goes made = (made.0, made.1, made.2, goes _ _ _ made.3)
@@ -112,11 +104,6 @@ one_handed Made old new number value hands =
       none_open = λ _. none;
     }
 
-pub handed_one : {V E : Type 0} (Made : Making V E) (first before between served : SessionView) (number : ℕ) (value : V) → before ≡ first → HandsInOne Made before number value between → served ≡ between → HandsInUpTo Made 1 first served
-handed_one Made first before between served number value starts hands stay =
-    subst (λ (v : SessionView). HandsInUpTo Made 1 v served) starts
-    (subst (HandsInUpTo Made 1 before) (sym stay) (1, omega arith, one_handed Made before between number value hands))
-
 -- one try, whose end the board tells
 pub tried_one : {V E : Type 0} (Made : Making V E) (old between new : SessionView) (number : ℕ) (value : V) (ended : Ended V) → HandsInOne Made old number value between → new ≡ record between { seat = new.seat } → IsTold new.seat.last number value ended → Tried Made 1 old ended new
 unfolding one_handed
@@ -134,18 +121,11 @@ tried_one Made old between new number value ended hands same told =
       none_open = ap (λ (v : SessionView). v.draft) is;
     }
 
--- the lane is served before and after it
-pub one_ended : {V E : Type 0} (Made : Making V E) (first before between served new : SessionView) (number : ℕ) (value : V) (ended : Ended V) → before ≡ first → HandsInOne Made before number value between
-    → served ≡ between → new ≡ record served { seat = new.seat } → IsTold new.seat.last number value ended → Tried Made 1 first ended new
-one_ended Made first before between served new number value ended starts hands stay same told =
-    subst (λ (v : SessionView). Tried Made 1 v ended new) starts
-    (tried_one Made before between new number value ended hands (subst (λ (v : SessionView). new ≡ record v { seat = new.seat }) stay same) told)
-
 -- what a body makes of the transaction that is lent to it, which comes back
 lent_so : (old : SessionView) (before : TransactionView) (session : ℕ) (open_one : Option Copied) → session ≡ old.session → open_one ≡ old.draft → before ≡ record { session = session; draft = open_one } → before ≡ lent old
 lent_so old before session open_one session_is open_is is = cc (session_is, open_is, is)
 
-ran_so : {V E : Type 0} (Made : Making V E) (old : SessionView) (before after : TransactionView) (session : ℕ) (open_one : Option Copied) (body is_one : Result V E)
+pub ran_so : {V E : Type 0} (Made : Making V E) (old : SessionView) (before after : TransactionView) (session : ℕ) (open_one : Option Copied) (body is_one : Result V E)
     → session ≡ old.session → open_one ≡ old.draft → before ≡ record { session = session; draft = open_one } → Made before body after → body ≡ is_one → Made (lent old) is_one after
 ran_so {V} {E} Made old before after session open_one body is_one session_is open_is is made ran =
     subst (λ (b : TransactionView). Made b is_one after) (lent_so old before session open_one session_is open_is is) (subst (λ (r : Result V E). Made before r after) ran made)
@@ -200,14 +180,6 @@ made_handed Made old begins ran new start number n value due_is begins_is runs a
       ),
     )
 
-pub hands_in : {V E : Type 0} (Made : Making V E) (old begins ran new : SessionView) (start number : ℕ) (body : Result V E) (went : Result (ℕ × V) E)
-    → number ≡ due old → begins ≡ begun old start → IfOk body (λ value. RunsIn Made begins (Ok value) ran.draft) → Reopens begins number ran
-    → IfOk went (λ handed. (body ≡ Ok handed.1) × Submits ran handed.0 new) → IfOk went (λ handed. HandsInOne Made old handed.0 handed.1 new)
-hands_in {V} {E} Made old begins ran new start number body (Ok handed) due_is begins_is runs again went =
-    made_handed Made old begins ran new start number handed.0 handed.1 due_is begins_is
-    (subst (λ (r : Result V E). IfOk r (λ value. RunsIn Made begins (Ok value) ran.draft)) went.0 runs) again went.1
-hands_in Made old begins ran new start number body (Err error) due_is begins_is runs again went = tt
-
 -- where it is given up none is handed in, and it is as if the session had only seen its start
 pub none_handed_in : {X V E : Type 0} (Made : Making V E) (settings : Settings) (old begins ran new : SessionView) (start number : ℕ) (went : Result X E)
     → begins ≡ begun old start → Reopens begins number ran → OnErr went (GivesUp settings ran new) → OnErr went (HandsInUpTo Made 0 old new)
@@ -242,26 +214,9 @@ pub not_begun : {V E : Type 0} (Made : Making V E) (Becomes : Becoming E) (setti
 not_begun Made Becomes settings old new fault error same is becomes = inl (fault, subst (λ (v : SessionView). begin_fault v ≡ Some fault) (sym same) (sym is), becomes)
 
 -- fewer were handed in
-pub few_more : {V E : Type 0} (Made : Making V E) (few most : ℕ) (first old new : SessionView) → few ≤ most → old ≡ first → HandsInUpTo Made few old new → HandsInUpTo Made most first new
-few_more Made few most first old new more same hands =
-    let below = hands.1 in subst (λ (v : SessionView). HandsInUpTo Made most v new) same (hands.0, omega arith, hands.2)
-
 pub fewer_more : {V E : Type 0} (Made : Making V E) (few most : ℕ) (first old new : SessionView) → few < most → old ≡ first → HandsInUpTo Made few old new → HandsInFewer Made most first new
 fewer_more Made few most first old new more same hands =
     let below = hands.1 in subst (λ (v : SessionView). HandsInFewer Made most v new) same (hands.0, omega arith, hands.2)
-
--- a lane that keeps something has something left
-pub not_kept : {P : Type 0} (lane : LaneView) → IsKept lane → lane.left ≡ Nothing → P
-not_kept lane kept none = none_left (sym kept.1 ∙ ap number_left none)
-  where
-    none_left : {P : Type 0} {number : ℕ} → Some number ≡ None → P
-    none_left e = cc e
-
--- a try that was refused, after others
-pub hands_in_more : {V E : Type 0} (Made Later : Making V E) (count most : ℕ) (old between new : SessionView) (before : Ended V) → count < most → Goes Later Made → Tried Made count old before between → HandsInUpTo Later 1 between new → HandsInUpTo Made most old new
-hands_in_more Made Later count most old between new before below goes first second =
-    let few = second.1 in
-    (count + second.0, omega arith, requests_more Made count second.0 old between new first.requests (requests_so Later Made second.0 between new goes second.2))
 
 pub hands_in_fewer : {V E : Type 0} (Made Later : Making V E) (count most : ℕ) (old between new : SessionView) (before : Ended V) → count < most → Goes Later Made → Tried Made count old before between → HandsInFewer Later 1 between new → HandsInFewer Made most old new
 hands_in_fewer Made Later count most old between new before below goes first second =
@@ -280,123 +235,9 @@ pub not_handed_in_so : {V E : Type 0} (Made Other : Making V E) (Becomes : Becom
 not_handed_in_so Made Other Becomes settings session error goes (inl refused) = inl refused
 not_handed_in_so Made Other Becomes settings session error goes (inr given) = inr (given.0, given.1, given_up_so Made Other Becomes given.0 error goes given.2)
 
-stops_so : {V E : Type 0} (Made Other : Making V E) (Becomes : Becoming E) (settings : Settings) (session : SessionView) (lane : LaneView) (error : E) → Goes Made Other → Stops Made Becomes settings session lane error → Stops Other Becomes settings session lane error
-stops_so Made Other Becomes settings session lane error goes (inl kept) = inl kept
-stops_so Made Other Becomes settings session lane error goes (inr left) = inr (left.0, not_handed_in_so Made Other Becomes settings session error goes left.1)
-
--- why a try is refused where the lane is served, and where a transaction isn't handed in
-pub stops_kept : {X V E : Type 0} (Made : Making V E) (Becomes : Becoming E) (settings : Settings) (session : SessionView) (lane : LaneView) (result : Result X E) (fault : Fault) → IsErrAnd result (Becomes fault) → IsKept lane → IfErr result (Stops Made Becomes settings session lane)
-stops_kept {E = E} Made Becomes settings session lane result fault same kept =
-    at_fault Becomes (Stops Made Becomes settings session lane) result fault same (λ (error : E) becomes. inl (fault, kept, becomes))
-
-first_one : {V E : Type 0} (Made : Making V E) (most : ℕ) (old new : SessionView) → 0 < most → HandsInFewer Made 1 old new → HandsInFewer Made most old new
-first_one Made most old new some hands = let below = hands.1 in (hands.0, omega arith, hands.2)
-
--- an error of a lane that has nothing left, at the first try and at a later one
-pub fewer_on_err : {X Y P : Type 0} (Q : Type 0) (result : Result X Y) → P → OnErr result (Q → P)
-fewer_on_err Q (Ok x) p = tt
-fewer_on_err Q (Err y) p = λ (none : Q). p
-
-pub unkept_on_err : {X Y : Type 0} (P : Type 0) (result : Result X Y) (lane : LaneView) → IsKept lane → OnErr result (lane.left ≡ Nothing → P)
-unkept_on_err P (Ok x) lane kept = tt
-unkept_on_err P (Err y) lane kept = λ (none : lane.left ≡ Nothing). not_kept {P = P} lane kept none
-
-pub first_fewer : {X Y V E P : Type 0} (Made : Making V E) (most : ℕ) (old new : SessionView) (result : Result X Y) → 0 < most → (P → HandsInFewer Made 1 old new) → OnErr result (P → HandsInFewer Made most old new)
-first_fewer Made most old new (Ok x) some hands = tt
-first_fewer {P = P} Made most old new (Err y) some hands = λ (p : P). first_one Made most old new some (hands p)
-
-pub fewer_later : {X Y V E P : Type 0} (Made Later : Making V E) (count most : ℕ) (old between new : SessionView) (before : Ended V) (result : Result X Y) → count < most → Goes Later Made → Tried Made count old before between → (P → HandsInFewer Later 1 between new) → OnErr result (P → HandsInFewer Made most old new)
-fewer_later Made Later count most old between new before (Ok x) below goes first second = tt
-fewer_later {P = P} Made Later count most old between new before (Err y) below goes first second = λ (p : P). hands_in_fewer Made Later count most old between new before below goes first (second p)
-
-pub first_stops : {X V E : Type 0} (Made : Making V E) (Becomes : Becoming E) (settings : Settings) (session : SessionView) (lane : LaneView) (result : Result X E) (error : E) → IsErrAnd result (λ e. e ≡ error) → Stops Made Becomes settings session lane error → IfErr result (Stops Made Becomes settings session lane)
-first_stops Made Becomes settings session lane result error same stops = at_error (Stops Made Becomes settings session lane) result error same stops
-
-pub stops_unserved : {X V E : Type 0} (Made : Making V E) (Becomes : Becoming E) (settings : Settings) (session : SessionView) (lane : LaneView) (result : Result X E) (error : E) → IsErrAnd result (λ e. e ≡ error) → lane.left ≡ Nothing → NotHandedIn Made Becomes settings session error → IfErr result (Stops Made Becomes settings session lane)
-stops_unserved Made Becomes settings session lane result error same none not_in =
-    at_error (Stops Made Becomes settings session lane) result error same (inr (none, not_in))
-
--- why a later try is refused
-pub stops_later : {X V E : Type 0} (Made Later : Making V E) (Becomes : Becoming E) (settings : Settings) (session : SessionView) (lane : LaneView) (result : Result X E) (error : E) → IsErrAnd result (λ e. e ≡ error) → Goes Later Made → Stops Later Becomes settings session lane error → IfErr result (Stops Made Becomes settings session lane)
-stops_later Made Later Becomes settings session lane result error same goes stops =
-    at_error (Stops Made Becomes settings session lane) result error same (stops_so Later Made Becomes settings session lane error goes stops)
-
--- the tries end with a commit, or with the last one
-pub ends_now : {V E : Type 0} (Made : Making V E) (count most tn : ℕ) (value : V) (old new : SessionView) (ended : Ended V) → 0 < count → count ≤ most → ended ≡ Committed tn value → Tried Made count old ended new → Ends Made most old ended new
-ends_now Made count most tn value old new ended some few is tried = (count, some, few, subst (IsLastTry count most) (sym is) tt, tried)
-
 last_is : {V : Type 0} (count most : ℕ) (ended : Ended V) → count ≡ most → IsLastTry count most ended
 last_is count most (Committed tn value) is = tt
 last_is count most (BackedUp cause) is = is
 
 pub ends_last : {V E : Type 0} (Made : Making V E) (count most : ℕ) (old new : SessionView) (ended : Ended V) → 0 < count → count ≡ most → Tried Made count old ended new → Ends Made most old ended new
 ends_last Made count most old new ended some is tried = (count, some, omega arith, last_is count most ended is, tried)
-
--- tries of operations, by the transaction number alone
-pub tries_list : (settings : Settings) (most : ℕ) (operations : List Operation) (old new : SessionView) (ended : Ended (Unit {0})) (tn : Option ℕ) → tn ≡ tn_of ended → Ends (Performing settings operations) most old ended new → TriesList settings most operations old tn new
-tries_list settings most operations old new (Committed n value) tn is ends =
-    subst (λ (t : Option ℕ). TriesList settings most operations old t new) (sym is) ends
-tries_list settings most operations old new (BackedUp cause) tn is ends =
-    subst (λ (t : Option ℕ). TriesList settings most operations old t new) (sym is)
-    (subst (λ (count : ℕ). Requests (Performing settings operations) count old new) ends.3 ends.4.requests)
-
-pub runs_out_after : (settings : Settings) (most : ℕ) (operations : List Operation) (old between new : SessionView) (tried : Option ℕ) (result : Result ℕ Fault) → tried ≡ None → TriesList settings most operations old tried between → OnErr result (HandsInAlone operations between new) → OnErr result (RunsOut settings most operations old new)
-runs_out_after settings most operations old between new tried (Ok tn) none list alone = tt
-runs_out_after settings most operations old between new tried (Err fault) none list alone = inr (between, subst (λ (n : Option ℕ). TriesList settings most operations old n between) none list, alone)
-
-pub on_err_any : {X Y : Type 0} {P : Type 0} (result : Result X Y) → P → OnErr result P
-on_err_any (Ok x) p = tt
-on_err_any (Err y) p = p
-
-no_fault : {P : Type 0} (result : Result Served Fault) (fault : Fault) (answer : Served) → result ≡ Err fault → result ≡ Ok answer → P
-no_fault result fault answer one other = cc (one, other)
-
--- what meets a fault is kept
-pub kept_at_fault : (settings : Settings) (stops : MayStop) (old new : LaneView) (result : Result Served Fault) (fault : Fault) → Serves settings stops old result new → result ≡ Err fault → IsKept new
-kept_at_fault settings stops old new result fault (inl resumes) is =
-    let on = subst (λ (r : Result Served Fault). CarriesOn settings stops old resumes.0 r new) is resumes.2 in (resumes.0, on.1)
-kept_at_fault settings stops old new result fault (inr (inl takes)) is =
-    let on = subst (λ (r : Result Served Fault). CarriesOn settings stops (keeping old takes.0) (number_of takes.0) r new) is takes.2 in (number_of takes.0, on.1)
-kept_at_fault settings stops old new result fault (inr (inr (inl idle))) is = no_fault result fault served.Idle is idle.0.2
-kept_at_fault settings stops old new result fault (inr (inr (inr closed))) is = no_fault result fault served.LaneClosed is closed.0.2
-
-not_idle : {P : Type 0} (result : Result Served Fault) → result ≡ Ok served.Busy → result ≡ Ok served.Idle → P
-not_idle result one other = cc (one, other)
-
-not_closed : {P : Type 0} (result : Result Served Fault) → result ≡ Ok served.Busy → result ≡ Ok served.LaneClosed → P
-not_closed result one other = cc (one, other)
-
--- and so is what waits until no row is active
-pub kept_when_busy : (settings : Settings) (stops : MayStop) (old new : LaneView) (result : Result Served Fault) → Serves settings stops old result new → result ≡ Ok served.Busy → IsKept new
-kept_when_busy settings stops old new result (inl resumes) is =
-    let on = subst (λ (r : Result Served Fault). CarriesOn settings stops old resumes.0 r new) is resumes.2 in (resumes.0, on.1.0)
-kept_when_busy settings stops old new result (inr (inl takes)) is =
-    let on = subst (λ (r : Result Served Fault). CarriesOn settings stops (keeping old takes.0) (number_of takes.0) r new) is takes.2 in (number_of takes.0, on.1.0)
-kept_when_busy settings stops old new result (inr (inr (inl idle))) is = not_idle result is idle.0.2
-kept_when_busy settings stops old new result (inr (inr (inr closed))) is = not_closed result is closed.0.2
-
-nothing_there : (left : Left) → is_nothing left ≡ true → left ≡ Nothing
-nothing_there Nothing e = refl
-nothing_there (Kept item) e = cc e
-nothing_there (Open number token) e = cc e
-nothing_there (Decided number verdict) e = cc e
-
--- nothing is left where there was nothing to do
-pub nothing_when_idle : (settings : Settings) (stops : MayStop) (old new : LaneView) (result : Result Served Fault) → Serves settings stops old result new → result ≡ Ok served.Idle → new.left ≡ Nothing
-nothing_when_idle settings stops old new result (inl resumes) is =
-    let on = subst (λ (r : Result Served Fault). CarriesOn settings stops old resumes.0 r new) is resumes.2 in absurd on.1
-nothing_when_idle settings stops old new result (inr (inl takes)) is =
-    let on = subst (λ (r : Result Served Fault). CarriesOn settings stops (keeping old takes.0) (number_of takes.0) r new) is takes.2 in absurd on.1
-nothing_when_idle settings stops old new result (inr (inr (inl idle))) is = ap (λ (l : LaneView). l.left) idle.0.1 ∙ idle.0.0
-nothing_when_idle settings stops old new result (inr (inr (inr closed))) is = ap (λ (l : LaneView). l.left) closed.0.1 ∙ closed.0.0
-
--- nor where the closing mark has entered
-pub nothing_when_closed : (settings : Settings) (stops : MayStop) (old new : LaneView) (result : Result Served Fault) → Serves settings stops old result new → result ≡ Ok served.LaneClosed → new.left ≡ Nothing
-nothing_when_closed settings stops old new result (inl resumes) is =
-    let on = subst (λ (r : Result Served Fault). CarriesOn settings stops old resumes.0 r new) is resumes.2 in
-    nothing_there new.left (and_true (list_any is_mark new.receiver.taken) (is_nothing new.left) on.1).1
-nothing_when_closed settings stops old new result (inr (inl takes)) is =
-    let on = subst (λ (r : Result Served Fault). CarriesOn settings stops (keeping old takes.0) (number_of takes.0) r new) is takes.2 in
-    nothing_there new.left (and_true (list_any is_mark new.receiver.taken) (is_nothing new.left) on.1).1
-nothing_when_closed settings stops old new result (inr (inr (inl idle))) is = ap (λ (l : LaneView). l.left) idle.0.1 ∙ idle.0.0
-nothing_when_closed settings stops old new result (inr (inr (inr closed))) is = ap (λ (l : LaneView). l.left) closed.0.1 ∙ closed.0.0

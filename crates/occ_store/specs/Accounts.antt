@@ -1,12 +1,14 @@
 -- What became of the sessions of a store and of all that they handed in (our own choice).
-use Rattle.std.specs.Prelude.{◌≡◌, ℕ, suc, ◌+◌, ◌≤◌, ◌==◌, ◌&&◌, Bool, true, false, List, [], ◌∷◌, ◌++◌, length, sum_by, vec_len, vec_capacity, Option, None, Some, is_some, Vec, if◌then◌else◌, ⊤}
+use Rattle.std.specs.Prelude.{◌≡◌, ℕ, suc, ◌+◌, ◌-◌, ◌≤◌, ◌==◌, ◌&&◌, Bool, true, false, List, [], ◌∷◌, ◌++◌, length, sum_by, vec_len, vec_capacity, Option, None, Some, is_some, Vec, if◌then◌else◌, ⊤}
 use Rattle.occ_types.specs.declared.fault.Fault.{Fault}
 use Rattle.occ_types.specs.declared.fault.Fault.TheVariants as faults
 use Rattle.occ_model.specs.Event.{Item}
 use Rattle.occ_queue.specs.declared.items.Item as code_item
 use Rattle.occ_queue.specs.Items.{item_of, items_of}
 use Rattle.occ_store.specs.Lanes.{LaneView, Left, Nothing, Kept, Open, Decided, is_closed, count_if}
+use Rattle.occ_store.specs.Names.{Named}
 use Rattle.occ_store.specs.Sessions.{SessionView}
+use Rattle.occ_store.specs.Workers.{WorkerView}
 use Rattle.occ_store.specs.declared.accounts.AccountLine as code_line
 
 -- How many items were pushed and how many taken, the closing mark too, and how many rows were entered; the item that was taken and has not entered; and the items that were not taken, the first one first.
@@ -47,23 +49,44 @@ AreLines [] [] [] = ⊤
 AreLines (lane ∷ lanes) (session ∷ sessions) (line ∷ lines) = IsLine lane session line × AreLines lanes sessions lines
 AreLines lanes sessions lines = ⊥
 
+-- The line of a worker. What it handed in is the rows that it entered, and the item that it keeps; and it leaves nothing that was not taken.
+pub record IsWorkerLine (worker : WorkerView) (line : LineView) : Type 0 where
+  pub pushed : line.pushed ≡ worker.last - worker.first
+  pub taken : line.taken ≡ line.pushed
+  pub rows : line.rows ≡ worker.entered
+  pub kept : line.kept ≡ kept_of worker.left
+  pub adds_up : line.pushed ≡ line.rows + count_if (is_some line.kept)
+  pub whole : line.left ≡ []
+
+-- a line for each worker, and then for each lane and its session
+abbrev pub AreAllLines : List WorkerView → List LaneView → List SessionView → List LineView → Type 0
+AreAllLines [] lanes sessions lines = AreLines lanes sessions lines
+AreAllLines (worker ∷ workers) lanes sessions [] = ⊥
+AreAllLines (worker ∷ workers) lanes sessions (line ∷ lines) = IsWorkerLine worker line × AreAllLines workers lanes sessions lines
+
+-- whether workers have the numbers from this one on
+abbrev pub are_hired : ℕ → List WorkerView → Bool
+are_hired from [] = true
+are_hired from (worker ∷ workers) = worker.session == from && are_hired (suc from) workers
+
 -- whether lanes and sessions have the numbers from this one on, in their order
 abbrev pub are_numbered : ℕ → List LaneView → List SessionView → Bool
 are_numbered from [] [] = true
 are_numbered from (lane ∷ lanes) (session ∷ sessions) = lane.session == from && (session.session == from && are_numbered (suc from) lanes sessions)
 are_numbered from lanes sessions = false
 
--- whether these are the lanes and sessions of a store of so many sessions, in the order of their numbers
-abbrev pub is_complete : ℕ → List LaneView → List SessionView → Bool
-is_complete count lanes sessions = length lanes == count && (length sessions == count && are_numbered 1 lanes sessions)
+-- whether these are all workers, lanes and sessions of a store, in the order of their numbers
+abbrev pub is_complete : Named → List WorkerView → List LaneView → List SessionView → Bool
+is_complete named workers lanes sessions = length workers + length lanes == named.settings.sessions
+    && (length sessions == length lanes && (are_hired 1 workers && are_numbered (suc (length workers)) lanes sessions))
 
 -- why there is no account
-abbrev pub end_fault : ℕ → List LaneView → List SessionView → Fault
-end_fault count lanes sessions = if is_complete count lanes sessions then faults.Memory else faults.NoSession
+abbrev pub end_fault : Named → List WorkerView → List LaneView → List SessionView → Fault
+end_fault named workers lanes sessions = if is_complete named workers lanes sessions then faults.Memory else faults.NoSession
 
--- how many rows lanes entered
-abbrev pub rows_of : List LaneView → ℕ
-rows_of = sum_by (λ lane. lane.entered)
+-- how many rows were entered
+abbrev pub rows_of : List WorkerView → List LaneView → ℕ
+rows_of workers lanes = sum_by (λ worker. worker.entered) workers + sum_by (λ lane. lane.entered) lanes
 
 -- a measure of what is there, and 0 of nothing
 abbrev pub held : {X : Type 0} → (X → ℕ) → Option X → ℕ

@@ -12,9 +12,9 @@ use Rattle.occ_board.specs.declared.rule.Seen.{Seen}
 use Rattle.occ_store.specs.Sessions.{SessionView, closed, no_number, last_number, InOneHolding}
 use Rattle.occ_store.specs.Bodies.{Making, Becoming, ComesOf}
 use Rattle.occ_store.specs.Ended.{IsTold}
-use Rattle.occ_store.specs.Workers.{Requests, LastMade, Tried, Ends, NotHandedIn}
-use Rattle.occ_store.specs.declared.ended.Ended.{Ended}
-use Rattle.occ_store.specs.declared.ended.Ended.TheVariants as ends
+use Rattle.occ_store.specs.Tries.{Requests, LastMade, Tried, Ends, NotHandedIn}
+use Rattle.occ_case.specs.declared.ended.Ended.{Ended}
+use Rattle.occ_case.specs.declared.ended.Ended.TheVariants as ends
 use Rattle.occ_store.specs.declared.awaited.Pending as pendings
 use Rattle.occ_store.specs.declared.awaited.Awaited.{Awaited}
 use Rattle.occ_store.specs.declared.awaited.Awaited.TheVariants.{Settled, Pending}
@@ -58,11 +58,6 @@ TriedSo Made count old (Pending pending) new = Waits Made count old pending new
 abbrev pub Awaits : {Value Error : Type 0} → Making Value Error → ℕ → SessionView → Awaited Value → SessionView → Type 0
 Awaits Made most old (Settled ended) new = Ends Made most old ended new
 Awaits Made most old (Pending pending) new = (count : ℕ) × (0 < count) × (count ≤ most) × Waits Made count old pending new
-
--- why tries are refused: there is none to lend to the body, and nothing changes; or a transaction isn't handed in
-abbrev pub TriesStop : {Value Error : Type 0} → Making Value Error → Becoming Error → Settings → SessionView → SessionView → Error → Type 0
-TriesStop Made Becomes settings old new error = (ComesOf Becomes (λ fault. fault ≡ faults.Memory) error × (new ≡ old))
-    ⊎ NotHandedIn Made Becomes settings new error
 
 -- ---- `give_up`
 

@@ -13,4 +13,5 @@ pub mod Names
 pub mod Serving
 pub mod Sessions
 pub mod Transactions
+pub mod Tries
 pub mod Workers

@@ -96,6 +96,12 @@ told words session kept world reply = words
 abbrev pub Happens : Locked → ℕ → Event → Reply → Locked → Type 0
 Happens old session event reply new = Moves old.filed event reply new.filed × (new.words ≡ stored old.words session reply)
 
+-- A call of a read phase moves the world and the totals alone: the words stay, the file, and what shows its cases.
+pub record IsSameBeside (old new : Locked) : Type 0 where
+  pub words : new.words ≡ old.words
+  pub file : new.filed.file ≡ old.filed.file
+  pub tokens : new.filed.tokens ≡ old.filed.tokens
+
 -- An entry, by which a request's case has this token.
 abbrev pub EntersAs : Locked → ℕ → Item → Option (Where Case) → Reply → Locked → Type 0
 EntersAs old session item token reply new = Enters old.filed session item token reply new.filed × (new.words ≡ stored old.words session reply)

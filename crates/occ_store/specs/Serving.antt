@@ -18,7 +18,7 @@ use Rattle.occ_store.specs.declared.serving.Point.TheVariants as points
 use Rattle.occ_store.specs.declared.serving.Served.{Served}
 use Rattle.occ_store.specs.declared.serving.Served.TheVariants as served
 use Rattle.occ_store.specs.Locked.{Locked, world_of}
-use Rattle.occ_store.specs.Lanes.{LaneView, Left, Nothing, Kept, Open, Decided, number_left, is_closed, keeps_alone, Advances}
+use Rattle.occ_store.specs.Lanes.{LaneView, Left, Nothing, Kept, Open, Decided, number_left, is_open, is_closed, keeps_alone, Advances}
 
 -- at which points of which session and number a gate may stop a lane
 abbrev pub Stops : Type 1
@@ -112,6 +112,24 @@ Turns settings stops old number (Err fault) new = CarriesOn settings stops old n
 abbrev pub keeping : LaneView → Item → LaneView
 keeping lane item = record lane { receiver = taking lane.receiver item; left = Kept item }
 
+-- A gate that has to stop a lane is heeded: a transaction is told as settled, and a lane goes on after an event or to a decision, only where it need not stop.
+abbrev pub Heeds : Stops → ℕ → Served → Type 0
+Heeds must session (served.Settled number) = must points.Settled session number → ⊥
+Heeds must session served.Idle = Unit {0}
+Heeds must session served.Busy = Unit {0}
+Heeds must session (served.Stopped point) = Unit {0}
+Heeds must session served.LaneClosed = Unit {0}
+
+abbrev pub HeedsAll : Stops → ℕ → Result Served Fault → Type 0
+HeedsAll must session (Ok served) = Heeds must session served
+HeedsAll must session (Err fault) = Unit {0}
+
+abbrev pub HeedsTurn : Settings → Stops → LaneView → ℕ → Result (Option Served) Fault → LaneView → Type 0
+HeedsTurn settings must old number (Ok None) new = (is_open old.left ≡ true → must points.Judged old.session number → ⊥)
+    × ((point : Point) × CameBy settings number (Ok point) new × (must point new.session number → ⊥))
+HeedsTurn settings must old number (Ok (Some served)) new = Heeds must new.session served
+HeedsTurn settings must old number (Err fault) new = Unit {0}
+
 -- What a call finds: what was left; or, where nothing was, an item that it takes; or nothing to do, and all stays.
 abbrev pub Resumes : Settings → Stops → LaneView → Result Served Fault → LaneView → Type 0
 Resumes settings stops old result new = (number : ℕ) × (number_left old.left ≡ Some number) × CarriesOn settings stops old number result new
@@ -176,9 +194,9 @@ abbrev pub IsMet : Settings → Stops → Option Fault → List LaneView → Typ
 IsMet settings stops None lanes = Unit {0}
 IsMet settings stops (Some fault) lanes = (place : ℕ) × (place < length lanes) × ((none : LaneView) → HasMet settings stops fault (get_or lanes place none))
 
--- What comes of serving lanes until each has ended: all have, and the fault that is told was met by one of them; or there is no memory for it, and all stay.
-abbrev pub Ends : Settings → Stops → List LaneView → Option Fault → List LaneView → Type 0
-Ends settings stops old fault new = (AllHaveEnded settings stops new × IsMet settings stops fault new) ⊎ ((fault ≡ Some Memory) × (new ≡ old))
+-- What comes of serving lanes until each has ended, or the store is stopped: all have, where it wasn't stopped, and the fault that is told was met by one of them; or there is no memory for it, and all stay.
+abbrev pub Ends : Settings → Stops → List LaneView → Option Fault → Bool → List LaneView → Type 0
+Ends settings stops old fault stopped new = ((stopped ≡ false → AllHaveEnded settings stops new) × IsMet settings stops fault new) ⊎ ((fault ≡ Some Memory) × (new ≡ old))
 
 -- What a turn of a lane tells of faults: none that is new; or the first one, which the lane met in this turn.
 abbrev pub TellsFault : Settings → Stops → LaneView → Option Fault → Option Fault → LaneView → Type 0

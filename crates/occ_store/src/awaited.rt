@@ -1,5 +1,5 @@
 //! What waiting for a transaction comes to.
-use crate::ended::Ended;
+use occ_case::Ended;
 
 /// A transaction that was handed in, and whose end was not told yet.
 #[derive(Clone, Copy, Debug, PartialEq, Eq, Drop)]

@@ -1,18 +1,18 @@
 //! Frames: a store that has no name yet.
-ghost use Rattle.std.specs.Prelude.{◌≡◌, ◌≤◌, ◌⊎◌, ℕ, map, length, IfOk, IfErr, IsOkUnless, None};
-ghost use Rattle.std.specs.List.{All, range_with_len};
+ghost use Rattle.std.specs.Prelude.{◌≡◌, ◌≤◌, ◌<◌, ◌⊎◌, ◌+◌, ◌^◌, ℕ, suc, min, length, IfOk, IfErr, IsOkUnless, None};
+ghost use Rattle.std.specs.List.{All};
 ghost use Rattle.atomic_table.specs.Seated.{TableId};
 ghost use Rattle.occ_types.specs.declared.limits.TheConstants.{MAX_NUMBER};
 ghost use Rattle.occ_model.specs.Log.{last_folded};
 ghost use Rattle.occ_model.specs.World.{empty_base, resumed};
 ghost use Rattle.occ_board.specs.Words.{blank, continued};
 ghost use Rattle.occ_board.specs.Rule.{fresh};
-ghost use Rattle.occ_store.specs.Frames.{IsPart, AreParts, HasRoomFor, HaveRoomFor, NumbersHaveRoom};
+ghost use Rattle.occ_store.specs.Frames.{AreSeats, IsPart, AreParts, IsPlace, ArePlaces, HasRoomFor, HaveRoomFor, NumbersHaveRoom};
 ghost use Rattle.std.specs.Arc.{arc_value};
 ghost use Rattle.occ_types.specs.declared.fault.Fault.TheVariants.{Memory};
 ghost use Rattle.occ_core.specs.Resuming.{resume_fault, CannotGoOn};
 
-use crate::parts::Part;
+use crate::parts::{Part, Place};
 use crate::publishing::law;
 use crate::schemas::copied;
 use occ_board::{Board, Publisher, Seat};
@@ -35,6 +35,7 @@ pub struct Frame<A: Allocator + Copy> {
     pub(crate) filed: FiledCore<A>,
     pub(crate) file: Arc<CaseFile<A>, A>,
     pub(crate) publisher: Publisher<A>,
+    pub(crate) places: Vec<Place<A>, A>,
     pub(crate) parts: Vec<Part<A>, A>,
     pub(crate) rows: Blank,
 }
@@ -50,25 +51,28 @@ impl<A: Allocator + Copy> Model for Frame<A> {
 
     ghost coded = { Prim.hlevel (codes, finite.code, shelves_coded) };
 
-    ghost view = { λ f. record { named = named_by f.filed f.publisher f.parts.items; ledger = f.rows.name; parts = f.rows.parts; base = f.filed.world.base; counter = f.filed.world.counter } };
+    ghost view = { λ f. record { named = named_by f.filed f.publisher f.places.items f.parts.items; ledger = f.rows.name; parts = f.rows.parts; base = f.filed.world.base; counter = f.filed.world.counter } };
 
-    ghost invariant = { λ f. IsFrame f.filed (arc_value f.file) f.publisher f.parts.items f.rows.parts };
+    ghost invariant = { λ f. IsFrame f.filed (arc_value f.file) f.publisher f.places.items f.parts.items f.rows.parts };
 }
 
 impl<A: Allocator + Copy> Frame<A> {
-    /// The frame of an empty store with these tables and so many sessions, numbered from 1, each of which has a queue with room for
-    /// `capacity` items, or for one where that is 0. It keeps the last `keep` write sets for testing. Each may be any number
-    /// that memory has room for. Refused with `Memory` where there is none for it, and the schema is handed back then.
+    /// The frame of an empty store with these tables and so many sessions, numbered from 1. The first ones are workers, so many as
+    /// `workers` says, and all where that is more; each of the others has a queue with room for `capacity` items, or for one where that
+    /// is 0. It keeps the last `keep` write sets for testing. Each may be any number that memory has room for. Refused with `Memory`
+    /// where there is none for it, and the schema is handed back then.
     pub fn new(
         alloc: A,
         schema: Schema<A>,
         sessions: usize,
+        workers: usize,
         capacity: usize,
         keep: usize,
     ) -> Result<Frame<A>, Refused<Schema<A>>>
         ensures settings { IfOk result (λ frame. frame.named.settings ≡ record { schema = schema; sessions = sessions; keep = keep }) }
         ensures empty { IfOk result (λ frame. frame.base ≡ empty_base) }
         ensures counter { IfOk result (λ frame. frame.counter ≡ 0) }
+        ensures workers { IfOk result (λ frame. frame.named.workers ≡ min workers sessions) }
         ensures room { IfOk result (λ frame. All (HasRoomFor capacity) frame.named.lanes) }
         ensures handed_back { IfErr result (λ refused. (refused.value ≡ schema) × (refused.fault ≡ Memory)) }
     {
@@ -82,7 +86,7 @@ impl<A: Allocator + Copy> Frame<A> {
                 });
             }
         };
-        match Frame::resume(alloc, schema, sessions, capacity, keep, base, 0) {
+        match Frame::resume(alloc, schema, sessions, workers, capacity, keep, base, 0) {
             Ok(frame) => Ok(frame),
             Err(refused) => {
                 let (schema, _base) = refused.value;
@@ -103,6 +107,7 @@ impl<A: Allocator + Copy> Frame<A> {
         alloc: A,
         schema: Schema<A>,
         sessions: usize,
+        workers: usize,
         capacity: usize,
         keep: usize,
         base: Base<A>,
@@ -111,13 +116,18 @@ impl<A: Allocator + Copy> Frame<A> {
         ensures settings { IfOk result (λ frame. frame.named.settings ≡ record { schema = schema; sessions = sessions; keep = keep }) }
         ensures base { IfOk result (λ frame. frame.base ≡ base.base) }
         ensures counter { IfOk result (λ frame. frame.counter ≡ counter) }
+        ensures workers { IfOk result (λ frame. frame.named.workers ≡ min workers sessions) }
         ensures room { IfOk result (λ frame. All (HasRoomFor capacity) frame.named.lanes) }
         ensures fits { IfOk result (λ _. resume_fault schema sessions base counter ≡ None) }
         ensures fault { IfErr result (λ refused. (refused.fault ≡ Memory) ⊎ CannotGoOn schema sessions base counter refused.fault) }
         ensures handed_back { IfErr result (λ refused. refused.value ≡ (schema, base)) }
     {
-        let (mut publisher, parts) = match room(alloc, &schema, sessions, capacity, &base) {
-            Ok(room) => room,
+        let Seating {
+            publisher,
+            places,
+            parts,
+        } = match room(alloc, &schema, sessions, workers, capacity, &base) {
+            Ok(seating) => seating,
             Err(fault) => {
                 return Err(Refused {
                     value: (schema, base),
@@ -127,58 +137,130 @@ impl<A: Allocator + Copy> Frame<A> {
         };
         let (filed, file) = FiledCore::resume(alloc, schema, sessions, keep, base, counter)?;
         law(&filed);
+        let mut publisher = publisher;
         show(&mut publisher, filed.core());
         Ok(Frame {
             alloc,
             filed,
             file,
             publisher,
+            places,
             parts,
             rows: Blank::new(sessions as u64),
         })
     }
 }
 
-// What takes memory beside the core: the board, and what becomes of each session.
+// What takes memory beside the core: the board, and what becomes of each worker and of each other session.
+#[derive(Drop)]
+struct Seating<A: Allocator + Copy> {
+    publisher: Publisher<A>,
+    places: Vec<Place<A>, A>,
+    parts: Vec<Part<A>, A>,
+}
+
+// Room for so many sessions, the first of which are so many workers.
 fn room<A: Allocator + Copy>(
     alloc: A,
     schema: &Schema<A>,
     sessions: usize,
+    workers: usize,
     capacity: usize,
     base: &Base<A>,
-) -> Result<(Publisher<A>, Vec<Part<A>, A>), Fault>
-    ensures words { IfOk result (λ made. made.0.words ≡ blank sessions) }
-    ensures count { IfOk result (λ made. length made.1.items ≡ sessions) }
-    ensures room { IfOk result (λ made. HaveRoomFor capacity made.1.items) }
-    ensures parts { IfOk result (λ made. NumbersHaveRoom base.now.base sessions → AreParts made.0.board schema.now base.now.base 1 made.1.items) }
+) -> Result<Seating<A>, Fault>
+    ensures words { IfOk result (λ made. made.publisher.words ≡ blank sessions) }
+    ensures count { IfOk result (λ made. length made.places.items + length made.parts.items ≡ sessions) }
+    ensures workers { IfOk result (λ made. length made.places.items ≡ min workers sessions) }
+    ensures room { IfOk result (λ made. HaveRoomFor capacity made.parts.items) }
+    ensures places { IfOk result (λ made. NumbersHaveRoom base.now.base sessions → ArePlaces made.publisher.board schema.now base.now.base 1 made.places.items) }
+    ensures parts { IfOk result (λ made. NumbersHaveRoom base.now.base sessions → AreParts made.publisher.board schema.now base.now.base (suc (length made.places.items)) made.parts.items) }
     ensures memory { IsOkUnless result Memory }
 {
     let tables = copied(alloc, schema)?;
     let tables = Arc::new(alloc, tables)?;
     let (publisher, seats) = Board::new(alloc, sessions)?;
-    let parts = parts(alloc, seats, &tables, capacity, base)?;
-    Ok((publisher, parts))
+    let mut seats = seats;
+    let hired = first_ones(workers, seats.len());
+    let others = seats.split_off(hired)?;
+    let places = places(alloc, seats, &tables, base)?;
+    let parts = parts(alloc, hired, others, &tables, capacity, base)?;
+    Ok(Seating {
+        publisher,
+        places,
+        parts,
+    })
 }
 
-// What becomes of each session, the first session's first.
+// How many of so many sessions are the first ones.
+fn first_ones(workers: usize, sessions: usize) -> usize
+    ensures is { result ≡ min workers sessions }
+    ensures within { result ≤ sessions }
+{
+    workers.min(sessions)
+}
+
+// What becomes of the workers of these seats, which are numbered from 1.
+fn places<A: Allocator + Copy>(
+    alloc: A,
+    seats: Vec<Seat<A>, A>,
+    tables: &Arc<Schema<A>, A>,
+    base: &Base<A>,
+) -> Result<Vec<Place<A>, A>, Fault>
+    ensures count { IfOk result (λ made. length made.items ≡ length seats.items) }
+    ensures places { IfOk result (λ made. (board : TableId) → AreSeats board 1 seats.items → NumbersHaveRoom base.now.base (length seats.items) → ArePlaces board (arc_value tables.now) base.now.base 1 made.items) }
+    ensures memory { IsOkUnless result Memory }
+{
+    let mut places = Vec::with_capacity(alloc, seats.len())?;
+    for seat in seats {
+        let session = places.len() + 1;
+        let last = lane_begin(base, session);
+        places.push(place(session, seat, tables, last)?)?;
+    }
+    Ok(places)
+}
+
+// What becomes of the sessions of these seats, which are numbered behind so many workers.
 fn parts<A: Allocator + Copy>(
     alloc: A,
+    workers: usize,
     seats: Vec<Seat<A>, A>,
     tables: &Arc<Schema<A>, A>,
     capacity: usize,
     base: &Base<A>,
 ) -> Result<Vec<Part<A>, A>, Fault>
+    requires fits { workers + length seats.items < 2 ^ 64 }
     ensures count { IfOk result (λ made. length made.items ≡ length seats.items) }
     ensures room { IfOk result (λ made. HaveRoomFor capacity made.items) }
-    ensures parts { IfOk result (λ made. (board : TableId) → seats.items ≡ map (fresh board) (range_with_len 1 (length seats.items)) → NumbersHaveRoom base.now.base (length seats.items) → AreParts board (arc_value tables.now) base.now.base 1 made.items) }
+    ensures parts { IfOk result (λ made. (board : TableId) → AreSeats board (suc workers) seats.items → NumbersHaveRoom base.now.base (workers + length seats.items) → AreParts board (arc_value tables.now) base.now.base (suc workers) made.items) }
     ensures memory { IsOkUnless result Memory }
 {
     let mut parts = Vec::with_capacity(alloc, seats.len())?;
     for seat in seats {
-        let last = lane_begin(base, parts.len() + 1);
-        parts.push(part(alloc, seat, tables, capacity, last)?)?;
+        let session = workers + parts.len() + 1;
+        let last = lane_begin(base, session);
+        parts.push(part(alloc, session, seat, tables, capacity, last)?)?;
     }
     Ok(parts)
+}
+
+// What becomes of the worker of a seat, behind its last number.
+fn place<A: Allocator + Copy>(
+    session: usize,
+    seat: Seat<A>,
+    tables: &Arc<Schema<A>, A>,
+    last: u64,
+) -> Result<Place<A>, Fault>
+    requires { last ≤ MAX_NUMBER }
+    ensures place { IfOk result (λ made. (board : TableId) → seat ≡ fresh board session → IsPlace board (arc_value tables.now) session last made) }
+    ensures memory { IsOkUnless result Memory }
+{
+    let schema = Arc::try_clone(tables)?;
+    Ok(Place {
+        session,
+        seat,
+        schema,
+        last,
+    })
 }
 
 // The number that a session's lane begins behind: the last one that a base has of it. For a number past its limit there is no lane, and
@@ -196,6 +278,7 @@ fn lane_begin<A: Allocator>(base: &Base<A>, session: usize) -> u64
 // What becomes of the session of a seat, behind its last number.
 fn part<A: Allocator + Copy>(
     alloc: A,
+    session: usize,
     seat: Seat<A>,
     tables: &Arc<Schema<A>, A>,
     capacity: usize,
@@ -203,12 +286,13 @@ fn part<A: Allocator + Copy>(
 ) -> Result<Part<A>, Fault>
     requires { last ≤ MAX_NUMBER }
     ensures room { IfOk result (λ made. HasRoomFor capacity made.receiver.lane) }
-    ensures part { IfOk result (λ made. (board : TableId) (session : ℕ) → seat ≡ fresh board session → IsPart board (arc_value tables.now) session last made) }
+    ensures part { IfOk result (λ made. (board : TableId) → seat ≡ fresh board session → IsPart board (arc_value tables.now) session last made) }
     ensures memory { IsOkUnless result Memory }
 {
     let (sender, receiver) = lane_behind(alloc, capacity.max(1), last)?;
     let schema = Arc::try_clone(tables)?;
     Ok(Part {
+        session,
         seat,
         sender,
         receiver,

@@ -27,7 +27,7 @@ impl<N: Name, A: Allocator + Copy> Store<N, A> {
             lease,
             file,
             cut,
-            ..
+            stop_word,
         } = self;
         match shared.into_inner().into_base() {
             Ok(base) => Ok(base),
@@ -37,6 +37,7 @@ impl<N: Name, A: Allocator + Copy> Store<N, A> {
                     lease,
                     file,
                     cut,
+                    stop_word,
                 },
                 fault,
             }),

@@ -9,7 +9,11 @@ use occ_types::{Fault, Key, Row, Schema};
 use std::alloc::Allocator;
 
 impl<N: Name, A: Allocator + Copy> Readable<A> for Shared<N, A> {
+    ghost use Rattle.occ_store.specs.Locked.{IsSameBeside};
+
     ghost world = { λ shared. shared.filed.world };
+
+    ghost keeps = { IsSameBeside };
 
     fn schema(&self) -> &Schema<A> {
         self.core().schema()

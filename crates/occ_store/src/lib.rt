@@ -1,9 +1,9 @@
-//! The store: sessions, lanes and validators in threads, round one locked core.
+//! The store: workers, sessions, lanes and validators in threads, round one locked core.
 //!
-//! A program makes a `Frame`, names it and opens it: it gets the `Store`, which threads share, a `Session` for each client and a `Lane`
-//! for what each session submits. Each holding of the store's lock is one event, and between any two of them the log is in order, serial
-//! replay explains it, and the board shows each session's last transaction that is over. A `Worker` joins a session and its lane for one
-//! thread.
+//! A program makes a `Frame`, names it and opens it by `Store::open`: it gets the `Store`, which threads share; a `Worker` for each of the
+//! first sessions, which is one whose one thread ends its transactions itself; and for each other session a `Session` for a client and a
+//! `Lane` for what that submits. Each holding of the store's lock is one event, and between any two of them the log is in order, serial
+//! replay explains it, and the board shows each session's last transaction that is over.
 //!
 //! What a program names of the crates below is handed on here, so it lists this crate alone.
 #![tactic(auto)]
@@ -12,7 +12,6 @@ mod accounts;
 mod advancing;
 mod awaited;
 mod counts;
-mod ended;
 mod events;
 mod frames;
 mod lanes;
@@ -33,23 +32,24 @@ mod session_waits;
 mod sessions;
 mod shared;
 mod short_logs;
+mod stopping;
 mod stores;
 mod transactions;
-mod tries;
 mod unfinished;
 mod validators;
+mod worker_ends;
+mod worker_tries;
 mod workers;
 
 pub use accounts::{Account, AccountLine, Parties};
 pub use awaited::{Awaited, Pending};
-pub use ended::Ended;
 pub use frames::Frame;
 pub use lanes::Lane;
 pub use leases::Lease;
-pub use names::Name;
+pub use names::{MayStop, Name, Stoppable};
 pub use occ_board::Last;
 pub use occ_book::{Base, Book, LogRow, Marks, Standing, Tables};
-pub use occ_case::{Case, CaseFile, CaseToken, Cause, Judged, OpenCase, Verdict};
+pub use occ_case::{Case, CaseFile, CaseToken, Cause, Ended, Judged, OpenCase, Verdict};
 pub use occ_core::{AutoCheckpoint, Core, Counts, SHORT_LOG};
 pub use occ_open::Page;
 pub use occ_queue::Item;
@@ -58,6 +58,7 @@ pub use occ_types::{
     Cell, Fault, Key, KeyKind, KeyPart, Kind, Object, Pair, PartKind, Refused, Row, Schema,
     TableDef, Text,
 };
+pub use operations::Operations;
 pub use serving::{AlwaysGo, Gate, Pace, Point, Served};
 pub use sessions::Session;
 pub use shared::Shared;

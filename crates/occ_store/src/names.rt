@@ -4,9 +4,27 @@ ghost use Rattle.std.specs.Prelude.{◌≡◌};
 use std::marker::{Brand, Model, PhantomData};
 use std::sync::ledger::Ledger;
 
+/// Whether a store may be stopped, as far as clauses are to know.
+pub trait MayStop {
+    ghost may_be_stopped: { Type 0 };
+}
+
+impl MayStop for Brand {
+    ghost may_be_stopped = { Unit {0} };
+}
+
+/// That a store may be stopped. A function that stops one says `N: Name + Stoppable`, and `Brand` is so.
+pub trait Stoppable: MayStop {
+    ghost stoppable: { Self.MayStop.may_be_stopped };
+}
+
+impl Stoppable for Brand {
+    ghost stoppable = { tt };
+}
+
 /// Which store it is: what it was opened with, its file of cases, its board and its lanes; and the ledger in which its lanes count the
 /// rows that they enter, with a part for each. A program calls a function of its own, generic over it, with `Brand`, and picks it there.
-pub trait Name: Ledger {
+pub trait Name: Ledger + MayStop {
     ghost use Rattle.occ_store.specs.Names.{Named};
 
     ghost named: { Named };

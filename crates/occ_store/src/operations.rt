@@ -1,12 +1,13 @@
 //! A list of operations as the body of a transaction.
-ghost use Rattle.std.specs.Prelude.{◌≡◌, None, Some, IfOk, OnOk, IsOkUnless};
+ghost use Rattle.std.specs.Prelude.{◌≡◌, [], ◌∷◌, None, Some, Ok, Err, IfOk, IsOkUnless, MatchResult};
 ghost use Rattle.occ_types.specs.declared.fault.Fault.TheVariants.{Memory};
 ghost use Rattle.occ_types.specs.PlainData.{key_of, end_of};
 ghost use Rattle.occ_types.specs.Question.{One, Span};
+ghost use Rattle.occ_types.specs.Row.{Int};
 ghost use Rattle.occ_model.specs.Operations.{Add, number_in, held_sum};
 ghost use Rattle.occ_model.specs.State.{Found, Rows};
 ghost use Rattle.occ_sets.specs.Operations.{op_of, ops_of};
-ghost use Rattle.occ_store.specs.Bodies.{Sees, with_write, Performs, PerformsAll, Performing};
+ghost use Rattle.occ_store.specs.Bodies.{Asked, Written, PerformingOne, Performing};
 
 use crate::names::Name;
 use crate::stores::Store;
@@ -16,10 +17,22 @@ use occ_types::{Fault, Key, Row};
 use std::alloc::{AllocError, Allocator};
 use std::sync::Wait;
 
-/// The body that performs a list of operations, one after another, and drops what they read.
+/// The body that performs a list of operations, one after another, and drops what they read. A run performs all of them, or ends at the
+/// first that is refused, with its fault (`Performing`).
 #[derive(Drop)]
-pub(crate) struct Operations<'o, A: Allocator + Copy> {
-    pub(crate) list: &'o [Op<A>],
+pub struct Operations<'o, A: Allocator + Copy> {
+    /// What it performs, the first one first.
+    pub list: &'o [Op<A>],
+}
+
+impl<A: Allocator + Copy> Operations<'_, A> {
+    /// Copies of them. Refused with `Memory` where there is none for them.
+    pub fn to_vec(&self, alloc: A) -> Result<Vec<Op<A>, A>, Fault>
+        ensures same { IfOk result (λ copies. ops_of copies.items ≡ ops_of self.now.list.now) }
+        ensures memory { IsOkUnless result Memory }
+    {
+        copied(alloc, self.list)
+    }
 }
 
 impl<N: Name, A: Allocator + Copy, R: Wait> Body<N, A, R> for Operations<'_, A> {
@@ -33,9 +46,9 @@ impl<N: Name, A: Allocator + Copy, R: Wait> Body<N, A, R> for Operations<'_, A> 
         &mut self,
         rt: &R,
         store: &Store<N, A>,
-        transaction: &mut Transaction<N, A>,
+        work: &mut Transaction<N, A>,
     ) -> Result<(), Fault> {
-        perform_all(rt, store, transaction, self.list)
+        perform_all(rt, store, work, self.list)
     }
 }
 
@@ -46,7 +59,7 @@ fn perform_all<N: Name, A: Allocator + Copy, R: Wait>(
     transaction: &mut Transaction<N, A>,
     operations: &[Op<A>],
 ) -> Result<(), Fault>
-    ensures { OnOk result (PerformsAll N.named.settings (ops_of operations.now) transaction.old transaction.new) }
+    ensures { Performing N.named.settings (ops_of operations.now) transaction.old result transaction.new }
 {
     for operation in operations {
         perform(rt, store, transaction, operation)?;
@@ -61,24 +74,28 @@ fn perform<N: Name, A: Allocator + Copy, R: Wait>(
     transaction: &mut Transaction<N, A>,
     operation: &Op<A>,
 ) -> Result<(), Fault>
-    ensures { OnOk result (Performs N.named.settings (op_of operation.now) transaction.old transaction.new) }
+    ensures { PerformingOne N.named.settings (op_of operation.now) transaction.old result transaction.new }
 {
     match operation {
-        Op::Get { table, key } => {
-            let _row = get(rt, store, transaction, *table, key)?;
-            Ok(())
-        }
+        Op::Get { table, key } => dropped(get(rt, store, transaction, *table, key)),
         Op::Scan {
             table,
             lower,
             upper,
-        } => {
-            let _rows = scan(rt, store, transaction, *table, lower, upper)?;
-            Ok(())
-        }
-        Op::Put { table, key, row } => put(transaction, *table, key, row.clone()?),
+        } => dropped(scan(rt, store, transaction, *table, lower, upper)),
+        Op::Put { table, key, row } => put(transaction, *table, key, row),
         Op::Delete { table, key } => delete(transaction, *table, key),
         Op::Add { table, key, amount } => add(rt, store, transaction, *table, key, amount),
+    }
+}
+
+// What a question came to whose answer is dropped.
+fn dropped<T: Drop>(answer: Result<T, Fault>) -> Result<(), Fault>
+    ensures { MatchResult answer (λ _. result ≡ Ok tt) (λ fault. result ≡ Err fault) }
+{
+    match answer {
+        Ok(_told) => Ok(()),
+        Err(fault) => Err(fault),
     }
 }
 
@@ -90,10 +107,9 @@ fn get<N: Name, A: Allocator + Copy, R: Wait>(
     table: usize,
     key: &Key<A>,
 ) -> Result<Option<Row<A>>, Fault>
-    ensures { IfOk result (λ row. Sees N.named.settings transaction.now (One table (key_of key.now)) (Found row)) }
+    ensures { Asked Found N.named.settings transaction.now (One table (key_of key.now)) result }
 {
-    let row = transaction.get(rt, store, table, key.clone()?)?;
-    Ok(row)
+    transaction.get(rt, store, table, key)
 }
 
 // The rows of a range.
@@ -105,25 +121,38 @@ fn scan<N: Name, A: Allocator + Copy, R: Wait>(
     lower: &Option<Key<A>>,
     upper: &Option<Key<A>>,
 ) -> Result<RangeRows<A>, Fault>
-    ensures { IfOk result (λ rows. Sees N.named.settings transaction.now (Span table (end_of lower.now) (end_of upper.now)) (Rows rows)) }
+    ensures { Asked Rows N.named.settings transaction.now (Span table (end_of lower.now) (end_of upper.now)) result }
 {
-    let lower = copied_end(lower)?;
-    let upper = copied_end(upper)?;
-    let rows = transaction.scan(rt, store, table, lower, upper)?;
-    Ok(rows)
+    transaction.scan(rt, store, table, lower.as_ref(), upper.as_ref())
+}
+
+// Writes a copy of a row under a copy of a key.
+fn put<N: Name, A: Allocator + Copy>(
+    transaction: &mut Transaction<N, A>,
+    table: usize,
+    key: &Key<A>,
+    row: &Row<A>,
+) -> Result<(), Fault>
+    ensures { Written N.named.settings transaction.old (table, key_of key.now) (Some row.now) result transaction.new }
+{
+    let row = row.clone()?;
+    write(transaction, table, key, row)
 }
 
 // Writes a row under a copy of a key.
-fn put<N: Name, A: Allocator + Copy>(
+fn write<N: Name, A: Allocator + Copy>(
     transaction: &mut Transaction<N, A>,
     table: usize,
     key: &Key<A>,
     row: Row<A>,
 ) -> Result<(), Fault>
-    ensures { OnOk result (transaction.new ≡ with_write transaction.old (table, key_of key.now) (Some row)) }
+    ensures { Written N.named.settings transaction.old (table, key_of key.now) (Some row) result transaction.new }
 {
-    transaction.put(table, key.clone()?, row)?;
-    Ok(())
+    let key = key.clone()?;
+    match transaction.put(table, key, row) {
+        Ok(()) => Ok(()),
+        Err(refused) => Err(refused.fault),
+    }
 }
 
 // Deletes the row under a copy of a key.
@@ -132,10 +161,13 @@ fn delete<N: Name, A: Allocator + Copy>(
     table: usize,
     key: &Key<A>,
 ) -> Result<(), Fault>
-    ensures { OnOk result (transaction.new ≡ with_write transaction.old (table, key_of key.now) None) }
+    ensures { Written N.named.settings transaction.old (table, key_of key.now) None result transaction.new }
 {
-    transaction.delete(table, key.clone()?)?;
-    Ok(())
+    let key = key.clone()?;
+    match transaction.delete(table, key) {
+        Ok(()) => Ok(()),
+        Err(refused) => Err(refused.fault),
+    }
 }
 
 // Adds to the number in the row under a key. A sum beyond the ends of 64 bits is held at the end.
@@ -147,18 +179,18 @@ fn add<N: Name, A: Allocator + Copy, R: Wait>(
     key: &Key<A>,
     amount: &i64,
 ) -> Result<(), Fault>
-    ensures { OnOk result (Performs N.named.settings (Add table (key_of key.now) amount.now) transaction.old transaction.new) }
+    ensures { PerformingOne N.named.settings (Add table (key_of key.now) amount.now) transaction.old result transaction.new }
 {
     let row = get(rt, store, transaction, table, key)?;
     let sum = added(&row, amount);
-    put(transaction, table, key, Row::from(sum))
+    write(transaction, table, key, sum)
 }
 
-// The number in a row with an amount added, held at the ends of 64 bits.
-fn added<A: Allocator + Copy>(row: &Option<Row<A>>, amount: &i64) -> i64
-    ensures { result ≡ held_sum (number_in (Found row.now)) amount.now }
+// The row of the number in a row with an amount added, held at the ends of 64 bits.
+fn added<A: Allocator + Copy>(row: &Option<Row<A>>, amount: &i64) -> Row<A>
+    ensures { result ≡ Int (held_sum (number_in (Found row.now)) amount.now) ∷ [] }
 {
-    number_in(row).saturating_add(*amount)
+    Row::from(number_in(row).saturating_add(*amount))
 }
 
 // The whole number in a row of one cell, and 0 where there is no row.

@@ -1,7 +1,7 @@
 //! How a lane is served: one holding of the lock for each event, and a gate between them.
 ghost use Rattle.std.specs.Prelude.{◌≡◌, ◌⊎◌, ℕ, Some, None, Ok, IfSome, IfNone, IsTrue, true};
-ghost use Rattle.occ_store.specs.Lanes.{Nothing, number_left};
-ghost use Rattle.occ_store.specs.Serving.{StandsAt, IsAt, IsBusy, Happened, TellsOfMove, ComesOf, CarriesOn, Moves, Turns, Resumes, TakesNext, Serves, FindsNothing};
+ghost use Rattle.occ_store.specs.Lanes.{Nothing, number_left, is_open};
+ghost use Rattle.occ_store.specs.Serving.{StandsAt, IsAt, IsBusy, Happened, TellsOfMove, Heeds, HeedsTurn, HeedsAll, ComesOf, CarriesOn, Moves, Turns, Resumes, TakesNext, Serves, FindsNothing};
 ghost use Rattle.occ_store.specs.declared.serving.Served.TheVariants.{Idle};
 ghost use Rattle.occ_store.specs.declared.serving.Point.TheVariants as points;
 ghost use Rattle.boxcar.specs.Table.{Shows};
@@ -52,9 +52,13 @@ pub trait Gate {
     /// doesn't say.
     ghost may_stop: { Self → Point → ℕ → ℕ → Type 0 } = { λ gate point session number. Unit {0} };
 
+    /// Where it has to stop a lane, as far as clauses are to know: nowhere, where an `impl` doesn't say.
+    ghost must_stop: { Self → Point → ℕ → ℕ → Type 0 } = { λ gate point session number. ⊥ };
+
     /// Whether the lane of this session goes on with what has this number.
     fn pass(&self, point: Point, session: usize, number: u64) -> Pace
-        ensures { result ≡ Stop → may_stop self.now point session number };
+        ensures may { result ≡ Stop → may_stop self.now point session number }
+        ensures must { must_stop self.now point session number → result ≡ Stop };
 }
 
 /// The gate that never stops a lane.
@@ -90,6 +94,7 @@ impl<N: Name, A: Allocator + Copy> Lane<N, A> {
     fn stops_at_verdict<G: Gate>(&self, gate: &G, number: u64) -> bool
         ensures open { IsTrue result → number_left self.now.left ≡ Some number → StandsAt points.Judged number self.now.left }
         ensures may { IsTrue result → G.may_stop gate.now points.Judged self.now.session number }
+        ensures must { is_open self.now.left ≡ true → G.must_stop gate.now points.Judged self.now.session number → IsTrue result }
     {
         self.is_open() && gate.pass(Point::Judged, self.session(), number) == Pace::Stop
     }
@@ -109,6 +114,8 @@ impl<N: Name, A: Allocator + Copy> Lane<N, A> {
         ensures some { IfSome result (λ served. ComesOf (G.may_stop gate.now) number (Ok served) self.now) }
         ensures told { IfSome result TellsOfMove }
         ensures none { IfNone result (number_left self.now.left ≡ Some number) }
+        ensures must { IfNone result (G.must_stop gate.now point self.now.session number → ⊥) }
+        ensures heeds { IfSome result (λ served. Heeds (G.must_stop gate.now) self.now.session served) }
     {
         let Some(_) = self.number() else {
             return Some(self.ended(gate, number));
@@ -124,6 +131,7 @@ impl<N: Name, A: Allocator + Copy> Lane<N, A> {
         requires { self.now.left ≡ Nothing }
         ensures comes { ComesOf (G.may_stop gate.now) number (Ok result) self.now }
         ensures told { TellsOfMove result }
+        ensures heeds { Heeds (G.must_stop gate.now) self.now.session result }
     {
         if self.is_closed() {
             return Served::LaneClosed;
@@ -146,7 +154,8 @@ impl<N: Name, A: Allocator + Copy> Lane<N, A> {
         store: &Store<N, A>,
         gate: &G,
     ) -> Result<Served, Fault>
-        ensures { Serves N.named.settings (G.may_stop gate.now) self.old result self.new }
+        ensures serves { Serves N.named.settings (G.may_stop gate.now) self.old result self.new }
+        ensures heeds { HeedsAll (G.must_stop gate.now) self.new.session result }
     {
         match self.number() {
             Some(number) => self.carry_on(rt, store, gate, number),
@@ -161,7 +170,8 @@ impl<N: Name, A: Allocator + Copy> Lane<N, A> {
         store: &Store<N, A>,
         gate: &G,
     ) -> Result<Served, Fault>
-        ensures { Resumes N.named.settings (G.may_stop gate.now) self.old result self.new ⊎ FindsNothing self.old result Idle self.new }
+        ensures resumes { Resumes N.named.settings (G.may_stop gate.now) self.old result self.new ⊎ FindsNothing self.old result Idle self.new }
+        ensures heeds { HeedsAll (G.must_stop gate.now) self.new.session result }
     {
         match self.number() {
             Some(number) => self.carry_on(rt, store, gate, number),
@@ -177,7 +187,8 @@ impl<N: Name, A: Allocator + Copy> Lane<N, A> {
         gate: &G,
     ) -> Result<Served, Fault>
         requires { self.old.left ≡ Nothing }
-        ensures { TakesNext N.named.settings (G.may_stop gate.now) self.old result self.new }
+        ensures takes { TakesNext N.named.settings (G.may_stop gate.now) self.old result self.new }
+        ensures heeds { HeedsAll (G.must_stop gate.now) self.new.session result }
     {
         if self.is_closed() {
             return Ok(Served::LaneClosed);
@@ -201,7 +212,8 @@ impl<N: Name, A: Allocator + Copy> Lane<N, A> {
         number: u64,
     ) -> Result<Served, Fault>
         requires { number_left self.old.left ≡ Some number }
-        ensures { CarriesOn N.named.settings (G.may_stop gate.now) self.old number result self.new }
+        ensures carries { CarriesOn N.named.settings (G.may_stop gate.now) self.old number result self.new }
+        ensures heeds { HeedsAll (G.must_stop gate.now) self.new.session result }
     {
         for _ in rt.forever() {
             match self.turn(rt, store, gate, number) {
@@ -224,7 +236,8 @@ impl<N: Name, A: Allocator + Copy> Lane<N, A> {
         number: u64,
     ) -> Result<Option<Served>, Fault>
         requires { number_left self.old.left ≡ Some number }
-        ensures { Turns N.named.settings (G.may_stop gate.now) self.old number result self.new }
+        ensures turns { Turns N.named.settings (G.may_stop gate.now) self.old number result self.new }
+        ensures heeds { HeedsTurn N.named.settings (G.must_stop gate.now) self.old number result self.new }
     {
         let judged = self.judge(store.case_file());
         if self.stops_at_verdict(gate, number) {

@@ -1,12 +1,13 @@
 //! What a session writes and reads in its open transaction.
 ghost use Rattle.std.specs.Prelude.{◌≡◌, None, Some, IfOk, IfErr, OnOk, OnErr, MatchResult};
+ghost use Rattle.std.specs.Option.{option_copied};
 ghost use Rattle.occ_types.specs.PlainData.{key_of, end_of};
 ghost use Rattle.occ_types.specs.Question.{Span};
 ghost use Rattle.occ_model.specs.Paging.{first_page, last_page};
 ghost use Rattle.occ_open.specs.Pages.{paging, first_rest_of, last_rest_of, WantsPage, ScansPage};
 ghost use Rattle.occ_open.specs.Replies.{reading, scanning, forgetting};
 ghost use Rattle.occ_open.specs.Transactions.{IsRefusedBy, write_fault, written, WantsRoom, WantsOwn, Gets, WantsRange, Scans, Abandons, open_after, OrStarves};
-ghost use Rattle.occ_store.specs.Locked.{world_of};
+ghost use Rattle.occ_store.specs.Locked.{world_of, IsSameBeside};
 ghost use Rattle.occ_store.specs.Sessions.{InOneHolding};
 
 use crate::names::Name;
@@ -32,7 +33,7 @@ impl<N: Name, A: Allocator + Copy> Session<N, A> {
             (λ _. write_fault self.old.schema (table, key_of key) (Some row) self.old.draft ≡ None)
             (λ refused. IsRefusedBy (write_fault self.old.schema (table, key_of key) (Some row) self.old.draft) (WantsRoom (table, key_of key) self.old.draft) refused.fault) }
     {
-        self.open.put(&self.schema, table, key, row)
+        self.open.put(self.transaction.schema(), table, key, row)
     }
 
     /// Deletes the row under a key of a table, which is a write also where the table has no such row. Refused as `put`.
@@ -44,21 +45,23 @@ impl<N: Name, A: Allocator + Copy> Session<N, A> {
             (λ _. write_fault self.old.schema (table, key_of key) None self.old.draft ≡ None)
             (λ refused. IsRefusedBy (write_fault self.old.schema (table, key_of key) None self.old.draft) (WantsRoom (table, key_of key) self.old.draft) refused.fault) }
     {
-        self.open.delete(&self.schema, table, key)
+        self.open.delete(self.transaction.schema(), table, key)
     }
 
     /// The row under a key of a table, in the open transaction: its own write of the key, and else what the state answers, which notes
     /// the question in the transaction's read phase. Refused, the first of these that holds: with `NoReadOpen`; with `NoTable`,
     /// `WrongKind` or `TooLong` where the key doesn't fit; with `Memory` where there is none for a copy of an own row; and as the core
     /// refuses a read.
+    #[tactic(auto, using(crate::proofs::Happening::still_beside))]
     pub fn get_in(
         &self,
         shared: &mut Shared<N, A>,
         table: usize,
-        key: Key<A>,
+        key: &Key<A>,
     ) -> Result<Option<Row<A>>, Fault>
-        ensures { OrStarves (WantsOwn (world_of shared.old).settings.schema (table, key_of key) self.now.draft) (world_of shared.old) (reading result) (world_of shared.new)
-            (Gets (world_of shared.old) self.now.session (table, key_of key) self.now.draft (reading result) (world_of shared.new)) }
+        ensures step { OrStarves (WantsOwn (world_of shared.old).settings.schema (table, key_of key.now) self.now.draft) (world_of shared.old) (reading result) (world_of shared.new)
+            (Gets (world_of shared.old) self.now.session (table, key_of key.now) self.now.draft (reading result) (world_of shared.new)) }
+        ensures beside { IsSameBeside shared.old shared.new }
     {
         self.open.get_in(shared, self.session, table, key)
     }
@@ -67,15 +70,17 @@ impl<N: Name, A: Allocator + Copy> Session<N, A> {
     /// state answers to the whole range, which it notes in the transaction's read phase, with the own writes over it. Refused, the first
     /// of these that holds: with `NoReadOpen`; with `NoTable`, `WrongKind`, `TooLong` or `EmptyRange` where the range doesn't fit; with
     /// `Memory`; and as the core refuses a read.
+    #[tactic(auto, using(crate::proofs::Happening::still_beside))]
     pub fn scan_in(
         &self,
         shared: &mut Shared<N, A>,
         table: usize,
-        lower: Option<Key<A>>,
-        upper: Option<Key<A>>,
+        lower: Option<&Key<A>>,
+        upper: Option<&Key<A>>,
     ) -> Result<RangeRows<A>, Fault>
-        ensures { OrStarves (WantsRange (world_of shared.old).settings.schema (Span table (end_of lower) (end_of upper)) self.now.draft) (world_of shared.old) (scanning result) (world_of shared.new)
-            (Scans (world_of shared.old) self.now.session (Span table (end_of lower) (end_of upper)) self.now.draft (scanning result) (world_of shared.new)) }
+        ensures step { OrStarves (WantsRange (world_of shared.old).settings.schema (Span table (end_of (option_copied lower.entry)) (end_of (option_copied upper.entry))) self.now.draft) (world_of shared.old) (scanning result) (world_of shared.new)
+            (Scans (world_of shared.old) self.now.session (Span table (end_of (option_copied lower.entry)) (end_of (option_copied upper.entry))) self.now.draft (scanning result) (world_of shared.new)) }
+        ensures beside { IsSameBeside shared.old shared.new }
     {
         self.open.scan_in(shared, self.session, table, lower, upper)
     }
@@ -84,18 +89,20 @@ impl<N: Name, A: Allocator + Copy> Session<N, A> {
     /// lower end of the next page. The state is asked for the part of the range up to there, which it notes, so that a row that comes
     /// in behind the page is no conflict. The own writes of that part are laid over the rows, so that the page may show more rows than
     /// `most`, or fewer. Refused as `scan_in`, and with `Memory` where rows are left and there is none for the key at which they begin.
+    #[tactic(auto, using(crate::proofs::Happening::still_beside))]
     pub fn scan_first_in(
         &self,
         shared: &mut Shared<N, A>,
         table: usize,
-        lower: Option<Key<A>>,
-        upper: Option<Key<A>>,
+        lower: Option<&Key<A>>,
+        upper: Option<&Key<A>>,
         most: usize,
     ) -> Result<Page<A>, Fault>
-        ensures step { let rest = first_rest_of (world_of shared.old) table (end_of lower) (end_of upper) most in
-            OrStarves (WantsPage (world_of shared.old).settings.schema (first_page table (end_of lower) (end_of upper) rest) rest self.now.draft) (world_of shared.old) (paging result) (world_of shared.new)
-            (Scans (world_of shared.old) self.now.session (first_page table (end_of lower) (end_of upper) rest) self.now.draft (paging result) (world_of shared.new)) }
-        ensures rest { IfOk result (λ page. end_of page.rest ≡ first_rest_of (world_of shared.old) table (end_of lower) (end_of upper) most) }
+        ensures step { let rest = first_rest_of (world_of shared.old) table (end_of (option_copied lower.entry)) (end_of (option_copied upper.entry)) most in
+            OrStarves (WantsPage (world_of shared.old).settings.schema (first_page table (end_of (option_copied lower.entry)) (end_of (option_copied upper.entry)) rest) rest self.now.draft) (world_of shared.old) (paging result) (world_of shared.new)
+            (Scans (world_of shared.old) self.now.session (first_page table (end_of (option_copied lower.entry)) (end_of (option_copied upper.entry)) rest) self.now.draft (paging result) (world_of shared.new)) }
+        ensures rest { IfOk result (λ page. end_of page.rest ≡ first_rest_of (world_of shared.old) table (end_of (option_copied lower.entry)) (end_of (option_copied upper.entry)) most) }
+        ensures beside { IsSameBeside shared.old shared.new }
     {
         self.open
             .scan_first_in(shared, self.session, table, lower, upper, most)
@@ -103,18 +110,20 @@ impl<N: Name, A: Allocator + Copy> Session<N, A> {
 
     /// The last rows of a range, at most `most` of them, or one where `most` is 0, and where the rows before them end, which is the upper
     /// end of the page before. Noted, overlaid and refused as by `scan_first_in`.
+    #[tactic(auto, using(crate::proofs::Happening::still_beside))]
     pub fn scan_last_in(
         &self,
         shared: &mut Shared<N, A>,
         table: usize,
-        lower: Option<Key<A>>,
-        upper: Option<Key<A>>,
+        lower: Option<&Key<A>>,
+        upper: Option<&Key<A>>,
         most: usize,
     ) -> Result<Page<A>, Fault>
-        ensures step { let rest = last_rest_of (world_of shared.old) table (end_of lower) (end_of upper) most in
-            OrStarves (WantsPage (world_of shared.old).settings.schema (last_page table (end_of lower) (end_of upper) rest) rest self.now.draft) (world_of shared.old) (paging result) (world_of shared.new)
-            (Scans (world_of shared.old) self.now.session (last_page table (end_of lower) (end_of upper) rest) self.now.draft (paging result) (world_of shared.new)) }
-        ensures rest { IfOk result (λ page. end_of page.rest ≡ last_rest_of (world_of shared.old) table (end_of lower) (end_of upper) most) }
+        ensures step { let rest = last_rest_of (world_of shared.old) table (end_of (option_copied lower.entry)) (end_of (option_copied upper.entry)) most in
+            OrStarves (WantsPage (world_of shared.old).settings.schema (last_page table (end_of (option_copied lower.entry)) (end_of (option_copied upper.entry)) rest) rest self.now.draft) (world_of shared.old) (paging result) (world_of shared.new)
+            (Scans (world_of shared.old) self.now.session (last_page table (end_of (option_copied lower.entry)) (end_of (option_copied upper.entry)) rest) self.now.draft (paging result) (world_of shared.new)) }
+        ensures rest { IfOk result (λ page. end_of page.rest ≡ last_rest_of (world_of shared.old) table (end_of (option_copied lower.entry)) (end_of (option_copied upper.entry)) most) }
+        ensures beside { IsSameBeside shared.old shared.new }
     {
         self.open
             .scan_last_in(shared, self.session, table, lower, upper, most)
@@ -122,9 +131,11 @@ impl<N: Name, A: Allocator + Copy> Session<N, A> {
 
     /// The state forgets what the open transaction read, and none is open then. Its number is not spent. It answers whether anything was
     /// read. Refused with `NoReadOpen`, and as the core refuses it; the transaction stays open then. It takes no memory.
+    #[tactic(auto, using(crate::proofs::Happening::still_beside))]
     pub fn abandon_in(&mut self, shared: &mut Shared<N, A>) -> Result<bool, Fault>
         ensures step { Abandons (world_of shared.old) self.old.session self.old.draft (forgetting result) (world_of shared.new) }
         ensures left { self.new ≡ record self.old { draft = open_after self.old.draft (forgetting result) } }
+        ensures beside { IsSameBeside shared.old shared.new }
     {
         self.open.abandon_in(shared, self.session)
     }
@@ -135,11 +146,11 @@ impl<N: Name, A: Allocator + Copy> Session<N, A> {
         rt: &R,
         store: &Store<N, A>,
         table: usize,
-        key: Key<A>,
+        key: &Key<A>,
     ) -> Result<Option<Row<A>>, Fault>
         ensures { InOneHolding N.named.settings (λ old new.
-            OrStarves (WantsOwn old.settings.schema (table, key_of key) self.now.draft) old (reading result) new
-            (Gets old self.now.session (table, key_of key) self.now.draft (reading result) new)) }
+            OrStarves (WantsOwn old.settings.schema (table, key_of key.now) self.now.draft) old (reading result) new
+            (Gets old self.now.session (table, key_of key.now) self.now.draft (reading result) new)) }
     {
         let mut shared = store.lock(rt);
         shared.law();
@@ -152,12 +163,12 @@ impl<N: Name, A: Allocator + Copy> Session<N, A> {
         rt: &R,
         store: &Store<N, A>,
         table: usize,
-        lower: Option<Key<A>>,
-        upper: Option<Key<A>>,
+        lower: Option<&Key<A>>,
+        upper: Option<&Key<A>>,
     ) -> Result<RangeRows<A>, Fault>
         ensures { InOneHolding N.named.settings (λ old new.
-            OrStarves (WantsRange old.settings.schema (Span table (end_of lower) (end_of upper)) self.now.draft) old (scanning result) new
-            (Scans old self.now.session (Span table (end_of lower) (end_of upper)) self.now.draft (scanning result) new)) }
+            OrStarves (WantsRange old.settings.schema (Span table (end_of (option_copied lower.entry)) (end_of (option_copied upper.entry))) self.now.draft) old (scanning result) new
+            (Scans old self.now.session (Span table (end_of (option_copied lower.entry)) (end_of (option_copied upper.entry))) self.now.draft (scanning result) new)) }
     {
         let mut shared = store.lock(rt);
         shared.law();
@@ -170,11 +181,11 @@ impl<N: Name, A: Allocator + Copy> Session<N, A> {
         rt: &R,
         store: &Store<N, A>,
         table: usize,
-        lower: Option<Key<A>>,
-        upper: Option<Key<A>>,
+        lower: Option<&Key<A>>,
+        upper: Option<&Key<A>>,
         most: usize,
     ) -> Result<Page<A>, Fault>
-        ensures { InOneHolding N.named.settings (λ old new. ScansPage old self.now.session (first_page table (end_of lower) (end_of upper)) (first_rest_of old table (end_of lower) (end_of upper) most) self.now.draft result new) }
+        ensures { InOneHolding N.named.settings (λ old new. ScansPage old self.now.session (first_page table (end_of (option_copied lower.entry)) (end_of (option_copied upper.entry))) (first_rest_of old table (end_of (option_copied lower.entry)) (end_of (option_copied upper.entry)) most) self.now.draft result new) }
     {
         let mut shared = store.lock(rt);
         shared.law();
@@ -187,11 +198,11 @@ impl<N: Name, A: Allocator + Copy> Session<N, A> {
         rt: &R,
         store: &Store<N, A>,
         table: usize,
-        lower: Option<Key<A>>,
-        upper: Option<Key<A>>,
+        lower: Option<&Key<A>>,
+        upper: Option<&Key<A>>,
         most: usize,
     ) -> Result<Page<A>, Fault>
-        ensures { InOneHolding N.named.settings (λ old new. ScansPage old self.now.session (last_page table (end_of lower) (end_of upper)) (last_rest_of old table (end_of lower) (end_of upper) most) self.now.draft result new) }
+        ensures { InOneHolding N.named.settings (λ old new. ScansPage old self.now.session (last_page table (end_of (option_copied lower.entry)) (end_of (option_copied upper.entry))) (last_rest_of old table (end_of (option_copied lower.entry)) (end_of (option_copied upper.entry)) most) self.now.draft result new) }
     {
         let mut shared = store.lock(rt);
         shared.law();

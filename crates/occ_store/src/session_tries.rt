@@ -2,14 +2,14 @@
 ghost use Rattle.std.specs.Prelude.{◌≡◌, ◌<◌, Some, Ok, IfOk, IfErr, OnErr};
 ghost use Rattle.occ_open.specs.Transactions.{begun as no_writes};
 ghost use Rattle.occ_store.specs.Bodies.{Goes};
-ghost use Rattle.occ_store.specs.Workers.{HandsInUpTo, HandsInFewer, HandsInOne, NotHandedIn, RunsIn, RunFails, Reopens, most_tries};
-ghost use Rattle.occ_store.specs.Clients.{Awaits, TriedSo, TriesStop};
+ghost use Rattle.occ_store.specs.Tries.{HandsInUpTo, HandsInFewer, HandsInOne, NotHandedIn, RunsIn, RunFails, Reopens, most_tries};
+ghost use Rattle.occ_store.specs.Clients.{Awaits, TriedSo};
 
 use crate::awaited::{Awaited, Pending};
 use crate::names::Name;
 use crate::sessions::Session;
 use crate::stores::Store;
-use crate::transactions::{Body, Transaction};
+use crate::transactions::Body;
 use crate::workers::at_least_one;
 use occ_open::OpenTransaction;
 use occ_types::Fault;
@@ -29,11 +29,9 @@ impl<N: Name, A: Allocator + Copy> Session<N, A> {
     ///
     /// An error is the first of these that holds, where a fault comes as what the body's `From` makes of it. Each try before was backed
     /// up, nothing of this one was handed in, and no transaction is open then, unless one was before:
-    /// - `Memory` where the schema has too many owners to be counted;
     /// - the fault of `begin`;
     /// - the error that the run of the body answered, as it is, or `OutOfTurn` where it left another transaction in the place of its own;
     /// - the fault of `submit`, which is `QueueFull` where patience ended before there was room.
-    #[tactic(auto, using(crate::proofs::Waiting::none_yet, crate::proofs::Waiting::none_to_lend, crate::proofs::Waiting::tries_stop))]
     pub fn transact<R: Wait + Clock, B: Body<N, A, R>>(
         &mut self,
         rt: &R,
@@ -44,13 +42,9 @@ impl<N: Name, A: Allocator + Copy> Session<N, A> {
     ) -> Result<Awaited<B::Value>, B::Error>
         ensures awaited { IfOk result (λ awaited. Awaits (B.makes body.old) (most_tries tries) self.old awaited self.new) }
         ensures fewer { OnErr result (HandsInFewer (B.makes body.old) (most_tries tries) self.old self.new) }
-        ensures error { IfErr result (TriesStop (B.makes body.old) B.Error.from_gives N.named.settings self.old self.new) }
+        ensures error { IfErr result (NotHandedIn (B.makes body.old) B.Error.from_gives N.named.settings self.new) }
     {
-        let most = at_least_one(tries);
-        let Ok(mut transaction) = self.transaction() else {
-            return Err(B::Error::from(Fault::Memory));
-        };
-        self.try_up_to(rt, store, most, patience, &mut transaction, body)
+        self.try_up_to(rt, store, at_least_one(tries), patience, body)
     }
 
     // Tries a transaction, at most so many times, with a transaction to lend to the body.
@@ -60,7 +54,6 @@ impl<N: Name, A: Allocator + Copy> Session<N, A> {
         store: &Store<N, A>,
         most: usize,
         patience: u64,
-        transaction: &mut Transaction<N, A>,
         body: &mut B,
     ) -> Result<Awaited<B::Value>, B::Error>
         requires { 0 < most }
@@ -68,12 +61,12 @@ impl<N: Name, A: Allocator + Copy> Session<N, A> {
         ensures fewer { OnErr result (HandsInFewer (B.makes body.old) most self.old self.new) }
         ensures error { IfErr result (NotHandedIn (B.makes body.old) B.Error.from_gives N.named.settings self.new) }
     {
-        let mut awaited = self.try_once(rt, store, patience, transaction, body)?;
+        let mut awaited = self.try_once(rt, store, patience, body)?;
         for tried in 1..most {
             if !awaited.was_backed_up() {
                 return Ok(awaited);
             }
-            awaited = self.try_once(rt, store, patience, transaction, body)?;
+            awaited = self.try_once(rt, store, patience, body)?;
         }
         Ok(awaited)
     }
@@ -84,7 +77,6 @@ impl<N: Name, A: Allocator + Copy> Session<N, A> {
         rt: &R,
         store: &Store<N, A>,
         patience: u64,
-        transaction: &mut Transaction<N, A>,
         body: &mut B,
     ) -> Result<Awaited<B::Value>, B::Error>
         ensures awaited { IfOk result (λ awaited. TriedSo (B.makes body.old) 1 self.old awaited self.new) }
@@ -92,7 +84,7 @@ impl<N: Name, A: Allocator + Copy> Session<N, A> {
         ensures error { IfErr result (NotHandedIn (B.makes body.old) B.Error.from_gives N.named.settings self.new) }
         ensures keeps { Goes (B.makes body.new) (B.makes body.old) }
     {
-        let pending = self.hand_in(rt, store, patience, transaction, body)?;
+        let pending = self.hand_in(rt, store, patience, body)?;
         Ok(self.wait(rt, pending, patience))
     }
 
@@ -102,7 +94,6 @@ impl<N: Name, A: Allocator + Copy> Session<N, A> {
         rt: &R,
         store: &Store<N, A>,
         patience: u64,
-        transaction: &mut Transaction<N, A>,
         body: &mut B,
     ) -> Result<Pending<B::Value>, B::Error>
         ensures ok { IfOk result (λ pending. HandsInOne (B.makes body.old) self.old pending.number pending.value self.new) }
@@ -114,7 +105,7 @@ impl<N: Name, A: Allocator + Copy> Session<N, A> {
             Ok(begun) => begun,
             Err(fault) => return Err(B::Error::from(fault)),
         };
-        let ran = self.run_body(rt, store, transaction, body, number, start);
+        let ran = self.run_body(rt, store, body, number, start);
         self.submit_run(rt, store, patience, ran)
     }
 
@@ -123,7 +114,6 @@ impl<N: Name, A: Allocator + Copy> Session<N, A> {
         &mut self,
         rt: &R,
         store: &Store<N, A>,
-        transaction: &mut Transaction<N, A>,
         body: &mut B,
         number: u64,
         start: u64,
@@ -134,11 +124,8 @@ impl<N: Name, A: Allocator + Copy> Session<N, A> {
         ensures again { Reopens self.old number self.new }
         ensures keeps { Goes (B.makes body.new) (B.makes body.old) }
     {
-        let session = self.session();
         let open = self.lend();
-        let _none = transaction.replace(session, open);
-        let ran = body.run(rt, store, transaction);
-        let back = transaction.replace(session, OpenTransaction::none());
+        let (ran, back) = self.run_in(rt, store, body, open);
         let came_back = self.take_back(back, number, start);
         let value = match ran {
             Ok(value) => value,
@@ -146,5 +133,24 @@ impl<N: Name, A: Allocator + Copy> Session<N, A> {
         };
         came_back?;
         Ok(value)
+    }
+
+    // Runs the body in a transaction of the session, and takes out what the run left.
+    fn run_in<R: Wait + Clock, B: Body<N, A, R>>(
+        &mut self,
+        rt: &R,
+        store: &Store<N, A>,
+        body: &mut B,
+        lent: OpenTransaction<A>,
+    ) -> (Result<B::Value, B::Error>, OpenTransaction<A>)
+        ensures made { RunsIn (B.makes body.old) (record self.old { draft = lent }) result.0 result.1 }
+        ensures same { self.new ≡ self.old }
+        ensures keeps { Goes (B.makes body.new) (B.makes body.old) }
+    {
+        let session = self.session();
+        let _none = self.transaction.replace(session, lent);
+        let ran = body.run(rt, store, &mut self.transaction);
+        let back = self.transaction.replace(session, OpenTransaction::none());
+        (ran, back)
     }
 }

@@ -4,7 +4,7 @@ ghost use Rattle.occ_model.specs.Event.{Close};
 ghost use Rattle.occ_board.specs.Rule.{polled};
 ghost use Rattle.occ_store.specs.Bodies.{ComesOf};
 ghost use Rattle.occ_store.specs.Sessions.{due, submit_fault, Submits, close_fault, handed_in, IsRefusedBy};
-ghost use Rattle.occ_store.specs.Workers.{GivesUp};
+ghost use Rattle.occ_store.specs.Tries.{GivesUp};
 ghost use Rattle.occ_store.specs.Clients.{IsAwaited, IsUntold, IsPolled, give_up_fault, LetsGo, without_draft};
 
 use crate::awaited::{Awaited, Pending};

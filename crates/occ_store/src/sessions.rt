@@ -13,6 +13,7 @@ ghost use Rattle.occ_store.specs.Names.{lane_of};
 ghost use Rattle.occ_store.specs.Sessions.{due, begin_fault, begun, submit_fault, Submits, close_fault, alone_fault, handed_in, draft_of, is_alone, IsRefusedBy};
 
 use crate::names::Name;
+use crate::transactions::Transaction;
 use occ_board::{Last, Seat};
 use occ_open::OpenTransaction;
 use occ_queue::{Item, Sender};
@@ -20,7 +21,7 @@ use occ_sets::{Op, RequestWrites, check_operations};
 use occ_types::limits::{MAX_NUMBER, MAX_OPERATIONS};
 use occ_types::{Fault, Refused, Schema};
 use std::alloc::Allocator;
-use std::marker::{Model, PhantomData};
+use std::marker::Model;
 use std::sync::{Arc, Wait};
 
 /// The client's end of a session: it begins transactions, one at a time, keeps the writes of the open one to itself, and hands it in.
@@ -29,25 +30,22 @@ use std::sync::{Arc, Wait};
 pub struct Session<N: Name, A: Allocator + Copy> {
     pub(crate) alloc: A,
     pub(crate) session: usize,
-    pub(crate) schema: Arc<Schema<A>, A>,
+    pub(crate) transaction: Transaction<N, A>,
     pub(crate) seat: Seat<A>,
     pub(crate) sender: Sender<A>,
     pub(crate) open: OpenTransaction<A>,
-    name: PhantomData<N>,
 }
 
 impl<N: Name, A: Allocator + Copy> Model for Session<N, A> {
     ghost use Rattle.std.specs.Prelude.{◌≡◌};
-    ghost use Rattle.std.specs.Arc.{arc_value};
     ghost use Rattle.occ_store.specs.Names.{lane_of};
     ghost use Rattle.occ_store.specs.Sessions.{SessionView, MayBeSubmitted};
 
     ghost Value = { SessionView };
 
-    ghost view = { λ s. record { session = s.session; schema = arc_value s.schema; seat = s.seat.seen; sender = s.sender; draft = s.open } };
+    ghost view = { λ s. record { session = s.session; schema = N.named.settings.schema; seat = s.seat.seen; sender = s.sender; draft = s.open } };
 
-    ghost invariant = { λ s. (arc_value s.schema ≡ N.named.settings.schema)
-        × (s.seat.board ≡ N.named.board)
+    ghost invariant = { λ s. (s.seat.board ≡ N.named.board)
         × (s.seat.seen.session ≡ s.session)
         × (s.sender.lane ≡ lane_of N.named s.session)
         × MayBeSubmitted s.sender s.open };
@@ -70,11 +68,10 @@ impl<N: Name, A: Allocator + Copy> Session<N, A> {
         Session {
             alloc,
             session,
-            schema,
+            transaction: Transaction::new(session, schema),
             seat,
             sender,
             open: OpenTransaction::none(),
-            name: PhantomData,
         }
     }
 
@@ -90,7 +87,7 @@ impl<N: Name, A: Allocator + Copy> Session<N, A> {
         ensures value { result.now ≡ self.now.schema }
         ensures own { self.now.schema ≡ N.named.settings.schema }
     {
-        &self.schema
+        self.transaction.schema()
     }
 
     /// The number of the transaction that is open, where one is.
@@ -176,7 +173,7 @@ impl<N: Name, A: Allocator + Copy> Session<N, A> {
         if operations.len() > MAX_OPERATIONS {
             return Err(Fault::SetFull);
         }
-        check_operations(&self.schema, operations)
+        check_operations(self.transaction.schema(), operations)
     }
 }
 

@@ -3,9 +3,9 @@ ghost use Rattle.std.specs.Prelude.{◌≡◌, is_some};
 ghost use Rattle.occ_core.specs.AutoCheckpoints.{is_due, checked_point};
 ghost use Rattle.occ_store.specs.Workers.{count_ended};
 
-use crate::ended::Ended;
 use crate::names::Name;
 use crate::stores::Store;
+use occ_case::Ended;
 use occ_core::AutoCheckpoint;
 use occ_types::Fault;
 use std::alloc::Allocator;

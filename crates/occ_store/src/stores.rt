@@ -1,8 +1,8 @@
 //! The store: what threads share.
-ghost use Rattle.std.specs.Prelude.{◌≡◌, ◌≤◌, [], vec_len, vec_capacity, option_map, IfOk, IfErr, IsOkUnless};
+ghost use Rattle.std.specs.Prelude.{◌≡◌, ◌≤◌, ◌+◌, suc, [], map, length, vec_len, vec_capacity, option_map, IfOk, IfErr, IsOkUnless};
 ghost use Rattle.std.specs.Arc.{arc_value};
 ghost use Rattle.occ_types.specs.declared.fault.Fault.TheVariants.{Memory};
-ghost use Rattle.occ_model.specs.Log.{Audited};
+ghost use Rattle.occ_model.specs.Log.{Audited, Base};
 ghost use Rattle.occ_model.specs.Event.{Checkpoint, Folded};
 ghost use Rattle.occ_model.specs.Step.{Step};
 ghost use Rattle.occ_model.specs.Poll.{row_numbered};
@@ -12,48 +12,87 @@ ghost use Rattle.occ_store.specs.Names.{lane_of};
 ghost use Rattle.occ_store.specs.Locked.{told_standing};
 ghost use Rattle.occ_store.specs.Books.{IsBookOf};
 ghost use Rattle.occ_store.specs.Sessions.{InOneHolding, InOneState};
-ghost use Rattle.occ_store.specs.Frames.{IsPart, fresh_session, fresh_lane, fresh_sessions, fresh_lanes};
+ghost use Rattle.occ_store.specs.Frames.{IsPart, AreParts, IsPlace, ArePlaces, fresh_worker, fresh_session, fresh_lane, workers_from, sessions_from, lanes_from, fresh_workers, fresh_sessions, fresh_lanes};
 
 use crate::frames::Frame;
 use crate::lanes::{Lane, unused_lane};
 use crate::leases::Turns;
 use crate::names::{Cut, Name};
-use crate::parts::Part;
+use crate::parts::{Part, Place};
 use crate::sessions::Session;
 use crate::shared::Shared;
+use crate::stopping::StopWord;
+use crate::workers::{Worker, unused_worker};
 use occ_book::{Book, Standing};
 use occ_case::{CaseFile, OpenCase};
 use occ_types::{Fault, Refused};
 use std::alloc::Allocator;
+use std::marker::PhantomData;
 use std::sync::ledger::Share;
 use std::sync::{Arc, Mutex, MutexGuard, Wait};
 
-/// A store, which threads share: the locked state, the file of its cases, and the turn of those who take leases.
+/// A store, which threads share: the locked state, the file of its cases, the turn of those who take leases, and whether it is stopped.
 #[derive(Drop)]
 pub struct Store<N: Name, A: Allocator + Copy> {
     pub(crate) shared: Mutex<Shared<N, A>>,
     pub(crate) lease: Mutex<Turns>,
-    pub(crate) file: Arc<CaseFile<A>, A>,
+    pub(crate) file: OwnFile<N, A>,
     pub(crate) cut: Cut<N>,
-    ghost own_file: { arc_value file ≡ N.named.file },
+    pub(crate) stop_word: StopWord<N>,
 }
 
-/// What `Store::open` makes: the store, and the session and the lane of each number, the first session's first.
-pub type Opened<N, A> = (Store<N, A>, Vec<Session<N, A>, A>, Vec<Lane<N, A>, A>);
+/// The file of the cases of a store.
+#[derive(Drop)]
+pub(crate) struct OwnFile<N: Name, A: Allocator + Copy> {
+    cases: Arc<CaseFile<A>, A>,
+    _name: PhantomData<N>,
+    ghost own_file: { arc_value cases ≡ N.named.file },
+}
+
+impl<N: Name, A: Allocator + Copy> OwnFile<N, A> {
+    /// The file that the name stands for.
+    pub(crate) fn new(cases: Arc<CaseFile<A>, A>) -> OwnFile<N, A>
+        requires { arc_value cases ≡ N.named.file }
+    {
+        OwnFile {
+            cases,
+            _name: PhantomData,
+        }
+    }
+
+    /// The cases in it.
+    pub(crate) fn cases(&self) -> &CaseFile<A>
+        ensures { result.now ≡ N.named.file }
+    {
+        &self.cases
+    }
+}
+
+/// What `Store::open` makes: the store, its workers, and the session and the lane of each of the other numbers, the first ones first.
+pub type Opened<N, A> = (
+    Store<N, A>,
+    Vec<Worker<N, A>, A>,
+    Vec<Session<N, A>, A>,
+    Vec<Lane<N, A>, A>,
+);
 
 impl<N: Name, A: Allocator + Copy> Store<N, A> {
     /// Opens the store of a frame, under its name; each session begins behind the last number that the frame's base has of it. Refused
-    /// with `Memory` where there is none for the two lists, and the frame is handed back whole.
+    /// with `Memory` where there is none for the three lists, and the frame is handed back whole.
     pub fn open(frame: Frame<A>) -> Result<Opened<N, A>, Refused<Frame<A>>>
         requires named { frame.named ≡ N.named }
         requires ledger { (frame.ledger ≡ N.name) × (frame.parts ≡ N.parts) }
-        ensures sessions { IfOk result (λ opened. opened.1.items ≡ fresh_sessions N.named frame.base N.named.settings.sessions) }
-        ensures lanes { IfOk result (λ opened. opened.2.items ≡ fresh_lanes N.named frame.base N.named.settings.sessions) }
+        ensures workers { IfOk result (λ opened. opened.1.items ≡ fresh_workers N.named frame.base) }
+        ensures sessions { IfOk result (λ opened. opened.2.items ≡ fresh_sessions N.named frame.base) }
+        ensures lanes { IfOk result (λ opened. opened.3.items ≡ fresh_lanes N.named frame.base) }
         ensures handed_back { IfErr result (λ refused. (refused.value ≡ frame) × (refused.fault ≡ Memory)) }
     {
-        let sessions = frame.parts.len();
         let origin = frame.filed.core().base().place() as u64;
-        let (mut clients, mut lanes) = match room(frame.alloc, sessions) {
+        let (mut workers, mut clients, mut lanes) = match room(
+            frame.alloc,
+            frame.places.len(),
+            frame.parts.len(),
+        ) {
             Ok(lists) => lists,
             Err(fault) => {
                 return Err(Refused {
@@ -67,16 +106,13 @@ impl<N: Name, A: Allocator + Copy> Store<N, A> {
             filed,
             file,
             publisher,
+            places,
             parts,
             rows,
         } = frame;
         let (rows, mut share) = rows.open::<N>();
-        for part in parts {
-            let session = clients.len() + 1;
-            let (client, lane) = named(alloc, session, part, share.split_off(1, 0));
-            clients.push_reserved(client);
-            lanes.push_reserved(lane);
-        }
+        hire(alloc, places, &mut share, &mut workers);
+        seat(alloc, parts, &mut share, &mut clients, &mut lanes);
         let store = Store {
             shared: Mutex::new(Shared {
                 filed,
@@ -85,10 +121,11 @@ impl<N: Name, A: Allocator + Copy> Store<N, A> {
                 origin,
             }),
             lease: Mutex::new(Turns),
-            file,
+            file: OwnFile::new(file),
             cut: Cut::new(),
+            stop_word: StopWord::new(),
         };
-        Ok((store, clients, lanes))
+        Ok((store, workers, clients, lanes))
     }
 
     /// All that the store shows now, as values of its own: its audit is yes, whatever threads did. Refused with `Memory` where there is
@@ -124,7 +161,7 @@ impl<N: Name, A: Allocator + Copy> Store<N, A> {
     pub fn case_file(&self) -> &CaseFile<A>
         ensures { result.now ≡ N.named.file }
     {
-        &self.file
+        self.file.cases()
     }
 
     /// How the row of a session's transaction with this number stands; none where it does not stand in the log, as before its entry and
@@ -138,35 +175,102 @@ impl<N: Name, A: Allocator + Copy> Store<N, A> {
     }
 }
 
-// Two empty lists with room for so many sessions and lanes. Refused with `Memory` where there is none for them.
+// The lists of so many workers, and of so many sessions and lanes.
+type Lists<N, A> = (
+    Vec<Worker<N, A>, A>,
+    Vec<Session<N, A>, A>,
+    Vec<Lane<N, A>, A>,
+);
+
+// Three empty lists with room for so many workers, and for so many sessions and lanes. Refused with `Memory` where there is none for them.
 fn room<N: Name, A: Allocator + Copy>(
     alloc: A,
+    workers: usize,
     sessions: usize,
-) -> Result<(Vec<Session<N, A>, A>, Vec<Lane<N, A>, A>), Fault>
-    ensures empty { IfOk result (λ lists. (lists.0.items ≡ []) × (lists.1.items ≡ [])) }
-    ensures none { IfOk result (λ lists. (vec_len lists.0 ≡ 0) × (vec_len lists.1 ≡ 0)) }
-    ensures room { IfOk result (λ lists. (sessions ≤ vec_capacity lists.0) × (sessions ≤ vec_capacity lists.1)) }
+) -> Result<Lists<N, A>, Fault>
+    ensures empty { IfOk result (λ lists. (lists.0.items ≡ []) × (lists.1.items ≡ []) × (lists.2.items ≡ [])) }
+    ensures none { IfOk result (λ lists. (vec_len lists.0 ≡ 0) × (vec_len lists.1 ≡ 0) × (vec_len lists.2 ≡ 0)) }
+    ensures room { IfOk result (λ lists. (workers ≤ vec_capacity lists.0) × (sessions ≤ vec_capacity lists.1) × (sessions ≤ vec_capacity lists.2)) }
     ensures memory { IsOkUnless result Memory }
 {
+    let hired = Vec::with_capacity(alloc, workers)?;
     let clients = Vec::with_capacity(alloc, sessions)?;
     let lanes = Vec::with_capacity(alloc, sessions)?;
-    Ok((clients, lanes))
+    Ok((hired, clients, lanes))
 }
 
-// The session with this number, and its lane.
+// The workers of these places, each with a part of the ledger of its own.
+fn hire<N: Name, A: Allocator + Copy>(
+    alloc: A,
+    places: Vec<Place<A>, A>,
+    share: &mut Share<N>,
+    workers: &mut Vec<Worker<N, A>, A>,
+)
+    requires places { (base : Base) × ArePlaces N.named.board N.named.settings.schema base 1 places.items }
+    requires ledger { (length places.items ≤ share.old.parts) × (share.old.amount ≡ 0) }
+    requires empty { (workers.old.items ≡ []) × (vec_len workers.old ≡ 0) }
+    requires room { length places.items ≤ vec_capacity workers.old }
+    ensures workers { (base : Base) → ArePlaces N.named.board N.named.settings.schema base 1 places.items → workers.new.items ≡ workers_from N.named base (length places.items) }
+    ensures ledger { (share.new.parts + length places.items ≡ share.old.parts) × (share.new.amount ≡ 0) }
+{
+    for place in places {
+        workers.push_reserved(hired(alloc, place, share.split_off(1, 0)));
+    }
+}
+
+// The sessions and the lanes of these parts, which come behind the workers, each lane with a part of the ledger of its own.
+fn seat<N: Name, A: Allocator + Copy>(
+    alloc: A,
+    parts: Vec<Part<A>, A>,
+    share: &mut Share<N>,
+    sessions: &mut Vec<Session<N, A>, A>,
+    lanes: &mut Vec<Lane<N, A>, A>,
+)
+    requires parts { (base : Base) × AreParts N.named.board N.named.settings.schema base (suc N.named.workers) parts.items }
+    requires lanes { N.named.lanes ≡ map (λ part. part.receiver.lane) parts.items }
+    requires ledger { (length parts.items ≤ share.old.parts) × (share.old.amount ≡ 0) }
+    requires empty { (sessions.old.items ≡ []) × (lanes.old.items ≡ []) }
+    requires none { (vec_len sessions.old ≡ 0) × (vec_len lanes.old ≡ 0) }
+    requires room { (length parts.items ≤ vec_capacity sessions.old) × (length parts.items ≤ vec_capacity lanes.old) }
+    ensures sessions { (base : Base) → AreParts N.named.board N.named.settings.schema base (suc N.named.workers) parts.items → sessions.new.items ≡ sessions_from N.named base (length parts.items) }
+    ensures lanes { (base : Base) → AreParts N.named.board N.named.settings.schema base (suc N.named.workers) parts.items → lanes.new.items ≡ lanes_from N.named base (length parts.items) }
+{
+    for part in parts {
+        let (session, lane) = named(alloc, part, share.split_off(1, 0));
+        sessions.push_reserved(session);
+        lanes.push_reserved(lane);
+    }
+}
+
+// The worker of a place.
+fn hired<N: Name, A: Allocator + Copy>(alloc: A, place: Place<A>, share: Share<N>) -> Worker<N, A>
+    requires place { IsPlace N.named.board N.named.settings.schema place.session place.last place }
+    requires share { (share.parts ≡ 1) × (share.amount ≡ 0) }
+    ensures { result ≡ fresh_worker N.named place.session place.last }
+{
+    let Place {
+        session,
+        seat,
+        schema,
+        last,
+    } = place;
+    unused_worker(alloc, session, schema, seat, last, share)
+}
+
+// The session of a part, and its lane.
 fn named<N: Name, A: Allocator + Copy>(
     alloc: A,
-    session: usize,
     part: Part<A>,
     share: Share<N>,
 ) -> (Session<N, A>, Lane<N, A>)
-    requires part { IsPart N.named.board N.named.settings.schema session part.receiver.before part }
-    requires lane { part.receiver.lane ≡ lane_of N.named session }
+    requires part { IsPart N.named.board N.named.settings.schema part.session part.receiver.before part }
+    requires lane { part.receiver.lane ≡ lane_of N.named part.session }
     requires share { (share.parts ≡ 1) × (share.amount ≡ 0) }
-    ensures session { result.0 ≡ fresh_session N.named session part.receiver.before }
-    ensures lane { result.1 ≡ fresh_lane N.named session part.receiver.before }
+    ensures session { result.0 ≡ fresh_session N.named part.session part.receiver.before }
+    ensures lane { result.1 ≡ fresh_lane N.named part.session part.receiver.before }
 {
     let Part {
+        session,
         seat,
         sender,
         receiver,

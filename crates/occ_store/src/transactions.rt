@@ -1,6 +1,7 @@
 //! What the body of a transaction may do.
 ghost use Rattle.std.specs.Prelude.{◌≡◌, None, Some, IfErr, OnOk, OnErr, MatchResult};
 ghost use Rattle.std.specs.Arc.{arc_value};
+ghost use Rattle.std.specs.Option.{option_copied};
 ghost use Rattle.occ_types.specs.PlainData.{key_of, end_of};
 ghost use Rattle.occ_types.specs.Question.{Span};
 ghost use Rattle.occ_model.specs.Paging.{first_page, last_page};
@@ -40,13 +41,13 @@ pub trait Body<N: Name, A: Allocator + Copy, R: Wait> {
         &mut self,
         rt: &R,
         store: &Store<N, A>,
-        transaction: &mut Transaction<N, A>,
+        work: &mut Transaction<N, A>,
     ) -> Result<Self::Value, Self::Error>
-        ensures made { makes self.old transaction.old result transaction.new }
+        ensures made { makes self.old work.old result work.new }
         ensures keeps { Goes (makes self.new) (makes self.old) };
 }
 
-/// The transaction that was begun, for a body to read and write in.
+/// The transaction that was begun, for a body to read and write in. A worker or a session owns one, which has the tables of the store.
 #[derive(Drop)]
 pub struct Transaction<N: Name, A: Allocator + Copy> {
     session: usize,
@@ -68,7 +69,7 @@ impl<N: Name, A: Allocator + Copy> Model for Transaction<N, A> {
 }
 
 impl<N: Name, A: Allocator + Copy> Transaction<N, A> {
-    /// That of a session, with none open.
+    /// That of a session, in which none is begun.
     pub(crate) fn new(session: usize, schema: Arc<Schema<A>, A>) -> Transaction<N, A>
         requires schema { arc_value schema ≡ N.named.settings.schema }
         ensures { result ≡ record { session = session; draft = None } }
@@ -81,17 +82,24 @@ impl<N: Name, A: Allocator + Copy> Transaction<N, A> {
         }
     }
 
-    /// From now on this one of this session is open, and the one that was open comes back.
+    /// Puts this one of this session in, and takes out the one that was in it.
     pub(crate) fn replace(
         &mut self,
         session: usize,
         draft: OpenTransaction<A>,
     ) -> OpenTransaction<A>
-        ensures open { result ≡ self.old.draft }
+        ensures was { result ≡ self.old.draft }
         ensures new { self.new ≡ record { session = session; draft = draft } }
     {
         self.session = session;
         mem::replace(&mut self.draft, draft)
+    }
+
+    /// The tables of the store.
+    pub fn schema(&self) -> &Schema<A>
+        ensures own { result.now ≡ N.named.settings.schema }
+    {
+        &self.schema
     }
 }
 
@@ -102,11 +110,11 @@ impl<N: Name, A: Allocator + Copy> Transaction<N, A> {
         rt: &R,
         store: &Store<N, A>,
         table: usize,
-        key: Key<A>,
+        key: &Key<A>,
     ) -> Result<Option<Row<A>>, Fault>
         ensures { InOneHolding N.named.settings (λ old new.
-            OrStarves (WantsOwn old.settings.schema (table, key_of key) self.now.draft) old (reading result) new
-            (Gets old self.now.session (table, key_of key) self.now.draft (reading result) new)) }
+            OrStarves (WantsOwn old.settings.schema (table, key_of key.now) self.now.draft) old (reading result) new
+            (Gets old self.now.session (table, key_of key.now) self.now.draft (reading result) new)) }
     {
         let mut shared = store.lock(rt);
         shared.law();
@@ -120,12 +128,12 @@ impl<N: Name, A: Allocator + Copy> Transaction<N, A> {
         rt: &R,
         store: &Store<N, A>,
         table: usize,
-        lower: Option<Key<A>>,
-        upper: Option<Key<A>>,
+        lower: Option<&Key<A>>,
+        upper: Option<&Key<A>>,
     ) -> Result<RangeRows<A>, Fault>
         ensures { InOneHolding N.named.settings (λ old new.
-            OrStarves (WantsRange old.settings.schema (Span table (end_of lower) (end_of upper)) self.now.draft) old (scanning result) new
-            (Scans old self.now.session (Span table (end_of lower) (end_of upper)) self.now.draft (scanning result) new)) }
+            OrStarves (WantsRange old.settings.schema (Span table (end_of (option_copied lower.entry)) (end_of (option_copied upper.entry))) self.now.draft) old (scanning result) new
+            (Scans old self.now.session (Span table (end_of (option_copied lower.entry)) (end_of (option_copied upper.entry))) self.now.draft (scanning result) new)) }
     {
         let mut shared = store.lock(rt);
         shared.law();
@@ -139,11 +147,11 @@ impl<N: Name, A: Allocator + Copy> Transaction<N, A> {
         rt: &R,
         store: &Store<N, A>,
         table: usize,
-        lower: Option<Key<A>>,
-        upper: Option<Key<A>>,
+        lower: Option<&Key<A>>,
+        upper: Option<&Key<A>>,
         most: usize,
     ) -> Result<Page<A>, Fault>
-        ensures { InOneHolding N.named.settings (λ old new. ScansPage old self.now.session (first_page table (end_of lower) (end_of upper)) (first_rest_of old table (end_of lower) (end_of upper) most) self.now.draft result new) }
+        ensures { InOneHolding N.named.settings (λ old new. ScansPage old self.now.session (first_page table (end_of (option_copied lower.entry)) (end_of (option_copied upper.entry))) (first_rest_of old table (end_of (option_copied lower.entry)) (end_of (option_copied upper.entry)) most) self.now.draft result new) }
     {
         let mut shared = store.lock(rt);
         shared.law();
@@ -157,11 +165,11 @@ impl<N: Name, A: Allocator + Copy> Transaction<N, A> {
         rt: &R,
         store: &Store<N, A>,
         table: usize,
-        lower: Option<Key<A>>,
-        upper: Option<Key<A>>,
+        lower: Option<&Key<A>>,
+        upper: Option<&Key<A>>,
         most: usize,
     ) -> Result<Page<A>, Fault>
-        ensures { InOneHolding N.named.settings (λ old new. ScansPage old self.now.session (last_page table (end_of lower) (end_of upper)) (last_rest_of old table (end_of lower) (end_of upper) most) self.now.draft result new) }
+        ensures { InOneHolding N.named.settings (λ old new. ScansPage old self.now.session (last_page table (end_of (option_copied lower.entry)) (end_of (option_copied upper.entry))) (last_rest_of old table (end_of (option_copied lower.entry)) (end_of (option_copied upper.entry)) most) self.now.draft result new) }
     {
         let mut shared = store.lock(rt);
         shared.law();

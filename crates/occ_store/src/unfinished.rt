@@ -1,9 +1,9 @@
-//! What a lane has taken and not ended.
+//! What a lane or a worker has not ended.
 use occ_case::{CaseToken, Verdict};
 use occ_queue::Item;
 use std::alloc::Allocator;
 
-/// What a lane has not ended.
+/// What a lane or a worker has not ended.
 #[derive(Drop)]
 pub enum Left<A: Allocator + Copy> {
     /// Nothing.

@@ -1,7 +1,7 @@
 //! Threads that serve lanes, each a group of them.
-ghost use Rattle.std.specs.Prelude.{◌≡◌, ◌<◌, ◌⊎◌, None, Some, Ok, length, IfOk, ℕ, map, false, get_or};
+ghost use Rattle.std.specs.Prelude.{◌≡◌, ◌<◌, ◌⊎◌, None, Some, Ok, length, IfOk, ℕ, map, true, false, get_or};
 ghost use Rattle.occ_types.specs.Schema.{first_fault};
-ghost use Rattle.occ_store.specs.Serving.{IsServed, IsOver, AreServed, AreOver, AllAreOver, HasEnded, HaveEnded, AllHaveEnded, IsMetMarked, IsMet, Ends, TellsFault};
+ghost use Rattle.occ_store.specs.Serving.{Serves, IsServed, IsOver, AreServed, AreOver, AllAreOver, HasEnded, HaveEnded, AllHaveEnded, IsMetMarked, IsMet, Ends, TellsFault};
 ghost use Rattle.occ_store.specs.declared.validators.Turn.TheVariants.{Over};
 
 use crate::lanes::Lane;
@@ -21,13 +21,15 @@ const PATIENCE: u64 = 1_000;
 /// The longest sleep between two rounds, in microseconds.
 const LONGEST_SLEEP: u64 = 1_000;
 
-/// Lanes that one thread serves in turn, and the first fault that one of them met. All of them are of one store.
+/// Lanes that one thread serves in turn, and how that ended. All of them are of one store.
 #[derive(Drop)]
 pub struct Group<N: Name, A: Allocator + Copy> {
     /// The lanes.
     pub lanes: Vec<Lane<N, A>, A>,
     /// The first fault that one of them met.
     pub fault: Option<Fault>,
+    /// Whether the store was stopped before each of them was closed, was stopped by the gate or met a fault.
+    pub stopped: bool,
 }
 
 // What came of a lane's turn.
@@ -42,30 +44,38 @@ enum Turn {
 }
 
 impl<N: Name, A: Allocator + Copy> Group<N, A> {
-    /// A group of these lanes, with no fault.
+    /// A group of these lanes, with no fault, and not stopped.
     pub fn new(lanes: Vec<Lane<N, A>, A>) -> Group<N, A>
         ensures lanes { result.lanes ≡ lanes }
         ensures fault { result.fault ≡ None }
+        ensures stopped { result.stopped ≡ false }
     {
-        Group { lanes, fault: None }
+        Group {
+            lanes,
+            fault: None,
+            stopped: false,
+        }
     }
 
     /// Serves the lanes in turn, in this thread, until each is closed, was stopped by the gate or met a fault; the others go on
-    /// meanwhile. The fault is the first that was met, and `Memory` where there is none for a mark at each lane: no lane is served then.
-    /// Where a thousand rounds found nothing to do it sleeps between rounds, for up to a millisecond.
+    /// meanwhile. It ends sooner where the store is stopped, which it looks at before each turn of a lane, and tells that; the lanes
+    /// that had not ended keep what they have. The fault is the first that was met, and `Memory` where there is none for a mark at each
+    /// lane: no lane is served then. Where a thousand rounds found nothing to do it sleeps between rounds, for up to a millisecond.
     pub fn serve<R: Wait + Clock, G: Gate>(&mut self, rt: &R, store: &Store<N, A>, gate: &G)
         ensures served { AreServed self.old.lanes.items self.new.lanes.items }
-        ensures over { self.new.fault ≡ None → AllAreOver (G.may_stop gate.now) self.new.lanes.items }
-        ensures ended { Ends N.named.settings (G.may_stop gate.now) self.old.lanes.items self.new.fault self.new.lanes.items }
+        ensures over { self.new.fault ≡ None → self.new.stopped ≡ false → AllAreOver (G.may_stop gate.now) self.new.lanes.items }
+        ensures ended { Ends N.named.settings (G.may_stop gate.now) self.old.lanes.items self.new.fault self.new.stopped self.new.lanes.items }
+        ensures stopped { self.new.stopped ≡ true → N.may_be_stopped }
     {
         self.fault = None;
+        self.stopped = false;
         match unmarked(*self.lanes.allocator(), self.lanes.len()) {
             Ok(mut over) => self.serve_rounds(rt, store, gate, &mut over),
             Err(AllocError) => self.fault = Some(Fault::Memory),
         }
     }
 
-    // Rounds over the lanes that are not marked as over, until all are.
+    // Rounds over the lanes that are not marked as over, until all are or the store is stopped.
     fn serve_rounds<R: Wait + Clock, G: Gate>(
         &mut self,
         rt: &R,
@@ -76,15 +86,20 @@ impl<N: Name, A: Allocator + Copy> Group<N, A> {
         requires marks { length over.old.items ≡ length self.old.lanes.items }
         requires over { self.old.fault ≡ None → AreOver (G.may_stop gate.now) over.old.items self.old.lanes.items }
         requires ended { HaveEnded N.named.settings (G.may_stop gate.now) over.old.items self.old.lanes.items }
+        requires stopped { self.old.stopped ≡ true → N.may_be_stopped }
         requires met { IsMetMarked N.named.settings (G.may_stop gate.now) self.old.fault over.old.items self.old.lanes.items }
         ensures served { AreServed self.old.lanes.items self.new.lanes.items }
-        ensures over { self.new.fault ≡ None → AllAreOver (G.may_stop gate.now) self.new.lanes.items }
-        ensures ended { AllHaveEnded N.named.settings (G.may_stop gate.now) self.new.lanes.items }
+        ensures over { self.new.fault ≡ None → self.new.stopped ≡ false → AllAreOver (G.may_stop gate.now) self.new.lanes.items }
+        ensures ended { self.new.stopped ≡ false → AllHaveEnded N.named.settings (G.may_stop gate.now) self.new.lanes.items }
+        ensures stopped { self.new.stopped ≡ true → N.may_be_stopped }
         ensures met { IsMet N.named.settings (G.may_stop gate.now) self.new.fault self.new.lanes.items }
     {
         let mut idle = 0u64;
         for _ in rt.forever() {
             if over.iter().all(|mark| *mark) {
+                return;
+            }
+            if self.stopped {
                 return;
             }
             let moved = self.serve_round(rt, store, gate, over);
@@ -105,11 +120,13 @@ impl<N: Name, A: Allocator + Copy> Group<N, A> {
         requires marks { length over.old.items ≡ length self.old.lanes.items }
         requires over { self.old.fault ≡ None → AreOver (G.may_stop gate.now) over.old.items self.old.lanes.items }
         requires ended { HaveEnded N.named.settings (G.may_stop gate.now) over.old.items self.old.lanes.items }
+        requires stopped { self.old.stopped ≡ true → N.may_be_stopped }
         requires met { IsMetMarked N.named.settings (G.may_stop gate.now) self.old.fault over.old.items self.old.lanes.items }
         ensures marks { length over.new.items ≡ length self.new.lanes.items }
         ensures served { AreServed self.old.lanes.items self.new.lanes.items }
         ensures over { self.new.fault ≡ None → AreOver (G.may_stop gate.now) over.new.items self.new.lanes.items }
         ensures ended { HaveEnded N.named.settings (G.may_stop gate.now) over.new.items self.new.lanes.items }
+        ensures stopped { self.new.stopped ≡ true → N.may_be_stopped }
         ensures met { IsMetMarked N.named.settings (G.may_stop gate.now) self.new.fault over.new.items self.new.lanes.items }
     {
         let mut moved = false;
@@ -121,7 +138,7 @@ impl<N: Name, A: Allocator + Copy> Group<N, A> {
         moved
     }
 
-    // The turn of the lane at a place, where it is not marked. Whether it moved.
+    // The turn of the lane at a place, where it is not marked and the store is not stopped. Whether it moved.
     fn serve_place<R: Wait, G: Gate>(
         &mut self,
         rt: &R,
@@ -134,14 +151,20 @@ impl<N: Name, A: Allocator + Copy> Group<N, A> {
         requires marks { length over.old.items ≡ length self.old.lanes.items }
         requires over { self.old.fault ≡ None → AreOver (G.may_stop gate.now) over.old.items self.old.lanes.items }
         requires ended { HaveEnded N.named.settings (G.may_stop gate.now) over.old.items self.old.lanes.items }
+        requires stopped { self.old.stopped ≡ true → N.may_be_stopped }
         requires met { IsMetMarked N.named.settings (G.may_stop gate.now) self.old.fault over.old.items self.old.lanes.items }
         ensures marks { length over.new.items ≡ length self.new.lanes.items }
         ensures served { AreServed self.old.lanes.items self.new.lanes.items }
         ensures over { self.new.fault ≡ None → AreOver (G.may_stop gate.now) over.new.items self.new.lanes.items }
         ensures ended { HaveEnded N.named.settings (G.may_stop gate.now) over.new.items self.new.lanes.items }
+        ensures stopped { self.new.stopped ≡ true → N.may_be_stopped }
         ensures met { IsMetMarked N.named.settings (G.may_stop gate.now) self.new.fault over.new.items self.new.lanes.items }
     {
         if over[place] {
+            return false;
+        }
+        if store.is_stopped() {
+            self.stopped = true;
             return false;
         }
         match serve_lane(&mut self.lanes[place], &mut self.fault, rt, store, gate) {
@@ -153,6 +176,18 @@ impl<N: Name, A: Allocator + Copy> Group<N, A> {
             }
         }
     }
+}
+
+// One serving of a lane. What it makes of the lane is all that a round asks for.
+fn serve_one<N: Name, A: Allocator + Copy, R: Wait, G: Gate>(
+    lane: &mut Lane<N, A>,
+    rt: &R,
+    store: &Store<N, A>,
+    gate: &G,
+) -> Result<Served, Fault>
+    ensures { Serves N.named.settings (G.may_stop gate.now) lane.old result lane.new }
+{
+    lane.serve_one(rt, store, gate)
 }
 
 // A lane's turn. The first fault is kept.
@@ -171,7 +206,7 @@ fn serve_lane<N: Name, A: Allocator + Copy, R: Wait, G: Gate>(
     ensures still { (fault.new ≡ fault.old) ⊎ (result ≡ Over) }
     ensures tells { TellsFault N.named.settings (G.may_stop gate.now) lane.old fault.old fault.new lane.new }
 {
-    match lane.serve_one(rt, store, gate) {
+    match serve_one(lane, rt, store, gate) {
         Ok(Served::Settled(_)) => Turn::Moved,
         Ok(Served::Idle) | Ok(Served::Busy) => Turn::Waits,
         Ok(Served::Stopped(_)) | Ok(Served::LaneClosed) => Turn::Over,
@@ -206,9 +241,9 @@ pub(crate) fn rest<R: Clock>(rt: &R, idle: u64) {
     }
 }
 
-/// Serves each group in a thread of its own, as `Group::serve` does, until all lanes are closed, were stopped or met a fault. The lanes
-/// stay where they are. A thread that can't be started counts as a want of memory of its group, whose lanes are not served. The answer
-/// is the fault of the first group, in order, that met one; each group tells its own.
+/// Serves each group in a thread of its own, as `Group::serve` does, until all lanes are closed, were stopped or met a fault, or the store
+/// is stopped. The lanes stay where they are. A thread that can't be started counts as a want of memory of its group, whose lanes are not
+/// served. The answer is the fault of the first group, in order, that met one; each group tells its own, and whether it was stopped.
 pub fn run_validators<
     N: Name + Send + Sync,
     A: Allocator + Copy + Send + Sync,
@@ -221,6 +256,7 @@ pub fn run_validators<
         for group in groups.iter_mut() {
             // What the thread finds is written over this.
             group.fault = Some(Fault::Memory);
+            group.stopped = false;
             let _ = scope.spawn(move || group.serve(rt, store, gate));
         }
     });

@@ -1,83 +1,111 @@
-//! Workers: a session with its own lane, for one thread a client.
-ghost use Rattle.std.specs.Prelude.{⊤, ◌≡◌, ◌⊎◌, ◌<◌, ◌==◌, false, if◌then◌else◌, true, is_some, Err, IfErr, IfOk, OnOk, OnErr, MatchOption};
-ghost use Rattle.occ_core.specs.AutoCheckpoints.{no_checkpoints, due_each};
-ghost use Rattle.occ_types.specs.declared.fault.Fault.TheVariants.{NoSession, Memory};
+//! Workers: a session whose one thread ends its transactions itself.
+ghost use Rattle.std.specs.Prelude.{◌≡◌, ◌⊎◌, ◌<◌, ◌≤◌, true, ⊤, if◌then◌else◌, ◌==◌, is_some, IfErr, IfOk, OnOk, OnErr, IsTrue, MatchOption};
+ghost use Rattle.std.specs.Arc.{arc_value};
+ghost use Rattle.std.specs.Result.{result_err};
+ghost use Rattle.occ_core.specs.AutoCheckpoints.{no_checkpoints, due_each, is_due, checked_point, counted};
 ghost use Rattle.occ_sets.specs.Operations.{ops_of};
-ghost use Rattle.occ_store.specs.Lanes.{Nothing};
-ghost use Rattle.occ_store.specs.Sessions.{alone_fault};
+ghost use Rattle.occ_types.specs.declared.limits.TheConstants.{MAX_NUMBER};
 ghost use Rattle.occ_store.specs.Bodies.{stays_fault, Performing};
-ghost use Rattle.occ_store.specs.Workers.{Ends, HandsInUpTo, HandsInFewer, Stops, IsKept, most_tries, TriesList, Runs, RunsOut, RunStops, RunsAlone, HandsInAlone, AloneStops, Counts, count_tried, count_listed, count_run};
+ghost use Rattle.occ_store.specs.Lanes.{Nothing, number_left};
+ghost use Rattle.occ_store.specs.Tries.{most_tries};
+ghost use Rattle.occ_store.specs.Workers.{unused_worker, alone_fault, Ends, HandsInUpTo, HandsInFewer, Stops, TriesList, Runs, RunsOut, RunStops, RunsAlone, HandsInAlone, AloneStops, IsKept, Counts, count_ended, count_tried, count_listed, count_run};
 
-use crate::ended::Ended;
-use crate::lanes::Lane;
 use crate::leases::Lease;
 use crate::names::Name;
-use crate::operations::Operations;
-use crate::sessions::Session;
+use crate::operations::{Operations, copied};
 use crate::short_logs::{checkpoint_if_due, count_end};
 use crate::stores::Store;
 use crate::transactions::{Body, Transaction};
+use crate::unfinished::Left;
+use occ_board::Seat;
+use occ_case::Ended;
 use occ_core::AutoCheckpoint;
-use occ_sets::Op;
-use occ_types::{Fault, Refused};
+use occ_queue::Item;
+use occ_sets::{Op, check_operations};
+use occ_types::limits::{MAX_NUMBER, MAX_OPERATIONS};
+use occ_types::{Fault, Schema};
 use std::alloc::Allocator;
-use std::sync::Wait;
-use std::thread;
+use std::marker::Model;
+use std::sync::ledger::Share;
+use std::sync::{Arc, Wait};
 
-// How often operations that wait to run alone are tried, each time in another lease.
-const BUSY_TRIES: usize = 1000000;
-
-/// A session with its own lane, for the common shape of one thread a client: it hands in a transaction, and serves it itself. Its rows
-/// are not filed, so that the store keeps nothing of what is folded, and while no other row is active its requests end serially, each in
-/// one event.
+/// A session for the common shape of one thread a client: it begins a transaction, runs a body in it, and ends it itself. While no other
+/// row is active that is one event, in one holding of the lock; else it enters the transaction and brings it to its end by single events.
+/// It hands in nothing to anybody, and nothing waits in it between two calls but what an error left. Its rows are not filed, so that the
+/// store keeps nothing of what is folded.
 #[derive(Drop)]
 pub struct Worker<N: Name, A: Allocator + Copy> {
-    pub(crate) session: Session<N, A>,
-    pub(crate) lane: Lane<N, A>,
+    pub(crate) alloc: A,
+    pub(crate) session: usize,
     pub(crate) transaction: Transaction<N, A>,
+    pub(crate) seat: Seat<A>,
+    // The number that it began behind, and the one of the last transaction that it handed in.
+    pub(crate) first: u64,
+    pub(crate) last: u64,
+    pub(crate) entered: u64,
+    pub(crate) left: Left<A>,
+    pub(crate) share: Share<N>,
     pub(crate) checkpoints: AutoCheckpoint,
-    ghost own_lane: { session.session ≡ lane.session },
+}
+
+impl<N: Name, A: Allocator + Copy> Model for Worker<N, A> {
+    ghost use Rattle.std.specs.Prelude.{◌≡◌, ◌≤◌, None, IfSome};
+    ghost use Rattle.std.specs.Coded.{codes};
+    ghost use Rattle.boxcar.specs.Table.{where_coded};
+    ghost use Rattle.occ_types.specs.declared.limits.TheConstants.{MAX_NUMBER};
+    ghost use Rattle.occ_store.specs.Lanes.{left_of, token_left, number_left};
+    ghost use Rattle.occ_store.specs.Workers.{WorkerView, HandedIn, IsUnmarked};
+
+    ghost Value = { WorkerView };
+
+    ghost coded = { Prim.hlevel (codes, where_coded) };
+
+    ghost view = { λ w. record { session = w.session; schema = N.named.settings.schema; seat = w.seat.seen; first = w.first; last = w.last; entered = w.entered; left = left_of w.left; checkpoints = w.checkpoints } };
+
+    ghost invariant = { λ w. (w.seat.board ≡ N.named.board)
+        × (w.seat.seen.session ≡ w.session)
+        × (w.share.parts ≡ 1)
+        × (w.share.amount ≡ w.entered)
+        × (w.last ≤ MAX_NUMBER)
+        × (token_left (left_of w.left) ≡ None)
+        × IfSome (number_left (left_of w.left)) (λ number. number ≡ w.last)
+        × IsUnmarked (left_of w.left)
+        × HandedIn w.first w.last w.entered (left_of w.left) };
 }
 
 impl<N: Name, A: Allocator + Copy> Worker<N, A> {
-    /// A worker of a session and its lane. Refused with `NoSession` where the lane is another session's, and with `Memory` where the
-    /// schema has too many owners to be counted. Both are handed back then.
-    pub fn new(
-        session: Session<N, A>,
-        mut lane: Lane<N, A>,
-    ) -> Result<Worker<N, A>, Refused<(Session<N, A>, Lane<N, A>)>>
-        ensures ok { IfOk result (λ worker. (worker.session ≡ session) × (worker.lane ≡ record lane { files = false; serial = true }) × (worker.checkpoints ≡ no_checkpoints) × (session.session ≡ lane.session)) }
-        ensures handed_back { IfErr result (λ refused. refused.value ≡ (session, lane)) }
-        ensures fault { IfErr result (λ refused. refused.fault ≡ (if session.session == lane.session then Memory else NoSession)) }
+    /// Its number; the workers are the first of the sessions, which are numbered from 1.
+    pub fn session(&self) -> usize
+        ensures { result ≡ self.now.session }
     {
-        if session.session() != lane.session() {
-            return Err(Refused {
-                value: (session, lane),
-                fault: Fault::NoSession,
-            });
-        }
-        let Ok(transaction) = session.transaction() else {
-            return Err(Refused {
-                value: (session, lane),
-                fault: Fault::Memory,
-            });
-        };
-        lane.set_files(false);
-        lane.set_serial(true);
-        Ok(Worker {
-            session,
-            lane,
-            transaction,
-            checkpoints: AutoCheckpoint::off(),
-        })
+        self.session
     }
 
-    /// The session and its lane, as for `Store::end`.
-    pub fn into_parts(self) -> (Session<N, A>, Lane<N, A>)
-        ensures { result ≡ (self.session, self.lane) }
+    /// The tables of the store.
+    pub fn schema(&self) -> &Schema<A>
+        ensures value { result.now ≡ self.now.schema }
+        ensures own { self.now.schema ≡ N.named.settings.schema }
     {
-        let Worker { session, lane, .. } = self;
-        (session, lane)
+        self.transaction.schema()
+    }
+
+    /// The number of what an error left, which the next call ends first; none where nothing is left.
+    pub fn number(&self) -> Option<u64>
+        ensures { result ≡ number_left self.now.left }
+    {
+        if self.has_left() {
+            Some(self.last)
+        } else {
+            None
+        }
+    }
+
+    // Whether an error left something.
+    pub(crate) fn has_left(&self) -> bool
+        ensures some { result ≡ is_some (number_left self.now.left) }
+        ensures kept { IsTrue result → IsKept self.now }
+    {
+        !matches!(&self.left, Left::Nothing)
     }
 
     /// From now on a checkpoint of the store is due after each so many commits that calls of this worker tell, where 0 stands for 1. None
@@ -86,8 +114,7 @@ impl<N: Name, A: Allocator + Copy> Worker<N, A> {
     /// `transact`, `transact_within` and `run` begin with a checkpoint that is due, in a holding of the lock. Where it is refused, as
     /// `Store::checkpoint` is, that is not told, and it stays due for the next call.
     pub fn checkpoint_each(&mut self, commits: Option<u64>)
-        ensures due { self.new.checkpoints ≡ due_each commits self.old.checkpoints }
-        ensures same { (self.new.session ≡ self.old.session) × (self.new.lane ≡ self.old.lane) }
+        ensures { self.new ≡ record self.old { checkpoints = due_each commits self.old.checkpoints } }
     {
         self.checkpoints.set(commits);
     }
@@ -101,22 +128,45 @@ impl<N: Name, A: Allocator + Copy> Worker<N, A> {
 }
 
 impl<N: Name, A: Allocator + Copy> Worker<N, A> {
+    // Makes a checkpoint of the store where one is due.
+    fn checkpoint_if_due<R: Wait>(
+        &mut self,
+        rt: &R,
+        store: &Store<N, A>,
+    ) -> Option<Result<usize, Fault>>
+        ensures due { is_some result ≡ is_due self.old.checkpoints }
+        ensures left { self.new ≡ record self.old { checkpoints = checked_point result self.old.checkpoints } }
+    {
+        checkpoint_if_due(&mut self.checkpoints, rt, store)
+    }
+
+    // Counts how a transaction ended, where it committed.
+    fn count_end<V>(&mut self, ended: &Ended<V>)
+        ensures { self.new ≡ record self.old { checkpoints = count_ended ended.now self.old.checkpoints } }
+    {
+        count_end(&mut self.checkpoints, ended);
+    }
+
+    // Counts a commit.
+    fn count_commit(&mut self)
+        ensures { self.new ≡ record self.old { checkpoints = counted self.old.checkpoints } }
+    {
+        self.checkpoints.count();
+    }
+
     /// Tries a transaction until it commits, at most so many times and at least once, each time in a lease of its own, and tells how the
     /// last try ended: by its transaction number and what its run of the body answered, or by the cause for which it was backed up. A try
-    /// begins a transaction, runs the body in it, hands it in and serves it to its end: what it hands in is what that run made, as far as
-    /// `Body::makes` tells.
+    /// begins a transaction, runs the body in it and ends it: what it ends is what that run made, as far as `Body::makes` tells.
     ///
     /// What an earlier call left, as after a fault, is ended first; how that ended is not told.
     ///
-    /// An error is the first of these that holds, where a fault comes as what the body's `From` makes of it. No transaction is open then,
-    /// unless one was before:
+    /// An error is the first of these that holds, where a fault comes as what the body's `From` makes of it:
     /// - the fault that ending what was left meets, or `StoreBusy` where operations that run alone are left and a row of another session
-    ///   is under way;
-    /// - the fault of `Session::begin`;
+    ///   is under way: it stays left;
+    /// - `NumbersExhausted` where only the number of a closing mark is left;
     /// - the error that the run of the body answered, as it is, or `OutOfTurn` where it left another transaction in the place of its own:
-    ///   the transaction is abandoned then, and nothing of it handed in;
-    /// - the fault of `Session::submit`: likewise;
-    /// - the fault that serving it meets: the lane keeps it then, and the next call ends it.
+    ///   the store forgets what was read then, the number is not spent, and nothing is handed in;
+    /// - the fault that ending it meets: it is handed in and left then, and the next call ends it.
     pub fn transact<R: Wait, B: Body<N, A, R>>(
         &mut self,
         rt: &R,
@@ -124,14 +174,13 @@ impl<N: Name, A: Allocator + Copy> Worker<N, A> {
         tries: usize,
         body: &mut B,
     ) -> Result<Ended<B::Value>, B::Error>
-        ensures ended { IfOk result (λ ended. Ends (B.makes body.old) (most_tries tries) self.old.session ended self.new.session) }
-        ensures nothing_left { OnOk result (self.new.lane.left ≡ Nothing) }
-        ensures few { OnErr result (HandsInUpTo (B.makes body.old) (most_tries tries) self.old.session self.new.session) }
-        ensures fewer { OnErr result (self.new.lane.left ≡ Nothing → HandsInFewer (B.makes body.old) (most_tries tries) self.old.session self.new.session) }
-        ensures error { IfErr result (Stops (B.makes body.old) B.Error.from_gives N.named.settings self.new.session self.new.lane) }
+        ensures ended { IfOk result (λ ended. Ends N.named.settings (B.makes body.old) (most_tries tries) self.old ended self.new) }
+        ensures few { OnErr result (HandsInUpTo N.named.settings (B.makes body.old) (most_tries tries) self.old self.new) }
+        ensures fewer { OnErr result (self.new.left ≡ Nothing → HandsInFewer N.named.settings (B.makes body.old) (most_tries tries) self.old self.new) }
+        ensures error { IfErr result (Stops (B.makes body.old) B.Error.from_gives N.named.settings self.new) }
         ensures counts { Counts (count_tried result) self.old.checkpoints self.new.checkpoints }
     {
-        let _made = checkpoint_if_due(&mut self.checkpoints, rt, store);
+        let _made = self.checkpoint_if_due(rt, store);
         self.try_and_count(rt, store, false, at_least_one(tries), body)
     }
 
@@ -144,14 +193,13 @@ impl<N: Name, A: Allocator + Copy> Worker<N, A> {
         tries: usize,
         body: &mut B,
     ) -> Result<Ended<B::Value>, B::Error>
-        ensures ended { IfOk result (λ ended. Ends (B.makes body.old) (most_tries tries) self.old.session ended self.new.session) }
-        ensures nothing_left { OnOk result (self.new.lane.left ≡ Nothing) }
-        ensures few { OnErr result (HandsInUpTo (B.makes body.old) (most_tries tries) self.old.session self.new.session) }
-        ensures fewer { OnErr result (self.new.lane.left ≡ Nothing → HandsInFewer (B.makes body.old) (most_tries tries) self.old.session self.new.session) }
-        ensures error { IfErr result (Stops (B.makes body.old) B.Error.from_gives N.named.settings self.new.session self.new.lane) }
+        ensures ended { IfOk result (λ ended. Ends N.named.settings (B.makes body.old) (most_tries tries) self.old ended self.new) }
+        ensures few { OnErr result (HandsInUpTo N.named.settings (B.makes body.old) (most_tries tries) self.old self.new) }
+        ensures fewer { OnErr result (self.new.left ≡ Nothing → HandsInFewer N.named.settings (B.makes body.old) (most_tries tries) self.old self.new) }
+        ensures error { IfErr result (Stops (B.makes body.old) B.Error.from_gives N.named.settings self.new) }
         ensures counts { Counts (count_tried result) self.old.checkpoints self.new.checkpoints }
     {
-        let _made = checkpoint_if_due(&mut self.checkpoints, rt, store);
+        let _made = self.checkpoint_if_due(rt, store);
         self.try_and_count(rt, store, true, at_least_one(tries), body)
     }
 
@@ -165,15 +213,14 @@ impl<N: Name, A: Allocator + Copy> Worker<N, A> {
         body: &mut B,
     ) -> Result<Ended<B::Value>, B::Error>
         requires { 0 < most }
-        ensures ended { IfOk result (λ ended. Ends (B.makes body.old) most self.old.session ended self.new.session) }
-        ensures nothing_left { OnOk result (self.new.lane.left ≡ Nothing) }
-        ensures few { OnErr result (HandsInUpTo (B.makes body.old) most self.old.session self.new.session) }
-        ensures fewer { OnErr result (self.new.lane.left ≡ Nothing → HandsInFewer (B.makes body.old) most self.old.session self.new.session) }
-        ensures error { IfErr result (Stops (B.makes body.old) B.Error.from_gives N.named.settings self.new.session self.new.lane) }
+        ensures ended { IfOk result (λ ended. Ends N.named.settings (B.makes body.old) most self.old ended self.new) }
+        ensures few { OnErr result (HandsInUpTo N.named.settings (B.makes body.old) most self.old self.new) }
+        ensures fewer { OnErr result (self.new.left ≡ Nothing → HandsInFewer N.named.settings (B.makes body.old) most self.old self.new) }
+        ensures error { IfErr result (Stops (B.makes body.old) B.Error.from_gives N.named.settings self.new) }
         ensures counts { self.new.checkpoints ≡ count_tried result self.old.checkpoints }
     {
         let ended = self.try_up_to(rt, store, within, most, body)?;
-        count_end(&mut self.checkpoints, &ended);
+        self.count_end(&ended);
         Ok(ended)
     }
 
@@ -181,9 +228,10 @@ impl<N: Name, A: Allocator + Copy> Worker<N, A> {
     /// answer is their transaction number. A try hands in what they make, one after another, where an `Add` is a read and a write. What
     /// they read is not told.
     ///
-    /// What an earlier call left is ended first, as in `transact`. Refused as `Session::alone`, which hands nothing in then; with
+    /// What an earlier call left is ended first, as in `transact`. Refused, the first of these that holds, with `NumbersExhausted`,
+    /// `SetFull` where they are more than 256, and the fault of the first one that doesn't fit the tables, which changes nothing; with
     /// `Memory` where there is none for what they read and write, or for their copy; as `transact`; and with `StoreBusy` where they wait
-    /// to run alone and a row of another session stays under way: the lane keeps them then, and the next call ends it.
+    /// to run alone and a row of another session stays under way: they are left then, and the next call ends them.
     pub fn run<R: Wait>(
         &mut self,
         rt: &R,
@@ -191,15 +239,15 @@ impl<N: Name, A: Allocator + Copy> Worker<N, A> {
         tries: usize,
         operations: &[Op<A>],
     ) -> Result<u64, Fault>
-        ensures checked { MatchOption (alone_fault self.old.session (ops_of operations.now)) ⊤ (λ fault. (result ≡ Err fault) × (self.new ≡ self.old)) }
-        ensures committed { IfOk result (λ tn. Runs N.named.settings tries (ops_of operations.now) self.old.session tn self.new.session) }
-        ensures nothing_left { OnOk result (self.new.lane.left ≡ Nothing) }
-        ensures few { OnErr result (RunsOut N.named.settings tries (ops_of operations.now) self.old.session self.new.session) }
-        ensures fault { IfErr result (RunStops N.named.settings (ops_of operations.now) self.new.session self.new.lane) }
-        ensures counts { MatchOption (alone_fault self.old.session (ops_of operations.now)) (Counts (count_run result) self.old.checkpoints self.new.checkpoints) (λ _. ⊤) }
+        ensures checked { MatchOption (alone_fault self.old (ops_of operations.now)) ⊤ (λ fault. (result ≡ Err fault) × (self.new ≡ self.old)) }
+        ensures committed { IfOk result (λ tn. Runs N.named.settings tries (ops_of operations.now) self.old tn self.new) }
+        ensures nothing_left { OnOk result (self.new.left ≡ Nothing) }
+        ensures few { OnErr result (RunsOut N.named.settings tries (ops_of operations.now) self.old self.new) }
+        ensures fault { IfErr result (RunStops N.named.settings (ops_of operations.now) self.new) }
+        ensures counts { MatchOption (alone_fault self.old (ops_of operations.now)) (Counts (count_run result) self.old.checkpoints self.new.checkpoints) (λ _. ⊤) }
     {
-        self.session.check_alone(operations)?;
-        let _made = checkpoint_if_due(&mut self.checkpoints, rt, store);
+        self.check_alone(operations)?;
+        let _made = self.checkpoint_if_due(rt, store);
         self.run_checked(rt, store, tries, operations)
     }
 
@@ -211,16 +259,29 @@ impl<N: Name, A: Allocator + Copy> Worker<N, A> {
         tries: usize,
         operations: &[Op<A>],
     ) -> Result<u64, Fault>
-        ensures committed { IfOk result (λ tn. Runs N.named.settings tries (ops_of operations.now) self.old.session tn self.new.session) }
-        ensures nothing_left { OnOk result (self.new.lane.left ≡ Nothing) }
-        ensures few { OnErr result (RunsOut N.named.settings tries (ops_of operations.now) self.old.session self.new.session) }
-        ensures fault { IfErr result (λ fault. Stops (Performing N.named.settings (ops_of operations.now)) stays_fault N.named.settings self.new.session self.new.lane fault ⊎ AloneStops (ops_of operations.now) self.new.session self.new.lane fault) }
+        ensures committed { IfOk result (λ tn. Runs N.named.settings tries (ops_of operations.now) self.old tn self.new) }
+        ensures nothing_left { OnOk result (self.new.left ≡ Nothing) }
+        ensures few { OnErr result (RunsOut N.named.settings tries (ops_of operations.now) self.old self.new) }
+        ensures fault { IfErr result (λ fault. Stops (Performing N.named.settings (ops_of operations.now)) stays_fault N.named.settings self.new fault ⊎ AloneStops (ops_of operations.now) self.new fault) }
         ensures counts { self.new.checkpoints ≡ count_run result self.old.checkpoints }
     {
         let Some(tn) = self.try_list(rt, store, tries, operations)? else {
             return self.run_alone(rt, store, operations);
         };
         Ok(tn)
+    }
+
+    // Whether operations may be handed in.
+    fn check_alone(&self, operations: &[Op<A>]) -> Result<(), Fault>
+        ensures { result_err result ≡ alone_fault self.now (ops_of operations.now) }
+    {
+        if self.last + 1 >= MAX_NUMBER {
+            return Err(Fault::NumbersExhausted);
+        }
+        if operations.len() > MAX_OPERATIONS {
+            return Err(Fault::SetFull);
+        }
+        check_operations(self.transaction.schema(), operations)
     }
 
     // Tries operations as a transaction, at most so many times. None where each try was backed up.
@@ -231,10 +292,10 @@ impl<N: Name, A: Allocator + Copy> Worker<N, A> {
         tries: usize,
         operations: &[Op<A>],
     ) -> Result<Option<u64>, Fault>
-        ensures tried { IfOk result (λ tn. TriesList N.named.settings tries (ops_of operations.now) self.old.session tn self.new.session) }
-        ensures committed { IfOk result (λ tn. is_some tn ≡ true → self.new.lane.left ≡ Nothing) }
-        ensures few { OnErr result (HandsInUpTo (Performing N.named.settings (ops_of operations.now)) tries self.old.session self.new.session) }
-        ensures fault { IfErr result (Stops (Performing N.named.settings (ops_of operations.now)) stays_fault N.named.settings self.new.session self.new.lane) }
+        ensures tried { IfOk result (λ tn. TriesList N.named.settings tries (ops_of operations.now) self.old tn self.new) }
+        ensures committed { IfOk result (λ tn. is_some tn ≡ true → self.new.left ≡ Nothing) }
+        ensures few { OnErr result (HandsInUpTo N.named.settings (Performing N.named.settings (ops_of operations.now)) tries self.old self.new) }
+        ensures fault { IfErr result (Stops (Performing N.named.settings (ops_of operations.now)) stays_fault N.named.settings self.new) }
         ensures counts { self.new.checkpoints ≡ count_listed result self.old.checkpoints }
     {
         if tries == 0 {
@@ -252,45 +313,53 @@ impl<N: Name, A: Allocator + Copy> Worker<N, A> {
         store: &Store<N, A>,
         operations: &[Op<A>],
     ) -> Result<u64, Fault>
-        ensures committed { IfOk result (λ tn. RunsAlone (ops_of operations.now) self.old.session tn self.new.session) }
-        ensures nothing_left { OnOk result (self.new.lane.left ≡ Nothing) }
-        ensures few { OnErr result (HandsInAlone (ops_of operations.now) self.old.session self.new.session) }
-        ensures fault { IfErr result (AloneStops (ops_of operations.now) self.new.session self.new.lane) }
+        ensures committed { IfOk result (λ tn. RunsAlone N.named.settings (ops_of operations.now) self.old tn self.new) }
+        ensures few { OnErr result (HandsInAlone (ops_of operations.now) self.old self.new) }
+        ensures fault { IfErr result (AloneStops (ops_of operations.now) self.new) }
         ensures counts { self.new.checkpoints ≡ count_run result self.old.checkpoints }
     {
-        self.serve_patiently(rt, store)?;
-        let copies = self.session.copied(operations)?;
-        let number = self.session.alone(rt, copies)?;
-        self.serve_patiently(rt, store)?;
-        self.checkpoints.count();
-        Ok(self.session.committed(rt, number))
+        let _ended = self.resume(rt, store)?;
+        self.check_alone(operations)?;
+        let operations = copied(self.alloc, operations)?;
+        let number = self.last + 1;
+        self.hold(Item::Alone { number, operations });
+        let Some(ended) = self.resume(rt, store)? else {
+            unreachable!()
+        };
+        let Ended::Committed { tn, .. } = ended else {
+            unreachable!()
+        };
+        self.count_commit();
+        Ok(tn)
     }
+}
 
-    // Serves the lane until nothing waits in it. While operations wait there to run alone, it gives its lease back between the tries.
-    fn serve_patiently<R: Wait>(&mut self, rt: &R, store: &Store<N, A>) -> Result<(), Fault>
-        ensures same { self.new.session ≡ self.old.session }
-        ensures nothing_left { OnOk result (self.new.lane.left ≡ Nothing) }
-        ensures kept { OnErr result (IsKept self.new.lane) }
-        ensures counts { self.new.checkpoints ≡ self.old.checkpoints }
-    {
-        for tried in 0..BUSY_TRIES {
-            match self.serve_leased(rt, store) {
-                Err(Fault::StoreBusy) => thread::yield_now(),
-                served => return served,
-            }
-        }
-        Err(Fault::StoreBusy)
-    }
-
-    // Serves the lane until nothing waits in it, in a lease.
-    fn serve_leased<R: Wait>(&mut self, rt: &R, store: &Store<N, A>) -> Result<(), Fault>
-        ensures same { self.new.session ≡ self.old.session }
-        ensures nothing_left { OnOk result (self.new.lane.left ≡ Nothing) }
-        ensures kept { OnErr result (IsKept self.new.lane) }
-        ensures counts { self.new.checkpoints ≡ self.old.checkpoints }
-    {
-        let _lease = store.lease(rt);
-        self.serve(rt, store)
+// A worker that handed in nothing yet, behind a number, with a part of the ledger.
+pub(crate) fn unused_worker<N: Name, A: Allocator + Copy>(
+    alloc: A,
+    session: usize,
+    schema: Arc<Schema<A>, A>,
+    seat: Seat<A>,
+    last: u64,
+    share: Share<N>,
+) -> Worker<N, A>
+    requires schema { arc_value schema ≡ N.named.settings.schema }
+    requires board { (seat.board ≡ N.named.board) × (seat.seen.session ≡ session) }
+    requires last { last ≤ MAX_NUMBER }
+    requires share { (share.parts ≡ 1) × (share.amount ≡ 0) }
+    ensures { result ≡ unused_worker session (arc_value schema) seat.seen last }
+{
+    Worker {
+        alloc,
+        session,
+        transaction: Transaction::new(session, schema),
+        seat,
+        first: last,
+        last,
+        entered: 0,
+        left: Left::Nothing,
+        share,
+        checkpoints: AutoCheckpoint::off(),
     }
 }
 

@@ -8,7 +8,7 @@ use Rattle.occ_store.proofs.accounts.line_of.Goals as goal
 pub drain-requires-clause-lane : goal.drain-requires-clause-lane
 drain-requires-clause-lane g c =
     let same = ap (λ (s : SessionView). s.session) c.session.view_is ∙ sym c.requires.same ∙ sym (ap (λ (l : LaneView). l.session) c.lane.view_is) in
-    c.session.invariant.3 ∙ ap (lane_of g.N.Name.named) same ∙ sym c.lane.invariant.0
+    c.session.invariant.2 ∙ ap (lane_of g.N.Name.named) same ∙ sym c.lane.invariant.0
 
 pub returns-clause-line : goal.returns-clause-line
 returns-clause-line g c =

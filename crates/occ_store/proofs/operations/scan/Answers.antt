@@ -1,8 +1,9 @@
+use Rattle.std.proofs.Common.{ap}
 use Rattle.occ_types.specs.PlainData.{end_of}
-use Rattle.occ_store.proofs.Performing.{scanned}
+use Rattle.occ_store.proofs.Performing.{asked_range}
 use Rattle.occ_store.proofs.operations.scan.Goals as goal
 
 pub returns : goal.returns
 returns g c =
-    scanned g.N.Name.named.settings c.args.transaction.now c.args.table (end_of c.in_ok-lower.lower) (end_of c.in_ok-upper.upper) (end_of c.args.lower.now) (end_of c.args.upper.now)
-    c.in_ok-rows.rows c.in_ok-lower.ensures c.in_ok-upper.ensures c.in_ok-rows.ensures
+    asked_range g.N.Name.named.settings c.args.transaction.now c.args.table _ _ (end_of c.args.lower.now) (end_of c.args.upper.now)
+    c.scan.result (ap end_of c.as_ref.ensures.value) (ap end_of c.as_ref-2.ensures.value) c.scan.ensures

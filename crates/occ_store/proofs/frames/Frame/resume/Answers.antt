@@ -19,10 +19,11 @@ show-requires-clause-blank g c = c.in-Ok.ensures.words ∙ ap (λ (w : World). b
 pub invariant_of-result : goal.invariant_of-result
 invariant_of-result g c =
     let settings : Settings = record { schema = c.args.schema; sessions = c.args.sessions; keep = c.args.keep } in
-    let before : Posted = c.in-Ok.room.0 in
+    let before : Posted = c.in-Ok.seating.publisher in
     let shown = c.show.ensures ∙ ap (λ (w : World). record before { words = continued w.counter (last_folded w.base) w.settings.sessions }) c.core.ensures.world in
-    frame_is c.in_ok-filed.filed (arc_value c.in_ok-filed.file) before c.show.new.publisher c.in-Ok.room.1.items c.new.result.parts settings c.args.base.base c.args.counter c.in_ok-filed.ensures.resumed
-    c.in_ok-filed.ensures.shared shown c.in-Ok.ensures.count (c.in-Ok.ensures.parts (numbers_room c.in_ok-filed.filed.world settings c.args.base.base c.args.counter c.in_ok-filed.ensures.resumed c.law.ensures.fits)) c.new.ensures
+    let room = numbers_room c.in_ok-filed.filed.world settings c.args.base.base c.args.counter c.in_ok-filed.ensures.resumed c.law.ensures.fits in
+    frame_is c.in_ok-filed.filed (arc_value c.in_ok-filed.file) before c.show.new.publisher c.in-Ok.seating.places.items c.in-Ok.seating.parts.items c.new.result.parts settings c.args.base.base c.args.counter
+    c.in_ok-filed.ensures.resumed c.in_ok-filed.ensures.shared shown c.in-Ok.ensures.count (c.in-Ok.ensures.places room) (c.in-Ok.ensures.parts room) c.new.ensures
 
 pub returns-clause-room : goal.returns-clause-room
 returns-clause-room g c = All-map (HasRoomFor c.args.capacity) (λ (p : PartView). p.receiver.lane) _ c.in-Ok.ensures.room

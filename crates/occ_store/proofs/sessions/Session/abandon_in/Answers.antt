@@ -10,6 +10,5 @@ invariant_of-self g c =
       held.0,
       held.1,
       held.2,
-      held.3,
-      subst (MayBeSubmitted c.self.inside.sender) (sym c.abandon_in.ensures.left) (open_next _ _ (forgetting c.abandon_in.result) held.4),
+      subst (MayBeSubmitted c.self.inside.sender) (sym c.abandon_in.ensures.left) (open_next _ _ (forgetting c.abandon_in.result) held.3),
     )

@@ -11,5 +11,5 @@ returns g c =
       world_of c.get_in.new.shared,
       subst (λ (s : Locked). Invariant (world_of s)) same c.law.ensures.invariant,
       subst (λ (s : Locked). (world_of s).settings ≡ g.N.Name.named.settings) same c.law.ensures.settings,
-      c.get_in.ensures,
+      c.get_in.ensures.step,
     )

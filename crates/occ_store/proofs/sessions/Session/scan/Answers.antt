@@ -11,5 +11,5 @@ returns g c =
       world_of c.scan_in.new.shared,
       subst (λ (s : Locked). Invariant (world_of s)) same c.law.ensures.invariant,
       subst (λ (s : Locked). (world_of s).settings ≡ g.N.Name.named.settings) same c.law.ensures.settings,
-      c.scan_in.ensures,
+      c.scan_in.ensures.step,
     )

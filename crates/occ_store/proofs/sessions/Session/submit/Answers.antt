@@ -18,9 +18,8 @@ invariant_of-self-in-Err g c =
     let draft = back_again _ _ _ _ _ _ c.in_ok-number.ensures.ok c.in-Err.ensures.handed_back c.reopened.ensures in (
       held.0,
       held.1,
-      held.2,
-      ap (λ (k : Known). k.lane) sender ∙ held.3,
-      subst (λ (k : Known). MayBeSubmitted k c.reopened.result) (sym sender) (subst (MayBeSubmitted c.self.inside.sender) (sym draft) held.4),
+      ap (λ (k : Known). k.lane) sender ∙ held.2,
+      subst (λ (k : Known). MayBeSubmitted k c.reopened.result) (sym sender) (subst (MayBeSubmitted c.self.inside.sender) (sym draft) held.3),
     )
 
 -- it is refused since the queue is full
@@ -28,4 +27,4 @@ pub returns-in-Err-clause-fault : goal.returns-in-Err-clause-fault
 returns-in-Err-clause-fault g c =
     subst (λ (v : SessionView). first_fault (first_fault (fault_if (as_queue v.sender).closed faults.Closed ∷ none_open v.draft ∷ []) ∷ fault_if (is_full (as_queue v.sender)) faults.QueueFull ∷ []) ≡ Some c.in-Err.refused.fault)
     c.self.view_is
-    (submit_refused c.self.inside.sender c.self.inside.open _ _ _ _ c.in_ok-number.ensures.ok c.self.invariant.4 c.in-Err.ensures.fault)
+    (submit_refused c.self.inside.sender c.self.inside.open _ _ _ _ c.in_ok-number.ensures.ok c.self.invariant.3 c.in-Err.ensures.fault)

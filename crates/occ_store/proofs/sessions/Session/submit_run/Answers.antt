@@ -1,6 +1,6 @@
 use Rattle.std.proofs.Common.{subst}
 use Rattle.occ_store.specs.Sessions.{SessionView}
-use Rattle.occ_store.specs.Workers.{GivesUp}
+use Rattle.occ_store.specs.Tries.{GivesUp}
 use Rattle.occ_store.proofs.sessions.Session.submit_run.Goals as goal
 
 pub returns-clause-given_up : goal.returns-clause-given_up

@@ -1,102 +1,44 @@
-use Rattle.std.proofs.Common.{◌+◌, ◌≤◌, [], ◌∷◌, length, map, sym, ap, subst, ◌∙◌, rules, arith, length-append}
-use Rattle.std.proofs.lemmas.List.{map-id, map-append}
+use Rattle.std.proofs.Common.{◌≡◌, ◌+◌, ◌≤◌, [], ◌++◌, length, map, sym, ap, subst, ◌∙◌, arith}
 use Rattle.std.specs.declared.sync.ledger.Share.{Share}
-use Rattle.std.proofs.lemmas.Iterator.Consumers.{YieldsList-turn, YieldsList-end}
-use Rattle.std.proofs.lemmas.Iterator.Adapters.{YieldsList-from_vec}
-use Rattle.occ_store.specs.Accounts.{line_of, held}
-use Rattle.occ_store.proofs.AccountLines.{walk_begins, both_here, own_room, own_session, walk_on, walk_ends}
+use Rattle.occ_store.specs.Accounts.{LineView, AreAllLines, line_of, held}
+use Rattle.occ_store.proofs.AccountLines.{count_complete, all_lines}
 use Rattle.occ_store.proofs.stores.Store.account.Goals as goal
-use Rattle.occ_store.proofs.stores.Store.account.Goals.{in-None-parts, in-Some-parts}
+use Rattle.occ_store.proofs.stores.Store.account.Goals.{in-None, in-Some}
 
-pub loop-lane-init : goal.loop-lane-init
-loop-lane-init g c =
-    let clients = c.into_iter-clients.ensures.len in
-    let sessions = c.args.sessions.ok.0 in
-    let same = ap length c.into_iter-clients.ensures.rest in
-    let spare = c.into_iter-rooms.ensures.len in
-    let rooms = c.args.rooms.ok.0 in
-    let all = ap length c.into_iter-rooms.ensures.rest in (
-      walk_begins _ _ _ _ _ _ _ c.requires.complete c.requires.rooms c.into_iter-clients.ensures.rest c.into_iter-rooms.ensures.rest (ap (map line_of) c.requires.empty.0),
-      omega arith,
-      omega arith,
-      c.requires.empty.1,
-      c.requires.room,
-    )
-
-pub unreachable-requires : goal.unreachable-requires
-unreachable-requires g c =
-    let turn = YieldsList-turn (YieldsList-from_vec {s = c.into_iter-lane-iterator.result} c.args.lanes.items (search rules) (search rules))
-    c.loop-lane.yielded c.loop-lane.lane-iterator c.loop-lane.yielded_by c.next.result c.next.new.self c.in-Some.lane c.in-Some.is c.next.ensures.steps in
-    let some = (both_here _ _ _ _ _ _ _ _ c.loop-lane.invariant.0 c.in-Some.lane turn.0 turn.1).0 in
-    let same = c.loop-lane.invariant.1 in
-    let none = c.in_default.ensures.cases.0 in
+pub end_workers-requires-clause-room : goal.end_workers-requires-clause-room
+end_workers-requires-clause-room g c =
+    let room = c.requires.room in
     omega arith
 
-pub unreachable-requires-in_default-next : goal.unreachable-requires-in_default-next
-unreachable-requires-in_default-next g c =
-    let turn = YieldsList-turn (YieldsList-from_vec {s = c.into_iter-lane-iterator.result} c.args.lanes.items (search rules) (search rules))
-    c.loop-lane.yielded c.loop-lane.lane-iterator c.loop-lane.yielded_by c.next.result c.next.new.self c.in-Some.lane c.in-Some.is c.next.ensures.steps in
-    let some = (both_here _ _ _ _ _ _ _ _ c.loop-lane.invariant.0 c.in-Some.lane turn.0 turn.1).1 in
-    let same = c.loop-lane.invariant.2 in
-    let none = c.in_default-next.ensures.cases.0 in
+pub end_lanes-requires-clause-numbered : goal.end_lanes-requires-clause-numbered
+end_lanes-requires-clause-numbered g c = (_, (count_complete g.N.Name.named c.args.workers.items c.args.lanes.items c.args.sessions.items c.requires.complete).2)
+
+pub end_lanes-requires-clause-room : goal.end_lanes-requires-clause-room
+end_lanes-requires-clause-room g c =
+    let room = c.requires.room in
+    let count = c.end_workers.ensures.count in
+    let same = c.end_workers.ensures.capacity in
     omega arith
 
-pub line_of-line-requires-clause-same : goal.line_of-line-requires-clause-same
-line_of-line-requires-clause-same g c =
-    let turn = YieldsList-turn (YieldsList-from_vec {s = c.into_iter-lane-iterator.result} c.args.lanes.items (search rules) (search rules))
-    c.loop-lane.yielded c.loop-lane.lane-iterator c.loop-lane.yielded_by c.next.result c.next.new.self c.in-Some.lane c.in-Some.is c.next.ensures.steps in
-    own_session _ _ _ _ _ _ _ _ c.loop-lane.invariant.0 c.in-Some.lane turn.0 turn.1 c.in-Some-next.client _ c.in-Some-next-2.room _ c.in-Some-next.ensures.items c.in-Some-next-2.ensures.items
-
-pub line_of-line-requires-clause-room : goal.line_of-line-requires-clause-room
-line_of-line-requires-clause-room g c =
-    let turn = YieldsList-turn (YieldsList-from_vec {s = c.into_iter-lane-iterator.result} c.args.lanes.items (search rules) (search rules))
-    c.loop-lane.yielded c.loop-lane.lane-iterator c.loop-lane.yielded_by c.next.result c.next.new.self c.in-Some.lane c.in-Some.is c.next.ensures.steps in
-    own_room _ _ _ _ _ _ _ _ c.loop-lane.invariant.0 c.in-Some.lane turn.0 turn.1 c.in-Some-next.client _ c.in-Some-next-2.room _ c.in-Some-next.ensures.items c.in-Some-next-2.ensures.items
-
-pub push_reserved-requires : goal.push_reserved-requires
-push_reserved-requires g c =
-    let turn = YieldsList-turn (YieldsList-from_vec {s = c.into_iter-lane-iterator.result} c.args.lanes.items (search rules) (search rules))
-    c.loop-lane.yielded c.loop-lane.lane-iterator c.loop-lane.yielded_by c.next.result c.next.new.self c.in-Some.lane c.in-Some.is c.next.ensures.steps in
-    let below = turn.0 in
-    let count = c.loop-lane.invariant.3 in
-    let room = c.loop-lane.invariant.4 in
+pub entered-entered-requires : goal.entered-entered-requires
+entered-entered-requires g c =
+    let all = (count_complete g.N.Name.named c.args.workers.items c.args.lanes.items c.args.sessions.items c.requires.complete).0 in
+    let first = c.end_workers.ensures.parts in
+    let second = c.end_lanes.ensures.parts in
+    let whole = ap (held (λ (s : Share g.row.N.Denot). s.parts)) c.in-Some.is in
     omega arith
-
-pub loop-lane-preserved : goal.loop-lane-preserved
-loop-lane-preserved g c =
-    let turn = YieldsList-turn (YieldsList-from_vec {s = c.into_iter-lane-iterator.result} c.args.lanes.items (search rules) (search rules))
-    c.loop-lane.yielded c.loop-lane.lane-iterator c.loop-lane.yielded_by c.next.result c.next.new.self c.in-Some.lane c.in-Some.is c.next.ensures.steps in
-    let kept = c.loop-lane.invariant in
-    let clients = kept.1 in
-    let one = c.in-Some-next.ensures.cases.1 in
-    let first = ap length c.in-Some-next.ensures.items in
-    let rooms = kept.2 in
-    let two = c.in-Some-next-2.ensures.cases.1 in
-    let second = ap length c.in-Some-next-2.ensures.items in
-    let more = length-append c.loop-lane.yielded (c.in-Some.lane ∷ []) in (
-      walk_on _ _ _ _ _ _ _ _ c.loop-lane.invariant.0 c.in-Some.lane turn.0 turn.1 c.in-Some-next.client _ c.in-Some-next-2.room _ c.in-Some-next.ensures.items c.in-Some-next-2.ensures.items
-          (line_of {Z = g.row.A.Denot} c.line_of-line.result.0) _ _ _ c.line_of-line.ensures.line (ap (map (line_of {Z = g.row.A.Denot})) c.push_reserved.ensures.items ∙ map-append (line_of {Z = g.row.A.Denot}) _ _)
-          (c.merge.ensures.parts ∙ ap (λ n. held (λ (s : Share g.row.N.Denot). s.parts) c.loop-lane.parts + n) c.line_of-line.ensures.part.0)
-          (c.merge.ensures.amount ∙ ap (λ n. held (λ (s : Share g.row.N.Denot). s.amount) c.loop-lane.parts + n) c.line_of-line.ensures.part.1),
-      omega arith,
-      omega arith,
-      c.push_reserved.ensures.len ∙ ap (λ n. n + 1) kept.3 ∙ sym more,
-      subst (λ n. length c.args.lanes.items ≤ n) (sym c.push_reserved.ensures.capacity) kept.4,
-    )
 
 pub returns-clause-entered : goal.returns-clause-entered
 returns-clause-entered g c =
-    let end = YieldsList-end (YieldsList-from_vec {s = c.into_iter-lane-iterator.result} c.args.lanes.items (search rules) (search rules))
-    c.loop-lane.yielded c.loop-lane.lane-iterator c.loop-lane.yielded_by c.next.result c.next.new.self c.in-None.is c.next.ensures.steps in
-    let all = walk_ends _ _ _ _ _ _ _ _ c.loop-lane.invariant.0 (sym (map-id c.loop-lane.yielded) ∙ end.0) in
+    let first = c.end_workers.ensures.amount in
+    let second = c.end_lanes.ensures.amount in
     elim c.match-parts.branch [
-      | in-None-parts w ↦ w.entered-is ∙ sym (ap (held (λ (s : Share g.row.N.Denot). s.amount)) w.in-None-parts.is) ∙ all.2
-      | in-Some-parts w ↦ w.entered-is ∙ w.entered-entered.ensures ∙ sym (ap (held (λ (s : Share g.row.N.Denot). s.amount)) w.in-Some-parts.is) ∙ all.2
+      | in-None w ↦ (let is = w.entered-is in let none = ap (held (λ (s : Share g.row.N.Denot). s.amount)) w.in-None.is in omega arith)
+      | in-Some w ↦ (let is = w.entered-is in let told = w.entered-entered.ensures in let whole = ap (held (λ (s : Share g.row.N.Denot). s.amount)) w.in-Some.is in omega arith)
     ]
 
 pub returns-clause-lines : goal.returns-clause-lines
 returns-clause-lines g c =
-    let end = YieldsList-end (YieldsList-from_vec {s = c.into_iter-lane-iterator.result} c.args.lanes.items (search rules) (search rules))
-    c.loop-lane.yielded c.loop-lane.lane-iterator c.loop-lane.yielded_by c.next.result c.next.new.self c.in-None.is c.next.ensures.steps in
-    let all = walk_ends _ _ _ _ _ _ _ _ c.loop-lane.invariant.0 (sym (map-id c.loop-lane.yielded) ∙ end.0) in
-    all.0
+    let own = c.end_lanes.ensures.lines in
+    subst (AreAllLines c.args.workers.items c.args.lanes.items c.args.sessions.items) (sym own.1)
+    (all_lines c.args.workers.items c.args.lanes.items c.args.sessions.items _ own.0 c.end_workers.ensures.lines own.2)

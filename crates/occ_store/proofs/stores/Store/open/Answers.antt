@@ -1,9 +1,7 @@
-use Rattle.std.proofs.Common.{◌+◌, ◌≤◌, [], ◌∷◌, length, sym, ap, subst, ◌∙◌, rules, arith, length-append}
-use Rattle.std.proofs.lemmas.Iterator.Consumers.{YieldsList-turn, YieldsList-end}
-use Rattle.std.proofs.lemmas.Iterator.Adapters.{YieldsList-from_vec}
-use Rattle.occ_model.specs.Log.{last_folded}
-use Rattle.occ_store.specs.Frames.{fresh_session, fresh_lane, fresh_sessions, fresh_lanes}
-use Rattle.occ_store.proofs.PartsMade.{part_named, last_named, lane_named, count_named, cut_named, sessions_more, lanes_more, frame_locked}
+use Rattle.std.proofs.Common.{◌≡◌, ◌+◌, ◌≤◌, ◌-◌, suc, length, sym, ap, subst, ◌∙◌, arith}
+use Rattle.occ_model.specs.Log.{Base}
+use Rattle.occ_store.specs.Frames.{ArePlaces, AreParts, workers_from, sessions_from, lanes_from}
+use Rattle.occ_store.proofs.PartsMade.{places_named, parts_named, lanes_named, workers_named, count_named, others_named, cut_named, frame_locked}
 use Rattle.occ_store.proofs.stores.Store.open.Goals as goal
 
 pub open-rows-requires-clause-name : goal.open-rows-requires-clause-name
@@ -12,97 +10,97 @@ open-rows-requires-clause-name g c = ap (λ f. f.ledger) c.frame.view_is ∙ c.r
 pub open-rows-requires-clause-parts : goal.open-rows-requires-clause-parts
 open-rows-requires-clause-parts g c = ap (λ f. f.parts) c.frame.view_is ∙ c.requires.ledger.1
 
-pub loop-part-init : goal.loop-part-init
-loop-part-init g c =
+pub hire-requires-clause-places : goal.hire-requires-clause-places
+hire-requires-clause-places g c =
+    let named = g.N.Name.named in
+    let from = ap (λ f. f.base) c.frame.view_is in (
+      c.args.frame.base,
+      subst (λ (b : Base). ArePlaces named.board named.settings.schema b 1 c.frame.inside.places.items) from (places_named _ _ _ _ _ _ _ c.frame.invariant (ap (λ f. f.named) c.frame.view_is ∙ c.requires.named)),
+    )
+
+pub hire-requires-clause-ledger : goal.hire-requires-clause-ledger
+hire-requires-clause-ledger g c =
     let names = ap (λ f. f.named) c.frame.view_is ∙ c.requires.named in
-    let count = count_named _ _ _ _ _ _ c.frame.invariant names in
-    let cut = cut_named _ _ _ _ _ _ c.frame.invariant names in
+    let count = count_named _ _ _ _ _ _ _ c.frame.invariant names in
+    let cut = cut_named _ _ _ _ _ _ _ c.frame.invariant names in
     let own = ap (λ f. f.parts) c.frame.view_is ∙ c.requires.ledger.1 in
     let parts = c.open-rows.ensures.parts in
-    let here = c.len-sessions.ensures in
-    let seen = c.frame.inside.parts.ok.0 in
-    let first = c.in-Ok.ensures.room.0 in
-    let second = c.in-Ok.ensures.room.1 in (
-      c.in-Ok.ensures.empty.0,
-      c.in-Ok.ensures.empty.1,
-      c.in-Ok.ensures.none.0,
-      c.in-Ok.ensures.none.1,
-      omega arith,
-      omega arith,
-      omega arith,
-      c.open-rows.ensures.amount,
-    )
+    (omega arith, c.open-rows.ensures.amount)
 
-pub split_off-requires-clause-has_parts : goal.split_off-requires-clause-has_parts
-split_off-requires-clause-has_parts g c =
-    let names = ap (λ f. f.named) c.frame.view_is ∙ c.requires.named in
-    let count = count_named _ _ _ _ _ _ c.frame.invariant names in
-    let turn = YieldsList-turn (YieldsList-from_vec {s = c.into_iter-part-iterator.result} c.frame.inside.parts.items (search rules) (search rules))
-    c.loop-part.yielded c.loop-part.part-iterator c.loop-part.yielded_by c.next.result c.next.new.self c.in-Some.part c.in-Some.is c.next.ensures.steps in
-    let below = turn.0 in
-    let left = c.loop-part.invariant.6 in
+pub hire-requires-clause-empty : goal.hire-requires-clause-empty
+hire-requires-clause-empty g c = (c.in-Ok.ensures.empty.0, c.in-Ok.ensures.none.0)
+
+pub hire-requires-clause-room : goal.hire-requires-clause-room
+hire-requires-clause-room g c =
+    let here = c.len.ensures in
+    let seen = c.frame.inside.places.ok.0 in
+    let room = c.in-Ok.ensures.room.0 in
     omega arith
 
-pub named-client-requires-clause-part : goal.named-client-requires-clause-part
-named-client-requires-clause-part g c =
-    let names = ap (λ f. f.named) c.frame.view_is ∙ c.requires.named in
-    let turn = YieldsList-turn (YieldsList-from_vec {s = c.into_iter-part-iterator.result} c.frame.inside.parts.items (search rules) (search rules))
-    c.loop-part.yielded c.loop-part.part-iterator c.loop-part.yielded_by c.next.result c.next.new.self c.in-Some.part c.in-Some.is c.next.ensures.steps in
-    part_named _ _ _ _ _ _ c.frame.invariant names _ _ _ turn.0 turn.1 (c.len-session.ensures ∙ c.loop-part.invariant.2)
-
-pub named-client-requires-clause-lane : goal.named-client-requires-clause-lane
-named-client-requires-clause-lane g c =
-    let names = ap (λ f. f.named) c.frame.view_is ∙ c.requires.named in
-    let turn = YieldsList-turn (YieldsList-from_vec {s = c.into_iter-part-iterator.result} c.frame.inside.parts.items (search rules) (search rules))
-    c.loop-part.yielded c.loop-part.part-iterator c.loop-part.yielded_by c.next.result c.next.new.self c.in-Some.part c.in-Some.is c.next.ensures.steps in
-    lane_named _ _ _ _ _ _ c.frame.invariant names _ _ _ turn.0 turn.1 (c.len-session.ensures ∙ c.loop-part.invariant.2)
-
-pub loop-part-preserved : goal.loop-part-preserved
-loop-part-preserved g c =
+pub seat-requires-clause-parts : goal.seat-requires-clause-parts
+seat-requires-clause-parts g c =
     let named = g.N.Name.named in
-    let base = c.args.frame.base in
-    let names = ap (λ f. f.named) c.frame.view_is ∙ c.requires.named in
-    let turn = YieldsList-turn (YieldsList-from_vec {s = c.into_iter-part-iterator.result} c.frame.inside.parts.items (search rules) (search rules))
-    c.loop-part.yielded c.loop-part.part-iterator c.loop-part.yielded_by c.next.result c.next.new.self c.in-Some.part c.in-Some.is c.next.ensures.steps in
-    let kept = c.loop-part.invariant in
-    let more = length-append c.loop-part.yielded (c.in-Some.part ∷ []) in
-    let number = c.len-session.ensures ∙ kept.2 in
-    let last = last_named _ _ _ _ _ _ c.frame.invariant names _ _ _ turn.0 turn.1 number ∙ (λ i. last_folded (ap (λ f. f.base) c.frame.view_is i) (number i + 1)) in
-    let before = kept.6 in
-    let none = kept.7 in
-    let given = c.split_off.ensures.parts_left in
-    let amount = c.split_off.ensures.amount_left in (
-      sessions_more named base (length c.loop-part.yielded) _ _ _ kept.0 (c.named-client.ensures.session ∙ (λ i. fresh_session named (number i + 1) (last i))) c.push_reserved.ensures.items
-          ∙ ap (fresh_sessions named base) (sym more),
-      lanes_more named base (length c.loop-part.yielded) _ _ _ kept.1 (c.named-client.ensures.lane ∙ (λ i. fresh_lane named (number i + 1) (last i))) c.push_reserved-in-loop-part.ensures.items
-          ∙ ap (fresh_lanes named base) (sym more),
-      c.push_reserved.ensures.len ∙ ap (λ n. n + 1) kept.2 ∙ sym more,
-      c.push_reserved-in-loop-part.ensures.len ∙ ap (λ n. n + 1) kept.3 ∙ sym more,
-      subst (λ n. named.settings.sessions ≤ n) (sym c.push_reserved.ensures.capacity) kept.4,
-      subst (λ n. named.settings.sessions ≤ n) (sym c.push_reserved-in-loop-part.ensures.capacity) kept.5,
-      omega arith,
-      omega arith,
+    let from = ap (λ f. f.base) c.frame.view_is in (
+      c.args.frame.base,
+      subst (λ (b : Base). AreParts named.board named.settings.schema b (suc named.workers) c.frame.inside.parts.items) from (parts_named _ _ _ _ _ _ _ c.frame.invariant (ap (λ f. f.named) c.frame.view_is ∙ c.requires.named)),
     )
+
+pub seat-requires-clause-lanes : goal.seat-requires-clause-lanes
+seat-requires-clause-lanes g c = lanes_named _ _ _ _ _ _ _ c.frame.invariant (ap (λ f. f.named) c.frame.view_is ∙ c.requires.named)
+
+pub seat-requires-clause-ledger : goal.seat-requires-clause-ledger
+seat-requires-clause-ledger g c =
+    let names = ap (λ f. f.named) c.frame.view_is ∙ c.requires.named in
+    let count = count_named _ _ _ _ _ _ _ c.frame.invariant names in
+    let cut = cut_named _ _ _ _ _ _ _ c.frame.invariant names in
+    let own = ap (λ f. f.parts) c.frame.view_is ∙ c.requires.ledger.1 in
+    let parts = c.open-rows.ensures.parts in
+    let given = c.hire.ensures.ledger.0 in
+    (omega arith, c.hire.ensures.ledger.1)
+
+pub seat-requires-clause-empty : goal.seat-requires-clause-empty
+seat-requires-clause-empty g c = (c.in-Ok.ensures.empty.1, c.in-Ok.ensures.empty.2)
+
+pub seat-requires-clause-none : goal.seat-requires-clause-none
+seat-requires-clause-none g c = (c.in-Ok.ensures.none.1, c.in-Ok.ensures.none.2)
+
+pub seat-requires-clause-room : goal.seat-requires-clause-room
+seat-requires-clause-room g c =
+    let here = c.len-2.ensures in
+    let seen = c.frame.inside.parts.ok.0 in
+    let first = c.in-Ok.ensures.room.1 in
+    let second = c.in-Ok.ensures.room.2 in
+    (omega arith, omega arith)
 
 pub invariant_of-new : goal.invariant_of-new
 invariant_of-new g c =
     let none = c.open-rows.ensures.total in
     let place = c.place-origin.ensures ∙ ap (λ b. b.place) c.base.ensures.base ∙ ap (λ w. w.base.place) c.core.ensures.world in
-    frame_locked _ _ _ _ _ _ _ c.frame.invariant (ap (λ f. f.named) c.frame.view_is ∙ c.requires.named) (omega arith)
+    frame_locked _ _ _ _ _ _ _ c.frame.invariant (ap (λ f. f.named) c.frame.view_is ∙ c.requires.named) _ (omega arith)
+
+pub returns-clause-workers : goal.returns-clause-workers
+returns-clause-workers g c =
+    let named = g.N.Name.named in
+    let names = ap (λ f. f.named) c.frame.view_is ∙ c.requires.named in
+    let from = ap (λ f. f.base) c.frame.view_is in
+    c.hire.ensures.workers c.args.frame.base (subst (λ (b : Base). ArePlaces named.board named.settings.schema b 1 c.frame.inside.places.items) from (places_named _ _ _ _ _ _ _ c.frame.invariant names))
+    ∙ ap (workers_from named c.args.frame.base) (workers_named _ _ _ _ _ _ _ c.frame.invariant names)
 
 pub returns-clause-sessions : goal.returns-clause-sessions
 returns-clause-sessions g c =
-    let count = count_named _ _ _ _ _ _ c.frame.invariant (ap (λ f. f.named) c.frame.view_is ∙ c.requires.named) in
-    let end = YieldsList-end (YieldsList-from_vec {s = c.into_iter-part-iterator.result} c.frame.inside.parts.items (search rules) (search rules))
-    c.loop-part.yielded c.loop-part.part-iterator c.loop-part.yielded_by c.next.result c.next.new.self c.in-None.is c.next.ensures.steps in
-    c.loop-part.invariant.0 ∙ ap (fresh_sessions g.N.Name.named c.args.frame.base) (end.1 ∙ count)
+    let named = g.N.Name.named in
+    let names = ap (λ f. f.named) c.frame.view_is ∙ c.requires.named in
+    let from = ap (λ f. f.base) c.frame.view_is in
+    c.seat.ensures.sessions c.args.frame.base (subst (λ (b : Base). AreParts named.board named.settings.schema b (suc named.workers) c.frame.inside.parts.items) from (parts_named _ _ _ _ _ _ _ c.frame.invariant names))
+    ∙ ap (sessions_from named c.args.frame.base) (others_named _ _ _ _ _ _ _ c.frame.invariant names)
 
 pub returns-clause-lanes : goal.returns-clause-lanes
 returns-clause-lanes g c =
-    let count = count_named _ _ _ _ _ _ c.frame.invariant (ap (λ f. f.named) c.frame.view_is ∙ c.requires.named) in
-    let end = YieldsList-end (YieldsList-from_vec {s = c.into_iter-part-iterator.result} c.frame.inside.parts.items (search rules) (search rules))
-    c.loop-part.yielded c.loop-part.part-iterator c.loop-part.yielded_by c.next.result c.next.new.self c.in-None.is c.next.ensures.steps in
-    c.loop-part.invariant.1 ∙ ap (fresh_lanes g.N.Name.named c.args.frame.base) (end.1 ∙ count)
+    let named = g.N.Name.named in
+    let names = ap (λ f. f.named) c.frame.view_is ∙ c.requires.named in
+    let from = ap (λ f. f.base) c.frame.view_is in
+    c.seat.ensures.lanes c.args.frame.base (subst (λ (b : Base). AreParts named.board named.settings.schema b (suc named.workers) c.frame.inside.parts.items) from (parts_named _ _ _ _ _ _ _ c.frame.invariant names))
+    ∙ ap (lanes_from named c.args.frame.base) (others_named _ _ _ _ _ _ _ c.frame.invariant names)
 
-pub invariant_of-store : goal.invariant_of-store
-invariant_of-store g c = record { own_file = c.frame.invariant.shared ∙ ap (λ n. n.file) (ap (λ f. f.named) c.frame.view_is ∙ c.requires.named) }
+pub new-requires-3 : goal.new-requires-3
+new-requires-3 g c = c.frame.invariant.shared ∙ ap (λ n. n.file) (ap (λ f. f.named) c.frame.view_is ∙ c.requires.named)

@@ -14,11 +14,11 @@ returns g c =
     let same = c.deref.ensures ∙ sym c.deref_mut.ensures.value in
     let old = world_of c.deref_mut.result.now in
     let new = world_of c.get_in.new.store in
-    let object : Object = (c.args.table, key_of c.args.key) in (
+    let object : Object = (c.args.table, key_of c.args.key.now) in (
       old,
       new,
       subst (λ (s : Locked). Invariant (world_of s)) same c.law.ensures.invariant,
       subst (λ (s : Locked). (world_of s).settings ≡ g.N.Name.named.settings) same c.law.ensures.settings,
       subst (λ (v : TransactionView). OrStarves (WantsOwn old.settings.schema object v.draft) old (reading c.get_in.result) new (Gets old v.session object v.draft (reading c.get_in.result) new))
-          c.self.view_is c.get_in.ensures,
+          c.self.view_is c.get_in.ensures.step,
     )

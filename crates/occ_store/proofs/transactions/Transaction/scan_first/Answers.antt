@@ -1,4 +1,5 @@
 use Rattle.std.proofs.Common.{◌≡◌, sym, subst, ◌∙◌}
+use Rattle.std.specs.Option.{option_copied}
 use Rattle.occ_types.specs.PlainData.{end_of}
 use Rattle.occ_model.specs.Invariant.{Invariant}
 use Rattle.occ_model.specs.Paging.{first_page}
@@ -13,8 +14,8 @@ returns g c =
     let same = c.deref.ensures ∙ sym c.deref_mut.ensures.value in
     let old = world_of c.deref_mut.result.now in
     let new = world_of c.scan_first_in.new.store in
-    let a = end_of c.args.lower in
-    let b = end_of c.args.upper in (
+    let a = end_of (option_copied c.args.lower) in
+    let b = end_of (option_copied c.args.upper) in (
       old,
       new,
       subst (λ (s : Locked). Invariant (world_of s)) same c.law.ensures.invariant,

@@ -1,36 +1,16 @@
-use Rattle.std.proofs.Common.{Some, ap, sym, ◌∙◌, ℕ}
-use Rattle.occ_open.specs.Transactions.{begun as no_writes}
-use Rattle.occ_store.specs.Sessions.{SessionView}
-use Rattle.occ_store.proofs.Working.{stays, hands_in, none_handed_in, not_handed_in, not_begun}
+use Rattle.std.proofs.Common.{◌≡◌, sym, subst, ◌∙◌}
+use Rattle.occ_model.specs.Invariant.{Invariant}
+use Rattle.occ_queue.specs.Items.{item_of}
+use Rattle.occ_store.specs.Locked.{Locked, world_of}
+use Rattle.occ_store.specs.Lanes.{Kept}
+use Rattle.occ_store.specs.Workers.{holding}
+use Rattle.occ_store.proofs.Ending.{happens_to}
 use Rattle.occ_store.proofs.workers.Worker.hand_in.Goals as goal
 
--- none may begin
-pub returns-in-Err-clause-none : goal.returns-in-Err-clause-none
-returns-in-Err-clause-none g c = stays (g.B.Body.makes c.args.body.now) 0 c.args.self.now.session c.begin.new.self c.in-Err.ensures.err
-
-pub returns-in-Err-clause-error : goal.returns-in-Err-clause-error
-returns-in-Err-clause-error g c =
-    not_begun (g.B.Body.makes c.args.body.now) g.B.Error.From.from_gives g.N.Name.named.settings c.args.self.now.session c.begin.new.self c.in-Err.fault c.from.result c.in-Err.ensures.err c.in-Err.ensures.fault c.from.ensures
-
-pub run_body-ran-requires : goal.run_body-ran-requires
-run_body-ran-requires g c = record {
-  begun = ap (λ (v : SessionView). v.draft) c.in-Ok.ensures.ok.1 ∙ ap (λ (n : ℕ). Some (no_writes n c.in-Ok.begun.1)) (sym c.in-Ok.ensures.ok.0);
-}
-
-pub returns-clause-ok : goal.returns-clause-ok
-returns-clause-ok g c =
-    hands_in (g.B.Body.makes c.args.body.now) c.args.self.now.session c.begin.new.self c.run_body-ran.new.self.session c.submit_or_give_up.new.self
-    c.in-Ok.begun.1 c.in-Ok.begun.0 c.run_body-ran.result c.submit_or_give_up.result
-    c.in-Ok.ensures.ok.0 c.in-Ok.ensures.ok.1 c.run_body-ran.ensures.made c.run_body-ran.ensures.again c.submit_or_give_up.ensures.ok
-
-pub returns-clause-none : goal.returns-clause-none
-returns-clause-none g c =
-    none_handed_in (g.B.Body.makes c.args.body.now) g.N.Name.named.settings c.args.self.now.session c.begin.new.self c.run_body-ran.new.self.session c.submit_or_give_up.new.self
-    c.in-Ok.begun.1 c.in-Ok.begun.0 c.submit_or_give_up.result
-    c.in-Ok.ensures.ok.1 c.run_body-ran.ensures.again c.submit_or_give_up.ensures.given_up
-
-pub returns-clause-error : goal.returns-clause-error
-returns-clause-error g c =
-    not_handed_in (g.B.Body.makes c.args.body.now) g.B.Error.From.from_gives g.N.Name.named.settings c.args.self.now.session c.begin.new.self c.run_body-ran.new.self.session c.submit_or_give_up.new.self
-    c.in-Ok.begun.1 c.in-Ok.begun.0 c.run_body-ran.result c.submit_or_give_up.result
-    c.in-Ok.ensures.ok.1 c.run_body-ran.ensures.error c.run_body-ran.ensures.again c.submit_or_give_up.ensures.given_up c.submit_or_give_up.ensures.error
+-- the state that the lock lent, and what the event made of it
+pub returns : goal.returns
+returns g c =
+    let same = c.deref.ensures ∙ sym c.deref_mut.ensures.value in
+    let item = item_of c.args.item in
+    happens_to g.N.Name.named.settings c.deref_mut.result.now c.begin_with.new.shared (subst (λ (s : Locked). Invariant (world_of s)) same c.law.ensures.invariant)
+    (subst (λ (s : Locked). (world_of s).settings ≡ g.N.Name.named.settings) same c.law.ensures.settings) (holding c.args.self.now item) c.begin_with.new.self (Kept item) c.begin_with.result c.begin_with.ensures

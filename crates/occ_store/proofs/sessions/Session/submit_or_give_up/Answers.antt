@@ -1,7 +1,0 @@
-use Rattle.std.proofs.Common.{subst}
-use Rattle.occ_store.specs.Sessions.{SessionView}
-use Rattle.occ_store.specs.Workers.{GivesUp}
-use Rattle.occ_store.proofs.sessions.Session.submit_or_give_up.Goals as goal
-
-pub returns-clause-given_up : goal.returns-clause-given_up
-returns-clause-given_up g c = subst (λ (v : SessionView). GivesUp g.N.Name.named.settings v c.give_up_open.new.self) c.in-Err.ensures.err c.give_up_open.ensures
