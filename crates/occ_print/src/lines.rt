@@ -265,7 +265,8 @@ pub fn row_line<A: Allocator, O>(line: &mut String<A>, row: &LogRow<A, O>) -> Re
     write_standing(line, &row.standing)
 }
 
-fn write_standing<A: Allocator, O>(
+/// The word of a standing, and its number where it has one, behind what stands in the line.
+pub fn write_standing<A: Allocator, O>(
     line: &mut String<A>,
     standing: &Standing<O>,
 ) -> Result<(), AllocError>

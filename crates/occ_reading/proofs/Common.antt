@@ -49,7 +49,7 @@ pub use Rattle.occ_text.proofs.Numbers.{some_or_none}
 pub use Rattle.occ_text.proofs.Readers.{name_again, takes, word_is}
 pub use Rattle.occ_text.proofs.SchemaLines.{IsSchema-from_check, check-from_IsSchema, each_fits}
 pub use Rattle.occ_text.proofs.Spelled.{IsToken-end, IsToken-key, IsToken-name, IsToken-row, negsuc_small, pos_small}
-pub use Rattle.occ_text.proofs.Taking.{NoneTaken-narrower, ShownLine, line_found, next_read}
+pub use Rattle.occ_text.proofs.Taking.{NoneTaken-narrower, ShownLine, line_found}
 pub use Rattle.occ_text.proofs.TokenLists.{two_tokens}
 pub use Rattle.occ_text.proofs.Values.{again_by, end_reads, found_by, key_reads, row_reads}
 pub use Rattle.occ_text.proofs.Words.{IsToken-from_test, name_reads, tokens_takes}
@@ -61,10 +61,12 @@ pub use Rattle.occ_text.specs.HeaderReading.{count_of_line, table_of_tokens}
 unfoldable pub use Rattle.occ_text.specs.HeaderReading.{table_of_line}
 pub use Rattle.occ_text.specs.HeaderTaking.{BeginsLimits, LimitsTaken, TablesSoFar, table_behind}
 pub use Rattle.occ_text.specs.Headers.{Header, HeaderFits, KindFits, KindsFit, LimitsFit, TableFits, TableHasLine, Within, count_text, key_kind_word, kind_word, limits_lines, limits_of, part_kind_word, table_text, table_tokens, version_text}
+pub use Rattle.occ_text.specs.Languages.{Ended, EndsFrom, FailsFrom, Grammar, Language, LeadOn, Leads, LeadsOn, Position, Stopped, TakesFrom, Took, Torn, Uncounted, Unended, counts_of, lines_of, point, position_of, start}
 pub use Rattle.occ_text.specs.Line.{AtEnd, BeginsNoLine, CannotStand, HasFailed, HasNoFeed, IsLine, IsSpelled, LineGives, NoLine, NoneTaken, OtherLine, Source, Taken, lines_text}
 pub use Rattle.occ_text.specs.Reading.{Reads, name_of, tokens_of}
 unfoldable pub use Rattle.occ_text.specs.Reading.{decimal_of, int_of, is_decimal, is_token, number_of}
 pub use Rattle.occ_text.specs.Sending.{Outgoing, PushGives, Sends}
+pub use Rattle.occ_text.specs.TableTaking.{Behind, OneTable, TablesTold}
 pub use Rattle.occ_types.specs.Spelling.{cell_text, escaped, escaped_byte, is_plain, key_text, part_text, row_text}
 pub use Rattle.occ_text.specs.Spelling.{CellFits, EndFits, IsName, IsToken, KeyFits, PartFits, RowFits, end_text, line_text}
 pub use Rattle.occ_text.specs.declared.faults.LineFault.{LineFault}
@@ -76,17 +78,17 @@ pub use Rattle.occ_text.specs.declared.trouble.Trouble.{Trouble}
 pub use Rattle.occ_text.specs.declared.versions.Version.{Version}
 pub use Rattle.occ_print.specs.Books.{Book, audit_line, base_line, base_lines, book_lines, book_text, entry_line, entry_word, folded_lines, header_lines, log_lines, mark_lines, number_line, number_word, pair_line, question_text, read_lines, row_count, row_line, row_lines, standing_text, state_lines, table_name, write_line}
 pub use Rattle.occ_print.specs.declared.sections.Section.{Section}
-pub use Rattle.occ_reading.proofs.LinesTaken.{Gathered, LeadsOn, Path, along, count_more, ended, failed, fails, gathered_all, gathered_fails, gathered_more, gathered_none, led_apart, line_refused, next_fails, next_taken, none, none_fails, on, part_failed, single_lines, spelled, stay, stopped_here, torn_here, uncounted_here, viewed_more, ◌and◌}
+pub use Rattle.occ_text.proofs.LinesTaken.{Gathered, Path, along, count_more, ended, failed, fails, gathered_all, gathered_fails, gathered_more, gathered_none, led_apart, line_refused, next_fails, next_taken, none, none_fails, on, part_failed, single_lines, spelled, stay, stopped_here, torn_here, uncounted_here, viewed_more, ◌and◌}
 pub use Rattle.occ_reading.specs.Cores.{HasWords, IsHeaderOf, IsToldBase, ReadHasWords, RowHasWords, WriteHasWords, book_in}
 pub use Rattle.occ_reading.specs.NumberLines.{BaseHeadFits, BeganFits, CountsFit, HeadFits, IsSession, MarkFits, Stand, StandFits, base_head_line, base_text, began_of_line, began_text, began_unless, counts_line, counts_text, head_from, head_line, head_parts, head_text, mark_line, mark_text, number64, session, stand, stand_tokens}
 unfoldable pub use Rattle.occ_reading.specs.NumberLines.{base_of_line, counts_of_line, head_of_line, mark_of_line, next_session, next_stand}
-pub use Rattle.occ_reading.specs.Places.{Audit, Counter, End, Ended, EndsFrom, EntryOf, FailsFrom, Frame, Grammar, InRow, IsAbove, Keep, LeadOn, Leads, Log, Marks, MayEnd, MayFollow, NumberOf, PairOf, Place, Position, Queue, ReadOf, Sessions, Stopped, Tables, Took, Unended, WriteOf, behind_began, behind_entries, behind_further, behind_numbers, behind_read, counts_of, entries_to_come, frame_of, framed, grammar, in_row, last_key, lines_of, numbers_to_come, pairs_to_come, point, position_of, reads_to_come, rows_to_come, start, writes_to_come}
+pub use Rattle.occ_reading.specs.Places.{Audit, Counter, End, EntryOf, Frame, InRow, IsAbove, Keep, Log, Marks, MayEnd, NumberOf, PairOf, Place, Queue, ReadOf, Sessions, Tables, WriteOf, behind_began, behind_entries, behind_numbers, behind_read, books, entries_to_come, frame_of, framed, grammar, in_row, last_key, numbers_to_come, pairs_to_come, reads_to_come, rows_to_come, writes_to_come}
 pub use Rattle.occ_reading.specs.PlainRows.{log_of, log_row_of, without_case}
 pub use Rattle.occ_reading.specs.RowLines.{Asked, AskedFits, AskedOne, AskedSpan, AtFits, FoundFits, ObjectFits, PairFits, RowFitsIn, SpanFits, WriteFits, asked_line, asked_of, asked_text, asked_tokens, at_field, at_of, ends_field, found_field, found_text, key_field, object_field, pair_field, pair_of, row_field, table_field, write_field, write_of, write_tokens}
 unfoldable pub use Rattle.occ_reading.specs.RowLines.{asked_of_line, at_of_line, del_behind, found_in, next_asked, next_ends, next_found, next_write, one_behind, pair_of_line, put_behind, span_behind, write_of_line}
 pub use Rattle.occ_reading.specs.SchemaReaders.{unless_fault}
 unfoldable pub use Rattle.occ_reading.specs.SchemaReaders.{key_in, next_key, next_object, next_row, next_table, place_of, row_in}
-pub use Rattle.occ_reading.specs.Taking.{AllFit, Begins, Further, FurtherFits, IsBaseOf, IsRowOf, LogRowFits, OneTable, ReadFits, RisesFrom, StandingFits, StandsSo, but_first, front_lines, further_of, further_text, is_behind}
+pub use Rattle.occ_reading.specs.Taking.{AllFit, IsBaseOf, IsRowOf, LogRowFits, ReadFits, RisesFrom, StandingFits, StandsSo, but_first, front_lines, is_behind}
 pub use Rattle.occ_reading.specs.WholeBooks.{AuditGives, BaseFits, BookFits, EntryFits, IsBookText, IsEnding, Judged, VerdictFront, VerdictGives, printed_book, verdict_text}
 pub use Rattle.occ_reading.specs.declared.number_lines.BaseHead.{BaseHead}
 pub use Rattle.occ_reading.specs.declared.number_lines.Began.{Began}

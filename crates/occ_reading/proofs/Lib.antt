@@ -4,7 +4,6 @@ pub mod LineLengths
 pub mod SchemaFields
 pub mod NumberLines
 pub mod RowLines
-pub mod LinesTaken
 pub mod LineParts
 pub mod SingleLines
 pub mod RowTaking
@@ -13,9 +12,7 @@ pub mod Rising
 pub mod Sections
 pub mod PartPlaces
 pub mod VerdictWriting
-pub mod TableLeads
 pub mod BookLeads
-pub mod TextLines
 pub mod BookLaws
 pub mod LeftBases
 pub mod CoreContent

@@ -5,7 +5,8 @@ use Rattle.occ_types.specs.KeyPart.{KeyPart}
 use Rattle.occ_types.specs.Key as keys
 use Rattle.occ_types.specs.KeyPart as parts
 use Rattle.occ_types.specs.Row as cells
-use Rattle.occ_reading.proofs.TableNames.{neither, no_fault, fits_there}
+use Rattle.occ_text.proofs.SchemaLines.{neither}
+use Rattle.occ_reading.proofs.TableNames.{no_fault, fits_there}
 
 byte_width : (b : Bool) (byte : ℕ) → is_plain byte ≡ b → length (escaped_byte byte) ≤ 3
 byte_width true byte h = subst (λ (l : List ℕ). length l ≤ 3) (sym (plain_spelling byte h)) (omega arith)

@@ -3,9 +3,10 @@ use Rattle.std.proofs.Common.{◌≡◌, ◌+◌, ℕ, zero, suc, ◌^◌, ◌-�
 use Rattle.occ_reading.proofs.Common.{BaseHead, BaseHeadFits, Began, BeganFits, Conflict, CountsFit, HeadFits, IfSome, IsField, IsLine, IsSession, IsToken, IsToken-from_test, MarkFits, Reads, Section, Stand, StandFits, TooOld, Within, after_word, alone_spelled, alone_takes, base_head_line, base_of_line, base_text, began_of_line, began_text, began_unless, behind_spelled, behind_takes, both_fields, codes, count_field, count_of_line, count_reads, count_text, counts_line, field_is_line, field_reads, fitting_field, head_from, head_line, head_parts, is_token, mark_line, ne_eqb, next_session, next_stand, number, number64, number_field, number_word, one_and_other, option_map, session, shaped_field, stand, stand_tokens, tested_field, within, words_field}
 use Rattle.occ_sets.specs.declared.log_rows.Standing.TheVariants.{Open, Writing, Done, Back}
 use Rattle.occ_text.proofs.Fields.{IsSpelled}
+use Rattle.occ_text.proofs.HeaderLines.{count_is_line}
 use Rattle.occ_print.specs.declared.sections.Section.TheVariants as sections
 use Rattle.occ_reading.specs.declared.number_lines.Began.TheVariants as begun
-use Rattle.occ_reading.proofs.TextLines.{first_byte}
+use Rattle.occ_text.proofs.TextLines.{first_byte}
 
 pub wide : 2 ^ 64 - 1 < 2 ^ 64
 wide = lit< tt
@@ -139,9 +140,6 @@ began_reads line = began_reads_by line _ _ (log_reads line) (base_reads line _ r
 
 pub began_line-again : (began : Began) → BeganFits began → began_of_line (began_text began) ≡ Some began
 began_line-again began fits = (began_reads (began_text began)).again began fits refl
-
-pub count_is_line : (word : List ℕ) (least most n : ℕ) → IsToken word → length word ≤ 100 → most < 2 ^ 64 → Within least most n → IsLine (count_text word n)
-count_is_line word least most n token short small fits = field_is_line n (count_field word least most small token) (omega (arith, short)) fits
 
 pub began_is_line : (began : Began) → BeganFits began → IsLine (began_text began)
 began_is_line (begun.Log rows) fits = count_is_line (codes "log") 0 (2 ^ 64 - 1) rows IsToken-log (omega arith) wide fits

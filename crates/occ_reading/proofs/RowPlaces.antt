@@ -1,6 +1,6 @@
 -- The lines of a row of the log, and where they lead.
 use Rattle.std.proofs.Common.{◌≡◌, ℕ, suc, ◌+◌, ◌-◌, ◌<◌, Bool, true, false, cond, List, ◌∷◌, ◌++◌, map, length, Option, Some, None, Result, Ok, Err, ◌||◌, refl, sym, ap, subst, ◌∙◌, arith, []}
-use Rattle.occ_reading.proofs.Common.{Consumes, FailsFrom, Gathered, IfErr, InRow, IsAbove, IsLine, IsSpelled, IsTrue, Key, LeadsOn, NoneTaken, Object, PairFits, PairOf, Place, Position, ReadFault, Row, Schema, Taken, Took, Unread, Version, Write, WriteFits, WriteOf, check_tables, eq_by_cmp, gathered_fails, gathered_more, is_lt, is_some, key_cmp, last_key, line_refused, list_any, map-append, next_fails, next_taken, none_fails, object_cmp, own, pair_line, pairs_to_come, point, slice_get, told, viewed_more, write_line, write_of_line, writes_to_come, ◌↔◌}
+use Rattle.occ_reading.proofs.Common.{Consumes, FailsFrom, Gathered, IfErr, InRow, IsAbove, IsLine, IsSpelled, IsTrue, Key, LeadsOn, NoneTaken, Object, PairFits, PairOf, Place, Position, ReadFault, Row, Schema, Taken, Took, Unread, Version, Write, WriteFits, WriteOf, books, check_tables, eq_by_cmp, gathered_fails, gathered_more, is_lt, is_some, key_cmp, last_key, line_refused, list_any, map-append, next_fails, next_taken, none_fails, object_cmp, own, pair_line, pairs_to_come, point, slice_get, told, viewed_more, write_line, write_of_line, writes_to_come, ◌↔◌}
 use Rattle.occ_text.specs.declared.tokens.Unread.TheVariants as unread
 use Rattle.occ_text.specs.declared.faults.ReadFault.TheVariants as faults
 use Rattle.occ_reading.proofs.RowLines.{write_line-again}
@@ -32,7 +32,7 @@ last_more view xs now x is = ap (λ l. last_key (map view l)) is ∙ by xs
 -- ---- pairs
 
 abbrev pub Pairs : InRow → ℕ → ℕ → Place → Place → Position → Position → List (Key × Row) → Type 0
-Pairs row reads table from to a b pairs = Gathered (λ pair. pair_line pair ∷ []) (PairFits row.frame.version row.frame.schema table) from to a b pairs
+Pairs row reads table from to a b pairs = Gathered books (λ pair. pair_line pair ∷ []) (PairFits row.frame.version row.frame.schema table) from to a b pairs
 
 -- one more pair
 pub pairs_more : {X : Type 0} (view : X → Key × Row) (items shown now : List X) (x : X) (row : InRow) (reads table count counter : ℕ) {p : Place} {a : Position} (b c : Option (List ℕ)) (mid end : ℕ) → counter < count → now ≡ items ++ x ∷ [] → shown ≡ items
@@ -41,17 +41,17 @@ pub pairs_more : {X : Type 0} (view : X → Key × Row) (items shown now : List 
     → Pairs row reads table p (pairs_to_come row reads table (count - (counter + 1)) (last_key (map view now))) a (point c end) (map view now)
 pairs_more view items shown now x row reads table count counter b c mid end lt is same so_far taken =
     let more = count - (counter + 1) in
-    let next = next_taken (PairOf row reads table more (last_key (map view items))) (view x)
+    let next = next_taken books (PairOf row reads table more (last_key (map view items))) (view x)
     (subst (λ l. Taken view pair_line (λ pair. PairFits row.frame.version row.frame.schema table pair × IsAbove (last_key (map view l)) pair.0) (Ok x) b c mid end) same taken) in
-    let to = subst (λ o. Took (PairOf row reads table more (last_key (map view items))) (pairs_to_come row reads table more o) (point b mid) (point c end) (pair_line (view x) ∷ [])) (sym (last_more view items now x is)) next.0 in
-    gathered_more (λ k. pairs_to_come row reads table k (last_key (map view items))) (map view items) (map view now) (view x) count counter lt (viewed_more view items now x is) so_far (to, next.1.0)
+    let to = subst (λ o. Took books (PairOf row reads table more (last_key (map view items))) (pairs_to_come row reads table more o) (point b mid) (point c end) (pair_line (view x) ∷ [])) (sym (last_more view items now x is)) next.0 in
+    gathered_more books (λ k. pairs_to_come row reads table k (last_key (map view items))) (map view items) (map view now) (view x) count counter lt (viewed_more view items now x is) so_far (to, next.1.0)
 
 pub pairs_fail : {X : Type 0} (view : X → Key × Row) (items shown : List X) (fault : ReadFault) (row : InRow) (reads table count counter : ℕ) {p : Place} {a : Position} (b c : Option (List ℕ)) (mid : ℕ) → counter < count → shown ≡ items
     → Pairs row reads table p (pairs_to_come row reads table (count - counter) (last_key (map view items))) a (point b mid) (map view items)
-    → NoneTaken (IsSpelled pair_line (λ pair. PairFits row.frame.version row.frame.schema table pair × IsAbove (last_key (map view shown)) pair.0)) fault b c mid → FailsFrom fault p a c
+    → NoneTaken (IsSpelled pair_line (λ pair. PairFits row.frame.version row.frame.schema table pair × IsAbove (last_key (map view shown)) pair.0)) fault b c mid → FailsFrom books fault p a c
 pairs_fail view items shown fault row reads table count counter b c mid lt same so_far taken =
-    gathered_fails fault c (λ k. pairs_to_come row reads table k (last_key (map view items))) count counter lt so_far
-    (next_fails (PairOf row reads table (count - (counter + 1)) (last_key (map view items))) fault b c mid (λ may. may)
+    gathered_fails books fault c (λ k. pairs_to_come row reads table k (last_key (map view items))) count counter lt so_far
+    (next_fails books (PairOf row reads table (count - (counter + 1)) (last_key (map view items))) fault b c mid (λ may. may)
     (subst (λ l. NoneTaken (IsSpelled pair_line (λ pair. PairFits row.frame.version row.frame.schema table pair × IsAbove (last_key (map view l)) pair.0)) fault b c mid) same taken))
 
 -- ---- writes
@@ -68,14 +68,14 @@ written (write ∷ writes) object = sym (either (eq_by_cmp object_cmp object wri
 -- the writes so far
 abbrev pub Writes : InRow → ℕ → ℕ → Position → Position → List Write → Type 0
 Writes row count left a b writes =
-    Gathered (λ write. write_line row.frame.schema write ∷ []) (WriteFits row.frame.version row.frame.schema) (writes_to_come row count []) (writes_to_come row left (map (λ (w : Write). w.0) writes)) a b writes
+    Gathered books (λ write. write_line row.frame.schema write ∷ []) (WriteFits row.frame.version row.frame.schema) (writes_to_come row count []) (writes_to_come row left (map (λ (w : Write). w.0) writes)) a b writes
 
 pub write_fails : (fault : ReadFault) (row : InRow) (count counter : ℕ) (writes : List Write) {a : Position} (b c : Option (List ℕ)) (mid : ℕ) → counter < count → Writes row count (count - counter) a (point b mid) writes
-    → NoneTaken (IsSpelled (write_line row.frame.schema) (WriteFits row.frame.version row.frame.schema)) fault b c mid → FailsFrom fault (writes_to_come row count []) a c
+    → NoneTaken (IsSpelled (write_line row.frame.schema) (WriteFits row.frame.version row.frame.schema)) fault b c mid → FailsFrom books fault (writes_to_come row count []) a c
 write_fails fault row count counter writes b c mid lt so_far taken =
     let objects = map (λ (w : Write). w.0) writes in
-    gathered_fails fault c (λ k. writes_to_come row k objects) count counter lt so_far
-    (none_fails (IsSpelled (write_line row.frame.schema) (WriteFits row.frame.version row.frame.schema)) fault (WriteOf row (count - (counter + 1)) objects) b c mid (λ may. may) (λ line leads. (leads.1.0, leads.1.1.0, leads.1.2)) taken)
+    gathered_fails books fault c (λ k. writes_to_come row k objects) count counter lt so_far
+    (none_fails books (IsSpelled (write_line row.frame.schema) (WriteFits row.frame.version row.frame.schema)) fault (WriteOf row (count - (counter + 1)) objects) b c mid (λ may. may) (λ line leads. (leads.1.0, leads.1.1.0, leads.1.2)) taken)
 
 -- the lines of no two writes are the same
 same_write : (version : Version) (schema : Schema) (v w : Write) → check_tables schema ≡ None → WriteFits version schema v → WriteFits version schema w → write_line schema v ≡ write_line schema w → v ≡ w
@@ -89,27 +89,27 @@ WriteTaken row write b c mid end = Consumes b c (write_line row.frame.schema wri
 
 -- an object isn't written twice
 twice_fails : (write : Write) (row : InRow) (count counter number : ℕ) (writes : List Write) {a : Position} (b c : Option (List ℕ)) (mid end : ℕ) → check_tables row.frame.schema ≡ None → counter < count → Writes row count (count - counter) a (point b mid) writes
-    → WriteTaken row write b c mid end → IsLine (write_line row.frame.schema write) → number ≡ end → is_some (own writes write.0) ≡ true → FailsFrom (faults.Malformed number) (writes_to_come row count []) a c
+    → WriteTaken row write b c mid end → IsLine (write_line row.frame.schema write) → number ≡ end → is_some (own writes write.0) ≡ true → FailsFrom books (faults.Malformed number) (writes_to_come row count []) a c
 twice_fails write row count counter number writes b c mid end good lt so_far taken line here twice =
     let objects = map (λ (w : Write). w.0) writes in
     let from = WriteOf row (count - (counter + 1)) objects in
-    let other : LeadsOn from (write_line row.frame.schema write) → ⊥ = λ leads.
+    let other : LeadsOn books from (write_line row.frame.schema write) → ⊥ = λ leads.
     let w : write ≡ leads.1.0 = same_write row.frame.version row.frame.schema write leads.1.0 good taken.1 leads.1.1.0 leads.1.2 in
     let e : false ≡ true = sym leads.1.1.1 ∙ ap (λ (v : Write). list_any (eq_by_cmp object_cmp v.0) objects) (sym w) ∙ written writes write.0 ∙ twice in
     cc e in
-    gathered_fails (faults.Malformed number) c (λ k. writes_to_come row k objects) count counter lt so_far (line_refused from (write_line row.frame.schema write) b c mid end number (taken.0, taken.2, line) other here)
+    gathered_fails books (faults.Malformed number) c (λ k. writes_to_come row k objects) count counter lt so_far (line_refused books from (write_line row.frame.schema write) b c mid end number (taken.0, taken.2, line) other here)
 
 -- a write that was taken isn't added
 pub add_fails : {X : Type 0} (added : Result X Unread) (fault : ReadFault) (write : Write) (row : InRow) (count counter number : ℕ) (writes : List Write) {a : Position} (b c : Option (List ℕ)) (mid end : ℕ) → check_tables row.frame.schema ≡ None → counter < count
     → Writes row count (count - counter) a (point b mid) writes → WriteTaken row write b c mid end → IsLine (write_line row.frame.schema write) → number ≡ end
-    → IfErr added (λ why. why ≡ unread.Malformed → is_some (own writes write.0) ≡ true) → Err fault ≡ told added number → FailsFrom fault (writes_to_come row count []) a c
+    → IfErr added (λ why. why ≡ unread.Malformed → is_some (own writes write.0) ≡ true) → Err fault ≡ told added number → FailsFrom books fault (writes_to_come row count []) a c
 add_fails (Ok x) fault write row count counter number writes b c mid end good lt so_far taken line here twice is = absurd cc
 add_fails (Err unread.Memory) fault write row count counter number writes {a} b c mid end good lt so_far taken line here twice is =
     let memory : fault ≡ faults.Memory = cc is in
-    subst (λ (f : ReadFault). FailsFrom f (writes_to_come row count []) a c) (sym memory) tt
+    subst (λ (f : ReadFault). FailsFrom books f (writes_to_come row count []) a c) (sym memory) tt
 add_fails (Err unread.Malformed) fault write row count counter number writes {a} b c mid end good lt so_far taken line here twice is =
     let malformed : fault ≡ faults.Malformed number = cc is in
-    subst (λ (f : ReadFault). FailsFrom f (writes_to_come row count []) a c) (sym malformed) (twice_fails write row count counter number writes b c mid end good lt so_far taken line here (twice refl))
+    subst (λ (f : ReadFault). FailsFrom books f (writes_to_come row count []) a c) (sym malformed) (twice_fails write row count counter number writes b c mid end good lt so_far taken line here (twice refl))
 
 -- a line that can't be read is no fault of the device
 pub no_read_failed : {X : Type 0} (read : Result X Unread) (fault : ReadFault) (number : ℕ) (Cause : Type 0) → Err fault ≡ told read number → fault ≡ faults.Read → Cause
@@ -124,6 +124,6 @@ write_more write row count counter writes now b c mid end lt so_far taken fresh 
     let objects = map (λ (w : Write). w.0) writes in
     let more = count - (counter + 1) in
     let all : map (λ (w : Write). w.0) now ≡ objects ++ write.0 ∷ [] = ap (map (λ (w : Write). w.0)) is ∙ map-append (λ (w : Write). w.0) writes (write ∷ []) in
-    let next = next_taken (WriteOf row more objects) write (taken.0, (taken.1, written writes write.0 ∙ fresh), taken.2) in
-    let to = subst (λ l. Took (WriteOf row more objects) (writes_to_come row more l) (point b mid) (point c end) (write_line row.frame.schema write ∷ [])) (sym all) next.0 in
-    gathered_more (λ k. writes_to_come row k objects) writes now write count counter lt is so_far (to, taken.1)
+    let next = next_taken books (WriteOf row more objects) write (taken.0, (taken.1, written writes write.0 ∙ fresh), taken.2) in
+    let to = subst (λ l. Took books (WriteOf row more objects) (writes_to_come row more l) (point b mid) (point c end) (write_line row.frame.schema write ∷ [])) (sym all) next.0 in
+    gathered_more books (λ k. writes_to_come row k objects) writes now write count counter lt is so_far (to, taken.1)

@@ -1,6 +1,6 @@
 -- The rows of the log, from their lines.
 use Rattle.std.proofs.Common.{◌≡◌, ℕ, ◌≤◌, ◌^◌, ◌-◌, Bool, true, false, cond, List, ◌∷◌, ◌++◌, map, length, Option, Some, None, refl, sym, ap, subst, ◌∙◌, arith, length-append, []}
-use Rattle.occ_reading.proofs.Common.{AllByRecursion, AllFit, AskedFits, AskedSpan, Conflict, FailsFrom, Head, HeadFits, InRow, IsAbove, IsDistinctWrites, IsRowOf, IsSession, Key, LogRow, LogRowFits, Object, Observation, One, PairFits, Position, Question, ReadFault, ReadFits, ReadOf, RisesFrom, Row, Rows, Schema, Span, Stand, StandFits, Standing, StandingFits, StandsSo, TooOld, Took, Version, Write, WriteFits, asked_text, codes, decimal, eq_by_cmp, fails, flat_map, frame_of, head_text, in_row, is_some, last_key, line_text, object_cmp, own, pair_line, pairs_to_come, question_text, read_lines, reads_to_come, row_line, row_lines, rows_to_come, set, spelled, stand_tokens, standing_text, table_asked, write_line, writes_to_come, ◌and◌}
+use Rattle.occ_reading.proofs.Common.{AllByRecursion, AllFit, AskedFits, AskedSpan, Conflict, FailsFrom, Head, HeadFits, InRow, IsAbove, IsDistinctWrites, IsRowOf, IsSession, Key, LogRow, LogRowFits, Object, Observation, One, PairFits, Position, Question, ReadFault, ReadFits, ReadOf, RisesFrom, Row, Rows, Schema, Span, Stand, StandFits, Standing, StandingFits, StandsSo, TooOld, Took, Version, Write, WriteFits, asked_text, books, codes, decimal, eq_by_cmp, fails, flat_map, frame_of, head_text, in_row, is_some, last_key, line_text, object_cmp, own, pair_line, pairs_to_come, question_text, read_lines, reads_to_come, row_line, row_lines, rows_to_come, set, spelled, stand_tokens, standing_text, table_asked, write_line, writes_to_come, ◌and◌}
 use Rattle.occ_model.proofs.OwnWrites.{sets_own}
 use Rattle.occ_sets.specs.declared.log_rows.Standing.TheVariants as stands
 use Rattle.occ_reading.specs.Places as places
@@ -40,14 +40,14 @@ rises-more [] now pair is above so_far = subst (RisesFrom None) (sym is) tt
 rises-more (row ∷ rows) now pair is above so_far = subst (RisesFrom None) (sym is) (rises_behind None row rows pair above so_far)
 
 span_taken : (version : Version) (schema : Schema) (question : Question) (rows : List (Key × Row)) (row : InRow) (reads n table : ℕ) {a b c : Position} → table ≡ table_asked question
-    → Took (ReadOf row reads) (pairs_to_come row reads (table_asked question) n None) a b (asked_text schema (AskedSpan question n) ∷ []) × AskedFits version schema (AskedSpan question n)
-    → Took (pairs_to_come row reads table n None) (reads_to_come row reads) b c (map pair_line rows) × (AllFit (PairFits version schema table) n rows × RisesFrom None rows)
-    → Took (ReadOf row reads) (reads_to_come row reads) a c (read_lines schema (question, Rows rows)) × ReadFits version schema (question, Rows rows)
+    → Took books (ReadOf row reads) (pairs_to_come row reads (table_asked question) n None) a b (asked_text schema (AskedSpan question n) ∷ []) × AskedFits version schema (AskedSpan question n)
+    → Took books (pairs_to_come row reads table n None) (reads_to_come row reads) b c (map pair_line rows) × (AllFit (PairFits version schema table) n rows × RisesFrom None rows)
+    → Took books (ReadOf row reads) (reads_to_come row reads) a c (read_lines schema (question, Rows rows)) × ReadFits version schema (question, Rows rows)
 span_taken version schema (One t key) rows row reads n table same head pairs = absurd head.1.0.ends
 span_taken version schema (Span t lower upper) rows row reads n table {a} {b} {c} same head pairs =
     let question = Span t lower upper in
     let asked : ℕ → List ℕ = λ k. line_text (question_text schema question ∷ decimal k ∷ []) in
-    let rest = subst (λ (k : ℕ). Took (pairs_to_come row reads k n None) (reads_to_come row reads) b c (map pair_line rows)) same pairs.0 in
+    let rest = subst (λ (k : ℕ). Took books (pairs_to_come row reads k n None) (reads_to_come row reads) b c (map pair_line rows)) same pairs.0 in
     let fit = subst (λ (k : ℕ). AllByRecursion (PairFits version schema k) rows) same pairs.1.0.0 in (
       spelled (ap (λ (k : ℕ). asked k ∷ map pair_line rows) (sym pairs.1.0.1)) (head.0 and rest),
       (head.1.0, fit, pairs.1.1, subst (λ (k : ℕ). k ≤ 2 ^ 64 - 1) (sym pairs.1.0.1) head.1.1),
@@ -55,17 +55,17 @@ span_taken version schema (Span t lower upper) rows row reads n table {a} {b} {c
 
 -- the same, where the rows are shared
 pub span_shared : (version : Version) (schema : Schema) (question : Question) (rows shared : List (Key × Row)) (row : InRow) (reads n table : ℕ) {a b c : Position} → shared ≡ rows → table ≡ table_asked question
-    → Took (ReadOf row reads) (pairs_to_come row reads (table_asked question) n None) a b (asked_text schema (AskedSpan question n) ∷ []) × AskedFits version schema (AskedSpan question n)
-    → Took (pairs_to_come row reads table n None) (reads_to_come row reads) b c (map pair_line rows) × (AllFit (PairFits version schema table) n rows × RisesFrom None rows)
-    → Took (ReadOf row reads) (reads_to_come row reads) a c (read_lines schema (question, Rows shared)) × ReadFits version schema (question, Rows shared)
+    → Took books (ReadOf row reads) (pairs_to_come row reads (table_asked question) n None) a b (asked_text schema (AskedSpan question n) ∷ []) × AskedFits version schema (AskedSpan question n)
+    → Took books (pairs_to_come row reads table n None) (reads_to_come row reads) b c (map pair_line rows) × (AllFit (PairFits version schema table) n rows × RisesFrom None rows)
+    → Took books (ReadOf row reads) (reads_to_come row reads) a c (read_lines schema (question, Rows shared)) × ReadFits version schema (question, Rows shared)
 span_shared version schema question rows shared row reads n table {a = a} {c = c} is same head pairs =
-    subst (λ rows. Took (ReadOf row reads) (reads_to_come row reads) a c (read_lines schema (question, Rows rows)) × ReadFits version schema (question, Rows rows)) (sym is)
+    subst (λ rows. Took books (ReadOf row reads) (reads_to_come row reads) a c (read_lines schema (question, Rows rows)) × ReadFits version schema (question, Rows rows)) (sym is)
     (span_taken version schema question rows row reads n table same head pairs)
 
 pub span_fails : (fault : ReadFault) (question : Question) (row : InRow) (reads n table : ℕ) {version : Version} {schema : Schema} {a b : Position} (c : Option (List ℕ)) → table ≡ table_asked question
-    → Took (ReadOf row reads) (pairs_to_come row reads (table_asked question) n None) a b (asked_text schema (AskedSpan question n) ∷ []) × AskedFits version schema (AskedSpan question n)
-    → FailsFrom fault (pairs_to_come row reads table n None) b c → FailsFrom fault (ReadOf row reads) a c
-span_fails fault question row reads n table {b = b} c same head t = fails fault c head.0 (subst (λ (k : ℕ). FailsFrom fault (pairs_to_come row reads k n None) b c) same t)
+    → Took books (ReadOf row reads) (pairs_to_come row reads (table_asked question) n None) a b (asked_text schema (AskedSpan question n) ∷ []) × AskedFits version schema (AskedSpan question n)
+    → FailsFrom books fault (pairs_to_come row reads table n None) b c → FailsFrom books fault (ReadOf row reads) a c
+span_fails fault question row reads n table {b = b} c same head t = fails fault c head.0 (subst (λ (k : ℕ). FailsFrom books fault (pairs_to_come row reads k n None) b c) same t)
 
 -- ---- rows
 
@@ -105,12 +105,12 @@ head_line head reads writes row r w is =
     ∙ (λ i. line_of (sym is.place i) (sym is.session i) (sym is.number i) (sym is.start i) (sym is.finish i) (rs i) (ws i) (stand_spelling head.standing row.standing is.stands i))
 
 pub row_taken : (version : Version) (schema : Schema) (sessions rows : ℕ) (head : Head) (reads : List Observation) (writes : List Write) (row : LogRow) {a b c d : Position}
-    → Took (places.LogRow (frame_of version schema sessions) rows) (reads_to_come (in_row (frame_of version schema sessions) rows head) head.reads) a b (head_text head ∷ []) × HeadFits sessions head
-    → Took (reads_to_come (in_row (frame_of version schema sessions) rows head) head.reads) (writes_to_come (in_row (frame_of version schema sessions) rows head) head.writes []) b c (flat_map (read_lines schema) reads)
+    → Took books (places.LogRow (frame_of version schema sessions) rows) (reads_to_come (in_row (frame_of version schema sessions) rows head) head.reads) a b (head_text head ∷ []) × HeadFits sessions head
+    → Took books (reads_to_come (in_row (frame_of version schema sessions) rows head) head.reads) (writes_to_come (in_row (frame_of version schema sessions) rows head) head.writes []) b c (flat_map (read_lines schema) reads)
     × AllFit (ReadFits version schema) head.reads reads
-    → Took (writes_to_come (in_row (frame_of version schema sessions) rows head) head.writes []) (rows_to_come (frame_of version schema sessions) rows) c d (map (write_line schema) writes)
+    → Took books (writes_to_come (in_row (frame_of version schema sessions) rows head) head.writes []) (rows_to_come (frame_of version schema sessions) rows) c d (map (write_line schema) writes)
     × (AllFit (WriteFits version schema) head.writes writes × IsDistinctWrites writes)
-    → IsRowOf head reads writes row → Took (places.LogRow (frame_of version schema sessions) rows) (rows_to_come (frame_of version schema sessions) rows) a d (row_lines schema row) × LogRowFits version schema sessions row
+    → IsRowOf head reads writes row → Took books (places.LogRow (frame_of version schema sessions) rows) (rows_to_come (frame_of version schema sessions) rows) a d (row_lines schema row) × LogRowFits version schema sessions row
 row_taken version schema sessions rows head reads writes row first read written is =
     let line = head_line head reads writes row read.1.1 written.1.0.1 is in
     let lines : head_text head ∷ (flat_map (read_lines schema) reads ++ map (write_line schema) writes) ≡ row_lines schema row =

@@ -4,11 +4,7 @@ use Rattle.occ_reading.proofs.Common.{All, All-head, All-tail, Fault, IsName, Is
 use Rattle.std.proofs.lemmas.Option.{slice_get_within, slice_get-get_or}
 use Rattle.std.proofs.lemmas.List.Quantifiers.{position-Some}
 use Rattle.occ_types.specs.Schema.{has_name}
-use Rattle.occ_text.proofs.Words.{both}
-
-is_not : (b : Bool) → not b ≡ true → b ≡ false
-is_not true h = absurd cc
-is_not false h = refl
+use Rattle.occ_text.proofs.SchemaLines.{first_table, neither}
 
 pub no_fault : (schema : Schema) (place : ℕ) (check : Table → Option Fault) → in_table schema place check ≡ None → (table : Table) × (slice_get schema place ≡ Some table) × (check table ≡ None)
 no_fault schema place check h = by (slice_get schema place) refl h
@@ -17,31 +13,11 @@ no_fault schema place check h = by (slice_get schema place) refl h
     by None e f = absurd cc
     by (Some table) e f = (table, e, f)
 
-pub neither : (a b : Bool) → (a || b) ≡ false → (a ≡ false) × (b ≡ false)
-neither true b h = absurd cc
-neither false b h = (refl, h)
-
 -- a test that no element passes fails at each place
 misses : {X : Type 0} (test : X → Bool) (xs : List X) (place : ℕ) (x : X) → list_any test xs ≡ false → slice_get xs place ≡ Some x → test x ≡ false
 misses test [] place x h e = absurd cc
 misses test (y ∷ ys) zero x h e = ap test (sym (some_is y x e)) ∙ (neither (test y) (list_any test ys) h).0
 misses test (y ∷ ys) (suc k) x h e = misses test ys k x (neither (test y) (list_any test ys) h).1 e
-
--- names of their own stand before no other place
-pub record Apart (table : Table) (later : List Table) : Type 0 where
-  pub named : is_name table.name ≡ true
-  pub own : list_any (λ other. pointwise nat_eq table.name other.name) later ≡ false
-  pub few : (nat_le 1 (length table.columns) && nat_le (length table.columns) 8) ≡ true
-  pub rest : are_tables later ≡ true
-
-pub first_apart : (table : Table) (later : List Table) → are_tables (table ∷ later) ≡ true → Apart table later
-first_apart table later h =
-    let own = list_any (λ other. pointwise nat_eq table.name other.name) later in
-    let few = nat_le 1 (length table.columns) && nat_le (length table.columns) 8 in
-    let p = both ((is_name table.name && not own) && few) (are_tables later) h in
-    let q = both (is_name table.name && not own) few p.0 in
-    let n = both (is_name table.name) (not own) q.0 in
-    record { named = n.0; own = is_not own n.1; few = q.1; rest = p.1 }
 
 first_named : (tables : List Table) (place : ℕ) (table : Table) → are_tables tables ≡ true → slice_get tables place ≡ Some table → position_or_len (has_name table.name) tables ≡ place
 first_named [] place table h e = absurd cc
@@ -49,7 +25,7 @@ first_named (first ∷ tables) zero table h e =
     let passes : has_name table.name first ≡ true = (bytes_eq-Decides first.name table.name).1 (ap (λ (t : Table). t.name) (some_is first table e)) in
     rw passes refl
 first_named (first ∷ tables) (suc k) table h e =
-    let s = first_apart first tables h in
+    let s = first_table first tables h in
     let other : has_name table.name first ≡ false = misses (λ other. pointwise nat_eq first.name other.name) tables k table s.own e in
     ap (λ b. cond (not b) (1 + position_or_len (has_name table.name) tables) 0) other ∙ let n = first_named tables k table s.rest e in omega arith
 

@@ -1,8 +1,8 @@
 -- Writing a verdict, and what an audit leaves.
 use Rattle.std.proofs.Common.{◌≡◌, ℕ, Bool, List, ◌++◌, Option, Some, None, Result, Ok, Err, inl, inr, refl, sym, ap, subst, ◌∙◌, append_assoc, []}
-use Rattle.occ_reading.proofs.Common.{Appends, Appends-trans, AuditGives, Audited, Book, Decides, FailsFrom, HasFailed, IsBookText, IsErrAnd, Judged, Keeps-refl, PushGives, ReadFault, Sends, Source, Trouble, VerdictFront, VerdictGives, point, prepend_known, read_trouble, start, verdict_text, write_trouble}
+use Rattle.occ_reading.proofs.Common.{Appends, Appends-trans, AuditGives, Audited, Book, Decides, FailsFrom, HasFailed, IsBookText, IsErrAnd, Judged, Keeps-refl, PushGives, ReadFault, Sends, Source, Torn, Trouble, VerdictFront, VerdictGives, books, point, prepend_known, read_trouble, start, verdict_text, write_trouble}
 use Rattle.occ_text.specs.declared.faults.WriteFault.{WriteFault}
-use Rattle.occ_reading.specs.Places.{Version, Unread}
+use Rattle.occ_reading.specs.Places.{Version}
 use Rattle.occ_text.specs.declared.faults.ReadFault.TheVariants as reads
 use Rattle.occ_text.specs.declared.faults.WriteFault.TheVariants as faults
 use Rattle.occ_text.specs.declared.trouble.Trouble.TheVariants as troubles
@@ -45,21 +45,21 @@ refused (Ok verdict) text after a is = absurd is
 refused (Err e) text after a is = subst (λ (t : Trouble). AuditGives (Err t) text after a a) (sym is) (Keeps-refl a)
 
 -- the text is none of a book, or wasn't read, or memory was refused for it: nothing was written yet
-untouched : (fault : ReadFault) (text after a : Option (List ℕ)) (left : List ℕ) → (fault ≡ reads.Read → left ≡ []) → FailsFrom fault Version (start text) (prepend_known left after) → AuditGives (Err (read_trouble fault)) text after a a
+untouched : (fault : ReadFault) (text after a : Option (List ℕ)) (left : List ℕ) → (fault ≡ reads.Read → left ≡ []) → FailsFrom books fault Version (start text) (prepend_known left after) → AuditGives (Err (read_trouble fault)) text after a a
 untouched (reads.Malformed n) text after a left emptied t = (Keeps-refl a, inl t)
 untouched reads.Read text after a left emptied t =
-    (Keeps-refl a, subst (Unread Version (start text)) (ap (λ (l : List ℕ). prepend_known l after) (emptied refl) ∙ known_nil after) t)
+    (Keeps-refl a, subst (Torn books Version (start text)) (ap (λ (l : List ℕ). prepend_known l after) (emptied refl) ∙ known_nil after) t)
 untouched reads.TooManyLines text after a left emptied t = (Keeps-refl a, inr (t, refl))
 untouched reads.Memory text after a left emptied t = Keeps-refl a
 
 pub stopped : (fault : ReadFault) (result : Result Bool Trouble) (unread : List ℕ) (n : ℕ) (text after a : Option (List ℕ)) (input : Source) → IsErrAnd result (λ e. e ≡ read_trouble fault) → unread ≡ [] → n ≡ 0
-    → (fault ≡ reads.Read → HasFailed input) → FailsFrom fault Version (point (prepend_known unread text) n) (prepend_known input.unread after) → AuditGives result text after a a
+    → (fault ≡ reads.Read → HasFailed input) → FailsFrom books fault Version (point (prepend_known unread text) n) (prepend_known input.unread after) → AuditGives result text after a a
 stopped fault (Ok verdict) unread n text after a input is none begun cause t = absurd is
 stopped fault (Err e) unread n text after a input is none begun cause t =
     let left = prepend_known input.unread after in
     let emptied : fault ≡ reads.Read → input.unread ≡ [] = λ read. let failed = cause read in failed.emptied in
     subst (λ (d : Trouble). AuditGives (Err d) text after a a) (sym is) (untouched fault text after a input.unread emptied
-    (subst (λ (known : Option (List ℕ)). FailsFrom fault Version (start known) left) (ap (λ (l : List ℕ). prepend_known l text) none ∙ known_nil text) (subst (λ (k : ℕ). FailsFrom fault Version (point (prepend_known unread text) k) left) begun t)))
+    (subst (λ (known : Option (List ℕ)). FailsFrom books fault Version (start known) left) (ap (λ (l : List ℕ). prepend_known l text) none ∙ known_nil text) (subst (λ (k : ℕ). FailsFrom books fault Version (point (prepend_known unread text) k) left) begun t)))
 
 pub write_failed : (fault : WriteFault) (result : Result Bool Trouble) (verdict : Bool) (text after a b : Option (List ℕ)) → Judged verdict text → IsErrAnd result (λ e. e ≡ write_trouble fault) → VerdictGives {X = Unit {0}} (Err fault) verdict a b → AuditGives result text after a b
 write_failed fault (Ok answer) verdict text after a b judged is g = absurd is

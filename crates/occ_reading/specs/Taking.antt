@@ -7,22 +7,17 @@ use Rattle.std.specs.Ordering.{is_lt}
 use Rattle.occ_types.specs.Object.{Object, object_cmp}
 use Rattle.occ_types.specs.Question.{One, Span}
 use Rattle.occ_types.specs.Row.{Row}
-use Rattle.occ_types.specs.Schema.{Table, Schema}
-use Rattle.occ_types.specs.PlainData.{table_of}
+use Rattle.occ_types.specs.Schema.{Schema}
 use Rattle.occ_model.specs.State.{Observation, Write, Found, Rows}
 use Rattle.occ_model.specs.RangeLaws.{IsDistinctWrites}
 use Rattle.occ_print.specs.Books.{base_line, base_lines, row_count}
 use Rattle.occ_model.specs.Log.{Case, LogRow, Base, Standing, Open, Writing, Done, Back}
 use Rattle.occ_sets.specs.declared.log_rows.Standing.TheVariants as stands
 use Rattle.occ_text.specs.declared.versions.Version.{Version}
-use Rattle.occ_text.specs.Headers.{table_text, count_text}
-use Rattle.occ_text.specs.HeaderTaking.{TablesSoFar}
+use Rattle.occ_text.specs.Headers.{count_text}
 use Rattle.occ_reading.specs.declared.number_lines.Head.{Head}
-use Rattle.occ_reading.specs.declared.number_lines.Began.{Began}
 use Rattle.occ_reading.specs.declared.number_lines.BaseHead.{BaseHead}
-use Rattle.occ_reading.specs.declared.whole_books.Behind as code_behind
-use Rattle.occ_reading.specs.declared.whole_books.Behind.TheVariants as behind
-use Rattle.occ_reading.specs.NumberLines.{IsSession, Stand, BeganFits, base_text, began_text}
+use Rattle.occ_reading.specs.NumberLines.{IsSession, Stand, base_text}
 use Rattle.occ_reading.specs.RowLines.{ObjectFits, FoundFits, SpanFits, PairFits, WriteFits}
 
 -- an object comes behind another one, if there is one
@@ -71,29 +66,6 @@ pub record LogRowFits (version : Version) (schema : Schema) (sessions : ℕ) (ro
 -- so many, each of which fits
 abbrev pub AllFit : {Y : Type 0} → (Y → Type 0) → ℕ → List Y → Type 0
 AllFit fits count ys = AllByRecursion fits ys × (length ys ≡ count)
-
--- what the line behind those of tables tells: one table more, or how the log begins
-pub data Further : Type 0 where
-  OneTable : Table → Further
-  Begins : Began → Further
-
-abbrev pub further_text : Further → List ℕ
-further_text (OneTable table) = table_text table
-further_text (Begins began) = began_text began
-
-abbrev pub FurtherFits : Version → List Table → Further → Type 0
-FurtherFits version tables (OneTable table) = TablesSoFar version (tables ++ table ∷ [])
-FurtherFits version tables (Begins began) = BeganFits began
-
-module _ {Z : Type 0} where
-  abbrev pub further_of : code_behind.Behind Z → Further
-  further_of (behind.Table table) = OneTable (table_of table)
-  further_of (behind.Began began) = Begins began
-
-  -- it tells one table more
-  abbrev pub tells_table : code_behind.Behind Z → Bool
-  tells_table (behind.Table table) = true
-  tells_table (behind.Began began) = false
 
 -- ---- rows of the log
 

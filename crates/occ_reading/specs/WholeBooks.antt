@@ -20,7 +20,8 @@ use Rattle.occ_reading.specs.declared.whole_books.PrintedBook as code_printed
 use Rattle.occ_reading.specs.NumberLines.{IsSession, CountsFit}
 use Rattle.occ_reading.specs.RowLines.{AtFits}
 use Rattle.occ_reading.specs.Taking.{LogRowFits}
-use Rattle.occ_reading.specs.Places.{Version, start, Stopped, Unread, Uncounted}
+use Rattle.occ_text.specs.Languages.{start, Stopped, Torn, Uncounted}
+use Rattle.occ_reading.specs.Places.{Version, books}
 use Rattle.occ_reading.specs.PlainRows.{log_of}
 
 -- what stands behind a book: nothing, or one audit line, whatever it says
@@ -84,9 +85,9 @@ pub record Judged (verdict : Bool) (text : Option (List ℕ)) : Type 0 where
 abbrev pub AuditGives : Result Bool Trouble → Option (List ℕ) → Option (List ℕ) → Option (List ℕ) → Option (List ℕ) → Type 0
 AuditGives (Ok verdict) text after old new = Judged verdict text × Appends old new (verdict_text verdict)
 -- nothing was written, and the line is the first one that can't stand where it stands, or the last one that has a number of 64 bits
-AuditGives (Err (Malformed line)) text after old new = Keeps old new × (Stopped Version (start text) line ⊎ (Uncounted Version (start text) × (line ≡ 2 ^ 64 - 1)))
+AuditGives (Err (Malformed line)) text after old new = Keeps old new × (Stopped books Version (start text) line ⊎ (Uncounted books Version (start text) × (line ≡ 2 ^ 64 - 1)))
 -- nothing was written, and a read failed: all that the reader gave is lines that lead on and a part of another
-AuditGives (Err Read) text after old new = Keeps old new × Unread Version (start text) after
+AuditGives (Err Read) text after old new = Keeps old new × Torn books Version (start text) after
 AuditGives (Err Memory) text after old new = Keeps old new
 -- what was written is a beginning of the line of the right verdict, and of no other
 AuditGives (Err Write) text after old new = (verdict : Bool) × Judged verdict text × VerdictFront verdict old new

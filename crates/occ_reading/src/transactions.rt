@@ -9,10 +9,11 @@ ghost use Rattle.occ_sets.specs.PlainSets.{rows_of, observation_of};
 ghost use Rattle.occ_print.specs.Books.{pair_line, read_lines, write_line, row_lines};
 ghost use Rattle.occ_reading.specs.RowLines.{PairFits, WriteFits};
 ghost use Rattle.occ_reading.specs.Places as places;
-ghost use Rattle.occ_reading.specs.Places.{InRow, ReadOf, Marks, frame_of, framed, position_of, rows_to_come, writes_to_come, reads_to_come, pairs_to_come, TakesFrom};
+ghost use Rattle.occ_reading.specs.Places.{InRow, ReadOf, Marks, frame_of, framed, rows_to_come, writes_to_come, reads_to_come, pairs_to_come, books};
 ghost use Rattle.occ_reading.specs.Taking.{AllFit, RisesFrom, ReadFits, LogRowFits, IsRowOf};
 ghost use Rattle.occ_reading.specs.PlainRows.{log_row_of, log_of};
 ghost use Rattle.occ_text.specs.declared.faults.ReadFault.TheVariants as read_faults;
+ghost use Rattle.occ_text.specs.Languages.{position_of, TakesFrom};
 ghost use Rattle.occ_text.specs.Line.{HasFailed};
 
 use crate::number_lines::Head;
@@ -48,7 +49,7 @@ fn take_pairs<R: Read, A: Allocator + Copy>(
     table: usize,
     count: u64,
 ) -> Result<Vec<(Key<A>, Row<A>), A>, ReadFault>
-    ensures taken { (row : InRow) → (reads : ℕ) → TakesFrom result (pairs_to_come (framed version schema.now row) reads table count None) (λ _. reads_to_come (framed version schema.now row) reads) (λ pairs. map pair_line (rows_of pairs.items)) (λ pairs. AllFit (PairFits version schema.now table) count (rows_of pairs.items) × RisesFrom None (rows_of pairs.items)) (position_of input.old (R.remaining reader.old)) (position_of input.new (R.remaining reader.new)) }
+    ensures taken { (row : InRow) → (reads : ℕ) → TakesFrom books result (pairs_to_come (framed version schema.now row) reads table count None) (λ _. reads_to_come (framed version schema.now row) reads) (λ pairs. map pair_line (rows_of pairs.items)) (λ pairs. AllFit (PairFits version schema.now table) count (rows_of pairs.items) × RisesFrom None (rows_of pairs.items)) (position_of input.old (R.remaining reader.old)) (position_of input.new (R.remaining reader.new)) }
     ensures cause { IfErr result (λ fault. fault ≡ read_faults.Read → HasFailed input.new) }
 {
     let mut rows = Vec::new(alloc);
@@ -75,7 +76,7 @@ fn take_read<R: Read, A: Allocator + Copy>(
     version: Version,
     schema: &Schema<A>,
 ) -> Result<Observation<A>, ReadFault>
-    ensures taken { (row : InRow) → (reads : ℕ) → TakesFrom result (ReadOf (framed version schema.now row) reads) (λ _. reads_to_come (framed version schema.now row) reads) (λ read. read_lines schema.now (observation_of read)) (λ read. ReadFits version schema.now (observation_of read)) (position_of input.old (R.remaining reader.old)) (position_of input.new (R.remaining reader.new)) }
+    ensures taken { (row : InRow) → (reads : ℕ) → TakesFrom books result (ReadOf (framed version schema.now row) reads) (λ _. reads_to_come (framed version schema.now row) reads) (λ read. read_lines schema.now (observation_of read)) (λ read. ReadFits version schema.now (observation_of read)) (position_of input.old (R.remaining reader.old)) (position_of input.new (R.remaining reader.new)) }
     ensures cause { IfErr result (λ fault. fault ≡ read_faults.Read → HasFailed input.new) }
 {
     match take_asked(alloc, input, reader, version, schema)? {
@@ -144,7 +145,7 @@ fn take_reads<R: Read, A: Allocator + Copy>(
     schema: &Schema<A>,
     count: usize,
 ) -> Result<ReadSet<A>, ReadFault>
-    ensures taken { (row : InRow) → TakesFrom result (reads_to_come (framed version schema.now row) count) (λ _. writes_to_come (framed version schema.now row) row.head.writes []) (flat_map (read_lines schema.now)) (AllFit (ReadFits version schema.now) count) (position_of input.old (R.remaining reader.old)) (position_of input.new (R.remaining reader.new)) }
+    ensures taken { (row : InRow) → TakesFrom books result (reads_to_come (framed version schema.now row) count) (λ _. writes_to_come (framed version schema.now row) row.head.writes []) (flat_map (read_lines schema.now)) (AllFit (ReadFits version schema.now) count) (position_of input.old (R.remaining reader.old)) (position_of input.new (R.remaining reader.new)) }
     ensures cause { IfErr result (λ fault. fault ≡ read_faults.Read → HasFailed input.new) }
 {
     let mut reads = no_reads(alloc, first_room(count))?;
@@ -185,7 +186,7 @@ fn take_writes<R: Read, A: Allocator + Copy>(
     schema: &Schema<A>,
     count: usize,
 ) -> Result<WriteSet<A>, ReadFault>
-    ensures taken { (row : InRow) → TakesFrom result (writes_to_come (framed version schema.now row) count []) (λ _. rows_to_come (framed version schema.now row).frame row.rows) (map (write_line schema.now)) (λ writes. AllFit (WriteFits version schema.now) count writes × IsDistinctWrites writes) (position_of input.old (R.remaining reader.old)) (position_of input.new (R.remaining reader.new)) }
+    ensures taken { (row : InRow) → TakesFrom books result (writes_to_come (framed version schema.now row) count []) (λ _. rows_to_come (framed version schema.now row).frame row.rows) (map (write_line schema.now)) (λ writes. AllFit (WriteFits version schema.now) count writes × IsDistinctWrites writes) (position_of input.old (R.remaining reader.old)) (position_of input.new (R.remaining reader.new)) }
     ensures cause { IfErr result (λ fault. fault ≡ read_faults.Read → HasFailed input.new) }
 {
     // its tables make a schema, so no other write has the line of one
@@ -223,7 +224,7 @@ fn take_row<R: Read, A: Allocator + Copy>(
     schema: &Schema<A>,
     sessions: usize,
 ) -> Result<LogRow<A, ()>, ReadFault>
-    ensures taken { (rows : ℕ) → TakesFrom result (places.LogRow (frame_of version schema.now sessions) rows) (λ _. rows_to_come (frame_of version schema.now sessions) rows) (λ row. row_lines schema.now (log_row_of row)) (λ row. LogRowFits version schema.now sessions (log_row_of row)) (position_of input.old (R.remaining reader.old)) (position_of input.new (R.remaining reader.new)) }
+    ensures taken { (rows : ℕ) → TakesFrom books result (places.LogRow (frame_of version schema.now sessions) rows) (λ _. rows_to_come (frame_of version schema.now sessions) rows) (λ row. row_lines schema.now (log_row_of row)) (λ row. LogRowFits version schema.now sessions (log_row_of row)) (position_of input.old (R.remaining reader.old)) (position_of input.new (R.remaining reader.new)) }
     ensures cause { IfErr result (λ fault. fault ≡ read_faults.Read → HasFailed input.new) }
 {
     let head = take_head(input, reader, sessions)?;
@@ -242,7 +243,7 @@ pub(crate) fn take_rows<R: Read, A: Allocator + Copy>(
     sessions: usize,
     count: u64,
 ) -> Result<Vec<LogRow<A, ()>, A>, ReadFault>
-    ensures taken { TakesFrom result (rows_to_come (frame_of version schema.now sessions) count) (λ _. Marks (frame_of version schema.now sessions)) (λ log. flat_map (row_lines schema.now) (log_of log.items)) (λ log. AllFit (LogRowFits version schema.now sessions) count (log_of log.items)) (position_of input.old (R.remaining reader.old)) (position_of input.new (R.remaining reader.new)) }
+    ensures taken { TakesFrom books result (rows_to_come (frame_of version schema.now sessions) count) (λ _. Marks (frame_of version schema.now sessions)) (λ log. flat_map (row_lines schema.now) (log_of log.items)) (λ log. AllFit (LogRowFits version schema.now sessions) count (log_of log.items)) (position_of input.old (R.remaining reader.old)) (position_of input.new (R.remaining reader.new)) }
     ensures cause { IfErr result (λ fault. fault ≡ read_faults.Read → HasFailed input.new) }
 {
     let mut log = Vec::new(alloc);

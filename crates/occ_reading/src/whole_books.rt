@@ -7,21 +7,20 @@ ghost use Rattle.std.specs.Str.{bytes_eq};
 ghost use Rattle.std.specs.Io.KnownBytes.{prepend_known};
 ghost use Rattle.occ_types.specs.declared.fault.Fault.TheVariants.{Memory};
 ghost use Rattle.occ_types.specs.Schema.{Table, check_tables};
-ghost use Rattle.occ_types.specs.PlainData.{tables_of};
 ghost use Rattle.occ_text.specs.Headers.{table_text, KindsFit};
 ghost use Rattle.occ_text.specs.Faults.{widened};
 ghost use Rattle.occ_text.specs.declared.versions.Version as versions;
 ghost use Rattle.occ_text.specs.declared.faults.LineFault.TheVariants as line_faults;
 ghost use Rattle.occ_text.specs.declared.faults.ReadFault.TheVariants as read_faults;
-ghost use Rattle.occ_text.specs.HeaderReading.{TakesTable, line_heads_table};
-ghost use Rattle.occ_text.specs.HeaderTaking.{TablesSoFar};
-ghost use Rattle.occ_text.specs.Line.{HasFailed, Taken};
+ghost use Rattle.occ_text.specs.HeaderReading.{line_heads_table};
+ghost use Rattle.occ_text.specs.Languages.{position_of, TakesFrom, EndsFrom};
+ghost use Rattle.occ_text.specs.Line.{HasFailed};
 ghost use Rattle.occ_print.specs.Books.{number_line, entry_line, mark_lines, state_lines};
 ghost use Rattle.occ_print.specs.declared.sections.Section.TheVariants as sections;
 ghost use Rattle.occ_reading.specs.NumberLines.{BaseHeadFits, BeganFits, began_text};
 ghost use Rattle.occ_reading.specs.RowLines.{AtFits};
-ghost use Rattle.occ_reading.specs.Taking.{AllFit, IsBaseOf, front_lines, but_first, FurtherFits, further_of, further_text, tells_table};
-ghost use Rattle.occ_reading.specs.Places.{Version as VersionAt, Tables as TablesAt, Log, Marks as MarksAt, State, Counter, Audit, frame_of, rows_to_come, behind_began, numbers_to_come, behind_numbers, entries_to_come, behind_entries, position_of, TakesFrom, EndsFrom};
+ghost use Rattle.occ_reading.specs.Taking.{AllFit, IsBaseOf, front_lines, but_first};
+ghost use Rattle.occ_reading.specs.Places.{Version as VersionAt, Tables as TablesAt, Log, Marks as MarksAt, State, Counter, Audit, frame_of, rows_to_come, behind_began, numbers_to_come, behind_numbers, entries_to_come, behind_entries, books};
 ghost use Rattle.occ_reading.specs.WholeBooks.{EntryFits, BaseFits, IsBookText, printed_book};
 
 use crate::number_lines::{BaseHead, Began, read_began};
@@ -29,12 +28,12 @@ use crate::single_lines::{take_at, take_counts, take_mark};
 use crate::transactions::take_rows;
 use occ_book::{Base, Book, Marks, Tables};
 use occ_print::Section;
-use occ_text::faults::{LineFault, ReadFault, read_at_line};
-use occ_text::headers::{Header, table_behind, take_count, take_limits};
+use occ_text::faults::{LineFault, ReadFault};
+use occ_text::headers::{Header, take_count, take_limits, take_tables};
 use occ_text::input::{Input, Next};
 use occ_text::tokens::is_word;
 use occ_text::versions::Version;
-use occ_types::{Fault, Schema, TableDef};
+use occ_types::{Fault, Schema};
 use std::alloc::Allocator;
 use std::io::Read;
 
@@ -61,39 +60,6 @@ struct Front<A: Allocator> {
     rows: u64,
 }
 
-/// What stands behind some tables of a header.
-#[derive(Drop)]
-enum Behind<A: Allocator> {
-    /// One table more.
-    Table(TableDef<A>),
-    /// `log K`, or the first line of a base.
-    Began(Began),
-}
-
-/// Takes the line behind those of some tables: one more table, `log K`, or the first line of a base.
-fn take_behind<R: Read, A: Allocator + Copy>(
-    alloc: A,
-    input: &mut Input<A>,
-    reader: &mut R,
-    version: Version,
-    tables: &[TableDef<A>],
-) -> Result<Behind<A>, ReadFault>
-    requires { TablesSoFar version (tables_of tables.now) }
-    ensures taken { Taken further_of further_text (FurtherFits version (tables_of tables.now)) result (prepend_known input.old.unread (R.remaining reader.old)) (prepend_known input.new.unread (R.remaining reader.new)) input.old.number input.new.number }
-    ensures heads { TakesTable tells_table (line_heads_table version input.new.line) result }
-    ensures cause { IfErr result (λ fault. fault ≡ read_faults.Read → HasFailed input.new) }
-{
-    input.take_line(reader)?;
-    if let Some(began) = read_began(input.line()) {
-        return Ok(Behind::Began(began));
-    }
-    let table = read_at_line(
-        table_behind(alloc, version, tables, input.line()),
-        input.number(),
-    )?;
-    Ok(Behind::Table(table))
-}
-
 /// Takes the lines of the tables, and the one behind them.
 fn take_opening<R: Read, A: Allocator + Copy>(
     alloc: A,
@@ -101,19 +67,18 @@ fn take_opening<R: Read, A: Allocator + Copy>(
     reader: &mut R,
     version: Version,
 ) -> Result<Opening<A>, ReadFault>
-    ensures taken { (sessions : ℕ) → TakesFrom result (TablesAt version sessions []) (λ opening. behind_began (frame_of version opening.schema sessions) opening.began) (λ opening. map table_text opening.schema ++ began_text opening.began ∷ []) (λ opening. (check_tables opening.schema ≡ None) × KindsFit version opening.schema × BeganFits opening.began) (position_of input.old (R.remaining reader.old)) (position_of input.new (R.remaining reader.new)) }
+    ensures taken { (sessions : ℕ) → TakesFrom books result (TablesAt version sessions []) (λ opening. behind_began (frame_of version opening.schema sessions) opening.began) (λ opening. map table_text opening.schema ++ began_text opening.began ∷ []) (λ opening. (check_tables opening.schema ≡ None) × KindsFit version opening.schema × BeganFits opening.began) (position_of input.old (R.remaining reader.old)) (position_of input.new (R.remaining reader.new)) }
     ensures memory { IfErr result (λ fault. fault ≡ read_faults.Memory → line_heads_table version input.new.line ≡ true) }
     ensures cause { IfErr result (λ fault. fault ≡ read_faults.Read → HasFailed input.new) }
 {
-    let mut tables = Vec::new(alloc);
-    loop {
-        match take_behind(alloc, input, reader, version, tables.as_slice())? {
-            Behind::Table(table) => tables.push(table)?,
-            Behind::Began(began) => match Schema::new(tables) {
-                Ok(schema) => return Ok(Opening { schema, began }),
-                Err(_) => return Err(ReadFault::Malformed(input.number())),
-            },
-        }
+    let tables = take_tables(alloc, version, input, reader)?;
+    let number = input.number();
+    match read_began(input.line()) {
+        None => Err(ReadFault::Malformed(number)),
+        Some(began) => match Schema::new(tables) {
+            Ok(schema) => Ok(Opening { schema, began }),
+            Err(_) => Err(ReadFault::Malformed(number)),
+        },
     }
 }
 
@@ -139,7 +104,7 @@ fn take_numbers<R: Read, A: Allocator + Copy>(
     count: u64,
 ) -> Result<Marks<A>, ReadFault>
     ensures sessions { IfOk result (λ marks. marks.sessions ≡ sessions) }
-    ensures taken { (version : versions.Version) → (schema : List Table) → (rows : ℕ) → TakesFrom result (numbers_to_come section (frame_of version schema sessions) rows count 0) (λ _. behind_numbers section (frame_of version schema sessions) rows) (λ marks. map (number_line section) (finite.entries marks.marks)) (λ marks. AllFit (EntryFits sessions) count (finite.entries marks.marks)) (position_of input.old (R.remaining reader.old)) (position_of input.new (R.remaining reader.new)) }
+    ensures taken { (version : versions.Version) → (schema : List Table) → (rows : ℕ) → TakesFrom books result (numbers_to_come section (frame_of version schema sessions) rows count 0) (λ _. behind_numbers section (frame_of version schema sessions) rows) (λ marks. map (number_line section) (finite.entries marks.marks)) (λ marks. AllFit (EntryFits sessions) count (finite.entries marks.marks)) (position_of input.old (R.remaining reader.old)) (position_of input.new (R.remaining reader.new)) }
     ensures cause { IfErr result (λ fault. fault ≡ read_faults.Read → HasFailed input.new) }
 {
     let mut marks = unless_refused(Marks::new(alloc, sessions))?;
@@ -162,7 +127,7 @@ fn take_entries<R: Read, A: Allocator + Copy>(
     schema: &Schema<A>,
     count: u64,
 ) -> Result<Tables<A>, ReadFault>
-    ensures taken { (sessions : ℕ) → TakesFrom result (entries_to_come section (frame_of version schema.now sessions) count None) (λ _. behind_entries section (frame_of version schema.now sessions)) (λ tables. map (entry_line section schema.now) (finite.entries tables.state)) (λ tables. AllFit (AtFits version schema.now) count (finite.entries tables.state)) (position_of input.old (R.remaining reader.old)) (position_of input.new (R.remaining reader.new)) }
+    ensures taken { (sessions : ℕ) → TakesFrom books result (entries_to_come section (frame_of version schema.now sessions) count None) (λ _. behind_entries section (frame_of version schema.now sessions)) (λ tables. map (entry_line section schema.now) (finite.entries tables.state)) (λ tables. AllFit (AtFits version schema.now) count (finite.entries tables.state)) (position_of input.old (R.remaining reader.old)) (position_of input.new (R.remaining reader.new)) }
     ensures tables { IfOk result (λ tables. tables.tables ≡ length schema.now) }
     ensures cause { IfErr result (λ fault. fault ≡ read_faults.Read → HasFailed input.new) }
 {
@@ -187,7 +152,7 @@ fn take_folded<R: Read, A: Allocator + Copy>(
     head: BaseHead,
 ) -> Result<Base<A>, ReadFault>
     requires { BaseHeadFits head }
-    ensures taken { TakesFrom result (numbers_to_come sections.Base (frame_of version schema.now sessions) head.rows head.numbers 0) (λ _. Log (frame_of version schema.now sessions)) (λ base. map (number_line sections.Base) (finite.entries base.base.last) ++ map (entry_line sections.Base schema.now) (finite.entries base.base.state)) (λ base. BaseFits version schema.now sessions base.base × IsBaseOf head base.base) (position_of input.old (R.remaining reader.old)) (position_of input.new (R.remaining reader.new)) }
+    ensures taken { TakesFrom books result (numbers_to_come sections.Base (frame_of version schema.now sessions) head.rows head.numbers 0) (λ _. Log (frame_of version schema.now sessions)) (λ base. map (number_line sections.Base) (finite.entries base.base.last) ++ map (entry_line sections.Base schema.now) (finite.entries base.base.state)) (λ base. BaseFits version schema.now sessions base.base × IsBaseOf head base.base) (position_of input.old (R.remaining reader.old)) (position_of input.new (R.remaining reader.new)) }
     ensures sizes { IfOk result (λ base. (base.tables ≡ length schema.now) × (base.sessions ≡ sessions)) }
     ensures cause { IfErr result (λ fault. fault ≡ read_faults.Read → HasFailed input.new) }
 {
@@ -215,7 +180,7 @@ fn take_front<R: Read, A: Allocator + Copy>(
     began: Began,
 ) -> Result<Front<A>, ReadFault>
     requires { BeganFits began }
-    ensures taken { TakesFrom result (behind_began (frame_of version schema.now sessions) began) (λ front. rows_to_come (frame_of version schema.now sessions) front.rows) (λ front. but_first (front_lines schema.now front.base.base front.rows)) (λ front. BaseFits version schema.now sessions front.base.base × (front_lines schema.now front.base.base front.rows ≡ began_text began ∷ but_first (front_lines schema.now front.base.base front.rows))) (position_of input.old (R.remaining reader.old)) (position_of input.new (R.remaining reader.new)) }
+    ensures taken { TakesFrom books result (behind_began (frame_of version schema.now sessions) began) (λ front. rows_to_come (frame_of version schema.now sessions) front.rows) (λ front. but_first (front_lines schema.now front.base.base front.rows)) (λ front. BaseFits version schema.now sessions front.base.base × (front_lines schema.now front.base.base front.rows ≡ began_text began ∷ but_first (front_lines schema.now front.base.base front.rows))) (position_of input.old (R.remaining reader.old)) (position_of input.new (R.remaining reader.new)) }
     ensures sizes { IfOk result (λ front. (front.base.tables ≡ length schema.now) × (front.base.sessions ≡ sessions)) }
     ensures cause { IfErr result (λ fault. fault ≡ read_faults.Read → HasFailed input.new) }
 {
@@ -240,7 +205,7 @@ fn take_marks<R: Read, A: Allocator + Copy>(
     sessions: usize,
 ) -> Result<Marks<A>, ReadFault>
     ensures sessions { IfOk result (λ marks. marks.sessions ≡ sessions) }
-    ensures taken { (version : versions.Version) → (schema : List Table) → TakesFrom result (MarksAt (frame_of version schema sessions)) (λ _. State (frame_of version schema sessions)) (λ marks. mark_lines marks.marks) (λ marks. AllByRecursion (EntryFits sessions) (finite.entries marks.marks)) (position_of input.old (R.remaining reader.old)) (position_of input.new (R.remaining reader.new)) }
+    ensures taken { (version : versions.Version) → (schema : List Table) → TakesFrom books result (MarksAt (frame_of version schema sessions)) (λ _. State (frame_of version schema sessions)) (λ marks. mark_lines marks.marks) (λ marks. AllByRecursion (EntryFits sessions) (finite.entries marks.marks)) (position_of input.old (R.remaining reader.old)) (position_of input.new (R.remaining reader.new)) }
     ensures cause { IfErr result (λ fault. fault ≡ read_faults.Read → HasFailed input.new) }
 {
     let count = take_count(input, reader, "marks", 0, u64::MAX)?;
@@ -256,7 +221,7 @@ fn take_state<R: Read, A: Allocator + Copy>(
     version: Version,
     schema: &Schema<A>,
 ) -> Result<Tables<A>, ReadFault>
-    ensures taken { (sessions : ℕ) → TakesFrom result (State (frame_of version schema.now sessions)) (λ _. Counter) (λ tables. state_lines schema.now tables.state) (λ tables. AllByRecursion (AtFits version schema.now) (finite.entries tables.state) × (finite.len tables.state ≤ 2 ^ 64 - 1)) (position_of input.old (R.remaining reader.old)) (position_of input.new (R.remaining reader.new)) }
+    ensures taken { (sessions : ℕ) → TakesFrom books result (State (frame_of version schema.now sessions)) (λ _. Counter) (λ tables. state_lines schema.now tables.state) (λ tables. AllByRecursion (AtFits version schema.now) (finite.entries tables.state) × (finite.len tables.state ≤ 2 ^ 64 - 1)) (position_of input.old (R.remaining reader.old)) (position_of input.new (R.remaining reader.new)) }
     ensures tables { IfOk result (λ tables. tables.tables ≡ length schema.now) }
     ensures cause { IfErr result (λ fault. fault ≡ read_faults.Read → HasFailed input.new) }
 {
@@ -267,7 +232,7 @@ fn take_state<R: Read, A: Allocator + Copy>(
 
 /// Takes what may stand behind a book: one audit line, whatever it says, and then the end.
 fn take_end<R: Read, A: Allocator>(input: &mut Input<A>, reader: &mut R) -> Result<(), LineFault>
-    ensures taken { EndsFrom (widened result) Audit (position_of input.old (R.remaining reader.old)) (prepend_known input.new.unread (R.remaining reader.new)) }
+    ensures taken { EndsFrom books (widened result) Audit (position_of input.old (R.remaining reader.old)) (prepend_known input.new.unread (R.remaining reader.new)) }
     ensures cause { IfErr result (λ fault. fault ≡ line_faults.Read → HasFailed input.new) }
 {
     match input.next_line(reader)? {
@@ -304,7 +269,7 @@ pub fn take_book<R: Read, A: Allocator + Copy>(
     ensures sessions { IfOk result (λ printed. printed.book.marks.sessions ≡ printed.header.limits.sessions) }
     ensures base_sizes { IfOk result (λ printed. (printed.book.base.tables ≡ length printed.header.schema) × (printed.book.base.sessions ≡ printed.header.limits.sessions)) }
     ensures tables { IfOk result (λ printed. printed.book.table.tables ≡ length printed.header.schema) }
-    ensures led { EndsFrom result VersionAt (position_of input.old (R.remaining reader.old)) (prepend_known input.new.unread (R.remaining reader.new)) }
+    ensures led { EndsFrom books result VersionAt (position_of input.old (R.remaining reader.old)) (prepend_known input.new.unread (R.remaining reader.new)) }
     ensures cause { IfErr result (λ fault. fault ≡ read_faults.Read → HasFailed input.new) }
 {
     let limits = take_limits(input, reader)?;

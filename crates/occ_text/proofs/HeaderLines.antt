@@ -19,12 +19,13 @@ use Rattle.occ_text.specs.Spelling.{line_text, IsToken, AreTokens}
 use Rattle.occ_text.specs.Reading.{Reads, is_token, tokens_of, name_of}
 use Rattle.occ_text.specs.Headers.{version_text, key_kind_word, kind_word, table_tokens, table_text, count_text, Within, KindFits, TableFits, TableHasLine}
 use Rattle.occ_text.specs.HeaderReading.{count_line, count_of_line, version_of, pair_kind_of, newer_kind_of, key_kind_of, kind_of, kinds_of, if_few, columns_of, table_of_parts, table_of_tokens, table_of_line}
+use Rattle.occ_text.specs.Line.{IsLine}
 use Rattle.occ_text.proofs.Numbers.{some_or_none}
 use Rattle.occ_text.proofs.Escapes.{some_is, bind_value, map_value}
 use Rattle.occ_text.proofs.Words.{both, IsToken-from_test, tokens_takes, tokens_again, name_reads}
 use Rattle.occ_text.proofs.Spelled.{IsToken-name}
 use Rattle.occ_text.proofs.Readers.{takes, word_is, name_again}
-use Rattle.occ_text.proofs.Fields.{IsField, number_field, after_word, tested_field, fitting_field, field_reads}
+use Rattle.occ_text.proofs.Fields.{IsField, number_field, after_word, tested_field, fitting_field, field_reads, field_is_line}
 use Rattle.occ_text.proofs.TokenLists.{more_tokens}
 
 -- a test that passed leaves what stands behind it
@@ -44,9 +45,12 @@ pub count_reads : (word : List ℕ) (least most : ℕ) (line : List ℕ) (count 
 unfolding count_of_line
 count_reads word least most line count small token is = field_reads (count_field word least most small token) is
 
+pub count_is_line : (word : List ℕ) (least most n : ℕ) → IsToken word → length word ≤ 100 → most < 2 ^ 64 → Within least most n → IsLine (count_text word n)
+count_is_line word least most n token few small within = field_is_line n (count_field word least most small token) (omega (arith, few)) within
+
 -- ---- kinds
 
-two_kinds : {X : Type 0} (first second word : List ℕ) (x y z : X) (p q : Bool) (spell : X → List ℕ) → bytes_eq word first ≡ p → bytes_eq word second ≡ q → spell x ≡ first → spell y ≡ second
+pub two_kinds : {X : Type 0} (first second word : List ℕ) (x y z : X) (p q : Bool) (spell : X → List ℕ) → bytes_eq word first ≡ p → bytes_eq word second ≡ q → spell x ≡ first → spell y ≡ second
     → cond p (Some x) (cond q (Some y) None) ≡ Some z → word ≡ spell z
 two_kinds first second word x y z true q spell is other a b h = word_is word first is ∙ sym a ∙ ap spell (some_is x z h)
 two_kinds first second word x y z false true spell other is a b h = word_is word second is ∙ sym b ∙ ap spell (some_is y z h)

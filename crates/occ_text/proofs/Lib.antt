@@ -23,3 +23,8 @@ pub mod Values
 pub mod WholeHeader
 pub mod Words
 pub mod Causes
+pub mod LinesTaken
+pub mod TextLines
+pub mod LanguageLaws
+pub mod TableLines
+pub mod TablesTaken

@@ -25,14 +25,14 @@ use Rattle.occ_text.proofs.HeaderLines.{tested, table_reads}
 
 -- ---- what tables stand in a schema
 
-neither : (a b : Bool) → (a || b) ≡ false → (a ≡ false) × (b ≡ false)
+pub neither : (a b : Bool) → (a || b) ≡ false → (a ≡ false) × (b ≡ false)
 neither true b h = absurd cc
 neither false b h = (refl, h)
 
 not_either : (a b : Bool) → a ≡ false → b ≡ false → (a || b) ≡ false
 not_either a b p q = rw (p, q) refl
 
-is_not : (b : Bool) → not b ≡ true → b ≡ false
+pub is_not : (b : Bool) → not b ≡ true → b ≡ false
 is_not true h = absurd cc
 is_not false h = refl
 
@@ -41,14 +41,14 @@ no_fault true fault h = refl
 no_fault false fault h = absurd cc
 
 -- a table that may stand before others
-record Stands (table : Table) (later : List Table) : Type 0 where
-  named : is_name table.name ≡ true
-  own : list_any (λ other. pointwise nat_eq table.name other.name) later ≡ false
-  some : leb 1 (length table.columns) ≡ true
-  few : leb (length table.columns) 8 ≡ true
-  rest : are_tables later ≡ true
+pub record Stands (table : Table) (later : List Table) : Type 0 where
+  pub named : is_name table.name ≡ true
+  pub own : list_any (λ other. pointwise nat_eq table.name other.name) later ≡ false
+  pub some : leb 1 (length table.columns) ≡ true
+  pub few : leb (length table.columns) 8 ≡ true
+  pub rest : are_tables later ≡ true
 
-first_table : (table : Table) (later : List Table) → are_tables (table ∷ later) ≡ true → Stands table later
+pub first_table : (table : Table) (later : List Table) → are_tables (table ∷ later) ≡ true → Stands table later
 first_table table later h =
     let own = list_any (λ other. pointwise nat_eq table.name other.name) later in
     let some = leb 1 (length table.columns) in
@@ -89,6 +89,15 @@ stands_alone table fits =
       few = le-leb (length table.columns) 8 fits.few;
       rest = refl;
     }
+
+-- a part of the tables of a schema is so far right
+pub begins_well : (tables more : List Table) → are_tables (tables ++ more) ≡ true → are_tables tables ≡ true
+begins_well [] more h = refl
+begins_well (first ∷ tables) more h =
+    let test : Table → Bool = λ other. pointwise nat_eq first.name other.name in
+    let s = first_table first (tables ++ more) h in
+    let own = neither (list_any test tables) (list_any test more) (sym (list_any-append test tables more) ∙ s.own) in
+    first_again first tables (record { named = s.named; own = own.0; some = s.some; few = s.few; rest = begins_well tables more s.rest })
 
 -- tables of a schema have lines
 pub each_fits : (tables : List Table) → are_tables tables ≡ true → All TableFits tables
@@ -154,10 +163,10 @@ check-from_IsSchema version tables some so_far = rw (le-leb 1 (length tables) so
 
 -- ---- which line stands behind those of some tables
 
-table_again : (version : Version) (table : Table) → TableHasLine version table → table_of_line version (table_text table) ≡ Some table
+pub table_again : (version : Version) (table : Table) → TableHasLine version table → table_of_line version (table_text table) ≡ Some table
 table_again version table fits = (table_reads version (table_text table)).again table fits refl
 
-same_table : (version : Version) (a b : Table) → TableHasLine version a → TableHasLine version b → table_text a ≡ table_text b → a ≡ b
+pub same_table : (version : Version) (a b : Table) → TableHasLine version a → TableHasLine version b → table_text a ≡ table_text b → a ≡ b
 same_table version a b p q e = some_is a b (sym (table_again version a p) ∙ ap (table_of_line version) e ∙ table_again version b q)
 
 steps_is_no_table : (version : Version) (table : Table) → TableHasLine version table → codes "steps" ≡ table_text table → ⊥
@@ -211,6 +220,18 @@ goes_on version tables line so_far g =
           let fits : TableHasLine version p.0 = record { fits = last_fits tables p.0 p.1 whole.each; key = last_kind version tables p.0 p.1 whole.kinds } in
           inr (p.0, fits, p.3, ap (option_and_then (if_free tables)) (ap (table_of_line version) p.3 ∙ table_again version p.0 fits) ∙ rw (lt-ltb (length tables) 32 lt, free) refl)
     ]
+
+-- the last one of tables that may stand in a schema has a line
+pub last_table : (version : Version) (tables : List Table) (table : Table) → TablesSoFar version (tables ++ table ∷ []) → TableHasLine version table
+last_table version tables table so_far = record { fits = last_fits tables table [] so_far.each; key = last_kind version tables table [] so_far.kinds }
+
+-- and its line is read behind those of the others
+pub table_found : (version : Version) (tables : List Table) (table : Table) → TablesSoFar version (tables ++ table ∷ []) → table_behind version tables (table_text table) ≡ Some table
+unfolding table_behind
+table_found version tables table so_far =
+    let few = so_far.few in
+    let lt : length tables < 32 = omega (arith, length-append tables (table ∷ [])) in
+    ap (option_and_then (if_free tables)) (table_again version table (last_table version tables table so_far)) ∙ rw (lt-ltb (length tables) 32 lt, name_is_free tables table [] so_far.each) refl
 
 -- ---- the ends
 

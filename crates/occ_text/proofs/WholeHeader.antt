@@ -18,7 +18,7 @@ use Rattle.occ_text.specs.declared.faults.ReadFault.{ReadFault}
 use Rattle.occ_text.specs.Faults.{read_fault}
 use Rattle.occ_text.specs.Headers.{Header, Within, LimitsFit, HeaderFits, KindFits, KindsFit, limits_of, limits_lines, header_text, version_text, table_text, count_text}
 use Rattle.occ_text.specs.Line.{NoneTaken, IsSpelled, lines_text}
-use Rattle.occ_text.specs.HeaderTaking.{TablesSoFar, GoesOn, TablesTaken, BeginsLimits, LimitsTaken, BeginsHeader, HeaderTaken}
+use Rattle.occ_text.specs.HeaderTaking.{TablesSoFar, GoesOn, SchemaTaken, BeginsLimits, LimitsTaken, BeginsHeader, HeaderTaken}
 use Rattle.occ_text.proofs.HeaderLines.{same_version}
 use Rattle.occ_text.proofs.SchemaLines.{first_line, later_lines, check-from_IsSchema}
 use Rattle.occ_text.proofs.Taking.{NoneTaken-narrower, taken_more}
@@ -224,7 +224,7 @@ abbrev LimitsBehind : Limits → Option (List ℕ) → Option (List ℕ) → ℕ
 LimitsBehind limits a b first last = Consumes a b (lines_text (limits_lines limits)) × LimitsFit limits × (last ≡ first + 4)
 
 pub end_tables : {V : Type 0} (shown : V → Header) (fault : ReadFault) (result : Result V ReadFault) (limits : Limits) (a b c : Option (List ℕ)) (first mid last : ℕ) → IsErrAnd result (λ e. e ≡ fault) → first ≡ 0 → LimitsBehind limits a b first mid
-    → TablesTaken limits.version (Err fault) b c mid last → HeaderTaken shown result a c last
+    → SchemaTaken limits.version (Err fault) b c mid last → HeaderTaken shown result a c last
 end_tables shown fault (Ok x) limits a b c first mid last is start f t = absurd is
 end_tables shown fault (Err e) limits a b c first mid last is start f t =
     let lines = limits_lines limits ++ map table_text t.0 in

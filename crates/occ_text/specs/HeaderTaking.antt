@@ -31,17 +31,11 @@ table_behind version tables line = option_and_then (if_free tables) (table_of_li
 abbrev pub GoesOn : Version → List Table → List ℕ → Type 0
 GoesOn version tables line = (all : Schema) × (check_tables all ≡ None) × KindsFit version all × (more : List (List ℕ)) × (map table_text all ++ codes "steps" ∷ [] ≡ map table_text tables ++ line ∷ more)
 
--- the line behind those of tables is taken
-abbrev pub NextTaken : {X : Type 0} (version : Version) (view : X → Table) → Result (Option X) ReadFault → List Table → Option (List ℕ) → Option (List ℕ) → ℕ → ℕ → Type 0
-NextTaken version view (Ok None) tables before after first last = Consumes before after (codes "steps" ++ 10 ∷ []) × (last ≡ first + 1)
-NextTaken version view (Ok (Some x)) tables before after first last = Consumes before after (table_text (view x) ++ 10 ∷ []) × TablesSoFar version (tables ++ view x ∷ []) × (last ≡ first + 1)
-NextTaken version view (Err fault) tables before after first last = NoneTaken (GoesOn version tables) fault before after first
-
 -- all tables are taken, and `steps`; or some tables, and behind them no line that goes on
-abbrev pub TablesTaken : Version → Result Schema ReadFault → Option (List ℕ) → Option (List ℕ) → ℕ → ℕ → Type 0
-TablesTaken version (Ok tables) before after first last =
+abbrev pub SchemaTaken : Version → Result Schema ReadFault → Option (List ℕ) → Option (List ℕ) → ℕ → ℕ → Type 0
+SchemaTaken version (Ok tables) before after first last =
     Consumes before after (lines_text (map table_text tables ++ codes "steps" ∷ [])) × (check_tables tables ≡ None) × KindsFit version tables × (last ≡ first + length tables + 1)
-TablesTaken version (Err fault) before after first last =
+SchemaTaken version (Err fault) before after first last =
     (tables : List Table) × (rest : Option (List ℕ)) × Consumes before rest (lines_text (map table_text tables)) × TablesSoFar version tables × NoneTaken (GoesOn version tables) fault rest after (first + length tables)
 
 -- the first lines of some limits begin so

@@ -5,6 +5,7 @@ pub mod Fields
 pub mod HeaderReading
 pub mod HeaderTaking
 pub mod Headers
+pub mod Languages
 pub mod Line
 pub mod OperationReading
 pub mod Operations
@@ -16,5 +17,6 @@ pub mod Spelling
 pub mod Status
 pub mod StepReading
 pub mod Steps
+pub mod TableTaking
 pub mod TokenBytes
 pub mod ValueFields

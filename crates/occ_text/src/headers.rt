@@ -11,14 +11,15 @@ ghost use Rattle.occ_text.specs.Faults.{widened};
 ghost use Rattle.occ_text.specs.declared.faults.LineFault.TheVariants as line_faults;
 ghost use Rattle.occ_text.specs.declared.faults.ReadFault.TheVariants as read_faults;
 ghost use Rattle.occ_text.specs.HeaderReading.{version_of, count_of_line, table_of_parts, table_of_tokens, table_of_line, heads_table, tokens_head_table, line_heads_table, UnlessMalformed, TakesTable};
-ghost use Rattle.occ_text.specs.HeaderTaking.{TablesSoFar, table_behind, NextTaken, TablesTaken, LimitsTaken, HeaderTaken, header_of};
+ghost use Rattle.occ_text.specs.HeaderTaking.{TablesSoFar, table_behind, SchemaTaken, LimitsTaken, HeaderTaken, header_of};
 ghost use Rattle.occ_text.specs.Headers.{version_text, count_text, table_text, Within, TableHasLine};
 ghost use Rattle.occ_text.specs.Line.{Taken, HasFailed};
 ghost use Rattle.occ_text.specs.Reading.{Reads};
 ghost use Rattle.occ_text.specs.Spelling.{IsToken};
+ghost use Rattle.occ_text.specs.TableTaking.{if_read, NextTaken, TablesTaken};
 
 use crate::cursors::{at_end, next_number, next_word};
-use crate::faults::{LineFault, ReadFault, read_at_line};
+use crate::faults::{LineFault, ReadFault};
 use crate::input::Input;
 use crate::kinds::{columns, key_kind};
 use crate::separated_parts::Parts;
@@ -258,7 +259,18 @@ pub fn table_behind<A: Allocator + Copy>(
     Ok(table)
 }
 
-/// Takes the line behind those of some tables: one more table, or nothing at `steps`.
+/// What was read, or none where it is malformed.
+fn if_read<T: Drop>(read: Result<T, Unread>) -> Result<Option<T>, ReadFault>
+    ensures { result ≡ if_read read }
+{
+    match read {
+        Ok(value) => Ok(Some(value)),
+        Err(Unread::Malformed) => Ok(None),
+        Err(Unread::Memory) => Err(ReadFault::Memory),
+    }
+}
+
+/// Takes the line behind those of some tables, and answers the table that it tells, if it tells one that may stand there.
 fn take_next<R: Read, A: Allocator + Copy>(
     alloc: A,
     version: Version,
@@ -267,31 +279,28 @@ fn take_next<R: Read, A: Allocator + Copy>(
     tables: &[TableDef<A>],
 ) -> Result<Option<TableDef<A>>, ReadFault>
     requires { TablesSoFar version (tables_of tables.now) }
-    ensures gives { NextTaken version table_of result (tables_of tables.now)
+    ensures gives { NextTaken version table_of result (tables_of tables.now) input.new.line
         (prepend_known input.old.unread (R.remaining reader.old))
         (prepend_known input.new.unread (R.remaining reader.new)) input.old.number input.new.number }
     ensures heads { TakesTable is_some (line_heads_table version input.new.line) result }
     ensures cause { IfErr result (λ fault. fault ≡ read_faults.Read → HasFailed input.new) }
 {
     input.take_line(reader)?;
-    if is_steps(input.line()) {
-        return Ok(None);
-    }
-    let table = read_at_line(
-        table_behind(alloc, version, tables, input.line()),
-        input.number(),
-    )?;
-    Ok(Some(table))
+    if_read(table_behind(alloc, version, tables, input.line()))
 }
 
-/// Takes the lines of the tables, and `steps`.
-fn take_tables<R: Read, A: Allocator + Copy>(
+/// Takes the lines of tables, and the line behind them, which the input then shows: the first that tells no table that may stand there.
+///
+/// `Malformed` where no line stands next; `Read` where the reader fails; `TooManyLines` where a line has no number; `Memory` where it
+/// was refused for a table. After any of them the input is of no more use.
+pub fn take_tables<R: Read, A: Allocator + Copy>(
     alloc: A,
     version: Version,
     input: &mut Input<A>,
     reader: &mut R,
-) -> Result<Schema<A>, ReadFault>
-    ensures gives { TablesTaken version result (prepend_known input.old.unread (R.remaining reader.old))
+) -> Result<Vec<TableDef<A>, A>, ReadFault>
+    ensures gives { TablesTaken version (λ tables. tables_of tables.items) result input.new.line
+        (prepend_known input.old.unread (R.remaining reader.old))
         (prepend_known input.new.unread (R.remaining reader.new)) input.old.number input.new.number }
     ensures memory { IfErr result (λ fault. fault ≡ read_faults.Memory → line_heads_table version input.new.line ≡ true) }
     ensures cause { IfErr result (λ fault. fault ≡ read_faults.Read → HasFailed input.new) }
@@ -300,12 +309,31 @@ fn take_tables<R: Read, A: Allocator + Copy>(
     loop {
         match take_next(alloc, version, input, reader, tables.as_slice())? {
             Some(table) => tables.push(table)?,
-            None => break,
+            None => return Ok(tables),
         }
+    }
+}
+
+/// Takes the lines of the tables, and `steps`.
+fn take_schema<R: Read, A: Allocator + Copy>(
+    alloc: A,
+    version: Version,
+    input: &mut Input<A>,
+    reader: &mut R,
+) -> Result<Schema<A>, ReadFault>
+    ensures gives { SchemaTaken version result (prepend_known input.old.unread (R.remaining reader.old))
+        (prepend_known input.new.unread (R.remaining reader.new)) input.old.number input.new.number }
+    ensures memory { IfErr result (λ fault. fault ≡ read_faults.Memory → line_heads_table version input.new.line ≡ true) }
+    ensures cause { IfErr result (λ fault. fault ≡ read_faults.Read → HasFailed input.new) }
+{
+    let tables = take_tables(alloc, version, input, reader)?;
+    let number = input.number();
+    if !is_steps(input.line()) {
+        return Err(ReadFault::Malformed(number));
     }
     match Schema::new(tables) {
         Ok(schema) => Ok(schema),
-        Err(_) => Err(ReadFault::Malformed(input.number())),
+        Err(_) => Err(ReadFault::Malformed(number)),
     }
 }
 
@@ -324,6 +352,6 @@ pub fn read_header<R: Read, A: Allocator + Copy>(
     ensures cause { IfErr result (λ fault. fault ≡ read_faults.Read → HasFailed input.new) }
 {
     let limits = take_limits(input, reader)?;
-    let schema = take_tables(alloc, limits.version, input, reader)?;
+    let schema = take_schema(alloc, limits.version, input, reader)?;
     Ok(Header { limits, schema })
 }

@@ -156,7 +156,7 @@ pub fn read_operation<'a, A: Allocator + Copy>(
 /// The operations of some tokens, in their order: one for each, and any number of them. `Malformed` where there is none, or a
 /// token is no operation; `Memory` where it was refused for the list, a key or a row.
 #[tactic(auto, unfolding(crate::specs::OperationReading::operations_of))]
-pub(crate) fn operations<'a, A: Allocator + Copy>(
+pub fn operations<'a, A: Allocator + Copy>(
     alloc: A,
     version: Version,
     mut tokens: Parts<'a>,

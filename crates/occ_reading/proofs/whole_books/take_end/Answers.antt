@@ -1,5 +1,5 @@
 use Rattle.std.proofs.Common.{◌∙◌, None, sym}
-use Rattle.occ_reading.proofs.Common.{Audit, End, Malformed, fails, line_refused, none}
+use Rattle.occ_reading.proofs.Common.{Audit, End, Malformed, books, fails, line_refused, none}
 use Rattle.occ_reading.proofs.PartPlaces.{ended_here, next_failed, audit_taken, no_audit}
 use Rattle.occ_reading.proofs.whole_books.take_end.Goals as goal
 
@@ -33,4 +33,4 @@ returns-in-Line-2-clause-taken g c =
     let l = rw c.in-Line.is at c.in_ok-next_line.ensures.gives in
     let m = rw c.in-Line-2.is at c.in_ok-next_line-2.ensures.gives in
     fails (Malformed c.number-in-Line-2.result) None (audit_taken c.line.result.now _ l.0 l.2 c.line.ensures (sym c.is_audit.ensures ∙ c.if-not-is_audit.false))
-    (line_refused End _ _ _ _ _ c.number-in-Line-2.result (m.0, m.2, m.1) (λ leads. leads.1.0) c.number-in-Line-2.ensures)
+    (line_refused books End _ _ _ _ _ c.number-in-Line-2.result (m.0, m.2, m.1) (λ leads. leads.1.0) c.number-in-Line-2.ensures)

@@ -1,5 +1,5 @@
 use Rattle.std.proofs.Common.{ap, ◌∙◌}
-use Rattle.occ_reading.proofs.Common.{BaseContent, failed, fails}
+use Rattle.occ_reading.proofs.Common.{BaseContent, books, failed, fails}
 use Rattle.occ_reading.proofs.Sections.{folded_taken}
 use Rattle.occ_reading.proofs.whole_books.take_folded.Goals as goal
 
@@ -10,11 +10,11 @@ returns-clause-taken g c =
 
 pub returns-in_err-last-clause-taken : goal.returns-in_err-last-clause-taken
 returns-in_err-last-clause-taken g c =
-    failed c.in_err-last.field-0.0 c.from_residual.result _ _ _ _ _ _ c.from_residual.ensures.1 (c.in_err-last.ensures.taken c.args.version c.args.schema.now c.args.head.rows)
+    failed books c.in_err-last.field-0.0 c.from_residual.result _ _ _ _ _ _ c.from_residual.ensures.1 (c.in_err-last.ensures.taken c.args.version c.args.schema.now c.args.head.rows)
 
 pub returns-in_err-state-clause-taken : goal.returns-in_err-state-clause-taken
 returns-in_err-state-clause-taken g c =
-    failed c.in_err-state.field-0.0 c.from_residual-in_err-state.result _ _ _ _ _ _ c.from_residual-in_err-state.ensures.1
+    failed books c.in_err-state.field-0.0 c.from_residual-in_err-state.result _ _ _ _ _ _ c.from_residual-in_err-state.ensures.1
     (fails c.in_err-state.field-0.0 _ (c.in_ok-last.ensures.taken c.args.version c.args.schema.now c.args.head.rows).0 (c.in_err-state.ensures.taken c.args.sessions))
 
 pub returns-clause-sizes : goal.returns-clause-sizes

@@ -1,44 +1,38 @@
-use Rattle.std.proofs.Common.{Option, ◌∙◌, ◌+◌, refl, sym, ap}
+use Rattle.std.proofs.Common.{◌≡◌, [], Option, ap, refl, subst, sym}
 use Rattle.std.specs.Prelude.{is_some}
-use Rattle.std.proofs.lemmas.List.{length-map}
 use Rattle.occ_types.specs.PlainData.{table_of, tables_of}
 use Rattle.occ_types.specs.declared.tables.TableDef.{TableDef}
 use Rattle.occ_text.specs.declared.faults.ReadFault.TheVariants.{Memory}
+use Rattle.occ_text.specs.HeaderTaking.{TablesSoFar}
 use Rattle.occ_text.proofs.Causes.{may_take}
-use Rattle.occ_text.proofs.Taking.{memory_takes, table_pushed_by, tables_end, tables_none, tables_stop, tables_refused}
+use Rattle.occ_text.proofs.TableLines.{no_tables_yet}
+use Rattle.occ_text.proofs.TablesTaken.{no_tables_read, one_read, all_read, none_read}
+use Rattle.occ_text.proofs.Taking.{memory_takes}
 use Rattle.occ_text.proofs.headers.take_tables.Goals as goal
+
+pub loop-tables-init : goal.loop-tables-init
+loop-tables-init g c =
+    let none : tables_of c.new-tables.result.items ≡ [] = ap tables_of c.new-tables.ensures.items in
+    record { so_far = subst (TablesSoFar c.args.version) (sym none) (no_tables_yet c.args.version); read = no_tables_read c.args.version (tables_of c.new-tables.result.items) none }
 
 pub loop-tables-preserved : goal.loop-tables-preserved
 loop-tables-preserved g c =
-    let n = rw c.in-Some.is at c.in_ok-table.ensures.gives in
-    let i = c.loop-tables.invariant in
-    let p = table_pushed_by c.args.version table_of c.loop-tables.tables.items c.as_slice.result.now c.push.new.self.items c.in-Some.table _ _ _ c.args.input.now.number c.loop-tables.input.number _ c.as_slice.ensures.value
-    c.in_ok-push-in-Some.ensures.items i.taken i.number n in
-    record { taken = p.0; so_far = p.1; number = p.2 }
+    let next = rw c.in-Some.is at c.in_ok-table.ensures.gives in
+    let read = one_read c.args.version (table_of {Z = g.row.A.Denot}) c.loop-tables.tables.items c.as_slice.result.now c.push.new.self.items c.in-Some.table c.as_slice.ensures.value c.in_ok-push-in-Some.ensures.items c.loop-tables.invariant.read next in
+    record { so_far = read.so_far; read = read }
 
-pub returns-in-Ok-clause-gives : goal.returns-in-Ok-clause-gives
-returns-in-Ok-clause-gives g c =
-    let n = rw c.in-None.is at c.in_ok-table.ensures.gives in
-    let i = c.loop-tables.invariant in
-    tables_end c.args.version (tables_of c.loop-tables.tables.items) c.in-Ok.schema _ _ _ c.args.input.now.number c.loop-tables.input.number _ i.taken (i.number ∙ ap (λ (k : _). c.args.input.now.number + k) (sym (length-map c.loop-tables.tables.items table_of))) n c.in-Ok.ensures i.so_far.kinds
-
-pub returns-clause-gives : goal.returns-clause-gives
-returns-clause-gives g c =
-    let n = rw c.in-None.is at c.in_ok-table.ensures.gives in
-    let i = c.loop-tables.invariant in
-    tables_none c.args.version (tables_of c.loop-tables.tables.items) c.in-Err.field-0.fault _ _ _ c.args.input.now.number c.loop-tables.input.number _ c.number.result i.taken i.so_far
-    (i.number ∙ ap (λ (k : _). c.args.input.now.number + k) (sym (length-map c.loop-tables.tables.items table_of))) n c.in-Err.ensures.0 c.number.ensures
+pub returns-in-None-clause-gives : goal.returns-in-None-clause-gives
+returns-in-None-clause-gives g c =
+    let next = rw c.in-None.is at c.in_ok-table.ensures.gives in
+    all_read c.args.version (tables_of c.loop-tables.tables.items) (tables_of c.as_slice.result.now) (ap tables_of c.as_slice.ensures.value) c.loop-tables.invariant.read next
 
 pub returns-in_err-table-clause-gives : goal.returns-in_err-table-clause-gives
 returns-in_err-table-clause-gives g c =
-    let i = c.loop-tables.invariant in
-    tables_stop c.args.version c.in_err-table.field-0.0 c.from_residual.result (tables_of c.loop-tables.tables.items) (tables_of c.as_slice.result.now) _ _ _ c.args.input.now.number c.loop-tables.input.number _ c.from_residual.ensures.1 (ap tables_of c.as_slice.ensures.value)
-    i.taken i.so_far (i.number ∙ ap (λ (k : _). c.args.input.now.number + k) (sym (length-map c.loop-tables.tables.items table_of))) c.in_err-table.ensures.gives
+    none_read c.args.version (λ tables. tables_of tables.items) c.in_err-table.field-0.0 c.from_residual.result (tables_of c.loop-tables.tables.items) _ _ _ c.from_residual.ensures.1 c.loop-tables.invariant.read c.in_err-table.ensures.gives
 
 pub returns-in_err-push-in-Some-clause-gives : goal.returns-in_err-push-in-Some-clause-gives
 returns-in_err-push-in-Some-clause-gives g c =
-    let i = c.loop-tables.invariant in
-    tables_refused c.args.version c.from_residual-in_err-push-in-Some.result (tables_of c.loop-tables.tables.items) _ _ _ c.args.input.now.number _ c.from_residual-in_err-push-in-Some.ensures.1 i.taken i.so_far
+    none_read c.args.version (λ tables. tables_of tables.items) Memory c.from_residual-in_err-push-in-Some.result (tables_of c.loop-tables.tables.items) _ _ _ c.from_residual-in_err-push-in-Some.ensures.1 c.loop-tables.invariant.read tt
 
 pub returns-in_err-table-clause-memory : goal.returns-in_err-table-clause-memory
 returns-in_err-table-clause-memory g c =

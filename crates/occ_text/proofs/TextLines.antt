@@ -1,6 +1,8 @@
 -- Texts of lines: which lines a text has.
 use Rattle.std.proofs.Common.{◌≡◌, ◌≢◌, ℕ, ◌≤◌, List, ◌∷◌, ◌++◌, length, refl, sym, ap, ◌∙◌, arith, length-append, append_assoc, []}
-use Rattle.occ_reading.proofs.Common.{All-head, All-tail, AllByRecursion, HasNoFeed, IsLine, lines_text}
+use Rattle.std.specs.List.{AllByRecursion}
+use Rattle.std.proofs.lemmas.List.Elements.{All-head, All-tail}
+use Rattle.occ_text.specs.Line.{HasNoFeed, IsLine, lines_text}
 
 abbrev pub first_byte : List ℕ → ℕ
 first_byte [] = 0
@@ -32,7 +34,7 @@ pub record Behind (xs ys : List (List ℕ)) (rest : List ℕ) : Type 0 where
   pub whole : xs ≡ ys ++ more
   pub left : rest ≡ lines_text more
 
-one_more : (line : List ℕ) (lines : List (List ℕ)) (rest : List ℕ) → lines_text (line ∷ lines) ++ rest ≡ line ++ 10 ∷ (lines_text lines ++ rest)
+pub one_more : (line : List ℕ) (lines : List (List ℕ)) (rest : List ℕ) → lines_text (line ∷ lines) ++ rest ≡ line ++ 10 ∷ (lines_text lines ++ rest)
 one_more line lines rest = append_assoc (line ++ 10 ∷ []) (lines_text lines) rest ∙ append_assoc line (10 ∷ []) (lines_text lines ++ rest)
 
 pub begins_line : (line : List ℕ) (lines : List (List ℕ)) → lines_text (line ∷ lines) ≡ line ++ 10 ∷ lines_text lines
