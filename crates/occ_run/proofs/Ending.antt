@@ -13,12 +13,13 @@ use Rattle.occ_text.specs.declared.faults.WriteFault.TheVariants as write_faults
 use Rattle.occ_text.specs.declared.trouble.Trouble.{Trouble}
 use Rattle.occ_text.specs.declared.trouble.Trouble.TheVariants as troubles
 use Rattle.occ_text.specs.Faults.{read_trouble, write_trouble}
+use Rattle.occ_text.specs.Languages.{Position, point, FailsFrom}
 use Rattle.occ_text.specs.Line.{Source, HasFailed}
 use Rattle.occ_run.specs.declared.runs.Ran as code
 use Rattle.occ_run.specs.declared.runs.Ran.TheVariants.{Audit, GaveUp}
 use Rattle.occ_run.specs.declared.workloads.Settings.{Settings}
 use Rattle.occ_run.specs.declared.workloads.Workload as workloads
-use Rattle.occ_run.specs.Workloads.{Version, Position, point, FailsFrom}
+use Rattle.occ_run.specs.Workloads.{Version, loads}
 use Rattle.occ_run.specs.Plans.{Planned, WorkloadTaken}
 use Rattle.occ_run.specs.Clients.{ClientView}
 use Rattle.occ_run.specs.Reports.{AppendsFront, ReportGives, book_at, report_lines}
@@ -32,7 +33,7 @@ nothing_written w = record { front = []; rest = []; whole = refl; written = Appe
 
 pub read_refused : {Z : Type 0} (result : Result (workloads.Workload Z) ReadFault) (before after : Option (List ℕ)) → IsErrAnd result (λ e. e ≡ faults.Memory) → ReadGives before result after
 read_refused (Ok workload) before after is = absurd is
-read_refused (Err e) before after is = subst (λ (f : ReadFault). FailsFrom f Version (point before 0) after) (sym is) tt
+read_refused (Err e) before after is = subst (λ (f : ReadFault). FailsFrom loads f Version (point before 0) after) (sym is) tt
 
 -- where a read failed, nothing that was read is left
 pub emptied : {X : Type 0} (result : Result X ReadFault) (input : Source) → IfErr result (λ fault. fault ≡ faults.Read → HasFailed input) → IfErr result (λ fault. fault ≡ faults.Read → input.unread ≡ [])
@@ -50,7 +51,7 @@ read_whole {Z} result unread left before after number last empty none emptied t 
     by : (result : Result (workloads.Workload Z) ReadFault) → IfErr result (λ fault. fault ≡ faults.Read → left ≡ []) → WorkloadTaken result (point before 0) (point (prepend_known left after) last) → ReadGives before result after
     by (Ok workload) emptied t = record { transactions = t.0; rest = t.1; took = t.2; ended = t.3; named = t.4 }
     by (Err (faults.Malformed n)) emptied t = t
-    by (Err faults.Read) emptied t = subst (λ a. FailsFrom faults.Read Version (point before 0) a) (ap (λ l. prepend_known l after) (emptied refl) ∙ prepend_known-nil after) t
+    by (Err faults.Read) emptied t = subst (λ a. FailsFrom loads faults.Read Version (point before 0) a) (ap (λ l. prepend_known l after) (emptied refl) ∙ prepend_known-nil after) t
     by (Err faults.TooManyLines) emptied t = t
     by (Err faults.Memory) emptied t = tt
 
@@ -61,12 +62,12 @@ module _ {Z : Type 0} (whole : Bool) where
   stops trouble = Err trouble
 
   -- the text is none of a workload, or couldn't be read, or memory was refused for it
-  pub unread_ends : (w before after : Option (List ℕ)) (fault : ReadFault) (result : Result (code.Ran Z) Trouble) → IsErrAnd result (λ e. e ≡ read_trouble fault) → FailsFrom fault Version (point before 0) after
+  pub unread_ends : (w before after : Option (List ℕ)) (fault : ReadFault) (result : Result (code.Ran Z) Trouble) → IsErrAnd result (λ e. e ≡ read_trouble fault) → FailsFrom loads fault Version (point before 0) after
       → RunGives whole (Appends w w) (AppendsFront w w) before result after
   unread_ends w before after fault (Ok ran) is t = absurd is
   unread_ends w before after fault (Err e) is t = subst (λ (trouble : Trouble). RunGives whole (Appends w w) (AppendsFront w w) before (stops trouble) after) (sym is) (by fault t)
     where
-      by : (fault : ReadFault) → FailsFrom fault Version (point before 0) after → RunGives whole (Appends w w) (AppendsFront w w) before (stops (read_trouble fault)) after
+      by : (fault : ReadFault) → FailsFrom loads fault Version (point before 0) after → RunGives whole (Appends w w) (AppendsFront w w) before (stops (read_trouble fault)) after
       by (faults.Malformed n) t = (inl t, Appends-nil w)
       by faults.Read t = (t, Appends-nil w)
       by faults.TooManyLines t = (inr (t, refl), Appends-nil w)

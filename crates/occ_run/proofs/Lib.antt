@@ -1,11 +1,9 @@
 pub mod Ending
-pub mod LinesTaken
 pub mod Lists
 pub mod Openings
 pub mod PlansTaken
 pub mod Playing
 pub mod Reporting
-pub mod TextLines
 pub mod TransactionLines
 pub mod Tries
 pub mod Whole

@@ -9,10 +9,6 @@ use Rattle.occ_text.specs.Operations.{operation_of}
 use Rattle.occ_text.specs.declared.operations.Operation as texts
 use Rattle.occ_run.specs.Plans.{operation_named}
 
--- one more value behind the others
-pub viewed_more : {X Y : Type 0} (view : X → Y) (xs now : List X) (x : X) → now ≡ xs ++ x ∷ [] → map view now ≡ map view xs ++ view x ∷ []
-viewed_more view xs now x is = ap (map view) is ∙ map-append view xs (x ∷ [])
-
 module _ {Z : Type 0} (schema : Schema) where
   abbrev pub named : List (texts.Operation Z) → List model.Operation
   named operations = map (operation_named schema) (map operation_of operations)

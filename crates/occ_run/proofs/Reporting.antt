@@ -74,11 +74,6 @@ pub row_printed : (r : Printed) (session : ℕ) (row : LogRow) (test : Bool) (a 
 row_printed r session row test a b old new bytes is holds same h =
     subst (λ (q : Bool). PrintGives r a b old new (lines_text (cond q (standing_line row ∷ []) []))) (sym (sym is ∙ holds)) (subst (λ l. PrintGives r a b old new (lines_text (l ∷ []))) same h)
 
-pub row_front : (session : ℕ) (row : LogRow) (test : Bool) (a b : Option (List ℕ)) (old new bytes : List ℕ) → test ≡ is_of session row → test ≡ true → bytes ≡ standing_line row → PushedFront a b old new (lines_text (bytes ∷ []))
-    → PushedFront a b old new (lines_text (row_lines session row))
-row_front session row test a b old new bytes is holds same h =
-    subst (λ (q : Bool). PushedFront a b old new (lines_text (cond q (standing_line row ∷ []) []))) (sym (sym is ∙ holds)) (subst (λ l. PushedFront a b old new (lines_text (l ∷ []))) same h)
-
 -- a row, as it is counted
 pub one_counted : (rows session : ℕ) (row : LogRow) (test : Bool) → test ≡ is_of session row → test ≡ true → rows + 1 ≡ rows + length (rows_of session (row ∷ []))
 one_counted rows session row test is holds = subst (λ (b : Bool). rows + 1 ≡ rows + length (cond b (row ∷ []) [])) (sym holds ∙ is) refl

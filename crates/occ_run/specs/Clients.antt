@@ -1,34 +1,65 @@
 -- What a client hands in, and what it is told (our own choice).
-use Rattle.std.specs.Prelude.{◌≡◌, ◌⊎◌, ◌+◌, ◌≤◌, ◌==◌, ℕ, suc, Bool, true, false, if◌then◌else◌, List, [], ◌∷◌, ◌++◌, length, Option, None, Some, option_map}
-use Rattle.std.specs.List.{flat_map, list_all}
-use Rattle.occ_model.specs.Event.{Item, Request, Alone, Close}
+use Rattle.std.specs.Prelude.{◌≡◌, ◌⊎◌, ◌+◌, ◌≤◌, ◌==◌, ℕ, suc, Bool, true, false, if◌then◌else◌, List, [], ◌∷◌, ◌++◌, length, Some, Result, Ok, Err}
+use Rattle.std.specs.List.{flat_map}
+use Rattle.occ_types.specs.declared.fault.Fault.{Fault}
+use Rattle.occ_types.specs.declared.fault.Fault.TheVariants as faults
+use Rattle.occ_model.specs.Event.{Item, Alone, Close}
 use Rattle.occ_model.specs.Operations.{Operation}
+use Rattle.occ_model.specs.World.{Settings}
 use Rattle.occ_model.specs.declared.verdict.Verdict.{Verdict}
 use Rattle.occ_model.specs.declared.verdict.Verdict.TheVariants.{Commit, BackUp}
 use Rattle.occ_model.specs.declared.verdict.Cause.{Cause}
+use Rattle.occ_open.specs.Transactions.{begun}
 use Rattle.occ_store.specs.Sessions.{SessionView, last_number}
+use Rattle.occ_store.specs.Transactions.{TransactionView}
+use Rattle.occ_store.specs.Bodies.{Making, Becoming, Performing}
+use Rattle.occ_store.specs.Tries.{AllMade}
+use Rattle.occ_store.specs.Ended.{IsTold}
+use Rattle.occ_case.specs.declared.ended.Ended as code_ended
+use Rattle.occ_case.specs.declared.ended.Ended.TheVariants as ended
+use Rattle.occ_store.specs.declared.awaited.Awaited.{Awaited}
+use Rattle.occ_store.specs.declared.awaited.Awaited.TheVariants as awaited
 use Rattle.occ_run.specs.Plans.{Planned}
 use Rattle.occ_run.specs.declared.ends.Try.{Try}
 use Rattle.occ_run.specs.declared.ends.Try.TheVariants.{Refused, Committed, BackedUp}
+use Rattle.occ_run.specs.declared.ends.Failure.{Failure}
+use Rattle.occ_run.specs.declared.ends.Failure.TheVariants as failures
+use Rattle.occ_run.specs.declared.ends.Stop.{Stop}
+use Rattle.occ_run.specs.declared.ends.Stop.TheVariants as stops
 use Rattle.occ_run.specs.declared.ends.End.{End}
 use Rattle.occ_run.specs.declared.ends.End.TheVariants.{Unstarted, Closed, GaveUp, Starved}
 
--- nothing changed but the writes of the open transaction
-pub record SameButWrites (old new : SessionView) : Type 0 where
-  pub same : new ≡ record old { draft = new.draft }
-  pub number : option_map (λ copy. copy.number) new.draft ≡ option_map (λ copy. copy.number) old.draft
-
 -- ---- the tries of a transaction
 
-abbrev pub is_request : Item → Bool
-is_request (Request number start writes) = true
-is_request (Alone number operations) = false
-is_request (Close number) = false
+-- Why a client gives up at a fault of the store: for want of memory it is starved, and at no other one.
+abbrev pub IsStopOf : Fault → Stop → Type 0
+IsStopOf fault stops.Memory = fault ≡ faults.Memory
+IsStopOf fault stops.Patience = fault ≡ faults.Memory → ⊥
 
--- so many requests, and nothing else
-pub record Requests (count : ℕ) (items : List Item) : Type 0 where
+-- what a fault of the store comes to, beside a refused operation
+abbrev pub failing : Becoming Failure
+failing fault (failures.Refused told) = ⊥
+failing fault (failures.Stopped stop) = IsStopOf fault stop
+
+-- what a refused operation comes to: for want of memory the client gives up
+abbrev pub IsUnmade : Fault → Failure → Type 0
+IsUnmade fault (failures.Refused told) = (told ≡ fault) × (fault ≡ faults.Memory → ⊥)
+IsUnmade fault (failures.Stopped stop) = (stop ≡ stops.Memory) × (fault ≡ faults.Memory)
+
+-- a run of the operations performs them, or ends at the first that is refused
+abbrev pub Attempting : Settings → List Operation → Making (Unit {0}) Failure
+Attempting settings operations before (Ok none) after = Performing settings operations before (Ok none) after
+Attempting settings operations before (Err failure) after = (fault : Fault) × IsUnmade fault failure × Performing settings operations before (Err fault) after
+
+-- so many requests of a session, and nothing else, each of which was made by a run that performed the operations
+pub record Requests (settings : Settings) (session : ℕ) (operations : List Operation) (count : ℕ) (items : List Item) : Type 0 where
   pub many : length items ≡ count
-  pub each : list_all is_request items ≡ true
+  pub made : AllMade (Performing settings operations) session items
+
+-- an operation was refused, by another fault than for want of memory, in a run of the operations in a transaction that the session began
+abbrev pub HasRefused : Settings → ℕ → List Operation → Type 0
+HasRefused settings session operations = (fault : Fault) × (fault ≡ faults.Memory → ⊥) × (number : ℕ) × (start : ℕ) × (after : TransactionView)
+    × Performing settings operations (record { session = session; draft = Some (begun number start) }) (Err fault) after
 
 -- these items were handed in, behind those of before
 pub record Pushes (items : List Item) (old new : SessionView) : Type 0 where
@@ -42,10 +73,10 @@ pub record Told (verdict : Verdict) (session : SessionView) : Type 0 where
   pub status : session.seat.last.status ≡ Some verdict
 
 -- what a try came to; where one of its operations was refused, nothing was handed in
-abbrev pub CameTo : Try → SessionView → Type 0
-CameTo Refused session = Unit {0}
-CameTo Committed session = Told Commit session
-CameTo BackedUp session = (cause : Cause) × Told (BackUp cause) session
+abbrev pub CameTo : Settings → List Operation → Try → SessionView → Type 0
+CameTo settings operations Refused session = HasRefused settings session.session operations
+CameTo settings operations Committed session = Told Commit session
+CameTo settings operations BackedUp session = (cause : Cause) × Told (BackUp cause) session
 
 -- how many requests a try hands in
 abbrev pub handed_by : Try → ℕ
@@ -53,22 +84,37 @@ handed_by Refused = 0
 handed_by Committed = 1
 handed_by BackedUp = 1
 
-abbrev pub try_of : Verdict → Try
-try_of Commit = Committed
-try_of (BackUp cause) = BackedUp
+-- how a transaction ended whose run answers nothing
+abbrev pub Ended : Type 0
+Ended = code_ended.Ended (Unit {0})
+
+-- what came of a try that handed in nothing
+abbrev pub not_handed_in : Failure → Result Try Stop
+not_handed_in (failures.Refused fault) = Ok Refused
+not_handed_in (failures.Stopped stop) = Err stop
+
+-- and of one that was handed in
+abbrev pub try_of : Ended → Try
+try_of (ended.Committed tn none) = Committed
+try_of (ended.BackedUp cause) = BackedUp
+
+-- what came of waiting ended so: it had ended so before, or the board tells it
+abbrev pub ComesTo : SessionView → Awaited (Unit {0}) → Ended → SessionView → Type 0
+ComesTo old (awaited.Settled was) how new = (how ≡ was) × (new ≡ old)
+ComesTo old (awaited.Pending pending) how new = IsTold new.seat.last pending.number pending.value how
 
 -- a try, behind so many that were backed up
-pub record Tries (count : ℕ) (tried : Try) (old new : SessionView) : Type 0 where
+pub record Tries (settings : Settings) (operations : List Operation) (count : ℕ) (tried : Try) (old new : SessionView) : Type 0 where
   pub items : List Item
   pub pushes : Pushes items old new
-  pub requests : Requests (count + handed_by tried) items
-  pub came : CameTo tried new
+  pub requests : Requests settings old.session operations (count + handed_by tried) items
+  pub came : CameTo settings operations tried new
 
 -- the last of at most `retries + 1` tries, which is backed up only where all were
-pub record LastTry (retries : ℕ) (tried : Try) (old new : SessionView) : Type 0 where
+pub record LastTry (settings : Settings) (operations : List Operation) (retries : ℕ) (tried : Try) (old new : SessionView) : Type 0 where
   pub count : ℕ
   pub within : count ≤ retries
-  pub tries : Tries count tried old new
+  pub tries : Tries settings operations count tried old new
   pub all : tried ≡ BackedUp → count ≡ retries
 
 -- operations were handed in to run alone, and committed
@@ -77,18 +123,18 @@ pub record RunsAlone (operations : List Operation) (old new : SessionView) : Typ
   pub pushes : Pushes (Alone number operations ∷ []) old new
   pub told : Told Commit new
 
--- What is handed in for a transaction, by whether one of its operations was refused: a request for each try before that one; or for each up to the one that committed; or for each that there may be, and then the operations to run alone.
-abbrev pub HandsIn : ℕ → List Operation → Bool → List Item → Type 0
-HandsIn retries operations true items = (count : ℕ) × (count ≤ retries) × Requests count items
-HandsIn retries operations false items =
-    ((count : ℕ) × (count ≤ retries) × Requests (count + 1) items)
-    ⊎ ((tries : List Item) × (number : ℕ) × Requests (retries + 1) tries × (items ≡ tries ++ Alone number operations ∷ []))
+-- What is handed in for a transaction, by whether one of its operations was refused: a request for each try before that one; or for each up to the one that committed; or for each that there may be, and then the operations to run alone. Each request was made by a run that performed the operations.
+abbrev pub HandsIn : Settings → ℕ → ℕ → List Operation → Bool → List Item → Type 0
+HandsIn settings retries session operations true items = (count : ℕ) × (count ≤ retries) × Requests settings session operations count items × HasRefused settings session operations
+HandsIn settings retries session operations false items =
+    ((count : ℕ) × (count ≤ retries) × Requests settings session operations (count + 1) items)
+    ⊎ ((tries : List Item) × (number : ℕ) × Requests settings session operations (retries + 1) tries × (items ≡ tries ++ Alone number operations ∷ []))
 
 -- a transaction is over: one of its operations was refused, or it committed
-pub record PlanGives (retries : ℕ) (operations : List Operation) (refused : Bool) (old new : SessionView) : Type 0 where
+pub record PlanGives (settings : Settings) (retries : ℕ) (operations : List Operation) (refused : Bool) (old new : SessionView) : Type 0 where
   pub items : List Item
   pub pushes : Pushes items old new
-  pub hands_in : HandsIn retries operations refused items
+  pub hands_in : HandsIn settings retries old.session operations refused items
   pub told : refused ≡ false → Told Commit new
 
 -- ---- all transactions of a session
@@ -106,22 +152,22 @@ one_if true = 1
 one_if false = 0
 
 -- what is handed in for one transaction after another, and how many of them were refused
-abbrev pub Plays : ℕ → List (List Operation) → ℕ → List Item → Type 0
-Plays retries [] refused items = (refused ≡ 0) × (items ≡ [])
-Plays retries (operations ∷ more) refused items =
+abbrev pub Plays : Settings → ℕ → ℕ → List (List Operation) → ℕ → List Item → Type 0
+Plays settings retries session [] refused items = (refused ≡ 0) × (items ≡ [])
+Plays settings retries session (operations ∷ more) refused items =
     (was : Bool) × (first : List Item) × (others : ℕ) × (rest : List Item)
-    × HandsIn retries operations was first × Plays retries more others rest × (refused ≡ one_if was + others) × (items ≡ first ++ rest)
+    × HandsIn settings retries session operations was first × Plays settings retries session more others rest × (refused ≡ one_if was + others) × (items ≡ first ++ rest)
 
-pub record Played (retries : ℕ) (transactions : List (List Operation)) (refused : ℕ) (old new : SessionView) : Type 0 where
+pub record Played (settings : Settings) (retries : ℕ) (transactions : List (List Operation)) (refused : ℕ) (old new : SessionView) : Type 0 where
   pub items : List Item
   pub pushes : Pushes items old new
-  pub plays : Plays retries transactions refused items
+  pub plays : Plays settings retries old.session transactions refused items
 
 -- All that a session handed in by its end: what its transactions ask for, so many of which were refused, and the closing mark.
-pub record HasPlayed (retries : ℕ) (plans : List Planned) (session refused : ℕ) (pushed : List Item) : Type 0 where
+pub record HasPlayed (settings : Settings) (retries : ℕ) (plans : List Planned) (session refused : ℕ) (pushed : List Item) : Type 0 where
   pub items : List Item
   pub number : ℕ
-  pub plays : Plays retries (own session plans) refused items
+  pub plays : Plays settings retries session (own session plans) refused items
   pub closed : pushed ≡ items ++ Close number ∷ []
 
 -- what clauses see of a client: its session, how many of its transactions had an operation that was refused, and how it ended
@@ -131,18 +177,24 @@ pub record ClientView : Type 0 where
   pub end : End
 
 -- how a client ended, as its session and its count have it
-abbrev pub EndsAs : ℕ → List Planned → End → ℕ → SessionView → Type 0
-EndsAs retries plans Unstarted refused session = session.sender.pushed ≡ []
-EndsAs retries plans Closed refused session = HasPlayed retries plans session.session refused session.sender.pushed
-EndsAs retries plans GaveUp refused session = Unit {0}
-EndsAs retries plans Starved refused session = Unit {0}
+abbrev pub EndsAs : Settings → ℕ → List Planned → End → ℕ → SessionView → Type 0
+EndsAs settings retries plans Unstarted refused session = session.sender.pushed ≡ []
+EndsAs settings retries plans Closed refused session = HasPlayed settings retries plans session.session refused session.sender.pushed
+EndsAs settings retries plans GaveUp refused session = Unit {0}
+EndsAs settings retries plans Starved refused session = Unit {0}
+
+-- how it ends, and its count, by what stopped it: for want of memory it is starved, and for no other reason
+abbrev pub ended_by : Result ℕ Stop → End × ℕ
+ended_by (Ok refused) = (Closed, refused)
+ended_by (Err stops.Patience) = (GaveUp, 0)
+ended_by (Err stops.Memory) = (Starved, 0)
 
 -- ---- the clients of a run
 
 -- of the sessions from a number on, what each handed in, and how many of its transactions had an operation that was refused
-abbrev pub AllPlayed : ℕ → List Planned → ℕ → List ℕ → Type 0
-AllPlayed retries plans session [] = Unit {0}
-AllPlayed retries plans session (refused ∷ more) = ((pushed : List Item) × HasPlayed retries plans session refused pushed) × AllPlayed retries plans (suc session) more
+abbrev pub AllPlayed : Settings → ℕ → List Planned → ℕ → List ℕ → Type 0
+AllPlayed settings retries plans session [] = Unit {0}
+AllPlayed settings retries plans session (refused ∷ more) = ((pushed : List Item) × HasPlayed settings retries plans session refused pushed) × AllPlayed settings retries plans (suc session) more
 
 -- whether a client wanted memory, or its thread never began
 abbrev pub starved : End → Bool

@@ -2,9 +2,7 @@
 use Rattle.std.specs.Prelude.{◌≡◌, ◌+◌, ℕ, List, [], ◌∷◌, ◌++◌, map, length, Option, None, Some, Result, Ok, Err}
 use Rattle.std.specs.List.{position}
 use Rattle.std.specs.Io.KnownBytes.{IsAtEnd}
-use Rattle.occ_types.specs.PlainData.{table_of}
 use Rattle.occ_types.specs.Schema.{Schema, has_name}
-use Rattle.occ_types.specs.declared.tables.TableDef.{TableDef}
 use Rattle.occ_model.specs.Operations as model
 use Rattle.occ_sets.specs.Operations.{ops_of}
 use Rattle.occ_text.specs.declared.faults.ReadFault.{ReadFault}
@@ -15,7 +13,8 @@ use Rattle.occ_run.specs.declared.workloads.Plan as code
 use Rattle.occ_run.specs.declared.workloads.Settings.{Settings}
 use Rattle.occ_run.specs.declared.workloads.Workload.{Workload}
 use Rattle.occ_run.specs.TransactionLines.{Transaction, transaction_text}
-use Rattle.occ_run.specs.Workloads.{Further, OneTable, Begins, Version, Transactions, workload_lines, HasRoom, Position, Stays, Took, FailsFrom}
+use Rattle.occ_text.specs.Languages.{Position, Stays, Took, FailsFrom}
+use Rattle.occ_run.specs.Workloads.{Version, Transactions, workload_lines, HasRoom, loads}
 
 -- the place of the table with a name, or the one behind the last table, where no table stands
 abbrev pub place_named : Schema → List ℕ → ℕ
@@ -38,11 +37,6 @@ abbrev pub planned : Schema → Transaction → Planned
 planned schema transaction = record { session = transaction.session; operations = map (operation_named schema) transaction.operations }
 
 module _ {Z : Type 0} where
-  -- what stands behind some tables
-  abbrev pub further_of : Option (TableDef Z) → Further
-  further_of None = Begins
-  further_of (Some table) = OneTable (table_of table)
-
   -- the plain transactions
   abbrev pub transaction_of : read.Transaction Z → Transaction
   transaction_of transaction = record { session = transaction.session; operations = map operation_of transaction.operations.items }
@@ -55,20 +49,20 @@ abbrev pub PlanTaken : {X : Type 0} → (X → Planned) → Result (Option X) Re
 PlanTaken view (Ok None) settings schema count a b = IsAtEnd a.left × Stays a b
 PlanTaken view (Ok (Some x)) settings schema count a b =
     (transaction : Transaction) × (view x ≡ planned schema transaction) × HasRoom settings.retries (count + 1)
-    × ((before : List Transaction) → length before ≡ count → Took (Transactions settings schema before) (Transactions settings schema (before ++ transaction ∷ [])) a b (transaction_text transaction ∷ []))
-PlanTaken view (Err fault) settings schema count a b = (before : List Transaction) → length before ≡ count → FailsFrom fault (Transactions settings schema before) a b.left
+    × ((before : List Transaction) → length before ≡ count → Took loads (Transactions settings schema before) (Transactions settings schema (before ++ transaction ∷ [])) a b (transaction_text transaction ∷ []))
+PlanTaken view (Err fault) settings schema count a b = (before : List Transaction) → length before ≡ count → FailsFrom loads fault (Transactions settings schema before) a b.left
 
 -- all lines of transactions are taken, up to the end of the text
 abbrev pub PlansTaken : {X : Type 0} → (X → List Planned) → Result X ReadFault → Settings → Schema → Position → Position → Type 0
 PlansTaken view (Ok plans) settings schema a b =
-    (transactions : List Transaction) × (rest : Position) × Took (Transactions settings schema []) (Transactions settings schema transactions) a rest (map transaction_text transactions) × IsAtEnd rest.left
+    (transactions : List Transaction) × (rest : Position) × Took loads (Transactions settings schema []) (Transactions settings schema transactions) a rest (map transaction_text transactions) × IsAtEnd rest.left
     × (view plans ≡ map (planned schema) transactions) × Stays rest b
-PlansTaken view (Err fault) settings schema a b = FailsFrom fault (Transactions settings schema []) a b.left
+PlansTaken view (Err fault) settings schema a b = FailsFrom loads fault (Transactions settings schema []) a b.left
 
 module _ {Z : Type 0} where
   -- a whole workload is taken
   abbrev pub WorkloadTaken : Result (Workload Z) ReadFault → Position → Position → Type 0
   WorkloadTaken (Ok workload) a b =
-      (transactions : List Transaction) × (rest : Position) × Took Version (Transactions workload.settings workload.schema transactions) a rest (workload_lines workload.settings workload.schema transactions) × IsAtEnd rest.left
+      (transactions : List Transaction) × (rest : Position) × Took loads Version (Transactions workload.settings workload.schema transactions) a rest (workload_lines workload.settings workload.schema transactions) × IsAtEnd rest.left
       × (map plan_of workload.plans.items ≡ map (planned workload.schema) transactions) × Stays rest b
-  WorkloadTaken (Err fault) a b = FailsFrom fault Version a b.left
+  WorkloadTaken (Err fault) a b = FailsFrom loads fault Version a b.left

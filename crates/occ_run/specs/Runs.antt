@@ -12,13 +12,14 @@ use Rattle.occ_text.specs.declared.trouble.Trouble.TheVariants.{Read, Write, Mem
 use Rattle.occ_text.specs.declared.faults.ReadFault.{ReadFault}
 use Rattle.occ_text.specs.declared.faults.WriteFault.{WriteFault}
 use Rattle.occ_text.specs.declared.faults.WriteFault.TheVariants as write_faults
+use Rattle.occ_text.specs.Languages.{Position, point, Took, Stopped, Torn, Uncounted, FailsFrom}
 use Rattle.occ_text.specs.Line.{lines_text}
 use Rattle.occ_run.specs.declared.runs.Ran as code
 use Rattle.occ_run.specs.declared.runs.Ran.TheVariants.{Audit, GaveUp}
 use Rattle.occ_run.specs.declared.workloads.Settings.{Settings}
 use Rattle.occ_run.specs.declared.workloads.Workload as workloads
 use Rattle.occ_run.specs.TransactionLines.{Transaction}
-use Rattle.occ_run.specs.Workloads.{Version, Transactions, workload_lines, Position, point, Took, Stopped, Torn, Uncounted, FailsFrom}
+use Rattle.occ_run.specs.Workloads.{Version, Transactions, workload_lines, loads}
 use Rattle.occ_run.specs.Plans.{Planned, planned, plan_of}
 use Rattle.occ_run.specs.Clients.{ClientView, AllPlayed, is_starved, gave_up}
 use Rattle.occ_run.specs.Reports.{book_at, report_lines}
@@ -30,7 +31,7 @@ pub record RunState (opened : model.Settings) (retries : ℕ) (plans : List Plan
   pub opened_so : world.settings ≡ opened
   pub refused : List ℕ
   pub each : length refused ≡ opened.sessions
-  pub played : AllPlayed retries plans 1 refused
+  pub played : AllPlayed opened retries plans 1 refused
 
 -- what is written of it
 abbrev pub report_of : {opened : model.Settings} {retries : ℕ} {plans : List Planned} → Bool → Limits → RunState opened retries plans → List ℕ
@@ -40,7 +41,7 @@ report_of whole limits state = lines_text (report_lines whole (book_at limits st
 pub record IsWorkload (before : Option (List ℕ)) (settings : Settings) (schema : Schema) (plans : List Planned) : Type 0 where
   pub transactions : List Transaction
   pub rest : Position
-  pub took : Took Version (Transactions settings schema transactions) (point before 0) rest (workload_lines settings schema transactions)
+  pub took : Took loads Version (Transactions settings schema transactions) (point before 0) rest (workload_lines settings schema transactions)
   pub ended : IsAtEnd rest.left
   pub named : plans ≡ map (planned schema) transactions
 
@@ -48,7 +49,7 @@ pub record IsWorkload (before : Option (List ℕ)) (settings : Settings) (schema
 module _ {Z : Type 0} where
   abbrev pub ReadGives : Option (List ℕ) → Result (workloads.Workload Z) ReadFault → Option (List ℕ) → Type 0
   ReadGives before (Ok workload) after = IsWorkload before workload.settings workload.schema (map plan_of workload.plans.items)
-  ReadGives before (Err fault) after = FailsFrom fault Version (point before 0) after
+  ReadGives before (Err fault) after = FailsFrom loads fault Version (point before 0) after
 
 -- how its store is opened
 abbrev pub opened_by : Settings → Schema → model.Settings
@@ -84,7 +85,7 @@ module _ {Z : Type 0} (whole : Bool) (Wrote WroteFront : List ℕ → Type 0) wh
 
   -- what a whole run leaves: it read a workload and ran it; or the text is none, or couldn't be read, and nothing was written; or memory was refused while it was read
   abbrev pub RunGives : Option (List ℕ) → Result (code.Ran Z) Trouble → Option (List ℕ) → Type 0
-  RunGives before (Err (Malformed number)) after = (Stopped Version (point before 0) number ⊎ (Uncounted Version (point before 0) × (number ≡ 2 ^ 64 - 1))) × Wrote []
-  RunGives before (Err Read) after = Torn Version (point before 0) after × Wrote []
+  RunGives before (Err (Malformed number)) after = (Stopped loads Version (point before 0) number ⊎ (Uncounted loads Version (point before 0) × (number ≡ 2 ^ 64 - 1))) × Wrote []
+  RunGives before (Err Read) after = Torn loads Version (point before 0) after × Wrote []
   RunGives before (Err Memory) after = WroteFront [] ⊎ LoadEnds before (Err Memory)
   RunGives before result after = LoadEnds before result

@@ -1,22 +1,22 @@
 //! The clients of a run, one for each session.
 
-ghost use Rattle.std.specs.Prelude.{◌≡◌, ◌==◌, ◌+◌, ◌<◌, ◌^◌, List, [], map, Ok, IfOk, IfSome, OnOk};
+ghost use Rattle.std.specs.Prelude.{◌≡◌, ◌==◌, ◌+◌, ◌<◌, ◌^◌, List, [], map, IfOk, IfSome, OnOk};
 ghost use Rattle.std.specs.Option.{option_to_list};
 ghost use Rattle.occ_model.specs.Event.{Item, Close};
 ghost use Rattle.occ_store.specs.Sessions.{due, handed_in};
 ghost use Rattle.occ_run.specs.Plans.{plan_of};
-ghost use Rattle.occ_run.specs.Clients.{own, own_plan, one_if, Played, HasPlayed, is_starved, gave_up};
-ghost use Rattle.occ_run.specs.declared.ends.End.TheVariants as ends;
+ghost use Rattle.occ_run.specs.Clients.{own, own_plan, one_if, Played, HasPlayed, is_starved, gave_up, ended_by};
 
 use crate::ends::{End, Stop};
 use crate::loads::{Job, Load};
 use crate::trying::run_plan;
 use crate::waiting::Waiting;
 use crate::workloads::Plan;
-use occ_store::{Lane, Name, Session, Store};
+use occ_store::{Lane, Name, Session};
 use std::alloc::Allocator;
 use std::marker::{Model, PhantomData};
 use std::sync::Wait;
+use std::time::Clock;
 
 /// The client of a session. Once it has closed its session, that handed in what its transactions ask for, whichever thread had it.
 #[derive(Drop)]
@@ -34,7 +34,7 @@ impl<N: Name, L: Load, A: Allocator + Copy> Model for Client<N, L, A> {
 
     ghost view = { λ c. record { session = c.session; refused = c.refused; end = c.end } };
 
-    ghost invariant = { λ c. EndsAs L.retries L.plans c.end c.refused c.session };
+    ghost invariant = { λ c. EndsAs N.named.settings L.retries L.plans c.end c.refused c.session };
 }
 
 impl<N: Name, L: Load, A: Allocator + Copy> Client<N, L, A> {
@@ -52,7 +52,7 @@ impl<N: Name, L: Load, A: Allocator + Copy> Client<N, L, A> {
 
     /// How many of its transactions had an operation that was refused. None where it is another session's, or did not close it.
     pub(crate) fn refused(&self, session: usize) -> Option<u64>
-        ensures { IfSome result (λ refused. (pushed : List Item) × HasPlayed L.retries L.plans session refused pushed) }
+        ensures { IfSome result (λ refused. (pushed : List Item) × HasPlayed N.named.settings L.retries L.plans session refused pushed) }
     {
         let End::Closed = self.end else {
             return None;
@@ -84,10 +84,14 @@ impl<N: Name, L: Load, A: Allocator + Copy> Client<N, L, A> {
         }
     }
 
-    /// Runs the transactions of its session in their order, and then closes the session. Where it gives up, it abandons what is open and
-    /// closes the session; for want of memory it tells all others to give up too. It runs once. Where it is given the lane of its session,
+    /// Runs the transactions of its session in their order, and then closes the session. Where it gives up, it closes the session too; for want of memory it tells all others to give up too. It runs once. Where it is given the lane of its session,
     /// it serves that itself.
-    pub(crate) fn run<R: Wait>(&mut self, rt: &R, job: &Job<N, L, A>, lane: Option<Lane<N, A>>) {
+    pub(crate) fn run<R: Wait + Clock>(
+        &mut self,
+        rt: &R,
+        job: &Job<N, L, A>,
+        lane: Option<Lane<N, A>>,
+    ) {
         let End::Unstarted = self.end else {
             return;
         };
@@ -101,8 +105,7 @@ impl<N: Name, L: Load, A: Allocator + Copy> Client<N, L, A> {
 
 // How a client ended, and its count, by what stopped it.
 fn ended(played: Result<u64, Stop>) -> (End, u64)
-    ensures closed { result.0 ≡ ends.Closed → played ≡ Ok result.1 }
-    ensures begun { result.0 ≡ ends.Unstarted → ⊥ }
+    ensures { result ≡ ended_by played }
 {
     match played {
         Ok(refused) => (End::Closed, refused),
@@ -112,47 +115,47 @@ fn ended(played: Result<u64, Stop>) -> (End, u64)
 }
 
 // Runs a session's transactions, and closes it, also where it gives up; then its lane is served out. How many had a refused operation.
-fn play<N: Name, L: Load, A: Allocator + Copy, R: Wait>(
+fn play<N: Name, L: Load, A: Allocator + Copy, R: Wait + Clock>(
     rt: &R,
     session: &mut Session<N, A>,
     waiting: &mut Waiting<'_, N, A>,
     job: &Job<N, L, A>,
 ) -> Result<u64, Stop>
     requires { session.old.sender.pushed ≡ [] }
-    ensures { IfOk result (λ refused. HasPlayed L.retries L.plans session.new.session refused session.new.sender.pushed) }
+    ensures { IfOk result (λ refused. HasPlayed N.named.settings L.retries L.plans session.new.session refused session.new.sender.pushed) }
 {
     let ran = run_plans(rt, session, waiting, job);
     if ran == Err(Stop::Memory) {
         job.round.stop();
     }
-    let left = leave(rt, session, waiting);
+    let closed = close(rt, session, waiting);
     let refused = ran?;
-    left?;
+    closed?;
     waiting.finish(rt)?;
     Ok(refused)
 }
 
 // Runs the transactions of a session in their order. How many of them had an operation that was refused.
-fn run_plans<N: Name, L: Load, A: Allocator + Copy, R: Wait>(
+fn run_plans<N: Name, L: Load, A: Allocator + Copy, R: Wait + Clock>(
     rt: &R,
     session: &mut Session<N, A>,
     waiting: &mut Waiting<'_, N, A>,
     job: &Job<N, L, A>,
 ) -> Result<u64, Stop>
-    ensures { IfOk result (λ refused. Played L.retries (own session.old.session L.plans) refused session.old session.new) }
+    ensures { IfOk result (λ refused. Played N.named.settings L.retries (own session.old.session L.plans) refused session.old session.new) }
 {
     run_each(rt, session, waiting, job, job.plans.as_slice())
 }
 
 // Runs those of some transactions that are the session's. How many of them had an operation that was refused.
-fn run_each<N: Name, L: Load, A: Allocator + Copy, R: Wait>(
+fn run_each<N: Name, L: Load, A: Allocator + Copy, R: Wait + Clock>(
     rt: &R,
     session: &mut Session<N, A>,
     waiting: &mut Waiting<'_, N, A>,
     job: &Job<N, L, A>,
     plans: &[Plan<A>],
 ) -> Result<u64, Stop>
-    ensures { IfOk result (λ refused. Played L.retries (own session.old.session (map plan_of plans.now)) refused session.old session.new) }
+    ensures { IfOk result (λ refused. Played N.named.settings L.retries (own session.old.session (map plan_of plans.now)) refused session.old session.new) }
 {
     let number = session.session();
     let mut refused = 0;
@@ -172,7 +175,7 @@ fn counted(count: u64, more: bool) -> u64
 }
 
 // Runs a transaction, if it is the session's. Whether an operation of it was refused.
-fn run_own<N: Name, L: Load, A: Allocator + Copy, R: Wait>(
+fn run_own<N: Name, L: Load, A: Allocator + Copy, R: Wait + Clock>(
     rt: &R,
     session: &mut Session<N, A>,
     waiting: &mut Waiting<'_, N, A>,
@@ -180,7 +183,7 @@ fn run_own<N: Name, L: Load, A: Allocator + Copy, R: Wait>(
     number: usize,
     plan: &Plan<A>,
 ) -> Result<bool, Stop>
-    ensures { IfOk result (λ refused. Played L.retries (own_plan number (plan_of plan.now)) (one_if refused) session.old session.new) }
+    ensures { IfOk result (λ refused. Played N.named.settings L.retries (own_plan number (plan_of plan.now)) (one_if refused) session.old session.new) }
 {
     if !is_own(plan, number) {
         return Ok(false);
@@ -202,35 +205,8 @@ fn is_own<A: Allocator>(plan: &Plan<A>, session: usize) -> bool
     plan.session == session
 }
 
-// Abandons what is open, and closes the session.
-fn leave<N: Name, A: Allocator + Copy, R: Wait>(
-    rt: &R,
-    session: &mut Session<N, A>,
-    waiting: &mut Waiting<'_, N, A>,
-) -> Result<(), Stop>
-    ensures { OnOk result (session.new ≡ handed_in session.old (Close (due session.old))) }
-{
-    abandon_open(rt, session, waiting.store)?;
-    close(rt, session, waiting)
-}
-
-// Abandons the open transaction, where there is one.
-fn abandon_open<N: Name, A: Allocator + Copy, R: Wait>(
-    rt: &R,
-    session: &mut Session<N, A>,
-    store: &Store<N, A>,
-) -> Result<(), Stop>
-    ensures { session.new ≡ record session.old { draft = session.new.draft } }
-{
-    if session.open_number().is_none() {
-        return Ok(());
-    }
-    session.abandon(rt, store)?;
-    Ok(())
-}
-
 // Closes the session. A full queue is tried again, as often as a number is polled.
-fn close<N: Name, A: Allocator + Copy, R: Wait>(
+fn close<N: Name, A: Allocator + Copy, R: Wait + Clock>(
     rt: &R,
     session: &mut Session<N, A>,
     waiting: &mut Waiting<'_, N, A>,

@@ -9,7 +9,6 @@ mod loads;
 mod named;
 mod observers;
 mod outcomes;
-mod performing;
 mod reports;
 mod rounds;
 mod runs;

@@ -79,7 +79,7 @@ fn refused<N: Name, L: Load, A: Allocator + Copy>(
     sessions: usize,
 ) -> Result<Vec<u64, A>, AllocError>
     ensures many { IfOk result (λ counts. length counts.items ≡ sessions) }
-    ensures played { IfOk result (λ counts. AllPlayed L.retries L.plans 1 counts.items) }
+    ensures played { IfOk result (λ counts. AllPlayed N.named.settings L.retries L.plans 1 counts.items) }
 {
     let mut counts = Vec::with_capacity(alloc, sessions)?;
     for place in 0..sessions {
@@ -97,7 +97,7 @@ fn refused_at<N: Name, L: Load, A: Allocator + Copy>(
     place: usize,
 ) -> Option<u64>
     requires { place + 1 < 2 ^ 64 }
-    ensures { IfSome result (λ refused. (pushed : List Item) × HasPlayed L.retries L.plans (place + 1) refused pushed) }
+    ensures { IfSome result (λ refused. (pushed : List Item) × HasPlayed N.named.settings L.retries L.plans (place + 1) refused pushed) }
 {
     match clients.get(place) {
         Some(client) => client.refused(place + 1),
@@ -133,7 +133,7 @@ fn report_state<N: Name, L: Load, W: Write, H: Wait, A: Allocator + Copy>(
     book: bool,
 ) -> Result<bool, WriteFault>
     requires many { length refused.now ≡ N.named.settings.sessions }
-    requires played { AllPlayed L.retries L.plans 1 refused.now }
+    requires played { AllPlayed N.named.settings L.retries L.plans 1 refused.now }
     ensures { ReportedAs book (Appends (W.contents writer.old) (W.contents writer.new)) (AppendsFront (W.contents writer.old) (W.contents writer.new))
         N.named.settings L.retries L.plans limits result }
 {
@@ -151,7 +151,7 @@ fn write_state<N: Name, L: Load, W: Write, A: Allocator + Copy>(
     book: bool,
 ) -> Result<bool, WriteFault>
     requires many { length refused.now ≡ N.named.settings.sessions }
-    requires played { AllPlayed L.retries L.plans 1 refused.now }
+    requires played { AllPlayed N.named.settings L.retries L.plans 1 refused.now }
     ensures { ReportedAs book (Appends (W.contents writer.old) (W.contents writer.new)) (AppendsFront (W.contents writer.old) (W.contents writer.new))
         N.named.settings L.retries L.plans limits result }
 {

@@ -1,7 +1,7 @@
 //! What the threads of a run tell one another.
 
 use crate::observers::{Observer, Progress};
-use occ_model::Verdict;
+use occ_store::Ended;
 use std::sync::Wait;
 use std::sync::atomic::{AtomicBool, AtomicU64, Ordering};
 use std::thread;
@@ -61,10 +61,10 @@ impl Round {
         self.is_stopped() || self.running.load(Ordering::SeqCst) == 0
     }
 
-    /// One transaction more is over.
-    pub(crate) fn settled(&self, verdict: Verdict) {
+    /// One transaction more is over, and ended so.
+    pub(crate) fn settled(&self, ended: &Ended<()>) {
         self.settled.fetch_add(1, Ordering::SeqCst);
-        if let Verdict::BackUp(_) = verdict {
+        if let Ended::BackedUp(_) = ended {
             self.backed_up.fetch_add(1, Ordering::SeqCst);
         }
     }

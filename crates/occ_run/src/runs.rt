@@ -141,7 +141,7 @@ fn run_workload<
         plans,
     } = workload;
     let limits = settings.limits;
-    let Ok(frame) = Frame::new(alloc, schema, limits.sessions, limits.queue, limits.keep) else {
+    let Ok(frame) = Frame::new(alloc, schema, limits.sessions, 0, limits.queue, limits.keep) else {
         return Err(Trouble::Memory);
     };
     run_in(
@@ -205,7 +205,7 @@ fn run_named<
     ensures { RunEnds book (Appends (W.contents writer.old) (W.contents writer.new)) (AppendsFront (W.contents writer.old) (W.contents writer.new))
         N.named.settings L.retries L.plans settings.limits result }
 {
-    let Ok((store, sessions, lanes)) = Store::<N, A>::open(frame) else {
+    let Ok((store, _workers, sessions, lanes)) = Store::<N, A>::open(frame) else {
         return Err(Trouble::Memory);
     };
     let round = Round::new(sessions.len(), patience);

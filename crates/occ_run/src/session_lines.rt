@@ -1,13 +1,12 @@
 //! The lines that tell what became of a session. Each writer leaves one line, without its line feed, in place of what stood there.
 
-ghost use Rattle.std.specs.Prelude.{◌≡◌, ℕ, ◌++◌, OnOk, string_bytes};
+ghost use Rattle.std.specs.Prelude.{◌≡◌, ℕ, OnOk, string_bytes};
 ghost use Rattle.occ_model.specs.Log.{Case};
-ghost use Rattle.occ_sets.specs.LogRows.{log_row_of, standing_of};
-ghost use Rattle.occ_print.specs.Books.{standing_text};
+ghost use Rattle.occ_sets.specs.LogRows.{log_row_of};
 ghost use Rattle.occ_run.specs.Reports.{session_line, standing_line, mark_line};
 
-use occ_book::{LogRow, Standing};
-use occ_model::Cause;
+use occ_book::LogRow;
+use occ_print::lines::write_standing;
 use std::alloc::{AllocError, Allocator};
 
 /// `session S rows R refused Q`.
@@ -34,21 +33,6 @@ pub(crate) fn standing_line<A: Allocator, O>(
     let number = row.number;
     write!(line, "{number} ")?;
     write_standing(line, &row.standing)
-}
-
-fn write_standing<A: Allocator, O>(
-    line: &mut String<A>,
-    standing: &Standing<O>,
-) -> Result<(), AllocError>
-    ensures { (opened : O → ℕ × Case) → OnOk result (string_bytes line.new ≡ string_bytes line.old ++ standing_text (standing_of opened standing.now)) }
-{
-    match standing {
-        Standing::Open(_) => write!(line, "open"),
-        Standing::Writing(done) => write!(line, "writing {done}"),
-        Standing::Done(number) => write!(line, "done {number}"),
-        Standing::Back(Cause::Conflict) => write!(line, "conflict"),
-        Standing::Back(Cause::TooOld) => write!(line, "tooold"),
-    }
 }
 
 /// `mark N`.

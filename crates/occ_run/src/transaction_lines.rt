@@ -2,14 +2,13 @@
 
 ghost use Rattle.std.specs.Prelude.{◌≡◌, Some, IfOk, map};
 ghost use Rattle.occ_text.specs.Escapes.{Gives};
-ghost use Rattle.occ_text.specs.OperationReading.{operations_of};
 ghost use Rattle.occ_text.specs.Operations.{operation_of};
 ghost use Rattle.occ_run.specs.TransactionLines as plain;
 ghost use Rattle.occ_run.specs.TransactionLines.{if_transaction, transaction_of_tokens, transaction_of_line, transaction_text, TransactionFits};
 ghost use Rattle.occ_run.specs.Plans.{transaction_of};
 
 use occ_text::cursors::{next_number, next_word};
-use occ_text::operation_reading::read_operation;
+use occ_text::operation_reading::operations;
 use occ_text::operations::Operation;
 use occ_text::separated_parts::Parts;
 use occ_text::tokens::{Unread, tokens};
@@ -24,25 +23,6 @@ pub(crate) struct Transaction<'a, A: Allocator> {
     pub(crate) session: usize,
     /// What it does, in this order: 1 to 256 operations.
     pub(crate) operations: Vec<Operation<'a, A>, A>,
-}
-
-// The operations of some tokens, one for each, in their order.
-#[tactic(auto, unfolding(occ_text::specs::OperationReading::operations_of))]
-fn operations<'a, A: Allocator + Copy>(
-    alloc: A,
-    version: Version,
-    mut tokens: Parts<'a>,
-) -> Result<Vec<Operation<'a, A>, A>, Unread>
-    ensures { Gives (λ list. map operation_of list.items) result (operations_of version tokens.entry) }
-{
-    let mut operations = Vec::new(alloc);
-    while let Some(token) = tokens.take_part() {
-        operations.push(read_operation(alloc, version, token)?)?;
-    }
-    if operations.is_empty() {
-        return Err(Unread::Malformed);
-    }
-    Ok(operations)
 }
 
 // A transaction of a session, which may not be numbered 0, of at most 256 operations.

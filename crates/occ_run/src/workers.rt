@@ -5,6 +5,7 @@ use crate::loads::{Job, Load};
 use occ_store::{Lane, Name};
 use std::alloc::{AllocError, Allocator};
 use std::sync::Wait;
+use std::time::Clock;
 
 /// A client, and the lane of its session until it runs.
 #[derive(Drop)]
@@ -15,7 +16,7 @@ pub(crate) struct Worker<N: Name, L: Load, A: Allocator + Copy> {
 
 impl<N: Name, L: Load, A: Allocator + Copy> Worker<N, L, A> {
     /// Runs the client, which serves the lane. It runs once.
-    pub(crate) fn run<R: Wait>(&mut self, rt: &R, job: &Job<N, L, A>) {
+    pub(crate) fn run<R: Wait + Clock>(&mut self, rt: &R, job: &Job<N, L, A>) {
         let lane = self.lane.take();
         self.client.run(rt, job, lane);
     }

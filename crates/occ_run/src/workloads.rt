@@ -2,27 +2,26 @@
 
 ghost use Rattle.std.specs.Prelude.{◌≡◌, ◌+◌, ◌*◌, ◌≤◌, ◌^◌, ◌↔◌, ◌++◌, ◌∷◌, [], IfOk, IfErr, IsTrue, map, codes};
 ghost use Rattle.std.specs.Io.KnownBytes.{prepend_known};
-ghost use Rattle.occ_types.specs.PlainData.{tables_of};
 ghost use Rattle.occ_text.specs.Headers.{table_text};
-ghost use Rattle.occ_text.specs.HeaderTaking.{TablesSoFar};
+ghost use Rattle.occ_text.specs.Languages.{position_of, TakesFrom};
 ghost use Rattle.occ_text.specs.Line.{Taken, HasFailed};
 ghost use Rattle.occ_text.specs.Faults.{widened};
 ghost use Rattle.occ_text.specs.Reading.{Reads};
 ghost use Rattle.occ_text.specs.declared.faults.LineFault.TheVariants as line_faults;
 ghost use Rattle.occ_text.specs.declared.faults.ReadFault.TheVariants as read_faults;
-ghost use Rattle.occ_run.specs.Workloads.{load_text, load_version, Version as VersionAt, Tables as TablesAt, Transactions as TransactionsAt, settings_lines, further_text, FurtherFits, HasRoom, point, TakesFrom};
-ghost use Rattle.occ_run.specs.Plans.{further_of, plan_of, PlanTaken, PlansTaken, WorkloadTaken};
+ghost use Rattle.occ_run.specs.Workloads.{load_text, load_version, Version as VersionAt, Tables as TablesAt, Transactions as TransactionsAt, settings_lines, HasRoom, loads};
+ghost use Rattle.occ_run.specs.Plans.{plan_of, PlanTaken, PlansTaken, WorkloadTaken};
 
 use crate::named::planned;
 use crate::transaction_lines::read_transaction;
 use occ_sets::Op;
 use occ_text::faults::{LineFault, ReadFault, read_at_line};
-use occ_text::headers::{Limits, table_behind, take_count};
+use occ_text::headers::{Limits, take_count, take_tables};
 use occ_text::input::{Input, Next};
 use occ_text::tokens::is_word;
 use occ_text::versions::Version;
+use occ_types::Schema;
 use occ_types::limits::{MAX_KEEP, MAX_QUEUE, MAX_SESSIONS};
-use occ_types::{Schema, TableDef};
 use std::alloc::Allocator;
 use std::io::Read;
 
@@ -105,10 +104,7 @@ fn take_settings<R: Read, A: Allocator>(
     input: &mut Input<A>,
     reader: &mut R,
 ) -> Result<Settings, LineFault>
-    ensures gives { TakesFrom (widened result) VersionAt (λ settings. TablesAt settings []) settings_lines
-        (point (prepend_known input.old.unread (R.remaining reader.old)) input.old.number)
-        (point (prepend_known input.new.unread (R.remaining reader.new)) input.new.number) }
-    ensures retries { IfOk result (λ settings. settings.retries ≤ 16) }
+    ensures gives { TakesFrom loads (widened result) VersionAt (λ settings. TablesAt settings []) settings_lines (λ settings. settings.retries ≤ 16) (position_of input.old (R.remaining reader.old)) (position_of input.new (R.remaining reader.new)) }
     ensures cause { IfErr result (λ fault. fault ≡ line_faults.Read → HasFailed input.new) }
 {
     let version = take_version(input, reader)?;
@@ -137,58 +133,24 @@ fn is_begin(line: &[u8]) -> bool
     is_word(line, "begin")
 }
 
-// Takes the line behind those of some tables: one more table, or nothing at `begin`.
-fn take_next<R: Read, A: Allocator + Copy>(
-    alloc: A,
-    version: Version,
-    input: &mut Input<A>,
-    reader: &mut R,
-    tables: &[TableDef<A>],
-) -> Result<Option<TableDef<A>>, ReadFault>
-    requires { TablesSoFar version (tables_of tables.now) }
-    ensures taken { Taken further_of further_text (FurtherFits version (tables_of tables.now)) result
-        (prepend_known input.old.unread (R.remaining reader.old))
-        (prepend_known input.new.unread (R.remaining reader.new)) input.old.number input.new.number }
-    ensures cause { IfErr result (λ fault. fault ≡ read_faults.Read → HasFailed input.new) }
-{
-    input.take_line(reader)?;
-    if is_begin(input.line()) {
-        return Ok(None);
-    }
-    let table = read_at_line(
-        table_behind(alloc, version, tables, input.line()),
-        input.number(),
-    )?;
-    Ok(Some(table))
-}
-
 // Takes the lines of the tables, and `begin`.
-fn take_tables<R: Read, A: Allocator + Copy>(
+fn take_schema<R: Read, A: Allocator + Copy>(
     alloc: A,
     input: &mut Input<A>,
     reader: &mut R,
     settings: Settings,
 ) -> Result<Schema<A>, ReadFault>
-    ensures taken { TakesFrom result (TablesAt settings []) (λ schema. TransactionsAt settings schema []) (λ schema. map table_text schema ++ codes "begin" ∷ [])
-        (point (prepend_known input.old.unread (R.remaining reader.old)) input.old.number)
-        (point (prepend_known input.new.unread (R.remaining reader.new)) input.new.number) }
+    ensures taken { TakesFrom loads result (TablesAt settings []) (λ schema. TransactionsAt settings schema []) (λ schema. map table_text schema ++ codes "begin" ∷ []) (λ schema. Unit {0}) (position_of input.old (R.remaining reader.old)) (position_of input.new (R.remaining reader.new)) }
     ensures cause { IfErr result (λ fault. fault ≡ read_faults.Read → HasFailed input.new) }
 {
-    let mut tables = Vec::new(alloc);
-    loop {
-        match take_next(
-            alloc,
-            settings.limits.version,
-            input,
-            reader,
-            tables.as_slice(),
-        )? {
-            Some(table) => tables.push(table)?,
-            None => match Schema::new(tables) {
-                Ok(schema) => return Ok(schema),
-                Err(_) => return Err(ReadFault::Malformed(input.number())),
-            },
-        }
+    let tables = take_tables(alloc, settings.limits.version, input, reader)?;
+    let number = input.number();
+    if !is_begin(input.line()) {
+        return Err(ReadFault::Malformed(number));
+    }
+    match Schema::new(tables) {
+        Ok(schema) => Ok(schema),
+        Err(_) => Err(ReadFault::Malformed(number)),
     }
 }
 
@@ -212,9 +174,7 @@ fn take_plan<R: Read, A: Allocator + Copy>(
 ) -> Result<Option<Plan<A>>, ReadFault>
     requires retries { settings.retries ≤ 16 }
     requires before { before ≤ 2 ^ 20 }
-    ensures taken { PlanTaken plan_of result settings schema.now before
-        (point (prepend_known input.old.unread (R.remaining reader.old)) input.old.number)
-        (point (prepend_known input.new.unread (R.remaining reader.new)) input.new.number) }
+    ensures taken { PlanTaken plan_of result settings schema.now before (position_of input.old (R.remaining reader.old)) (position_of input.new (R.remaining reader.new)) }
     ensures cause { IfErr result (λ fault. fault ≡ read_faults.Read → HasFailed input.new) }
 {
     match input.next_line(reader)? {
@@ -242,9 +202,7 @@ fn take_plans<R: Read, A: Allocator + Copy>(
     schema: &Schema<A>,
 ) -> Result<Vec<Plan<A>, A>, ReadFault>
     requires { settings.retries ≤ 16 }
-    ensures taken { PlansTaken (λ plans. map plan_of plans.items) result settings schema.now
-        (point (prepend_known input.old.unread (R.remaining reader.old)) input.old.number)
-        (point (prepend_known input.new.unread (R.remaining reader.new)) input.new.number) }
+    ensures taken { PlansTaken (λ plans. map plan_of plans.items) result settings schema.now (position_of input.old (R.remaining reader.old)) (position_of input.new (R.remaining reader.new)) }
     ensures cause { IfErr result (λ fault. fault ≡ read_faults.Read → HasFailed input.new) }
 {
     let mut plans = Vec::new(alloc);
@@ -266,13 +224,11 @@ pub fn read_workload<R: Read, A: Allocator + Copy>(
     input: &mut Input<A>,
     reader: &mut R,
 ) -> Result<Workload<A>, ReadFault>
-    ensures taken { WorkloadTaken result
-        (point (prepend_known input.old.unread (R.remaining reader.old)) input.old.number)
-        (point (prepend_known input.new.unread (R.remaining reader.new)) input.new.number) }
+    ensures taken { WorkloadTaken result (position_of input.old (R.remaining reader.old)) (position_of input.new (R.remaining reader.new)) }
     ensures cause { IfErr result (λ fault. fault ≡ read_faults.Read → HasFailed input.new) }
 {
     let settings = take_settings(input, reader)?;
-    let schema = take_tables(alloc, input, reader, settings)?;
+    let schema = take_schema(alloc, input, reader, settings)?;
     let plans = take_plans(alloc, input, reader, settings, &schema)?;
     Ok(Workload {
         settings,

@@ -1,5 +1,5 @@
-use Rattle.occ_run.proofs.WorkloadLaws.{stops_once}
+use Rattle.occ_run.proofs.WorkloadLaws.{stops_at_one}
 use Rattle.occ_run.proofs.laws.a_text_is_malformed_at_one_line.Goals as goal
 
 pub returns : goal.returns
-returns c = stops_once
+returns c = stops_at_one

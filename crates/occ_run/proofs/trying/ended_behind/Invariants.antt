@@ -1,5 +1,5 @@
 use Rattle.std.proofs.Common.{◌≡◌}
-use Rattle.occ_run.proofs.trying.settled.Given as goal
+use Rattle.occ_run.proofs.trying.ended_behind.Given as goal
 
 -- nothing but the seat moves
 abbrev pub invariant-loop : goal.invariant-loop

@@ -1,6 +1,0 @@
-use Rattle.std.proofs.Common.{◌≡◌}
-use Rattle.occ_run.proofs.trying.alone.Given as goal
-
--- all stays while the queue is full
-abbrev pub invariant-loop-polled : goal.invariant-loop-polled
-invariant-loop-polled g l = (l.session ≡ l.fn.session) × (l.operations ≡ l.fn.operations)
