@@ -15,13 +15,13 @@ pub(crate) fn read_and_write<A: Allocator + Copy>(
 ) -> Result<(), Fault> {
     if shape.span > 0 {
         let (lower, upper) = (first, first.saturating_add(shape.span));
-        let (lower, upper) = (Some(Key::Num(lower)), Some(Key::Num(upper)));
-        let _rows = client.scan(core, TABLE, lower, upper)?;
+        let (lower, upper) = (Key::Num(lower), Key::Num(upper));
+        let _rows = client.scan(core, TABLE, Some(&lower), Some(&upper))?;
     }
     for place in 0..shape.reads.max(shape.writes) {
         let key = shape.key(first, place);
         let before = match place < shape.reads {
-            true => number_in(client.get(core, TABLE, Key::Num(key))?),
+            true => number_in(client.get(core, TABLE, &Key::Num(key))?),
             false => 0,
         };
         if place < shape.writes {

@@ -2,7 +2,7 @@
 use crate::rows::operations;
 use crate::tasks::By;
 use crate::turns::{Draft, Turn};
-use occ_store::{AlwaysGo, Lane, Name, Served, Session, Store, Worker};
+use occ_store::{AlwaysGo, Lane, Name, Served, Session, Store};
 use occ_types::Fault;
 use std::alloc::Allocator;
 use std::sync::Wait;
@@ -18,9 +18,14 @@ pub(crate) struct Client<N: Name, A: Allocator + Copy> {
 }
 
 impl<N: Name, A: Allocator + Copy> Client<N, A> {
-    /// Those of a worker, for transactions that are made by this.
-    pub(crate) fn new(alloc: A, worker: Worker<N, A>, by: By) -> Client<N, A> {
-        let (session, mut lane) = worker.into_parts();
+    /// A session and its lane, for transactions that are made by this.
+    pub(crate) fn new(
+        alloc: A,
+        session: Session<N, A>,
+        mut lane: Lane<N, A>,
+        by: By,
+    ) -> Client<N, A> {
+        lane.set_files(false);
         lane.set_serial(by == By::Serial);
         Client {
             alloc,

@@ -1,7 +1,6 @@
 //! A load on a store: its rows at first, who makes its transactions, and its sum at the end.
 ghost use Rattle.std.specs.Prelude.{◌≡◌};
 
-use crate::bank::hired;
 use crate::budgets::Budget;
 use crate::by_lanes::Client;
 use crate::calls::{CALLS, are_right, run_list};
@@ -32,8 +31,19 @@ pub(crate) fn open<A: Allocator + Copy + Send + Sync, R: Threads + Wait + Clock 
     alloc: A,
     task: Task,
 ) -> Result<Told, Fault> {
-    let frame = Frame::new(alloc, schema(alloc)?, task.threads, ROOM, KEPT)?;
+    let (sessions, workers) = parties(task);
+    let frame = Frame::new(alloc, schema(alloc)?, sessions, workers, ROOM, KEPT)?;
     run::<Brand, A, R>(rt, alloc, frame, task)
+}
+
+/// How many sessions a task has, and how many of them are workers: each thread's, or one that puts the rows for the sessions of the
+/// threads.
+fn parties(task: Task) -> (usize, usize) {
+    if task.way.by == By::Worker {
+        (task.threads, task.threads)
+    } else {
+        (task.threads.saturating_add(1), 1)
+    }
 }
 
 /// Does a task on the store of a frame.
@@ -45,10 +55,10 @@ fn run<N: Name + Send + Sync, A: Allocator + Copy + Send + Sync, R: Threads + Wa
 ) -> Result<Told, Fault>
     requires { (frame.named ≡ N.named) × (frame.ledger ≡ N.name) × (frame.parts ≡ N.parts) }
 {
-    let Ok((store, sessions, lanes)) = Store::<N, A>::open(frame) else {
+    let Ok((store, workers, sessions, lanes)) = Store::<N, A>::open(frame) else {
         return Err(Fault::Memory);
     };
-    play(rt, alloc, &store, sessions, lanes, task)
+    play(rt, alloc, &store, workers, sessions, lanes, task)
 }
 
 /// Does a task on a store, by a thread for each session.
@@ -56,16 +66,17 @@ fn play<N: Name + Send + Sync, A: Allocator + Copy + Send + Sync, R: Threads + W
     rt: &R,
     alloc: A,
     store: &Store<N, A>,
+    workers: Vec<Worker<N, A>, A>,
     sessions: Vec<Session<N, A>, A>,
     lanes: Vec<Lane<N, A>, A>,
     task: Task,
 ) -> Result<Told, Fault> {
-    let mut workers = hired(alloc, sessions, lanes)?;
+    let mut workers = workers;
     let (called, before) = prepare(rt, alloc, store, &mut workers, task.load.shape)?;
     let mut told = if task.way.by == By::Worker {
         play_by_workers(rt, alloc, store, workers, task)?
     } else {
-        play_by_clients(rt, alloc, store, workers, task)?
+        play_by_clients(rt, alloc, store, sessions, lanes, task)?
     };
     (told.called, told.before) = (called, before);
     told.sum = total(rt, store);
@@ -112,7 +123,7 @@ fn play_by_workers<
     Ok(told(rt, &crew, task, &budget))
 }
 
-/// Does a task by the sessions and lanes of workers; the sum of the rows is left out.
+/// Does a task by sessions and their lanes; the sum of the rows is left out.
 fn play_by_clients<
     N: Name + Send + Sync,
     A: Allocator + Copy + Send + Sync,
@@ -121,13 +132,14 @@ fn play_by_clients<
     rt: &R,
     alloc: A,
     store: &Store<N, A>,
-    workers: Vec<Worker<N, A>, A>,
+    sessions: Vec<Session<N, A>, A>,
+    lanes: Vec<Lane<N, A>, A>,
     task: Task,
 ) -> Result<Told, Fault> {
     let mut crew = Vec::new(alloc);
-    for worker in workers {
+    for (session, lane) in sessions.into_iter().zip(lanes) {
         let place = crew.len();
-        let client = Client::new(alloc, worker, task.way.by);
+        let client = Client::new(alloc, session, lane, task.way.by);
         crew.push(Member::new(client, task, place))?;
     }
     let budget = Budget::begin(rt, task.until);

@@ -10,7 +10,9 @@
 //! `bench_loads LOAD WAY ROUNDS` does so many rounds by one owner and prints how many transactions committed. The load is one of `loads.rt`,
 //! and the way `steps`, `serial`, `client`, `alone`, `folded` (as `serial`, with a log that is folded every 10,000 rounds) or `bare`.
 //!
-//! With no words it opens the bank of `bank.rt`; prints how many requests for memory the transactions of each load make by one owner, in
+//! `bench_loads bank END` opens the bank of `bank.rt` for so many rounds, or for so many seconds, and prints what came of it.
+//!
+//! With no words it opens the bank for a few rounds; prints how many requests for memory the transactions of each load make by one owner, in
 //! each way, and how many bytes of them stay; and does a short load of each by threads, and prints whether all is right.
 #![tactic(auto)]
 
@@ -23,6 +25,7 @@ mod by_lock;
 mod by_owner;
 mod by_stores;
 mod calls;
+mod closing;
 mod costs;
 mod crews;
 mod dice;
@@ -34,6 +37,7 @@ mod rows;
 mod tasks;
 mod turns;
 
+use budgets::Until;
 use loads::Load;
 use occ_types::Fault;
 use outcomes::{Done, Told};
@@ -45,6 +49,9 @@ use std::sync::Wait;
 use std::thread::Threads;
 use std::time::Clock;
 use tasks::{Asked, By, Named, Task, Way};
+
+/// How many rounds of a bank are made where nothing is asked for.
+const BANKS: u64 = 5;
 
 fn main(rt: HostRuntime) -> ExitCode {
     match words(&rt) {
@@ -76,8 +83,9 @@ fn run<R: Runtime + Threads + Wait + Sync>(
         Some(Asked::All) => check_all(rt, alloc),
         Some(Asked::Load(task)) => tell(rt, alloc, task, true),
         Some(Asked::Rounds(rounds)) => costs::tell_rounds(rt, alloc, rounds),
+        Some(Asked::Bank(until)) => tell_bank(rt, alloc, until, true),
         None => {
-            eprintln!(rt; "bench_loads [LOAD WAY (THREADS END | ROUNDS)]")?;
+            eprintln!(rt; "bench_loads [LOAD WAY (THREADS END | ROUNDS) | bank END]")?;
             Ok(false)
         }
     }
@@ -154,10 +162,36 @@ fn tell_fault<R: Runtime>(rt: &R, fault: Fault) -> io::Result<bool> {
     Ok(false)
 }
 
-/// What each load costs one owner, the short loads by threads, and the clients of a bank. Whether the loads are right.
+/// Opens a bank, and prints what came of it; where it is measured, the figures too. Whether it is right.
+fn tell_bank<R: Runtime + Threads + Wait + Sync>(
+    rt: &R,
+    alloc: Global,
+    until: Until,
+    measured: bool,
+) -> io::Result<bool> {
+    match bank::rounds(rt, alloc, until) {
+        Ok(told) => {
+            print!(rt; "bank: ")?;
+            if measured {
+                print!(rt; "{} rounds, {} committed, ", told.rounds, told.committed)?;
+                print!(rt;
+                    "{} backed up, {} clients died, ",
+                    told.backed_up, told.died
+                )?;
+            }
+            tell_right(rt, told.right)
+        }
+        Err(fault) => tell_fault(rt, fault),
+    }
+}
+
+/// A few rounds of a bank, what each load costs one owner, and the short loads by threads. Whether all is right.
 fn check_all<R: Runtime + Threads + Wait + Sync>(rt: &R, alloc: Global) -> io::Result<bool> {
-    println!(rt; "right sums of four clients: {:?}", bank::named(rt, alloc))?;
-    Ok(costs::tell_all(rt, alloc)? && check_loads(rt, alloc)?)
+    Ok(
+        tell_bank(rt, alloc, Until::Count(BANKS), false)?
+            && costs::tell_all(rt, alloc)?
+            && check_loads(rt, alloc)?,
+    )
 }
 
 /// A short load by each way, and one of each load. Whether all are right.

@@ -74,6 +74,8 @@ pub(crate) enum Asked {
     Load(Task),
     /// Rounds of a load by one owner.
     Rounds(Rounds),
+    /// Rounds of a bank.
+    Bank(Until),
 }
 
 impl By {
@@ -227,6 +229,10 @@ impl Asked {
     pub(crate) fn of(words: &[String]) -> Option<Asked> {
         match words {
             [_] => Some(Asked::All),
+            [_, word, until] if word.as_str() == "bank" => {
+                let until = Until::told(until)?;
+                Some(Asked::Bank(until))
+            }
             [_, load, way, count] => {
                 let rounds = Rounds::told(load, way, count)?;
                 Some(Asked::Rounds(rounds))

@@ -16,10 +16,15 @@ pub(crate) enum Draft<'a, N: Name, A: Allocator + Copy> {
 
 impl<N: Name, A: Allocator + Copy> Draft<'_, N, A> {
     /// The row under a key.
-    fn row<R: Wait>(&self, rt: &R, store: &Store<N, A>, key: u64) -> Result<Option<Row<A>>, Fault> {
+    fn row<R: Wait>(
+        &self,
+        rt: &R,
+        store: &Store<N, A>,
+        key: &Key<A>,
+    ) -> Result<Option<Row<A>>, Fault> {
         match self {
-            Draft::Session(session) => session.get(rt, store, TABLE, key.into()),
-            Draft::Worker(transaction) => transaction.get(rt, store, TABLE, key.into()),
+            Draft::Session(session) => session.get(rt, store, TABLE, key),
+            Draft::Worker(transaction) => transaction.get(rt, store, TABLE, key),
         }
     }
 
@@ -28,8 +33,8 @@ impl<N: Name, A: Allocator + Copy> Draft<'_, N, A> {
         &self,
         rt: &R,
         store: &Store<N, A>,
-        lower: Option<Key<A>>,
-        upper: Option<Key<A>>,
+        lower: Option<&Key<A>>,
+        upper: Option<&Key<A>>,
     ) -> Result<RangeRows<A>, Fault> {
         match self {
             Draft::Session(session) => session.scan(rt, store, TABLE, lower, upper),
@@ -106,9 +111,10 @@ impl Turn {
         store: &Store<N, A>,
         draft: &mut Draft<'_, N, A>,
     ) -> Result<(), Fault> {
-        let rows = draft.rows(rt, store, None, None)?.len();
-        self.counted = Some(rows);
-        draft.write(0, rows as i64)
+        let unbounded = None;
+        let rows = draft.rows(rt, store, unbounded.as_ref(), unbounded.as_ref())?;
+        self.counted = Some(rows.len());
+        draft.write(0, rows.len() as i64)
     }
 
     /// Reads and writes as the load does.
@@ -122,7 +128,7 @@ impl Turn {
         for place in 0..self.shape.reads.max(self.shape.writes) {
             let key = self.shape.key(self.first, place);
             if place < self.shape.reads {
-                let row = draft.row(rt, store, key)?;
+                let row = draft.row(rt, store, &Key::Num(key))?;
                 number = row.as_ref().and_then(|row| row.int(0)).unwrap_or(0);
             }
             if place < self.shape.writes {
@@ -142,9 +148,9 @@ impl Turn {
         if self.shape.span == 0 {
             return Ok(0);
         }
-        let upper = self.first.saturating_add(self.shape.span);
-        let (lower, upper) = (Some(self.first.into()), Some(upper.into()));
-        let rows = draft.rows(rt, store, lower, upper)?;
+        let (lower, upper) = (self.first, self.first.saturating_add(self.shape.span));
+        let (lower, upper) = (Key::Num(lower), Key::Num(upper));
+        let rows = draft.rows(rt, store, Some(&lower), Some(&upper))?;
         let first = rows.as_slice().first();
         Ok(first.and_then(|(_, row)| row.int(0)).unwrap_or(0))
     }
@@ -159,12 +165,12 @@ impl<N: Name, A: Allocator + Copy, R: Wait> Body<N, A, R> for Turn {
         &mut self,
         rt: &R,
         store: &Store<N, A>,
-        transaction: &mut Transaction<N, A>,
+        work: &mut Transaction<N, A>,
     ) -> Result<(), Fault> {
         if self.counted.is_some() {
-            delete(transaction, 1)?;
+            delete(work, 1)?;
         }
-        self.run_in(rt, store, &mut Draft::Worker(transaction))
+        self.run_in(rt, store, &mut Draft::Worker(work))
     }
 }
 

@@ -89,7 +89,7 @@ fn add(client: &mut One, store: &mut Store, account: u64, amount: i64) -> Result
 
 /// The balance of an account, which is 0 where there is none.
 fn balance(client: &mut One, store: &mut Store, account: u64) -> Result<i64, Fault> {
-    number(client, store, ACCOUNTS, account.into())
+    number(client, store, ACCOUNTS, &account.into())
 }
 
 /// The number in the row under a key, or 0 where there is none.
@@ -97,7 +97,7 @@ fn number(
     client: &mut One,
     store: &mut Store,
     table: usize,
-    key: Key<Global>,
+    key: &Key<Global>,
 ) -> Result<i64, Fault> {
     let row = client.get(store, table, key)?;
     Ok(row.as_ref().and_then(|row| row.int(0)).unwrap_or(0))
@@ -126,7 +126,7 @@ fn enter(client: &mut One, store: &mut Store, owner: Key<Global>) -> Result<End,
 /// The account of an owner, and its balance.
 fn find(client: &mut One, store: &mut Store, owner: Key<Global>) -> Result<(i64, i64), Fault> {
     client.begin(store)?;
-    let account = number(client, store, OWNERS, owner)?;
+    let account = number(client, store, OWNERS, &owner)?;
     let balance = balance(client, store, account.unsigned_abs())?;
     client.commit(store)?;
     Ok((account, balance))
@@ -149,7 +149,8 @@ fn count(a: &mut One, b: &mut One, store: &mut Store, lines: &mut String) -> Res
 fn range(client: &mut One, store: &mut Store, lines: &mut String) -> Result<(), Fault> {
     client.begin(store)?;
     add(client, store, 3, 5)?;
-    let rows = client.scan(store, ACCOUNTS, Some(Key::Num(1)), Some(Key::Num(7)))?;
+    let (lower, upper) = (Key::Num(1), Key::Num(7));
+    let rows = client.scan(store, ACCOUNTS, Some(&lower), Some(&upper))?;
     for (key, row) in rows.as_slice() {
         writeln!(lines, "{key}: {row}")?;
     }
@@ -168,10 +169,12 @@ fn refusals(
     client.begin(store)?;
     let twice = client.begin(store).err();
     let name = Key::text(alloc, "seven")?;
-    let kind = client.get(store, ACCOUNTS, name).err();
-    let (lower, upper) = (Some(Key::Num(7)), Some(Key::Num(1)));
-    let empty = client.scan(store, ACCOUNTS, lower, upper).err();
-    let table = client.get(store, 2, Key::Num(7)).err();
+    let kind = client.get(store, ACCOUNTS, &name).err();
+    let (lower, upper) = (Key::Num(7), Key::Num(1));
+    let empty = client
+        .scan(store, ACCOUNTS, Some(&lower), Some(&upper))
+        .err();
+    let table = client.get(store, 2, &Key::Num(7)).err();
     let _known = client.abandon(store)?;
     client.close(store)?;
     let closed = client.begin(store).err();

@@ -1,11 +1,14 @@
-//! Validators in threads: four clients read, write to private copies and submit; others validate what they submit. Each client moves
-//! money and sums all accounts, and a sum that commits is what was paid in.
+//! Validators in threads, and a client that dies. Two clients sum all accounts, three move money between them, and two validators end what
+//! they hand in. The last client dies amid a transfer, and never closes; so the client that is over last stops the store, and nobody waits
+//! for ever. What was open is lost, and what was handed in comes to its end.
 #![tactic(auto)]
 
 ghost use Rattle.std.specs.Prelude.{◌≡◌};
 
+use occ_audit::audit_rows;
 use occ_store::{
-    AlwaysGo, Fault, Frame, Group, KeyKind, Kind, Lane, Name, Schema, Session, Store, Verdict,
+    Account, AlwaysGo, Awaited, Body, Ended, Fault, Frame, Group, Key, KeyKind, Kind, Lane, Name,
+    Schema, Served, Session, Stoppable, Store, Transaction, Worker,
 };
 use std::alloc::{Allocator, Global};
 use std::sync::Wait;
@@ -13,165 +16,262 @@ use std::sync::atomic::{AtomicU64, Ordering};
 use std::thread::{self, Threads};
 use std::time::Clock;
 
-/// The place of the one table in the schema.
-const ACCOUNTS: usize = 0;
+/// How many clients there are.
+const CLIENTS: usize = 5;
 
-/// How often a client tries a transaction.
+/// How many transactions each of them makes.
+const ROUNDS: u64 = 100;
+
+/// How often a client tries a transaction, and how many pauses it makes where it waits.
 const TRIES: usize = 1_000;
 
-/// Adds to the balance of an account, in the client's open transaction.
+const PATIENCE: u64 = 1_000_000;
+
+/// What a transaction does.
+#[derive(Clone, Copy)]
+enum Deed {
+    /// Moves 1 from an account to another.
+    Transfer { from: u64, to: u64 },
+    /// Sums all accounts.
+    Sum,
+}
+
+impl Deed {
+    /// That of a client in a round: two sum, and the others pay.
+    fn of(client: usize, round: u64) -> Deed {
+        match client {
+            1 | 2 => Deed::Sum,
+            _ => Deed::Transfer {
+                from: round % 7,
+                to: round % 10,
+            },
+        }
+    }
+}
+
+impl<N: Name, A: Allocator + Copy, R: Wait> Body<N, A, R> for Deed {
+    /// The sum, where it makes one.
+    type Value = Option<i64>;
+
+    type Error = Fault;
+
+    fn run(
+        &mut self,
+        rt: &R,
+        bank: &Store<N, A>,
+        work: &mut Transaction<N, A>,
+    ) -> Result<Option<i64>, Fault> {
+        match *self {
+            Deed::Transfer { from, to } => {
+                add(rt, bank, work, from, -1)?;
+                add(rt, bank, work, to, 1)?;
+                Ok(None)
+            }
+            Deed::Sum => Ok(Some(sum(rt, bank, work)?)),
+        }
+    }
+}
+
+/// Adds to the balance of an account.
 fn add<N: Name, A: Allocator + Copy, R: Wait>(
     rt: &R,
-    store: &Store<N, A>,
-    client: &mut Session<N, A>,
+    bank: &Store<N, A>,
+    work: &mut Transaction<N, A>,
     account: u64,
     amount: i64,
 ) -> Result<(), Fault> {
-    let row = client.get(rt, store, ACCOUNTS, account.into())?;
+    let row = work.get(rt, bank, 0, &Key::Num(account))?;
     let balance = row.as_ref().and_then(|row| row.int(0)).unwrap_or(0);
-    client.put(
-        ACCOUNTS,
-        account.into(),
-        balance.saturating_add(amount).into(),
-    )?;
+    work.put(0, account.into(), balance.saturating_add(amount).into())?;
     Ok(())
 }
 
-/// Submits the open transaction and waits until it is over. Whether it committed.
-fn commits<N: Name, A: Allocator + Copy, R: Wait>(
-    rt: &R,
-    client: &mut Session<N, A>,
-) -> Result<bool, Fault> {
-    let number = client.submit(rt)?;
-    for _ in rt.forever() {
-        let last = client.poll();
-        if last.number >= number {
-            return Ok(last.status == Some(Verdict::Commit));
-        }
-        thread::yield_now();
-    }
-    unreachable!()
-}
-
-/// One transaction, which moves 1 from an account to another. Whether it committed.
-fn moves<N: Name, A: Allocator + Copy, R: Wait>(
-    rt: &R,
-    store: &Store<N, A>,
-    client: &mut Session<N, A>,
-    from: u64,
-    to: u64,
-) -> Result<bool, Fault> {
-    client.begin()?;
-    add(rt, store, client, from, -1)?;
-    add(rt, store, client, to, 1)?;
-    commits(rt, client)
-}
-
-/// One transaction, which sums all accounts: the sum, where it committed.
+/// The sum of all accounts.
 fn sum<N: Name, A: Allocator + Copy, R: Wait>(
     rt: &R,
-    store: &Store<N, A>,
-    client: &mut Session<N, A>,
-) -> Result<Option<i64>, Fault> {
-    client.begin()?;
+    bank: &Store<N, A>,
+    work: &Transaction<N, A>,
+) -> Result<i64, Fault> {
+    let unbounded = None;
+    let rows = work.scan(rt, bank, 0, unbounded.as_ref(), unbounded.as_ref())?;
     let mut sum = 0i64;
-    for (_, row) in client.scan(rt, store, ACCOUNTS, None, None)?.as_slice() {
+    for (_, row) in rows.as_slice() {
         sum = sum.saturating_add(row.int(0).unwrap_or(0));
     }
-    Ok(commits(rt, client)?.then_some(sum))
+    Ok(sum)
 }
 
-/// A hundred times a transfer and then a sum, each tried until it commits. It counts the sums that are right.
-fn work<N: Name, A: Allocator + Copy, R: Wait>(
+/// What the clients count together.
+#[derive(Drop)]
+struct Tally {
+    /// How many sums were right: money is moved, and none comes in.
+    right: AtomicU64,
+    /// How many clients are over.
+    over: AtomicU64,
+}
+
+/// The transactions of a client, each until it commits.
+fn work<N: Name, A: Allocator + Copy, R: Wait + Clock>(
     rt: &R,
-    store: &Store<N, A>,
+    bank: &Store<N, A>,
     client: &mut Session<N, A>,
-    right: &AtomicU64,
+    tally: &Tally,
 ) -> Result<(), Fault> {
-    for round in 0..100u64 {
-        for _ in 0..TRIES {
-            if moves(rt, store, client, round % 7, round % 10)? {
-                break;
-            }
-        }
-        for _ in 0..TRIES {
-            if let Some(sum) = sum(rt, store, client)? {
-                right.fetch_add((sum == 0) as u64, Ordering::SeqCst);
-                break;
-            }
+    for round in 0..ROUNDS {
+        let mut deed = Deed::of(client.session(), round);
+        let awaited = client.transact(rt, bank, TRIES, PATIENCE, &mut deed)?;
+        if let Awaited::Settled(Ended::Committed { value: Some(0), .. }) = awaited {
+            tally.right.fetch_add(1, Ordering::SeqCst);
         }
     }
     Ok(())
 }
 
-/// A client to its end: whatever it met, it gives up what is open and closes its session, so that its lane can end.
-fn client<N: Name, A: Allocator + Copy, R: Wait>(
+/// A client as long as it lives. The last one dies with half of a transfer open. Each other, whatever it met, gives up what is open and
+/// closes.
+fn live<N: Name, A: Allocator + Copy, R: Wait + Clock>(
     rt: &R,
-    store: &Store<N, A>,
-    session: &mut Session<N, A>,
-    right: &AtomicU64,
+    bank: &Store<N, A>,
+    client: &mut Session<N, A>,
+    tally: &Tally,
 ) -> Result<(), Fault> {
-    let worked = work(rt, store, session, right);
-    if session.open_number().is_some() {
-        session.abandon(rt, store)?;
+    let worked = work(rt, bank, client, tally);
+    if client.session() < CLIENTS {
+        client.give_up(rt, bank, PATIENCE)?;
+        return worked;
     }
-    session.close(rt)?;
-    worked
+    client.begin()?;
+    let _balance = client.get(rt, bank, 0, &Key::Num(0))?;
+    client.put(0, 0u64.into(), (-1i64).into())?;
+    Ok(())
 }
 
-/// The clients and the validators at once, each in a thread of its own.
+/// Counts a client that is over, dead or not. The last one stops the store, for the lane of a dead one never comes to a closing mark.
+fn leave<N: Name + Stoppable, A: Allocator + Copy>(bank: &Store<N, A>, tally: &Tally) {
+    if tally.over.fetch_add(1, Ordering::SeqCst) == CLIENTS as u64 - 1 {
+        bank.stop();
+    }
+}
+
+/// The validators and the clients, each in a thread of its own, until all are over. A client whose thread can't be started is over at once.
 fn serve<
-    N: Name + Send + Sync,
+    N: Name + Stoppable + Send + Sync,
     A: Allocator + Copy + Send + Sync,
     R: Threads + Wait + Clock + Sync,
->(rt: &R, store: &Store<N, A>, sessions: &mut [Session<N, A>], groups: &mut [Group<N, A>]) -> u64 {
-    let right = &AtomicU64::new(0);
+>(
+    rt: &R,
+    bank: &Store<N, A>,
+    clients: &mut [Session<N, A>],
+    groups: &mut [Group<N, A>],
+    tally: &Tally,
+) {
     thread::scope(thread::scope_env(), rt, |scope| {
         for group in groups.iter_mut() {
-            let _ = scope.spawn(move || group.serve(rt, store, &AlwaysGo));
+            let _ = scope.spawn(move || group.serve(rt, bank, &AlwaysGo));
         }
-        for session in sessions.iter_mut() {
-            let _ = scope.spawn(move || client(rt, store, session, right));
+        for client in clients.iter_mut() {
+            let started = scope.spawn(move || {
+                let _lived = live(rt, bank, client, tally);
+                leave(bank, tally);
+            });
+            if started.is_err() {
+                leave(bank, tally);
+            }
         }
     });
-    right.load(Ordering::SeqCst)
 }
 
-/// A validator for each lane.
-fn validators<N: Name, A: Allocator + Copy>(
+/// Two groups of the lanes.
+fn halves<N: Name, A: Allocator + Copy>(
     alloc: A,
-    lanes: Vec<Lane<N, A>, A>,
+    mut lanes: Vec<Lane<N, A>, A>,
 ) -> Result<Vec<Group<N, A>, A>, Fault> {
-    let mut validators = Vec::new(alloc);
-    for lane in lanes {
-        let mut own = Vec::new(alloc);
-        own.push(lane)?;
-        validators.push(Group::new(own))?;
-    }
-    Ok(validators)
+    let others = lanes.split_off(lanes.len() / 2)?;
+    let mut groups = Vec::new(alloc);
+    groups.push(Group::new(lanes))?;
+    groups.push(Group::new(others))?;
+    Ok(groups)
 }
 
-/// A store of this frame, its clients and its validators. How many sums were right.
-fn run<N: Name + Send + Sync, A: Allocator + Copy + Send + Sync, R: Threads + Wait + Clock + Sync>(
+/// The lanes of stopped groups, each served until nothing waits in it.
+fn served<N: Name, A: Allocator + Copy, R: Wait>(
     rt: &R,
     alloc: A,
-    frame: Frame<A>,
-) -> Result<u64, Fault>
-    requires { (frame.named ≡ N.named) × (frame.ledger ≡ N.name) × (frame.parts ≡ N.parts) }
-{
-    let Ok((store, mut sessions, lanes)) = Store::<N, A>::open(frame) else {
-        return Err(Fault::Memory);
-    };
-    let mut groups = validators(alloc, lanes)?;
-    Ok(serve(rt, &store, &mut sessions, &mut groups))
+    bank: &Store<N, A>,
+    groups: Vec<Group<N, A>, A>,
+) -> Result<Vec<Lane<N, A>, A>, Fault> {
+    let mut lanes = Vec::new(alloc);
+    for mut group in groups {
+        lanes.append(&mut group.lanes)?;
+    }
+    for lane in lanes.iter_mut() {
+        for _ in rt.forever() {
+            let Served::Settled(_) = lane.serve_one(rt, bank, &AlwaysGo)? else {
+                break;
+            };
+        }
+    }
+    Ok(lanes)
 }
 
-/// Four sessions, each with room for four items, and the last 16 write sets kept for testing.
-fn named<R: Threads + Wait + Clock + Sync>(rt: &R, alloc: Global) -> Result<u64, Fault> {
+/// How many sums were right, what the audit of the book says, and what became of what was handed in.
+type Told<A> = (u64, bool, Account<A>);
+
+/// The clients and the validators of a store, and what came of them.
+fn play<
+    N: Name + Stoppable + Send + Sync,
+    A: Allocator + Copy + Send + Sync,
+    R: Threads + Wait + Clock + Sync,
+>(
+    rt: &R,
+    alloc: A,
+    bank: &Store<N, A>,
+    workers: Vec<Worker<N, A>, A>,
+    mut clients: Vec<Session<N, A>, A>,
+    lanes: Vec<Lane<N, A>, A>,
+) -> Result<Told<A>, Fault> {
+    let mut groups = halves(alloc, lanes)?;
+    let tally = Tally {
+        right: AtomicU64::new(0),
+        over: AtomicU64::new(0),
+    };
+    serve(rt, bank, &mut clients, &mut groups, &tally);
+    let lanes = served(rt, alloc, bank, groups)?;
+    let account = bank.end(rt, workers, lanes, clients)?;
+    let audited = audit_rows(alloc, &bank.book(rt)?.view())?;
+    Ok((tally.right.load(Ordering::SeqCst), audited, account))
+}
+
+/// The same on the store of a frame.
+fn run<
+    N: Name + Stoppable + Send + Sync,
+    A: Allocator + Copy + Send + Sync,
+    R: Threads + Wait + Clock + Sync,
+>(rt: &R, alloc: A, frame: Frame<A>) -> Result<Told<A>, Fault>
+    requires { (frame.named ≡ N.named) × (frame.ledger ≡ N.name) × (frame.parts ≡ N.parts) }
+{
+    let Ok((bank, workers, clients, lanes)) = Store::<N, A>::open(frame) else {
+        return Err(Fault::Memory);
+    };
+    play(rt, alloc, &bank, workers, clients, lanes)
+}
+
+/// The same on a new store, whose queues hold four items, and which keeps the last 16 write sets for testing.
+fn named<R: Threads + Wait + Clock + Sync>(rt: &R, alloc: Global) -> Result<Told<Global>, Fault> {
     let schema = Schema::of(alloc, &[("accounts", KeyKind::Num, &[Kind::Int])])?;
-    run::<std::marker::Brand, Global, R>(rt, alloc, Frame::new(alloc, schema, 4, 4, 16)?)
+    let frame = Frame::new(alloc, schema, CLIENTS, 0, 4, 16)?;
+    run::<std::marker::Brand, Global, R>(rt, alloc, frame)
 }
 
 fn main(rt: HostRuntime) -> std::io::Result<()> {
-    println!(rt; "right sums of four clients: {:?}", named(&rt, rt.alloc()))
+    let (right, audited, account) = match named(&rt, rt.alloc()) {
+        Ok(told) => told,
+        Err(fault) => return println!(rt; "{fault}"),
+    };
+    println!(rt; "{right} right sums, audit {audited}")?;
+    for line in account.lines.as_slice() {
+        let (closed, left) = (line.taken > line.rows, line.left.len());
+        println!(rt; "closed: {closed}, left in the queue: {left}")?;
+    }
+    Ok(())
 }

@@ -7,7 +7,7 @@ ghost use Rattle.std.specs.Prelude.{◌≡◌};
 
 use occ_audit::audit_rows;
 use occ_store::{
-    Base, Body, Ended, Fault, Frame, KeyKind, Kind, Lane, Marks, Name, Schema, Session, Store,
+    Base, Body, Ended, Fault, Frame, Key, KeyKind, Kind, Lane, Marks, Name, Schema, Session, Store,
     Tables, Transaction, Worker,
 };
 use occ_types::limits::{MAX_COUNTER, MAX_NUMBER};
@@ -42,7 +42,7 @@ impl<N: Name, A: Allocator + Copy, R: Wait> Body<N, A, R> for Pay {
         bank: &Store<N, A>,
         work: &mut Transaction<N, A>,
     ) -> Result<(), Fault> {
-        let row = work.get(rt, bank, 0, self.account.into())?;
+        let row = work.get(rt, bank, 0, &Key::Num(self.account))?;
         let balance = row.as_ref().and_then(|row| row.int(0)).unwrap_or(0);
         work.put(0, self.account.into(), balance.saturating_add(1).into())?;
         Ok(())
@@ -93,38 +93,6 @@ fn serve<N: Name + Send + Sync, A: Allocator + Copy + Send + Sync, R: Threads + 
     stopped.load(Ordering::SeqCst)
 }
 
-/// A worker of each session and its lane.
-fn hired<N: Name, A: Allocator + Copy>(
-    alloc: A,
-    sessions: Vec<Session<N, A>, A>,
-    lanes: Vec<Lane<N, A>, A>,
-) -> Result<Vec<Worker<N, A>, A>, Fault> {
-    let mut workers = Vec::new(alloc);
-    for (session, lane) in sessions.into_iter().zip(lanes) {
-        let worker = Worker::new(session, lane)?;
-        workers.push(worker)?;
-    }
-    Ok(workers)
-}
-
-/// Ends the sessions and the lanes of all workers.
-fn dismiss<N: Name, A: Allocator + Copy, R: Wait>(
-    rt: &R,
-    alloc: A,
-    bank: &Store<N, A>,
-    workers: Vec<Worker<N, A>, A>,
-) -> Result<(), Fault> {
-    let mut sessions = Vec::new(alloc);
-    let mut lanes = Vec::new(alloc);
-    for worker in workers {
-        let (session, lane) = worker.into_parts();
-        sessions.push(session)?;
-        lanes.push(lane)?;
-    }
-    let _account = bank.end(rt, lanes, sessions)?;
-    Ok(())
-}
-
 /// What a store has come to: the sum of its accounts, how many clients it stopped, and what the audit of its book says.
 #[derive(Clone, Copy)]
 struct Outcome {
@@ -134,7 +102,7 @@ struct Outcome {
 }
 
 /// The outcome of a store that stopped so many clients.
-fn close<N: Name, A: Allocator + Copy, R: Wait>(
+fn outcome_of<N: Name, A: Allocator + Copy, R: Wait>(
     rt: &R,
     alloc: A,
     bank: &Store<N, A>,
@@ -154,38 +122,38 @@ fn close<N: Name, A: Allocator + Copy, R: Wait>(
     })
 }
 
-/// What happens while a store is open: workers are hired, pay and are dismissed.
+/// What happens while a store is open: its clients pay, and all of them end.
 fn play<N: Name + Send + Sync, A: Allocator + Copy + Send + Sync, R: Threads + Wait + Sync>(
     rt: &R,
-    alloc: A,
     bank: &Store<N, A>,
+    workers: Vec<Worker<N, A>, A>,
     sessions: Vec<Session<N, A>, A>,
     lanes: Vec<Lane<N, A>, A>,
     paid: &AtomicU64,
 ) -> Result<Outcome, Fault> {
-    let mut workers = hired(alloc, sessions, lanes)?;
+    let alloc = *workers.allocator();
+    let mut workers = workers;
     let stopped = serve(rt, bank, &mut workers, paid);
-    dismiss(rt, alloc, bank, workers)?;
-    close(rt, alloc, bank, stopped)
+    let _account = bank.end(rt, workers, lanes, sessions)?;
+    outcome_of(rt, alloc, bank, stopped)
 }
 
 /// The life of a store, from its frame to the base that it leaves.
 fn live<N: Name + Send + Sync, A: Allocator + Copy + Send + Sync, R: Threads + Wait + Sync>(
     rt: &R,
-    alloc: A,
     frame: Frame<A>,
     paid: &AtomicU64,
 ) -> Result<(Outcome, Base<A>), Fault>
     requires { (frame.named ≡ N.named) × (frame.ledger ≡ N.name) × (frame.parts ≡ N.parts) }
 {
-    let Ok((bank, sessions, lanes)) = Store::<N, A>::open(frame) else {
+    let Ok((bank, workers, sessions, lanes)) = Store::<N, A>::open(frame) else {
         return Err(Fault::Memory);
     };
-    let outcome = play(rt, alloc, &bank, sessions, lanes, paid)?;
+    let outcome = play(rt, &bank, workers, sessions, lanes, paid)?;
     Ok((outcome, bank.into_base()?))
 }
 
-/// A store that goes on from a base. Each session has room for four items, and the last 16 write sets are kept for testing.
+/// A store that goes on from a base. All sessions are workers, and the last 16 write sets are kept for testing.
 fn go_on<R: Threads + Wait + Sync>(
     rt: &R,
     alloc: Global,
@@ -194,8 +162,8 @@ fn go_on<R: Threads + Wait + Sync>(
     paid: &AtomicU64,
 ) -> Result<(Outcome, Base<Global>), Fault> {
     let schema = Schema::of(alloc, &[("accounts", KeyKind::Num, &[Kind::Int])])?;
-    let frame = Frame::resume(alloc, schema, CLIENTS, 4, 16, base, counter)?;
-    live::<std::marker::Brand, Global, R>(rt, alloc, frame, paid)
+    let frame = Frame::resume(alloc, schema, CLIENTS, CLIENTS, 0, 16, base, counter)?;
+    live::<std::marker::Brand, Global, R>(rt, frame, paid)
 }
 
 /// A base without rows, from which the first session has two transactions left.

@@ -219,6 +219,7 @@ fn run_on<H: Threads + Wait + Clock + Sync>(
         alloc,
         schema,
         limits.sessions,
+        0,
         limits.queue,
         limits.keep,
         base,

@@ -16,7 +16,7 @@ pub(crate) fn end<N: Name, A: Allocator + Copy, R: Wait>(
         Some(group) => group.lanes,
         None => Vec::new(desk.alloc),
     };
-    match desk.store.end(rt, lanes, sessions) {
+    match desk.store.end(rt, Vec::new(desk.alloc), lanes, sessions) {
         Ok(account) => Ok(account),
         Err(refused) => {
             put_back(desk, refused.value)?;
@@ -46,7 +46,7 @@ fn put_back<N: Name, A: Allocator + Copy>(
     desk: &mut Desk<N, A>,
     parties: Parties<N, A>,
 ) -> Result<(), Fault> {
-    let (lanes, sessions) = parties;
+    let (_workers, lanes, sessions) = parties;
     let _none = mem::replace(&mut desk.sessions, sessions);
     desk.groups.push(Group::new(lanes))?;
     Ok(())

@@ -121,8 +121,9 @@ fn ask<N: Name, A: Allocator + Copy, R: Wait>(
 ) -> Result<(), Fault> {
     let key = random.key();
     if kind == 3 {
-        let lower = Some(Key::Num(random.below(KEYS)));
-        let rows = session.scan(rt, store, 0, lower, None)?;
+        let lower = Key::Num(random.below(KEYS));
+        let upper = None;
+        let rows = session.scan(rt, store, 0, Some(&lower), upper.as_ref())?;
         return put(session, key, rows.len() as i64);
     }
     let found = number(rt, store, session, key)?;
@@ -148,7 +149,7 @@ pub(crate) fn number<N: Name, A: Allocator + Copy, R: Wait>(
     session: &Session<N, A>,
     key: u64,
 ) -> Result<Option<i64>, Fault> {
-    let row = session.get(rt, store, 0, Key::Num(key))?;
+    let row = session.get(rt, store, 0, &Key::Num(key))?;
     Ok(row.as_ref().and_then(|row| row.int(0)))
 }
 

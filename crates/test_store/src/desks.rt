@@ -91,10 +91,10 @@ fn empty<A: Allocator + Copy>(
         keep,
         ..
     } = settings;
-    match Frame::new(alloc, schema, sessions, capacity, keep) {
+    match Frame::new(alloc, schema, sessions, 0, capacity, keep) {
         Ok(frame) => Ok(frame),
         Err(refused) => {
-            let frame = Frame::new(alloc, refused.value, sessions, capacity, keep)?;
+            let frame = Frame::new(alloc, refused.value, sessions, 0, capacity, keep)?;
             Ok(frame)
         }
     }
@@ -143,7 +143,7 @@ fn resume<A: Allocator + Copy>(
         counter,
         ..
     } = settings;
-    Frame::resume(alloc, schema, sessions, capacity, keep, base, counter)
+    Frame::resume(alloc, schema, sessions, 0, capacity, keep, base, counter)
 }
 
 // The same where that was the second try.
@@ -192,7 +192,7 @@ fn opened<N: Name, A: Allocator + Copy>(frame: Frame<A>) -> Result<Opened<N, A>,
     requires ledger { (frame.ledger ≡ N.name) × (frame.parts ≡ N.parts) }
 {
     match Store::<N, A>::open(frame) {
-        Ok(opened) => Ok(opened),
+        Ok((store, _workers, sessions, lanes)) => Ok((store, sessions, lanes)),
         Err(refused) => opened_again::<N, A>(refused.value),
     }
 }
@@ -203,7 +203,7 @@ fn opened_again<N: Name, A: Allocator + Copy>(frame: Frame<A>) -> Result<Opened<
     requires ledger { (frame.ledger ≡ N.name) × (frame.parts ≡ N.parts) }
 {
     match Store::<N, A>::open(frame) {
-        Ok(opened) => Ok(opened),
+        Ok((store, _workers, sessions, lanes)) => Ok((store, sessions, lanes)),
         Err(refused) => Err(refused.fault),
     }
 }

@@ -1,6 +1,6 @@
 //! Plays the scenarios of `scenarios.txt`, each on a store of its own, and prints a line for each: a few steps on one thread, validators in
 //! threads that stop or meet at a point, many clients and validators, or what is to find no memory at each of its requests in turn. At last
-//! a worker withdraws money, and clients wait with patience.
+//! a worker moves money, and clients wait with patience.
 #![tactic(auto)]
 
 mod accounts;
@@ -13,7 +13,7 @@ mod patience;
 mod plays;
 mod scenarios;
 mod steps;
-mod withdrawals;
+mod transfers;
 
 use std::process::ExitCode;
 use std::sync::Wait;
@@ -34,6 +34,6 @@ fn tell_all<R: Threads + Wait + Clock + Sync>(rt: &HostRuntime, threads: &R) -> 
     for paragraph in text.split("\n\n").filter(|part| !part.starts_with('#')) {
         scenarios::tell(rt, threads, paragraph)?;
     }
-    withdrawals::tell(rt, threads)?;
+    transfers::tell(rt, threads)?;
     patience::tell(rt, threads)
 }

@@ -1,9 +1,9 @@
 //! Clients that wait with patience: beside a validator in a thread, and where nobody serves their lane for a while.
 ghost use Rattle.std.specs.Prelude.{◌≡◌};
 
-use crate::withdrawals::WithdrawalError;
+use crate::transfers::TransferError;
 use occ_store::{AlwaysGo, Awaited, Body, Frame, Group, Lane, Name, Session, Store, Transaction};
-use occ_types::{Fault, KeyKind, Kind, Schema};
+use occ_types::{Fault, Key, KeyKind, Kind, Schema};
 use std::alloc::{Allocator, Global};
 use std::io;
 use std::marker::Brand;
@@ -27,20 +27,20 @@ struct Payment {
 impl<N: Name, A: Allocator + Copy, R: Wait> Body<N, A, R> for Payment {
     type Value = i64;
 
-    type Error = WithdrawalError;
+    type Error = TransferError;
 
     fn run(
         &mut self,
         rt: &R,
         store: &Store<N, A>,
-        transaction: &mut Transaction<N, A>,
-    ) -> Result<i64, WithdrawalError> {
-        let row = transaction.get(rt, store, 0, ACCOUNT.into())?;
+        work: &mut Transaction<N, A>,
+    ) -> Result<i64, TransferError> {
+        let row = work.get(rt, store, 0, &Key::Num(ACCOUNT))?;
         let balance = row.as_ref().and_then(|row| row.int(0)).unwrap_or(0);
         let paid = balance.saturating_add(self.amount);
-        transaction.put(0, ACCOUNT.into(), paid.into())?;
+        work.put(0, ACCOUNT.into(), paid.into())?;
         if paid < 0 {
-            return Err(WithdrawalError::InsufficientFunds);
+            return Err(TransferError::InsufficientFunds);
         }
         Ok(paid)
     }
@@ -85,7 +85,7 @@ fn pay_beside<
 /// What came of the turns of a client whose lane is served now and then.
 #[derive(Clone, Copy)]
 struct Turns {
-    waits: [Result<Awaited<i64>, WithdrawalError>; 5],
+    waits: [Result<Awaited<i64>, TransferError>; 5],
     marks: [Result<u64, Fault>; 3],
     reading: [usize; 2],
 }
@@ -94,8 +94,8 @@ struct Turns {
 fn wait_again<N: Name, A: Allocator + Copy, R: Wait + Clock>(
     rt: &R,
     session: &mut Session<N, A>,
-    waited: Result<Awaited<i64>, WithdrawalError>,
-) -> Result<Awaited<i64>, WithdrawalError> {
+    waited: Result<Awaited<i64>, TransferError>,
+) -> Result<Awaited<i64>, TransferError> {
     match waited {
         Ok(Awaited::Pending(pending)) => Ok(session.wait(rt, pending, 3)),
         other => other,
@@ -118,7 +118,7 @@ fn play_late<N: Name, A: Allocator + Copy, R: Wait + Clock>(
     session.begin()?;
     session.submit(rt)?;
     session.begin()?;
-    let _row = session.get(rt, store, 0, ACCOUNT.into())?;
+    let _row = session.get(rt, store, 0, &Key::Num(ACCOUNT))?;
     let reading = store.counts(rt).reading;
     let refused = session.give_up(rt, store, 3);
     let left = store.counts(rt).reading;
@@ -167,7 +167,7 @@ fn play_on<
 >(rt: &R, frame: Frame<A>) -> Result<Told, Fault>
     requires { (frame.named ≡ N.named) × (frame.ledger ≡ N.name) × (frame.parts ≡ N.parts) }
 {
-    let Ok((store, sessions, lanes)) = Store::<N, A>::open(frame) else {
+    let Ok((store, _workers, sessions, lanes)) = Store::<N, A>::open(frame) else {
         return Err(Fault::Memory);
     };
     play_by(rt, &store, sessions, lanes)
@@ -176,7 +176,7 @@ fn play_on<
 /// The same on a new store, whose queues hold one item.
 fn named<R: Threads + Wait + Clock + Sync>(rt: &R, alloc: Global) -> Result<Told, Fault> {
     let schema = Schema::of(alloc, &[("accounts", KeyKind::Num, &[Kind::Int])])?;
-    play_on::<Brand, Global, R>(rt, Frame::new(alloc, schema, 3, 1, 16)?)
+    play_on::<Brand, Global, R>(rt, Frame::new(alloc, schema, 3, 0, 1, 16)?)
 }
 
 /// Prints what came of the clients.

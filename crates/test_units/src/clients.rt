@@ -1,6 +1,6 @@
 //! Clients of a store, and how often they try.
 use crate::stores::{putting, store};
-use occ_client::{Client, Core, End, Tried};
+use occ_client::{Client, Core, End, Ended};
 use occ_types::Fault;
 use occ_types::limits::MAX_WRITES;
 use std::alloc::Global;
@@ -17,8 +17,8 @@ fn write(client: &mut Client<Global>, core: &mut Core<Global>) -> Result<(), Fau
 
 // Whether it reads just the row that it has left.
 fn reads(client: &mut Client<Global>, core: &mut Core<Global>) -> Result<bool, Fault> {
-    let gone = client.get(core, 0, 7.into())?.is_none();
-    let own = client.get(core, 0, 8.into())? == Some(6.into());
+    let gone = client.get(core, 0, &7.into())?.is_none();
+    let own = client.get(core, 0, &8.into())? == Some(6.into());
     let rows = client.scan(core, 0, None, None)?;
     Ok(gone && own && rows.len() == 1)
 }
@@ -91,14 +91,14 @@ fn finish(core: &mut Core<Global>) {
 
 // Puts a row under a key that it has read, and that the open row writes meanwhile. It answers whether a row was there.
 fn read_and_put(client: &mut Client<Global>, core: &mut Core<Global>) -> Result<bool, Fault> {
-    let row = client.get(core, 0, 3.into())?;
+    let row = client.get(core, 0, &3.into())?;
     finish(core);
     client.put(core, 0, 3.into(), 2.into())?;
     Ok(row.is_some())
 }
 
 // How it ends, with three tries.
-fn tried(client: &mut Client<Global>, core: &mut Core<Global>) -> Result<Tried<bool>, Fault> {
+fn tried(client: &mut Client<Global>, core: &mut Core<Global>) -> Result<Ended<bool>, Fault> {
     client.transact(core, 3, |client, core| read_and_put(client, core))
 }
 
@@ -108,7 +108,7 @@ fn a_client_tries_again(rt: HostRuntime) -> Result<(), Fail> {
     let mut client = Client::new(rt.alloc(), 1);
     // the first try found no row, and was backed up
     let (value, tn) = (true, 2);
-    assert!(rt; tried(&mut client, &mut core)? == Tried::Committed { value, tn });
+    assert!(rt; tried(&mut client, &mut core)? == Ended::Committed { tn, value });
     Ok(())
 }
 

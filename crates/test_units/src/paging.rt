@@ -72,7 +72,7 @@ fn forward(
     let mut keys = Vec::new(alloc);
     let mut lower = None;
     for _ in 0..200 {
-        let page = client.scan_first(core, table, lower, None, most)?;
+        let page = client.scan_first(core, table, lower.as_ref(), None, most)?;
         push_keys(&mut keys, &page)?;
         if page.rest.is_none() {
             return Ok(keys);
@@ -93,7 +93,7 @@ fn backward(
     let mut keys = Vec::new(alloc);
     let mut upper = None;
     for _ in 0..200 {
-        let page = client.scan_last(core, table, None, upper, most)?;
+        let page = client.scan_last(core, table, None, upper.as_ref(), most)?;
         push_keys_backward(&mut keys, &page)?;
         if page.rest.is_none() {
             return Ok(keys);
@@ -177,7 +177,8 @@ fn beside(
     key: u64,
 ) -> Result<End, Fault> {
     reader.begin(core)?;
-    let page = reader.scan_first(core, 0, Some(Key::Num(2)), None, 2)?;
+    let lower = Key::Num(2);
+    let page = reader.scan_first(core, 0, Some(&lower), None, 2)?;
     writer.begin(core)?;
     writer.put(core, 0, Key::Num(key), 2.into())?;
     let _end = writer.commit(core)?;

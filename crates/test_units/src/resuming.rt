@@ -1,7 +1,7 @@
 //! A store that goes on from rows, and one that goes on from it once the transaction counter has no number left.
 use occ_audit::audit_rows;
 use occ_book::Base;
-use occ_client::{Client, Core, Fault, Key, KeyKind, Kind, Object, Row, Schema, Tried};
+use occ_client::{Client, Core, Ended, Fault, Key, KeyKind, Kind, Object, Row, Schema};
 use occ_types::Refused;
 use occ_types::limits::MAX_COUNTER;
 use std::alloc::Global;
@@ -38,7 +38,7 @@ fn resumed(alloc: Global, base: Base<Global>, counter: u64) -> Result<Box<Core<G
 
 // Adds 1 to an account.
 fn add(client: &mut Client<Global>, store: &mut Core<Global>, account: u64) -> Result<(), Fault> {
-    let held = match client.get(store, 0, Key::Num(account))? {
+    let held = match client.get(store, 0, &Key::Num(account))? {
         Some(row) => row.int(0).unwrap_or(0),
         None => 0,
     };
@@ -51,8 +51,8 @@ fn add_on(alloc: Global, store: &mut Core<Global>, most: usize) -> (usize, Optio
     let mut client = Client::new(alloc, 1);
     for done in 0..most {
         match client.transact(store, 1, |client, store| add(client, store, 1)) {
-            Ok(Tried::Committed { .. }) => {}
-            Ok(Tried::BackedUp(_)) => return (done, None),
+            Ok(Ended::Committed { .. }) => {}
+            Ok(Ended::BackedUp(_)) => return (done, None),
             Err(fault) => return (done, Some(fault)),
         }
     }

@@ -1,4 +1,4 @@
-use Rattle.bench_loads.proofs.bank.named.Given as goal
+use Rattle.bench_loads.proofs.bank.round.Given as goal
 
 -- the name that the store of the frame has
 abbrev pub ghosts-run-N-Ledger : goal.ghosts-run-N-Ledger

@@ -1,4 +1,4 @@
-use Rattle.test_store.proofs.withdrawals.named.Given as goal
+use Rattle.test_store.proofs.transfers.named.Given as goal
 
 -- the name that the store of the frame has
 abbrev pub ghosts-play_on-N-Ledger : goal.ghosts-play_on-N-Ledger
