@@ -1,12 +1,9 @@
 -- A client's end of a transaction, by whether the one before it was in its write phase.
-use Rattle.std.proofs.Common.{◌≡◌, ℕ, Bool, true, false, cond, List, [], ◌∷◌, Option, None, Some, refl, sym, ap, subst, ◌∙◌, MatchOption}
-use Rattle.std.specs.Option.{is_some}
+use Rattle.std.proofs.Common.{◌≡◌, ℕ, Bool, true, false, cond, Option, None, Some, refl, sym, ap, subst, ◌∙◌, MatchOption}
 use Rattle.occ_types.specs.declared.fault.Fault.{Fault}
 use Rattle.occ_types.specs.declared.fault.Fault.TheVariants as faults
-use Rattle.occ_types.specs.Schema.{fault_if, first_fault}
 use Rattle.occ_model.specs.World.{World}
-use Rattle.occ_model.specs.Event.{Enter, Close, RunAlone, Reply, Refused}
-use Rattle.occ_model.specs.Operations.{Operation}
+use Rattle.occ_model.specs.Event.{Event, Reply, Refused}
 use Rattle.occ_model.specs.Step.{Step}
 use Rattle.occ_sets.specs.Sets.{Copied}
 use Rattle.occ_client.specs.Clients.{Client, close_refusal, HasNext, Commits, CommitsNext, after_end, count_end, spent, IsLastEnd}
@@ -61,22 +58,10 @@ last_end client before stopped reply world ends = record { before = before; clie
 
 -- ---- closing and abandoning
 
--- nothing hinders the closing mark of a client
-pub unhindered : (inside client : Client) → inside ≡ client → (old : World) (reply : Reply) (new : World) → inside.closed ≡ false → is_some inside.current ≡ false
-    → Step old (Enter inside.session (Close inside.next)) reply new
-    → Unless (close_refusal client) old reply new (Step old (Enter client.session (Close client.next)) reply new)
-unhindered inside client is old reply new unclosed none step =
-    subst (λ (c : Client). Unless (close_refusal c) old reply new (Step old (Enter c.session (Close c.next)) reply new)) is
-    (subst (λ (f : Option Fault). Unless f old reply new (Step old (Enter inside.session (Close inside.next)) reply new)) (sym free) step)
-  where
-    free : close_refusal inside ≡ None
-    free = ap (λ b. first_fault (fault_if b faults.Closed ∷ fault_if (is_some inside.current) faults.ReadOpen ∷ [])) unclosed
-        ∙ ap (λ b. first_fault (fault_if b faults.ReadOpen ∷ [])) none
-
--- nor what it runs alone
-pub unhindered_run : (inside client : Client) → inside ≡ client → (old : World) (operations : List Operation) (reply : Reply) (new : World) → None ≡ close_refusal client
-    → Step old (RunAlone inside.session inside.next operations) reply new
-    → Unless (close_refusal client) old reply new (Step old (RunAlone client.session client.next operations) reply new)
-unhindered_run inside client is old operations reply new free step =
-    subst (λ (f : Option Fault). Unless f old reply new (Step old (RunAlone client.session client.next operations) reply new)) free
-    (subst (λ (c : Client). Step old (RunAlone c.session c.next operations) reply new) is step)
+-- nothing hinders the closing mark of a client, nor what it runs alone
+pub unhindered : (event : ℕ → ℕ → Event) (inside client : Client) → inside ≡ client → (old : World) (reply : Reply) (new : World) → None ≡ close_refusal client
+    → Step old (event inside.session inside.next) reply new
+    → Unless (close_refusal client) old reply new (Step old (event client.session client.next) reply new)
+unhindered event inside client is old reply new free step =
+    subst (λ (f : Option Fault). Unless f old reply new (Step old (event client.session client.next) reply new)) free
+    (subst (λ (c : Client). Step old (event c.session c.next) reply new) is step)

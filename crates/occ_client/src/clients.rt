@@ -153,7 +153,8 @@ impl<A: Allocator + Copy> Client<A> {
 
     /// Writes a row under a key of a table. Refused, the first of these that holds: with `NoReadOpen`; with `NoTable`, `WrongKind`,
     /// `TooLong` or `WrongColumns` where the key or then the row doesn't fit; with `SetFull` where 256 other keys are written; and with
-    /// `Memory`. The write is handed back then, and nothing changes.
+    /// `Memory`. Where the transaction came back and others share its writes, it may be refused with `Memory` before all these, for want
+    /// of memory to copy them. The write is handed back then, and nothing changes.
     pub fn put(
         &mut self,
         store: &Core<A>,
@@ -164,7 +165,7 @@ impl<A: Allocator + Copy> Client<A> {
         ensures ok { OnOk result (self.new ≡ record self.old { current = written self.old.current (table, key_of key) (Some row); returned = self.new.returned }) }
         ensures err { OnErr result (self.new ≡ record self.old { returned = self.new.returned }) }
         ensures handed_back { IfErr result (λ refused. refused.value ≡ (record { table = table; key = key }, Some row)) }
-        ensures fault { IfErr result (λ refused. (self.old.returned ≡ true) ⊎ IsRefusedBy (write_fault store.now.world.settings.schema (table, key_of key) (Some row) self.old.current) (WantsRoom (table, key_of key) self.old.current) refused.fault) }
+        ensures fault { IfErr result (λ refused. ((self.old.returned ≡ true) × (refused.fault ≡ faults.Memory)) ⊎ IsRefusedBy (write_fault store.now.world.settings.schema (table, key_of key) (Some row) self.old.current) (WantsRoom (table, key_of key) self.old.current) refused.fault) }
         ensures fits { OnOk result (write_fault store.now.world.settings.schema (table, key_of key) (Some row) self.old.current ≡ None) }
     {
         self.put_by(store.schema(), table, key, row)
@@ -181,7 +182,7 @@ impl<A: Allocator + Copy> Client<A> {
         ensures ok { OnOk result (self.new ≡ record self.old { current = written self.old.current (table, key_of key) (Some row); returned = self.new.returned }) }
         ensures err { OnErr result (self.new ≡ record self.old { returned = self.new.returned }) }
         ensures handed_back { IfErr result (λ refused. refused.value ≡ (record { table = table; key = key }, Some row)) }
-        ensures fault { IfErr result (λ refused. (self.old.returned ≡ true) ⊎ IsRefusedBy (write_fault schema.now (table, key_of key) (Some row) self.old.current) (WantsRoom (table, key_of key) self.old.current) refused.fault) }
+        ensures fault { IfErr result (λ refused. ((self.old.returned ≡ true) × (refused.fault ≡ faults.Memory)) ⊎ IsRefusedBy (write_fault schema.now (table, key_of key) (Some row) self.old.current) (WantsRoom (table, key_of key) self.old.current) refused.fault) }
         ensures fits { OnOk result (write_fault schema.now (table, key_of key) (Some row) self.old.current ≡ None) }
     {
         self.kept.put(schema, table, key, row)
@@ -197,7 +198,7 @@ impl<A: Allocator + Copy> Client<A> {
         ensures ok { OnOk result (self.new ≡ record self.old { current = written self.old.current (table, key_of key) None; returned = self.new.returned }) }
         ensures err { OnErr result (self.new ≡ record self.old { returned = self.new.returned }) }
         ensures handed_back { IfErr result (λ refused. refused.value ≡ (record { table = table; key = key }, None)) }
-        ensures fault { IfErr result (λ refused. (self.old.returned ≡ true) ⊎ IsRefusedBy (write_fault store.now.world.settings.schema (table, key_of key) None self.old.current) (WantsRoom (table, key_of key) self.old.current) refused.fault) }
+        ensures fault { IfErr result (λ refused. ((self.old.returned ≡ true) × (refused.fault ≡ faults.Memory)) ⊎ IsRefusedBy (write_fault store.now.world.settings.schema (table, key_of key) None self.old.current) (WantsRoom (table, key_of key) self.old.current) refused.fault) }
         ensures fits { OnOk result (write_fault store.now.world.settings.schema (table, key_of key) None self.old.current ≡ None) }
     {
         self.delete_by(store.schema(), table, key)
@@ -213,7 +214,7 @@ impl<A: Allocator + Copy> Client<A> {
         ensures ok { OnOk result (self.new ≡ record self.old { current = written self.old.current (table, key_of key) None; returned = self.new.returned }) }
         ensures err { OnErr result (self.new ≡ record self.old { returned = self.new.returned }) }
         ensures handed_back { IfErr result (λ refused. refused.value ≡ (record { table = table; key = key }, None)) }
-        ensures fault { IfErr result (λ refused. (self.old.returned ≡ true) ⊎ IsRefusedBy (write_fault schema.now (table, key_of key) None self.old.current) (WantsRoom (table, key_of key) self.old.current) refused.fault) }
+        ensures fault { IfErr result (λ refused. ((self.old.returned ≡ true) × (refused.fault ≡ faults.Memory)) ⊎ IsRefusedBy (write_fault schema.now (table, key_of key) None self.old.current) (WantsRoom (table, key_of key) self.old.current) refused.fault) }
         ensures fits { OnOk result (write_fault schema.now (table, key_of key) None self.old.current ≡ None) }
     {
         self.kept.delete(schema, table, key)
@@ -421,12 +422,7 @@ impl<A: Allocator + Copy> Client<A> {
         ensures ok { OnOk result (self.new ≡ record self.old { closed = true }) }
         ensures err { OnErr result (self.new ≡ self.old) }
     {
-        if self.closed {
-            return Err(Fault::Closed);
-        }
-        if self.kept.is_open() {
-            return Err(Fault::ReadOpen);
-        }
+        self.check_closed()?;
         match close_session(store, self.session, self.next) {
             Ok(()) => {
                 self.closed = true;

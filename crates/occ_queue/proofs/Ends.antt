@@ -1,8 +1,7 @@
 -- What the ends of a lane keep, as they are made, told and used.
-use Rattle.std.proofs.Common.{◌≡◌, ℕ, zero, suc, ◌+◌, ◌-◌, ◌≤◌, ◌<◌, Bool, true, false, not, ◌||◌, List, [], ◌∷◌, ◌++◌, map, length, refl, sym, ap, subst, ◌∙◌, arith}
-use Rattle.std.specs.Prelude.{◌==◌, Option, None, Some, IfSome, drop, slice_get}
+use Rattle.std.proofs.Common.{◌≡◌, ℕ, zero, suc, ◌+◌, ◌-◌, ◌≤◌, Bool, true, false, ◌||◌, List, [], ◌∷◌, ◌++◌, map, length, refl, sym, ap, subst, ◌∙◌, arith}
+use Rattle.std.specs.Prelude.{Option, None, Some, IfSome, drop, slice_get}
 use Rattle.std.specs.List.{list_any}
-use Rattle.std.proofs.lemmas.Bool.{leb-false, ltb-false, eqb-true}
 use Rattle.std.proofs.lemmas.List.{append-nil, map-append, length-map, length-drop, length_push, nil_from_length}
 use Rattle.std.proofs.lemmas.List.Folds.{list_any-append}
 use mathlib.Core.List.{IsPrefix}
@@ -12,12 +11,13 @@ use Rattle.occ_types.specs.declared.limits.TheConstants.{MAX_NUMBER}
 use Rattle.occ_model.specs.Event.{Item, Close}
 use Rattle.occ_model.proofs.Tests as tests
 use Rattle.occ_queue.specs.declared.items.Item as code_item
+use Rattle.occ_queue.specs.declared.numbering.Numbering.{Numbering}
 use Rattle.occ_queue.specs.declared.rules.Knowledge.{Knowledge}
-use Rattle.occ_queue.specs.Items.{item_of, items_of, number_of, is_mark}
-use Rattle.occ_queue.specs.Numbering.{Numbered, IsInTurn, next, turn_fault, close_fault}
-use Rattle.occ_queue.specs.Lanes.{Known, InTurn, AreOfOne, as_queue}
+use Rattle.occ_queue.specs.Items.{item_of, items_of, is_mark}
+use Rattle.occ_queue.specs.Numbering.{IsInTurn, next, with_item, turn_fault, close_fault}
+use Rattle.occ_queue.specs.Lanes.{Known, InTurn, AreOfOne, as_queue, numbers}
 use Rattle.occ_queue.specs.Rule.{knowledge}
-use Rattle.occ_queue.proofs.Turns.{none_of_three, none_of_two, pushed_in_turn}
+use Rattle.occ_queue.proofs.Turns as turns
 use Rattle.occ_queue.proofs.Beginnings.{unused_in_turn, prefix_nil, prefix_more, prefix_length, prefix_map, in_turn_prefix, unmarked_front, get_front, get_last, marked_front}
 
 pub unused_of_one : (before : ℕ) (pushed taken : List Item) → before ≤ MAX_NUMBER → pushed ≡ [] → taken ≡ [] → AreOfOne before pushed taken
@@ -25,9 +25,9 @@ unused_of_one before pushed taken within p q = subst (λ (l : List Item × List 
     (record { all = []; in_turn = unused_in_turn before within; begins = prefix_nil []; began = prefix_nil [] })
 
 pub unused_sender : (last before : ℕ) (pushed taken : List Item) → last ≡ before → last ≤ MAX_NUMBER → pushed ≡ [] → taken ≡ []
-    → (last ≡ before + length pushed) × (false ≡ list_any is_mark pushed) × InTurn before pushed × IsPrefix taken pushed
-unused_sender last before pushed taken same within p q = subst (λ (l : List Item × List Item). (last ≡ before + length l.0) × (false ≡ list_any is_mark l.0) × InTurn before l.0 × IsPrefix l.1 l.0) (λ i. (sym p i, sym q i))
-    (omega arith, refl, unused_in_turn before (omega arith), prefix_nil [])
+    → (record { pushed = last; closed = false } ≡ numbers before pushed) × InTurn before pushed × IsPrefix taken pushed
+unused_sender last before pushed taken same within p q = subst (λ (l : List Item × List Item). (record { pushed = last; closed = false } ≡ numbers before l.0) × InTurn before l.0 × IsPrefix l.1 l.0) (λ i. (sym p i, sym q i))
+    (let none : last ≡ before + 0 = omega arith in (λ i. record { pushed = none i; closed = false }), unused_in_turn before (omega arith), prefix_nil [])
 
 or_nil : (b : Bool) → (b || false) ≡ b
 or_nil true = refl
@@ -40,28 +40,18 @@ marks xs x none = sym (list_any-append is_mark xs (x ∷ []) ∙ ap (λ b. b || 
 last_mark : (before : ℕ) (xs : List Item) (x : Item) → InTurn before (xs ++ x ∷ []) → is_mark x ≡ list_any is_mark (xs ++ x ∷ [])
 last_mark before xs x law = marks xs x (unmarked_front _ xs x [] law.ended)
 
-grown : (before : ℕ) (items : List Item) (item : Item) → InTurn before items → list_any is_mark items ≡ false → number_of item ≡ before + length items + 1 → before + length items + 1 ≤ MAX_NUMBER
-    → (is_mark item ≡ false → before + length items + 1 < MAX_NUMBER) → InTurn before (items ++ item ∷ [])
-grown before items item law still number within spare =
-    let queue : Numbered = record { items = items; limit = 0; before = before; pushed = before + length items; closed = list_any is_mark items } in
-    let all = pushed_in_turn queue item law still number within spare in
+-- with one more item at the end
+grown : (before : ℕ) (items : List Item) (item : Item) → IsInTurn (with_item (record { items = items; limit = 0; before = before; pushed = before + length items; closed = list_any is_mark items }) item) → InTurn before (items ++ item ∷ [])
+grown before items item law =
     let longer = length_push items item in
     let last : before + length items + 1 ≡ before + length (items ++ item ∷ []) = omega arith in
-    subst (λ (s : ℕ × Bool). IsInTurn (record { items = items ++ item ∷ []; limit = 0; before = before; pushed = s.0; closed = s.1 })) (λ i. (last i, marks items item still i)) all
+    subst (λ (s : ℕ × Bool). IsInTurn (record { items = items ++ item ∷ []; limit = 0; before = before; pushed = s.0; closed = s.1 })) (λ i. (last i, marks items item (unmarked_front _ items item [] law.ended) i)) law
 
 pub may_submit : (known : Known) (item : Item) → InTurn known.before known.pushed → turn_fault (as_queue known) item ≡ None → InTurn known.before (known.pushed ++ item ∷ [])
-may_submit known item law free =
-    let fine = none_of_three _ _ _ _ _ _ free in
-    let parts = tests.or_false (is_mark item) (not (number_of item == next (as_queue known))) fine.2 in
-    let number = eqb-true (number_of item) (next (as_queue known)) (tests.not_false _ parts.1) in
-    let below = leb-false MAX_NUMBER (next (as_queue known)) fine.1 in
-    grown known.before known.pushed item law fine.0 number (omega arith) (λ _. below)
+may_submit known item law free = grown known.before known.pushed item (turns.may_submit _ item law free)
 
 pub may_close : (known : Known) (number : ℕ) → InTurn known.before known.pushed → close_fault (as_queue known) ≡ None → number ≡ next (as_queue known) → InTurn known.before (known.pushed ++ Close number ∷ [])
-may_close known number law free told =
-    let fine = none_of_two _ _ _ _ free in
-    let left = ltb-false MAX_NUMBER (next (as_queue known)) fine.1 in
-    grown known.before known.pushed (Close number) law fine.0 told (omega arith) (λ (e : true ≡ false). cc e)
+may_close known number law free told = grown known.before known.pushed (Close number) (turns.may_close _ number law free told)
 
 -- no more were taken than there are numbers
 pub few : (before : ℕ) (pushed taken : List Item) → AreOfOne before pushed taken → length taken ≤ MAX_NUMBER
@@ -106,25 +96,25 @@ module _ {Z : Type 0} where
       → AreOfOne before (items_of pushed) (items_of (taken ++ x ∷ [])) → AreOfOne before now.pushed (now.taken ++ item_of x ∷ [])
   one_more before pushed taken x now p q law = subst (λ (l : List Item × List Item). AreOfOne before l.0 l.1) (λ i. (p i, (map-append item_of taken (x ∷ []) ∙ ap (λ l. l ++ item_of x ∷ []) q) i)) law
 
-  abbrev pub Sends : ℕ → Bool → Knowledge Z → Type 0
-  Sends last closed v = ((v.sends ≡ true) × (v.takes ≡ false)) × (last ≡ v.before + length (items_of v.pushed)) × (closed ≡ list_any is_mark (items_of v.pushed)) × InTurn v.before (items_of v.pushed) × IsPrefix (items_of v.taken) (items_of v.pushed)
+  abbrev pub Sends : Numbering → Knowledge Z → Type 0
+  Sends last v = ((v.sends ≡ true) × (v.takes ≡ false)) × (last ≡ numbers v.before (items_of v.pushed)) × InTurn v.before (items_of v.pushed) × IsPrefix (items_of v.taken) (items_of v.pushed)
 
   abbrev pub Takes : ℕ → Bool → Knowledge Z → Type 0
   Takes count closed v = ((v.sends ≡ false) × (v.takes ≡ true)) × (count ≡ length (items_of v.taken)) × (closed ≡ list_any is_mark (items_of v.taken)) × AreOfOne v.before (items_of v.pushed) (items_of v.taken)
 
-  pub pushed_keeps : (old new : Knowledge Z) (x : code_item.Item Z) (last : ℕ) (closed : Bool) → new ≡ knowledge old.sends old.takes old.before (old.pushed ++ x ∷ []) old.taken
-      → InTurn old.before (items_of (old.pushed ++ x ∷ [])) → Sends last closed old → Sends (last + 1) (is_mark (item_of x)) new
-  pushed_keeps old new x last closed is law parts =
+  pub pushed_keeps : (old new : Knowledge Z) (x : code_item.Item Z) (last : Numbering) → new ≡ knowledge old.sends old.takes old.before (old.pushed ++ x ∷ []) old.taken
+      → InTurn old.before (items_of (old.pushed ++ x ∷ [])) → Sends last old → Sends (record { pushed = last.pushed + 1; closed = is_mark (item_of x) }) new
+  pushed_keeps old new x last is law parts =
       let split : items_of (old.pushed ++ x ∷ []) ≡ items_of old.pushed ++ item_of x ∷ [] = map-append item_of old.pushed (x ∷ []) in
       let long = length_push (items_of old.pushed) (item_of x) in
-      let counted : last ≡ old.before + length (items_of old.pushed) = parts.1 in
-      let more : last + 1 ≡ old.before + length (items_of old.pushed ++ item_of x ∷ []) = omega arith in
-      subst (Sends (last + 1) (is_mark (item_of x))) (sym is) (
+      let counted : last.pushed ≡ old.before + length (items_of old.pushed) = ap (λ (n : Numbering). n.pushed) parts.1 in
+      let more : last.pushed + 1 ≡ old.before + length (items_of old.pushed ++ item_of x ∷ []) = omega arith in
+      let mark = last_mark old.before (items_of old.pushed) (item_of x) (subst (InTurn old.before) split law) in
+      subst (Sends (record { pushed = last.pushed + 1; closed = is_mark (item_of x) })) (sym is) (
         parts.0,
-        more ∙ ap (λ l. old.before + length l) (sym split),
-        last_mark old.before (items_of old.pushed) (item_of x) (subst (InTurn old.before) split law) ∙ ap (list_any is_mark) (sym split),
+        (λ i. record { pushed = more i; closed = mark i }) ∙ ap (numbers old.before) (sym split),
         law,
-        subst (IsPrefix (items_of old.taken)) (sym split) (prefix_more (items_of old.taken) (items_of old.pushed) (item_of x ∷ []) parts.4),
+        subst (IsPrefix (items_of old.taken)) (sym split) (prefix_more (items_of old.taken) (items_of old.pushed) (item_of x ∷ []) parts.3),
       )
 
   pub taken_keeps : (old new : Knowledge Z) (x : code_item.Item Z) (count : ℕ) (closed : Bool) → new ≡ knowledge old.sends old.takes old.before old.pushed (old.taken ++ x ∷ [])

@@ -12,7 +12,6 @@ use Rattle.occ_model.proofs.Orders.{Counts-push}
 use Rattle.occ_model.proofs.Tests as tests
 use Rattle.occ_queue.specs.Items.{number_of, is_mark}
 use Rattle.occ_queue.specs.Numbering.{Numbered, behind, next, with_item, turn_fault, close_fault, EndsWithMark, IsInTurn}
-use Rattle.occ_queue.specs.Waiting.{Waiting}
 
 pub behind_in_turn : (limit last : ℕ) → last ≤ MAX_NUMBER → IsInTurn (behind limit last)
 behind_in_turn limit last within = record {
@@ -24,14 +23,14 @@ behind_in_turn limit last within = record {
 }
 
 -- what holds where none of three tests has a fault
-pub none_of_three : (a b c : Bool) (f g h : Fault) → first_fault (fault_if a f ∷ fault_if b g ∷ fault_if c h ∷ []) ≡ None → (a ≡ false) × (b ≡ false) × (c ≡ false)
+none_of_three : (a b c : Bool) (f g h : Fault) → first_fault (fault_if a f ∷ fault_if b g ∷ fault_if c h ∷ []) ≡ None → (a ≡ false) × (b ≡ false) × (c ≡ false)
 none_of_three false false false f g h e = (refl, refl, refl)
 none_of_three true b c f g h e = cc
 none_of_three false true c f g h e = cc
 none_of_three false false true f g h e = cc
 
 -- and where none of two
-pub none_of_two : (a b : Bool) (f g : Fault) → first_fault (fault_if a f ∷ fault_if b g ∷ []) ≡ None → (a ≡ false) × (b ≡ false)
+none_of_two : (a b : Bool) (f g : Fault) → first_fault (fault_if a f ∷ fault_if b g ∷ []) ≡ None → (a ≡ false) × (b ≡ false)
 none_of_two false false f g e = (refl, refl)
 none_of_two true b f g e = cc
 none_of_two false true f g e = cc
@@ -61,28 +60,18 @@ pushed_in_turn queue item law still number within spare =
     length_map [] = refl
     length_map (one ∷ items) = ap suc (length_map items)
 
--- what a submission makes of the parts
-pub submitted_in_turn : (queue now : Numbered) → queue ≡ now → IsInTurn queue → (item : Item) → turn_fault now item ≡ None
-    → (waiting : Waiting) → waiting ≡ record { items = queue.items ++ item ∷ []; limit = queue.limit }
-    → IsInTurn (record { items = waiting.items; limit = waiting.limit; before = queue.before; pushed = queue.pushed + 1; closed = queue.closed })
-submitted_in_turn queue now seen law item none waiting is =
-    let free = subst (λ q. turn_fault q item ≡ None) (sym seen) none in
+-- an item that may be submitted
+pub may_submit : (queue : Numbered) (item : Item) → IsInTurn queue → turn_fault queue item ≡ None → IsInTurn (with_item queue item)
+may_submit queue item law free =
     let fine = none_of_three _ _ _ _ _ _ free in
     let parts = tests.or_false (is_mark item) (not (number_of item == next queue)) fine.2 in
     let number = eqb-true (number_of item) (next queue) (tests.not_false _ parts.1) in
     let below = leb-false MAX_NUMBER (next queue) fine.1 in
-    let pushed = pushed_in_turn queue item law fine.0 number (omega arith) (λ _. omega arith) in
-    subst (λ (w : Waiting). IsInTurn (record { items = w.items; limit = w.limit; before = queue.before; pushed = queue.pushed + 1; closed = queue.closed })) (sym is)
-    (subst (λ b. IsInTurn (record { items = queue.items ++ item ∷ []; limit = queue.limit; before = queue.before; pushed = queue.pushed + 1; closed = b })) (parts.0 ∙ sym fine.0) pushed)
+    pushed_in_turn queue item law fine.0 number (omega arith) (λ _. below)
 
--- and what the closing mark does
-pub closed_in_turn : (queue now : Numbered) → queue ≡ now → IsInTurn queue → None ≡ close_fault now → (number : ℕ) → number ≡ next now
-    → (waiting : Waiting) → waiting ≡ record { items = queue.items ++ Close number ∷ []; limit = queue.limit }
-    → IsInTurn (record { items = waiting.items; limit = waiting.limit; before = queue.before; pushed = number; closed = true })
-closed_in_turn queue now seen law free number told waiting is =
-    let fine = none_of_two _ _ _ _ (sym (free ∙ ap (λ (q : Numbered). close_fault q) (sym seen))) in
+-- and the closing mark, where it may be pushed
+pub may_close : (queue : Numbered) (number : ℕ) → IsInTurn queue → close_fault queue ≡ None → number ≡ next queue → IsInTurn (with_item queue (Close number))
+may_close queue number law free told =
+    let fine = none_of_two _ _ _ _ free in
     let left = ltb-false MAX_NUMBER (next queue) fine.1 in
-    let number_is : number ≡ next queue = told ∙ ap (λ (q : Numbered). next q) (sym seen) in
-    subst (λ (w : Waiting). IsInTurn (record { items = w.items; limit = w.limit; before = queue.before; pushed = number; closed = true })) (sym is)
-    (subst (λ n. IsInTurn (record { items = queue.items ++ Close number ∷ []; limit = queue.limit; before = queue.before; pushed = n; closed = true })) (sym number_is)
-    (pushed_in_turn queue (Close number) law fine.0 number_is (omega arith) (λ (e : true ≡ false). cc e)))
+    pushed_in_turn queue (Close number) law fine.0 told (omega arith) (λ (e : true ≡ false). cc e)

@@ -4,6 +4,7 @@ use Rattle.std.specs.List.{list_any}
 use mathlib.Core.List.{IsPrefix}
 use Rattle.atomic_table.specs.Seated.{TableId}
 use Rattle.occ_model.specs.Event.{Item}
+use Rattle.occ_queue.specs.declared.numbering.Numbering.{Numbering}
 use Rattle.occ_queue.specs.Items.{is_mark}
 use Rattle.occ_queue.specs.Numbering.{Numbered, IsInTurn}
 
@@ -27,6 +28,10 @@ as_queue known = record {
   pushed = known.before + length known.pushed;
   closed = list_any is_mark known.pushed;
 }
+
+-- the numbers of items that were pushed behind this one
+abbrev pub numbers : ℕ → List Item → Numbering
+numbers before items = record { pushed = before + length items; closed = list_any is_mark items }
 
 -- items with the numbers after this one, without a gap, nothing after a mark, and the last number of all for a mark alone
 abbrev pub InTurn : ℕ → List Item → Type 0

@@ -43,13 +43,17 @@ with_item queue item = record queue {
 abbrev pub is_full : Numbered → Bool
 is_full queue = nat_le queue.limit (length queue.items)
 
+-- why an item isn't the one with the next number
+abbrev pub out_of_turn : Bool → ℕ → Item → Option Fault
+out_of_turn closed due item = first_fault (
+    fault_if closed faults.Closed
+    ∷ fault_if (nat_le MAX_NUMBER due) faults.NumbersExhausted
+    ∷ fault_if (is_mark item || not (number_of item == due)) faults.OutOfTurn
+    ∷ [])
+
 -- why an item can't be submitted even where there is room
 abbrev pub turn_fault : Numbered → Item → Option Fault
-turn_fault queue item = first_fault (
-    fault_if queue.closed faults.Closed
-    ∷ fault_if (nat_le MAX_NUMBER (next queue)) faults.NumbersExhausted
-    ∷ fault_if (is_mark item || not (number_of item == next queue)) faults.OutOfTurn
-    ∷ [])
+turn_fault queue item = out_of_turn queue.closed (next queue) item
 
 -- why a request with this number can't be submitted, where there is a reason
 abbrev pub refusal_of_request : Numbered → ℕ → Option Fault
@@ -64,12 +68,16 @@ refusal_of_request queue number = first_fault (
 abbrev pub refusal_of_submit : Numbered → Item → Option Fault
 refusal_of_submit queue item = first_fault (turn_fault queue item ∷ fault_if (is_full queue) faults.QueueFull ∷ [])
 
--- why a session can't be closed even where there is room: it is closed, or there is no number for the mark
-abbrev pub close_fault : Numbered → Option Fault
-close_fault queue = first_fault (
-    fault_if queue.closed faults.Closed
-    ∷ fault_if (nat_lt MAX_NUMBER (next queue)) faults.NumbersExhausted
+-- why no mark has the next number: there is one, or no number is left
+abbrev pub no_mark : Bool → ℕ → Option Fault
+no_mark closed due = first_fault (
+    fault_if closed faults.Closed
+    ∷ fault_if (nat_lt MAX_NUMBER due) faults.NumbersExhausted
     ∷ [])
+
+-- why a session can't be closed even where there is room
+abbrev pub close_fault : Numbered → Option Fault
+close_fault queue = no_mark queue.closed (next queue)
 
 -- why a session can't be closed, where there is a reason
 abbrev pub refusal_of_close : Numbered → Option Fault

@@ -5,6 +5,7 @@ mod draining;
 mod items;
 mod lanes;
 mod news;
+mod numbering;
 mod queues;
 mod receivers;
 mod rules;

@@ -1,14 +1,11 @@
 //! The end of a lane at which a session pushes.
-ghost use Rattle.std.specs.Prelude.{◌≡◌, ◌≤◌, true, false, None, Some, [], length, IfOk, IfErr, OnOk, OnErr, MatchResult};
-ghost use Rattle.std.specs.Result.{result_err};
+ghost use Rattle.std.specs.Prelude.{◌≡◌, ◌≤◌, true, None, Some, [], length, IfOk, IfErr, OnOk, OnErr, MatchResult};
 ghost use mathlib.Core.List.{IsPrefix};
 ghost use Rattle.std.specs.Arc.{arc_value};
 ghost use Rattle.crossbeam_queue.specs.Passes.{view, IsPassOf, ruled_capacity};
-ghost use Rattle.occ_types.specs.declared.fault.Fault.TheVariants.{Closed, QueueFull};
+ghost use Rattle.occ_types.specs.declared.fault.Fault.TheVariants.{QueueFull};
 ghost use Rattle.occ_types.specs.declared.limits.TheConstants.{MAX_NUMBER};
-ghost use Rattle.occ_types.specs.Schema.{fault_if};
 ghost use Rattle.occ_model.specs.Event.{Close};
-ghost use Rattle.occ_model.specs.Refusal.{numbers_exhausted};
 ghost use Rattle.occ_queue.specs.Items.{item_of};
 ghost use Rattle.occ_queue.specs.Numbering.{next, is_full, turn_fault, close_fault, refusal_of_submit, refusal_of_close};
 ghost use Rattle.occ_queue.specs.Lanes.{InTurn, as_queue, capacity, pushing, longer};
@@ -16,8 +13,8 @@ ghost use Rattle.occ_queue.specs.Rule.{known_by, IsSending};
 
 use crate::items::Item;
 use crate::news::News;
+use crate::numbering::Numbering;
 use crate::rules::{Hearing, Law, Line, Pass, Pushes, Telling};
-use occ_types::limits::MAX_NUMBER;
 use occ_types::{Fault, Refused};
 use std::alloc::Allocator;
 use std::marker::Model;
@@ -30,18 +27,15 @@ pub struct Sender<A: Allocator> {
     pub(crate) line: Arc<Line<A>, A>,
     pub(crate) pass: Pass<A>,
     before: u64,
-    last: u64,
-    closed: bool,
+    numbering: Numbering,
 }
 
 impl<A: Allocator> Model for Sender<A> {
-    ghost use Rattle.std.specs.Prelude.{◌≡◌, ◌+◌, length};
-    ghost use Rattle.std.specs.List.{list_any};
+    ghost use Rattle.std.specs.Prelude.{◌≡◌};
     ghost use Rattle.std.specs.Arc.{arc_value};
     ghost use mathlib.Core.List.{IsPrefix};
     ghost use Rattle.crossbeam_queue.specs.Passes.{IsPassOf, ruled_capacity};
-    ghost use Rattle.occ_queue.specs.Items.{is_mark};
-    ghost use Rattle.occ_queue.specs.Lanes.{Known, InTurn, capacity};
+    ghost use Rattle.occ_queue.specs.Lanes.{Known, InTurn, capacity, numbers};
     ghost use Rattle.occ_queue.specs.Rule.{known_by, IsSending};
 
     ghost Value = { Known };
@@ -49,7 +43,7 @@ impl<A: Allocator> Model for Sender<A> {
     ghost view = { λ s. known_by s.pass };
 
     ghost invariant = { λ s. IsPassOf (arc_value s.line) s.pass × (ruled_capacity (arc_value s.line) ≡ capacity (known_by s.pass)) × IsSending s.pass
-        × (s.before ≡ (known_by s.pass).before) × (s.last ≡ (known_by s.pass).before + length (known_by s.pass).pushed) × (s.closed ≡ list_any is_mark (known_by s.pass).pushed)
+        × (s.before ≡ (known_by s.pass).before) × (s.numbering ≡ numbers (known_by s.pass).before (known_by s.pass).pushed)
         × InTurn (known_by s.pass).before (known_by s.pass).pushed × IsPrefix (known_by s.pass).taken (known_by s.pass).pushed };
 }
 
@@ -66,8 +60,10 @@ impl<A: Allocator> Sender<A> {
             line,
             pass,
             before: last,
-            last,
-            closed: false,
+            numbering: Numbering {
+                pushed: last,
+                closed: false,
+            },
         }
     }
 
@@ -78,21 +74,21 @@ impl<A: Allocator> Sender<A> {
         ensures in_turn { InTurn self.now.before self.now.pushed }
         ensures taken { IsPrefix self.now.taken self.now.pushed }
     {
-        self.last + 1
+        self.numbering.next()
     }
 
     /// How many items were pushed.
     pub fn pushed(&self) -> u64
         ensures { result ≡ length self.now.pushed }
     {
-        self.last - self.before
+        self.numbering.pushed - self.before
     }
 
     /// Whether the closing mark was pushed.
     pub fn is_closed(&self) -> bool
         ensures { result ≡ (as_queue self.now).closed }
     {
-        self.closed
+        self.numbering.closed
     }
 
     /// Pushes an item that has the next number, which takes no memory. It may wait for the other end, as the library's queue does, for as
@@ -111,7 +107,7 @@ impl<A: Allocator> Sender<A> {
             (λ _. turn_fault (as_queue self.old) (item_of item) ≡ None)
             (λ refused. refusal_of_submit (as_queue self.old) (item_of item) ≡ Some refused.fault) }
     {
-        if let Err(fault) = self.check_turn(&item) {
+        if let Err(fault) = self.numbering.check_turn(&item) {
             return Err(Refused { value: item, fault });
         }
         self.push(rt, item)
@@ -128,8 +124,8 @@ impl<A: Allocator> Sender<A> {
             (λ _. close_fault (as_queue self.old) ≡ None)
             (λ fault. refusal_of_close (as_queue self.old) ≡ Some fault) }
     {
-        self.check_close()?;
         let number = self.next();
+        self.numbering.check_close()?;
         self.push(rt, Item::Close { number })?;
         Ok(number)
     }
@@ -164,8 +160,7 @@ impl<A: Allocator> Sender<A> {
         let closes = item.is_mark();
         match self.line.push_as::<Pushes, R>(rt, &mut self.pass, item) {
             Ok(()) => {
-                self.last += 1;
-                self.closed = closes;
+                self.numbering.push(closes);
                 Ok(())
             }
             Err(value) => Err(Refused {
@@ -173,53 +168,5 @@ impl<A: Allocator> Sender<A> {
                 fault: Fault::QueueFull,
             }),
         }
-    }
-
-    // Whether the closing mark was not pushed.
-    fn check_open(&self) -> Result<(), Fault>
-        ensures { result_err result ≡ fault_if (as_queue self.now).closed Closed }
-    {
-        if self.closed {
-            return Err(Fault::Closed);
-        }
-        Ok(())
-    }
-
-    // Whether a number is left beside that of the closing mark.
-    fn check_spare(&self) -> Result<(), Fault>
-        ensures { result_err result ≡ numbers_exhausted (next (as_queue self.now)) }
-    {
-        let next = self.next();
-        if next >= MAX_NUMBER {
-            return Err(Fault::NumbersExhausted);
-        }
-        Ok(())
-    }
-
-    // Whether the closing mark may be pushed, if there is room. Its clauses have the law, for `close` to rest on.
-    fn check_close(&self) -> Result<(), Fault>
-        ensures fault { result_err result ≡ close_fault (as_queue self.now) }
-        ensures in_turn { InTurn self.now.before self.now.pushed }
-    {
-        let next = self.next();
-        self.check_open()?;
-        if next > MAX_NUMBER {
-            return Err(Fault::NumbersExhausted);
-        }
-        Ok(())
-    }
-
-    // Whether an item may be submitted, if there is room. Its clauses have the law, for `submit` to rest on.
-    fn check_turn(&self, item: &Item<A>) -> Result<(), Fault>
-        ensures fault { result_err result ≡ turn_fault (as_queue self.now) (item_of item.now) }
-        ensures in_turn { InTurn self.now.before self.now.pushed }
-    {
-        let next = self.next();
-        self.check_open()?;
-        self.check_spare()?;
-        if item.is_mark() || item.number() != next {
-            return Err(Fault::OutOfTurn);
-        }
-        Ok(())
     }
 }

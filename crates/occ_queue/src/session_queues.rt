@@ -1,15 +1,15 @@
 //! The queue of one session, which keeps the law of its numbers.
 ghost use Rattle.std.specs.Prelude.{◌≡◌, ◌<◌, ◌≤◌, None, Some, drop, slice_get, option_map, IfOk, IfErr, IsSome, OnOk, OnErr, IsOkUnless, length};
 ghost use Rattle.std.specs.Result.{result_err};
-ghost use Rattle.occ_types.specs.declared.fault.Fault.TheVariants.{Memory, Closed};
+ghost use Rattle.occ_types.specs.declared.fault.Fault.TheVariants.{Memory, QueueFull};
 ghost use Rattle.occ_types.specs.declared.limits.TheConstants.{MAX_NUMBER};
 ghost use Rattle.occ_types.specs.Schema.{fault_if};
 ghost use Rattle.occ_model.specs.Event.{Close};
-ghost use Rattle.occ_model.specs.Refusal.{numbers_exhausted};
 ghost use Rattle.occ_queue.specs.Items.{item_of};
-ghost use Rattle.occ_queue.specs.Numbering.{IsInTurn, unused, behind, behind_fault, next, with_item, is_full, turn_fault, close_fault, refusal_of_request, refusal_of_submit, refusal_of_close};
+ghost use Rattle.occ_queue.specs.Numbering.{IsInTurn, unused, behind, behind_fault, next, with_item, is_full, refusal_of_request, refusal_of_submit, refusal_of_close};
 
 use crate::items::Item;
+use crate::numbering::Numbering;
 use crate::queues::Queue;
 use occ_types::limits::MAX_NUMBER;
 use occ_types::{Fault, Refused};
@@ -23,8 +23,7 @@ use std::marker::Model;
 pub struct SessionQueue<A: Allocator> {
     queue: Queue<A>,
     before: u64,
-    last: u64,
-    closed: bool,
+    numbering: Numbering,
 }
 
 impl<A: Allocator> Model for SessionQueue<A> {
@@ -32,9 +31,9 @@ impl<A: Allocator> Model for SessionQueue<A> {
 
     ghost Value = { Numbered };
 
-    ghost view = { λ q. record { items = q.queue.items; limit = q.queue.limit; before = q.before; pushed = q.last; closed = q.closed } };
+    ghost view = { λ q. record { items = q.queue.items; limit = q.queue.limit; before = q.before; pushed = q.numbering.pushed; closed = q.numbering.closed } };
 
-    ghost invariant = { λ q. IsInTurn (record { items = q.queue.items; limit = q.queue.limit; before = q.before; pushed = q.last; closed = q.closed }) };
+    ghost invariant = { λ q. IsInTurn (record { items = q.queue.items; limit = q.queue.limit; before = q.before; pushed = q.numbering.pushed; closed = q.numbering.closed }) };
 }
 
 impl<A: Allocator> SessionQueue<A> {
@@ -62,8 +61,10 @@ impl<A: Allocator> SessionQueue<A> {
         Ok(SessionQueue {
             queue,
             before: last,
-            last,
-            closed: false,
+            numbering: Numbering {
+                pushed: last,
+                closed: false,
+            },
         })
     }
 
@@ -73,14 +74,14 @@ impl<A: Allocator> SessionQueue<A> {
         ensures number { result ≡ next self.now }
         ensures law { IsInTurn self.now }
     {
-        self.last + 1
+        self.numbering.next()
     }
 
     /// Whether the session is closed: its closing mark was pushed.
     pub fn is_closed(&self) -> bool
         ensures { result ≡ self.now.closed }
     {
-        self.closed
+        self.numbering.closed
     }
 
     /// Whether there is no room for another item.
@@ -94,11 +95,7 @@ impl<A: Allocator> SessionQueue<A> {
     pub fn check_request(&self, number: u64) -> Result<(), Fault>
         ensures { result_err result ≡ refusal_of_request self.now number }
     {
-        self.check_open()?;
-        self.check_spare()?;
-        if number != self.next() {
-            return Err(Fault::OutOfTurn);
-        }
+        self.numbering.check_number(number)?;
         if self.queue.is_full() {
             return Err(Fault::QueueFull);
         }
@@ -115,12 +112,10 @@ impl<A: Allocator> SessionQueue<A> {
         ensures handed_back { IfErr result (λ refused. refused.value ≡ item) }
         ensures fault { option_map (λ r. r.fault) (result_err result) ≡ refusal_of_submit self.old (item_of item) }
     {
-        if let Err(fault) = self.check_turn(&item) {
+        if let Err(fault) = self.numbering.check_turn(&item) {
             return Err(Refused { value: item, fault });
         }
-        self.queue.push(item)?;
-        self.last += 1;
-        Ok(())
+        self.push(item)
     }
 
     /// Closes the session: its closing mark is pushed, which takes no memory, and the number of the mark is answered. Refused with
@@ -132,11 +127,9 @@ impl<A: Allocator> SessionQueue<A> {
         ensures number { IfOk result (λ number. number ≡ next self.old) }
         ensures fault { result_err result ≡ refusal_of_close self.old }
     {
-        self.check_close()?;
         let number = self.next();
-        self.queue.push(Item::Close { number })?;
-        self.last = number;
-        self.closed = true;
+        self.numbering.check_close()?;
+        self.push(Item::Close { number })?;
         Ok(number)
     }
 
@@ -147,49 +140,17 @@ impl<A: Allocator> SessionQueue<A> {
     {
         self.queue.take()
     }
-
-    // Whether the session is not closed.
-    fn check_open(&self) -> Result<(), Fault>
-        ensures { result_err result ≡ fault_if self.now.closed Closed }
+    // An item that may be pushed goes to the end, if there is room.
+    fn push(&mut self, item: Item<A>) -> Result<(), Refused<Item<A>>>
+        requires { IsInTurn (with_item self.old (item_of item)) }
+        ensures ok { OnOk result (self.new ≡ with_item self.old (item_of item)) }
+        ensures err { OnErr result (self.new ≡ self.old) }
+        ensures handed_back { IfErr result (λ refused. refused.value ≡ item) }
+        ensures full { option_map (λ r. r.fault) (result_err result) ≡ fault_if (is_full self.old) QueueFull }
     {
-        if self.closed {
-            return Err(Fault::Closed);
-        }
-        Ok(())
-    }
-
-    // Whether a number is left beside that of the closing mark.
-    fn check_spare(&self) -> Result<(), Fault>
-        ensures { result_err result ≡ numbers_exhausted (next self.now) }
-    {
-        let next = self.next();
-        if next >= MAX_NUMBER {
-            return Err(Fault::NumbersExhausted);
-        }
-        Ok(())
-    }
-
-    // Whether the closing mark may be pushed, if there is room.
-    fn check_close(&self) -> Result<(), Fault>
-        ensures { result_err result ≡ close_fault self.now }
-    {
-        self.check_open()?;
-        if self.next() > MAX_NUMBER {
-            return Err(Fault::NumbersExhausted);
-        }
-        Ok(())
-    }
-
-    // Whether an item may be submitted, if there is room.
-    fn check_turn(&self, item: &Item<A>) -> Result<(), Fault>
-        ensures { result_err result ≡ turn_fault self.now (item_of item.now) }
-    {
-        self.check_open()?;
-        self.check_spare()?;
-        let next = self.next();
-        if item.is_mark() || item.number() != next {
-            return Err(Fault::OutOfTurn);
-        }
+        let closes = item.is_mark();
+        self.queue.push(item)?;
+        self.numbering.push(closes);
         Ok(())
     }
 }

@@ -185,4 +185,4 @@ WriteCame old new object row came = (new ≡ record old { client = new.client })
     (λ done. (new.client ≡ record old.client { current = written old.client.current object row; returned = new.client.returned })
     × (write_fault old.settings.schema object row old.client.current ≡ None))
     (λ refused. IsKept old.client new.client
-    × ((old.client.returned ≡ true) ⊎ IsRefusedBy (write_fault old.settings.schema object row old.client.current) (WantsRoom object old.client.current) refused.fault))
+    × (((old.client.returned ≡ true) × (refused.fault ≡ faults.Memory)) ⊎ IsRefusedBy (write_fault old.settings.schema object row old.client.current) (WantsRoom object old.client.current) refused.fault))

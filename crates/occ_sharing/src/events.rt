@@ -3,6 +3,7 @@ ghost use Rattle.std.specs.Prelude.{◌≡◌, ◌⊎◌, ◌+◌, None, Some, t
 ghost use Rattle.std.specs.Option.{option_copied};
 ghost use Rattle.occ_types.specs.PlainData.{key_of, end_of};
 ghost use Rattle.occ_types.specs.Question.{Span};
+ghost use Rattle.occ_types.specs.declared.fault.Fault.TheVariants.{Memory};
 ghost use Rattle.occ_client.specs.Clients.{count_end, ending, spent};
 ghost use Rattle.occ_open.specs.Replies.{reading, scanning, forgetting};
 ghost use Rattle.occ_open.specs.Transactions.{IsRefusedBy, write_fault, written, WantsRoom, Gets, WantsOwn, Scans, WantsRange, Abandons, open_after, OrStarves};
@@ -34,7 +35,7 @@ impl<A: Allocator + Copy> Worker<A> {
         ensures ok { OnOk result (self.new.client ≡ record self.old.client { current = written self.old.client.current (table, key_of key) (Some row); returned = self.new.client.returned }) }
         ensures err { OnErr result (IsKept self.old.client self.new.client) }
         ensures handed_back { IfErr result (λ refused. refused.value ≡ (record { table = table; key = key }, Some row)) }
-        ensures fault { IfErr result (λ refused. (self.old.client.returned ≡ true) ⊎ IsRefusedBy (write_fault self.old.settings.schema (table, key_of key) (Some row) self.old.client.current) (WantsRoom (table, key_of key) self.old.client.current) refused.fault) }
+        ensures fault { IfErr result (λ refused. ((self.old.client.returned ≡ true) × (refused.fault ≡ Memory)) ⊎ IsRefusedBy (write_fault self.old.settings.schema (table, key_of key) (Some row) self.old.client.current) (WantsRoom (table, key_of key) self.old.client.current) refused.fault) }
         ensures fits { OnOk result (write_fault self.old.settings.schema (table, key_of key) (Some row) self.old.client.current ≡ None) }
     {
         let place: &Place<A> = &self.place;
@@ -48,7 +49,7 @@ impl<A: Allocator + Copy> Worker<A> {
         ensures ok { OnOk result (self.new.client ≡ record self.old.client { current = written self.old.client.current (table, key_of key) None; returned = self.new.client.returned }) }
         ensures err { OnErr result (IsKept self.old.client self.new.client) }
         ensures handed_back { IfErr result (λ refused. refused.value ≡ (record { table = table; key = key }, None)) }
-        ensures fault { IfErr result (λ refused. (self.old.client.returned ≡ true) ⊎ IsRefusedBy (write_fault self.old.settings.schema (table, key_of key) None self.old.client.current) (WantsRoom (table, key_of key) self.old.client.current) refused.fault) }
+        ensures fault { IfErr result (λ refused. ((self.old.client.returned ≡ true) × (refused.fault ≡ Memory)) ⊎ IsRefusedBy (write_fault self.old.settings.schema (table, key_of key) None self.old.client.current) (WantsRoom (table, key_of key) self.old.client.current) refused.fault) }
         ensures fits { OnOk result (write_fault self.old.settings.schema (table, key_of key) None self.old.client.current ≡ None) }
     {
         let place: &Place<A> = &self.place;

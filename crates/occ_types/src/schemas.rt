@@ -19,10 +19,11 @@ use crate::questions::Question;
 use crate::rows::Row;
 use crate::tables::TableDef;
 use crate::texts::Text;
-use std::alloc::Allocator;
+use std::alloc::{AllocError, Allocator};
 use std::marker::Model;
 
 /// The tables of a store, 1 to 32 with names of their own, which are named by their places. Clauses see the list of the plain tables.
+/// A clone is in memory of its own, of the same allocator.
 #[derive(Drop)]
 #[derive_where(Debug)]
 pub struct Schema<A: Allocator> {
@@ -220,4 +221,28 @@ fn are_tables<A: Allocator>(tables: &[TableDef<A>]) -> bool
         }
     }
     true
+}
+
+impl<A: Allocator + Clone> Clone for Schema<A> {
+    ghost is_clone = { λ source copy. copy ≡ source };
+
+    fn clone(&self) -> Result<Schema<A>, AllocError> {
+        Ok(Schema {
+            tables: copies(&self.tables)?,
+        })
+    }
+}
+
+// The same tables, in memory of their own.
+fn copies<A: Allocator + Clone>(
+    tables: &Vec<TableDef<A>, A>,
+) -> Result<Vec<TableDef<A>, A>, AllocError>
+    ensures same { IfOk result (λ copies. tables_of copies.items ≡ tables_of tables.now.items) }
+{
+    let originals = tables.as_slice();
+    let mut copies = Vec::with_capacity(tables.allocator().clone()?, originals.len())?;
+    for table in originals {
+        copies.push(table.clone()?)?;
+    }
+    Ok(copies)
 }

@@ -15,7 +15,7 @@ use crate::kind::{KeyKind, Kind, PartKind};
 use crate::limits::{MAX_CELL_BYTES, MAX_COLUMNS, MAX_KEY_BYTES, MAX_NAME_LETTERS};
 use crate::rows::Row;
 use crate::texts::Text;
-use std::alloc::Allocator;
+use std::alloc::{AllocError, Allocator};
 
 /// A table: its name, the kind of its keys, and the kinds of its columns.
 #[derive(Drop)]
@@ -172,4 +172,18 @@ fn check_cells<A: Allocator>(kinds: &[Kind], row: &Row<A>) -> Result<(), Fault>
         }
     }
     Ok(())
+}
+
+impl<A: Allocator + Clone> Clone for TableDef<A> {
+    ghost is_clone = { λ source copy. table_of copy ≡ table_of source };
+
+    fn clone(&self) -> Result<TableDef<A>, AllocError> {
+        let name = self.name.clone()?;
+        let columns = Vec::from_slice(self.columns.allocator().clone()?, self.columns.as_slice())?;
+        Ok(TableDef {
+            name,
+            key: self.key,
+            columns,
+        })
+    }
 }

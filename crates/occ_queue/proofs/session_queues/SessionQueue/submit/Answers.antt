@@ -1,8 +1,8 @@
-use Rattle.std.proofs.Common.{rules}
+use Rattle.std.proofs.Common.{rules, subst}
 use Rattle.occ_queue.specs.Items.{item_of}
-use Rattle.occ_queue.proofs.Turns.{submitted_in_turn}
+use Rattle.occ_queue.specs.Numbering.{IsInTurn}
+use Rattle.occ_queue.proofs.Turns.{may_submit}
 use Rattle.occ_queue.proofs.session_queues.SessionQueue.submit.Goals as goal
 
-pub invariant_of-self-2 : goal.invariant_of-self-2
-invariant_of-self-2 g c =
-    submitted_in_turn _ c.args.self.now c.self.view_is c.self.invariant (item_of c.args.item) (search rules) c.push.new.self c.in_ok-push.ensures.ok
+pub push-requires : goal.push-requires
+push-requires g c = may_submit c.args.self.now (item_of c.args.item) (subst IsInTurn c.self.view_is c.self.invariant) (search rules)
