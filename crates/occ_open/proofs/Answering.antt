@@ -22,14 +22,14 @@ use Rattle.occ_model.proofs.Admitted.{passed}
 use Rattle.occ_sets.specs.Overlays.{rows_over}
 use Rattle.occ_sets.specs.Sets.{Copied}
 use Rattle.occ_sets.proofs.Agreement.{overlay-Span}
-use Rattle.occ_open.specs.Transactions.{CopyGets, CopyScans, IsSpan, Unless, overlaid}
+use Rattle.occ_open.specs.Transactions.{CopyGetsBy, CopyScansBy, IsSpan, UnlessBy, overlaid}
 
 -- a question under the number and the start that a copy tells
-pub asked_so : (old : World) (session n m number start : ℕ) (asked question : Question) (reply : Reply) (new : World)
-    → n ≡ number → m ≡ start → question ≡ asked → Step old (Read session n m asked) reply new → Step old (Read session number start question) reply new
-asked_so old session n m number start asked question reply new is_number is_start is_question step =
+pub asked_so : (Moves : Event → Type 0) (session n m number start : ℕ) (asked question : Question)
+    → n ≡ number → m ≡ start → question ≡ asked → Moves (Read session n m asked) → Moves (Read session number start question)
+asked_so Moves session n m number start asked question is_number is_start is_question moved =
     let event : Read session n m asked ≡ Read session number start question = cc in
-    subst (λ (x : Event). Step old x reply new) event step
+    subst Moves event moved
 
 same_rows : (a b : Answer) → Answered a ≡ Answered b → a ≡ b
 same_rows a b e = cc
@@ -85,18 +85,18 @@ pub nothing_own : (writes : List Write) (object : Object) → (length writes == 
 nothing_own writes object none = ap (λ (w : List Write). own w object) (sym (nil_from_length writes (eqb-true (length writes) 0 none)))
 
 -- a key that fits and has no own write is asked for
-pub got : (old : World) (session : ℕ) (object : Object) (copy : Copied) (reply : Reply) (new : World) (schema : Schema)
-    → None ≡ check_key schema object.0 object.1 → schema ≡ old.settings.schema → None ≡ own copy.writes object → Step old (Read session copy.number copy.start (One object.0 object.1)) reply new
-    → CopyGets old session object copy reply new
-got old session object copy reply new schema fits is none step =
-    subst (λ (f : Option Fault). Unless f old reply new (MatchOption (own copy.writes object) (Step old (Read session copy.number copy.start (One object.0 object.1)) reply new) (λ row. (reply ≡ Answered (Found row)) × (new ≡ old))))
+pub got : (schema : Schema) (Stays : Type 0) (Moves : Event → Reply → Type 0) (session : ℕ) (object : Object) (copy : Copied) (reply : Reply) (asked : Schema)
+    → None ≡ check_key asked object.0 object.1 → asked ≡ schema → None ≡ own copy.writes object → Moves (Read session copy.number copy.start (One object.0 object.1)) reply
+    → CopyGetsBy schema Stays Moves session object copy reply
+got schema Stays Moves session object copy reply asked fits is none moved =
+    subst (λ (f : Option Fault). UnlessBy f Stays reply (MatchOption (own copy.writes object) (Moves (Read session copy.number copy.start (One object.0 object.1)) reply) (λ row. (reply ≡ Answered (Found row)) × Stays)))
     (fits ∙ ap (λ s. check_key s object.0 object.1) is)
-    (subst (λ (o : Option (Option Row)). MatchOption o (Step old (Read session copy.number copy.start (One object.0 object.1)) reply new) (λ row. (reply ≡ Answered (Found row)) × (new ≡ old))) none step)
+    (subst (λ (o : Option (Option Row)). MatchOption o (Moves (Read session copy.number copy.start (One object.0 object.1)) reply) (λ row. (reply ≡ Answered (Found row)) × Stays)) none moved)
 
 -- a range that fits is asked for
-pub scanned : (old : World) (session : ℕ) (question : Question) (copy : Copied) (given reply : Reply) (new : World) (schema : Schema)
-    → None ≡ check_question schema question → schema ≡ old.settings.schema → Step old (Read session copy.number copy.start question) given new
-    → reply ≡ overlaid question copy.writes given → CopyScans old session question copy reply new
-scanned old session question copy given reply new schema fits is step so =
-    subst (λ (f : Option Fault). Unless f old reply new ((r : Reply) × Step old (Read session copy.number copy.start question) r new × (reply ≡ overlaid question copy.writes r)))
-    (fits ∙ ap (λ s. check_question s question) is) (given, step, so)
+pub scanned : (schema : Schema) (Stays : Type 0) (Moves : Event → Reply → Type 0) (session : ℕ) (question : Question) (copy : Copied) (given reply : Reply)
+    → check_question schema question ≡ None → Moves (Read session copy.number copy.start question) given → reply ≡ overlaid question copy.writes given
+    → CopyScansBy schema Stays Moves session question copy reply
+scanned schema Stays Moves session question copy given reply fits moved so =
+    subst (λ (f : Option Fault). UnlessBy f Stays reply ((r : Reply) × Moves (Read session copy.number copy.start question) r × (reply ≡ overlaid question copy.writes r)))
+    (sym fits) (given, moved, so)

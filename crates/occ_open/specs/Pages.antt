@@ -4,7 +4,7 @@ use Rattle.occ_types.specs.declared.fault.Fault.{Fault}
 use Rattle.occ_types.specs.Key.{Key}
 use Rattle.occ_types.specs.PlainData.{end_of}
 use Rattle.occ_types.specs.Question.{Question}
-use Rattle.occ_model.specs.Event.{Reply, Answered, Read}
+use Rattle.occ_model.specs.Event.{Event, Reply, Answered, Read}
 use Rattle.occ_model.specs.Replies.{replied}
 use Rattle.occ_model.specs.State.{Rows}
 use Rattle.occ_model.specs.Step.{Step}
@@ -13,7 +13,7 @@ use Rattle.occ_open.specs.declared.pages.Page as code
 use Rattle.occ_types.specs.Schema.{Schema}
 use Rattle.occ_model.specs.Paging.{first_rest, last_rest}
 use Rattle.occ_sets.specs.Sets.{Copied}
-use Rattle.occ_open.specs.Transactions.{CopyWantsRange, Scans, OrStarves}
+use Rattle.occ_open.specs.Transactions.{CopyWantsRange, ScansBy, OrStarvesBy}
 
 module _ {Z : Type 0} where
   -- what a page replies: its rows
@@ -21,8 +21,11 @@ module _ {Z : Type 0} where
   paging = replied (λ page. Answered (Rows page.rows))
 
 -- the store answers the part of the range that the page is; or there is no memory for the key at which the rest begins
+abbrev pub ReadsPageBy : (Stays : Type 0) → (Moves : Event → Reply → Type 0) → ℕ → ℕ → ℕ → Question → Option Key → Reply → Type 0
+ReadsPageBy Stays Moves session number start question rest reply = OrStarvesBy (IsSome rest) Stays reply (Moves (Read session number start question) reply)
+
 abbrev pub ReadsPage : World → ℕ → ℕ → ℕ → Question → Option Key → Reply → World → Type 0
-ReadsPage old session number start question rest reply new = OrStarves (IsSome rest) old reply new (Step old (Read session number start question) reply new)
+ReadsPage old session number start question rest reply new = ReadsPageBy (new ≡ old) (λ event reply. Step old event reply new) session number start question rest reply
 
 -- a transaction wants memory for a page: for the key at which the rest begins, or room for the whole answer
 abbrev pub CopyWantsPage : Schema → Question → Option Key → Type 0
@@ -39,8 +42,12 @@ abbrev pub last_rest_of : World → ℕ → Option Key → Option Key → ℕ �
 last_rest_of world table lower upper most = last_rest world.settings.schema world.table table lower upper most
 
 module _ {Z : Type 0} where
-  -- in one world: the page of a range, by the question that its rest makes of it, as the transaction sees it, and where the rest begins
-  abbrev pub ScansPage : World → ℕ → (Option Key → Question) → Option Key → Option Copied → Result (code.Page Z) Fault → World → Type 0
-  ScansPage old session question rest current result new =
-      OrStarves (WantsPage old.settings.schema (question rest) rest current) old (paging result) new (Scans old session (question rest) current (paging result) new)
+  -- the page of a range, by the question that its rest makes of it, as the transaction sees it, and where the rest begins
+  abbrev pub ScansPageBy : Schema → (Stays : Type 0) → (Moves : Event → Reply → Type 0) → ℕ → (Option Key → Question) → Option Key → Option Copied → Result (code.Page Z) Fault → Type 0
+  ScansPageBy schema Stays Moves session question rest current result =
+      OrStarvesBy (WantsPage schema (question rest) rest current) Stays (paging result) (ScansBy schema Stays Moves session (question rest) current (paging result))
       × IfOk result (λ page. end_of page.rest ≡ rest)
+
+  -- the same in one world
+  abbrev pub ScansPage : World → ℕ → (Option Key → Question) → Option Key → Option Copied → Result (code.Page Z) Fault → World → Type 0
+  ScansPage old session question rest current result new = ScansPageBy old.settings.schema (new ≡ old) (λ event reply. Step old event reply new) session question rest current result

@@ -11,7 +11,7 @@ use Rattle.occ_model.specs.State.{Write, Found}
 use Rattle.occ_model.specs.Overlay.{set, own, overlay}
 use Rattle.occ_model.specs.World.{World}
 use Rattle.occ_model.specs.Refusal.{numbers_exhausted}
-use Rattle.occ_model.specs.Event.{Reply, Refused, Answered, Read, Forget}
+use Rattle.occ_model.specs.Event.{Event, Reply, Refused, Answered, Read, Forget}
 use Rattle.occ_model.specs.Step.{Step}
 use Rattle.occ_sets.specs.Sets.{Copied, is_full_for}
 
@@ -56,25 +56,39 @@ written (Some copy) object row = Some (record copy { writes = set copy.writes ob
 abbrev pub WantsRoom : Object → Option Copied → Type 0
 WantsRoom object current = IsSomeAnd current (λ copy. own copy.writes object ≡ None)
 
--- a call goes on, unless a fault applies: then it is refused, and nothing moves
+-- a call goes on, unless a fault applies: then it is refused, and the store stays
+abbrev pub UnlessBy : Option Fault → (Stays : Type 0) → Reply → (Goes : Type 0) → Type 0
+UnlessBy None Stays reply Goes = Goes
+UnlessBy (Some fault) Stays reply Goes = (reply ≡ Refused fault) × Stays
+
 abbrev pub Unless : Option Fault → World → Reply → World → Type 0 → Type 0
-Unless None old reply new Goes = Goes
-Unless (Some fault) old reply new Goes = (reply ≡ Refused fault) × (new ≡ old)
+Unless known old reply new Goes = UnlessBy known (new ≡ old) reply Goes
 
 -- a call goes on with the transaction that is open, where one is
-abbrev pub WithOpen : Option Copied → World → Reply → World → (Copied → Type 0) → Type 0
-WithOpen None old reply new Goes = (reply ≡ Refused faults.NoReadOpen) × (new ≡ old)
-WithOpen (Some copy) old reply new Goes = Goes copy
+abbrev pub WithOpenBy : Option Copied → (Stays : Type 0) → Reply → (Goes : Copied → Type 0) → Type 0
+WithOpenBy None Stays reply Goes = (reply ≡ Refused faults.NoReadOpen) × Stays
+WithOpenBy (Some copy) Stays reply Goes = Goes copy
 
--- `get_in`: the own write, or else what the store answers, which notes the question in the transaction's read phase
-abbrev pub CopyGets : World → ℕ → Object → Copied → Reply → World → Type 0
-CopyGets old session object copy reply new = Unless (check_key old.settings.schema object.0 object.1) old reply new (
+abbrev pub WithOpen : Option Copied → World → Reply → World → (Copied → Type 0) → Type 0
+WithOpen current old reply new Goes = WithOpenBy current (new ≡ old) reply Goes
+
+-- `get_in`: the own write, or else what the store answers, which notes the question in the transaction's read phase; by what it means
+-- that the store stays, and that an event moves it, with this reply
+abbrev pub CopyGetsBy : Schema → (Stays : Type 0) → (Moves : Event → Reply → Type 0) → ℕ → Object → Copied → Reply → Type 0
+CopyGetsBy schema Stays Moves session object copy reply = UnlessBy (check_key schema object.0 object.1) Stays reply (
     MatchOption (own copy.writes object)
-    (Step old (Read session copy.number copy.start (One object.0 object.1)) reply new)
-    (λ row. (reply ≡ Answered (Found row)) × (new ≡ old)))
+    (Moves (Read session copy.number copy.start (One object.0 object.1)) reply)
+    (λ row. (reply ≡ Answered (Found row)) × Stays))
+
+abbrev pub GetsBy : Schema → (Stays : Type 0) → (Moves : Event → Reply → Type 0) → ℕ → Object → Option Copied → Reply → Type 0
+GetsBy schema Stays Moves session object current reply = WithOpenBy current Stays reply (λ copy. CopyGetsBy schema Stays Moves session object copy reply)
+
+-- the same in the model, whose worlds move by its steps
+abbrev pub CopyGets : World → ℕ → Object → Copied → Reply → World → Type 0
+CopyGets old session object copy reply new = CopyGetsBy old.settings.schema (new ≡ old) (λ event reply. Step old event reply new) session object copy reply
 
 abbrev pub Gets : World → ℕ → Object → Option Copied → Reply → World → Type 0
-Gets old session object current reply new = WithOpen current old reply new (λ copy. CopyGets old session object copy reply new)
+Gets old session object current reply new = GetsBy old.settings.schema (new ≡ old) (λ event reply. Step old event reply new) session object current reply
 
 -- it wants memory for a copy of its own row
 abbrev pub CopyWantsOwn : Schema → Object → Copied → Type 0
@@ -89,12 +103,18 @@ overlaid question writes (Answered given) = Answered (overlay question writes gi
 overlaid question writes reply = reply
 
 -- `scan_in`: what the store answers to the whole range, with the own writes over it
+abbrev pub CopyScansBy : Schema → (Stays : Type 0) → (Moves : Event → Reply → Type 0) → ℕ → Question → Copied → Reply → Type 0
+CopyScansBy schema Stays Moves session question copy reply = UnlessBy (check_question schema question) Stays reply (
+    (given : Reply) × Moves (Read session copy.number copy.start question) given × (reply ≡ overlaid question copy.writes given))
+
+abbrev pub ScansBy : Schema → (Stays : Type 0) → (Moves : Event → Reply → Type 0) → ℕ → Question → Option Copied → Reply → Type 0
+ScansBy schema Stays Moves session question current reply = WithOpenBy current Stays reply (λ copy. CopyScansBy schema Stays Moves session question copy reply)
+
 abbrev pub CopyScans : World → ℕ → Question → Copied → Reply → World → Type 0
-CopyScans old session question copy reply new = Unless (check_question old.settings.schema question) old reply new (
-    (given : Reply) × Step old (Read session copy.number copy.start question) given new × (reply ≡ overlaid question copy.writes given))
+CopyScans old session question copy reply new = CopyScansBy old.settings.schema (new ≡ old) (λ event reply. Step old event reply new) session question copy reply
 
 abbrev pub Scans : World → ℕ → Question → Option Copied → Reply → World → Type 0
-Scans old session question current reply new = WithOpen current old reply new (λ copy. CopyScans old session question copy reply new)
+Scans old session question current reply new = ScansBy old.settings.schema (new ≡ old) (λ event reply. Step old event reply new) session question current reply
 
 -- it wants room for the whole answer, which is taken before the store is asked
 abbrev pub CopyWantsRange : Schema → Question → Type 0
@@ -108,18 +128,20 @@ abbrev pub IsSpan : Question → Type 0
 IsSpan question = (table : ℕ) × (lower : Option Key) × (upper : Option Key) × (question ≡ Span table lower upper)
 
 -- `abandon_in`: the store forgets what the transaction read
+abbrev pub AbandonsBy : (Stays : Type 0) → (Moves : Event → Reply → Type 0) → ℕ → Option Copied → Reply → Type 0
+AbandonsBy Stays Moves session current reply = WithOpenBy current Stays reply (λ copy. Moves (Forget session copy.number) reply)
+
 abbrev pub Abandons : World → ℕ → Option Copied → Reply → World → Type 0
-Abandons old session current reply new = WithOpen current old reply new (λ copy. Step old (Forget session copy.number) reply new)
+Abandons old session current reply new = AbandonsBy (new ≡ old) (λ event reply. Step old event reply new) session current reply
 
 -- the transaction that is open then: none, unless that was refused
 abbrev pub open_after : Option Copied → Reply → Option Copied
 open_after current (Refused fault) = current
 open_after current reply = None
 
--- the reply of a call; or it wanted memory, which moves nothing
-abbrev pub OrStarves : Type 0 → World → Reply → World → Type 0 → Type 0
-OrStarves Wanting old reply new Is = ((reply ≡ Refused faults.Memory) × Wanting × (new ≡ old)) ⊎ Is
+-- the reply of a call; or it wanted memory, and the store stays
+abbrev pub OrStarvesBy : (Wanting : Type 0) → (Stays : Type 0) → Reply → (Is : Type 0) → Type 0
+OrStarvesBy Wanting Stays reply Is = ((reply ≡ Refused faults.Memory) × Wanting × Stays) ⊎ Is
 
--- a store of which a call keeps this, unless it leaves all as it is
-abbrev pub Leaves : {X : Type 0} → (X → X → Type 0) → X → X → Type 0
-Leaves Keeps old new = (new ≡ old) ⊎ Keeps old new
+abbrev pub OrStarves : Type 0 → World → Reply → World → Type 0 → Type 0
+OrStarves Wanting old reply new Is = OrStarvesBy Wanting (new ≡ old) reply Is

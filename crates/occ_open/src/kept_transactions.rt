@@ -2,6 +2,7 @@
 ghost use Rattle.std.specs.Prelude.{◌≡◌, ◌≤◌, ◌⊎◌, None, Some, true, false, is_some, length, option_map, IfOk, IfErr, OnOk, OnErr, MatchResult};
 ghost use Rattle.std.specs.Option.{option_copied};
 ghost use Rattle.std.specs.Result.{result_err};
+ghost use Rattle.occ_types.specs.declared.fault.Fault.TheVariants.{Memory};
 ghost use Rattle.occ_types.specs.PlainData.{key_of, end_of};
 ghost use Rattle.occ_types.specs.Question.{Span};
 ghost use Rattle.occ_types.specs.declared.limits.TheConstants.{MAX_WRITES};
@@ -134,7 +135,8 @@ impl<A: Allocator + Copy> KeptTransaction<A> {
         }
     }
 
-    /// Writes a row under a key of a table. Refused as `OpenTransaction::put`. The write is handed back then, and nothing changes.
+    /// Writes a row under a key of a table. Refused as `OpenTransaction::put`, or before that with `Memory`, where others share the writes
+    /// and there is none for a copy of them. The write is handed back then, and nothing changes.
     pub fn put(
         &mut self,
         schema: &Schema<A>,
@@ -145,7 +147,7 @@ impl<A: Allocator + Copy> KeptTransaction<A> {
         ensures ok { OnOk result (self.new.current ≡ written self.old.current (table, key_of key) (Some row)) }
         ensures err { OnErr result (self.new.current ≡ self.old.current) }
         ensures handed_back { IfErr result (λ refused. refused.value ≡ (record { table = table; key = key }, Some row)) }
-        ensures fault { IfErr result (λ refused. IsShared self.old ⊎ IsRefusedBy (write_fault schema.now (table, key_of key) (Some row) self.old.current) (WantsRoom (table, key_of key) self.old.current) refused.fault) }
+        ensures fault { IfErr result (λ refused. (IsShared self.old × (refused.fault ≡ Memory)) ⊎ IsRefusedBy (write_fault schema.now (table, key_of key) (Some row) self.old.current) (WantsRoom (table, key_of key) self.old.current) refused.fault) }
         ensures fits { OnOk result (write_fault schema.now (table, key_of key) (Some row) self.old.current ≡ None) }
     {
         self.restore();
@@ -168,7 +170,7 @@ impl<A: Allocator + Copy> KeptTransaction<A> {
         ensures ok { OnOk result (self.new.current ≡ written self.old.current (table, key_of key) None) }
         ensures err { OnErr result (self.new.current ≡ self.old.current) }
         ensures handed_back { IfErr result (λ refused. refused.value ≡ (record { table = table; key = key }, None)) }
-        ensures fault { IfErr result (λ refused. IsShared self.old ⊎ IsRefusedBy (write_fault schema.now (table, key_of key) None self.old.current) (WantsRoom (table, key_of key) self.old.current) refused.fault) }
+        ensures fault { IfErr result (λ refused. (IsShared self.old × (refused.fault ≡ Memory)) ⊎ IsRefusedBy (write_fault schema.now (table, key_of key) None self.old.current) (WantsRoom (table, key_of key) self.old.current) refused.fault) }
         ensures fits { OnOk result (write_fault schema.now (table, key_of key) None self.old.current ≡ None) }
     {
         self.restore();
@@ -189,6 +191,7 @@ impl<A: Allocator + Copy> KeptTransaction<A> {
         table: usize,
         key: &Key<A>,
     ) -> Result<Option<Row<A>>, Fault>
+        requires served { S.serves store.old session }
         ensures current { self.new.current ≡ self.old.current }
         ensures read { OrStarves (IsShared self.old ⊎ WantsOwn (S.world store.old).settings.schema (table, key_of key.now) self.old.current) (S.world store.old) (reading result) (S.world store.new)
             (Gets (S.world store.old) session (table, key_of key.now) self.old.current (reading result) (S.world store.new)) }
@@ -210,6 +213,7 @@ impl<A: Allocator + Copy> KeptTransaction<A> {
         lower: Option<&Key<A>>,
         upper: Option<&Key<A>>,
     ) -> Result<RangeRows<A>, Fault>
+        requires served { S.serves store.old session }
         ensures current { self.new.current ≡ self.old.current }
         ensures read { OrStarves (IsShared self.old ⊎ WantsRange (S.world store.old).settings.schema (Span table (end_of (option_copied lower.entry)) (end_of (option_copied upper.entry))) self.old.current) (S.world store.old) (scanning result) (S.world store.new)
             (Scans (S.world store.old) session (Span table (end_of (option_copied lower.entry)) (end_of (option_copied upper.entry))) self.old.current (scanning result) (S.world store.new)) }
@@ -231,6 +235,7 @@ impl<A: Allocator + Copy> KeptTransaction<A> {
         upper: Option<&Key<A>>,
         most: usize,
     ) -> Result<Page<A>, Fault>
+        requires served { S.serves store.old session }
         ensures current { self.new.current ≡ self.old.current }
         ensures read { let rest = first_rest_of (S.world store.old) table (end_of (option_copied lower.entry)) (end_of (option_copied upper.entry)) most in
             OrStarves (IsShared self.old ⊎ WantsPage (S.world store.old).settings.schema (first_page table (end_of (option_copied lower.entry)) (end_of (option_copied upper.entry)) rest) rest self.old.current) (S.world store.old) (paging result) (S.world store.new)
@@ -256,6 +261,7 @@ impl<A: Allocator + Copy> KeptTransaction<A> {
         upper: Option<&Key<A>>,
         most: usize,
     ) -> Result<Page<A>, Fault>
+        requires served { S.serves store.old session }
         ensures current { self.new.current ≡ self.old.current }
         ensures read { let rest = last_rest_of (S.world store.old) table (end_of (option_copied lower.entry)) (end_of (option_copied upper.entry)) most in
             OrStarves (IsShared self.old ⊎ WantsPage (S.world store.old).settings.schema (last_page table (end_of (option_copied lower.entry)) (end_of (option_copied upper.entry)) rest) rest self.old.current) (S.world store.old) (paging result) (S.world store.new)
@@ -278,6 +284,7 @@ impl<A: Allocator + Copy> KeptTransaction<A> {
         store: &mut S,
         session: usize,
     ) -> Result<bool, Fault>
+        requires served { S.serves store.old session }
         ensures step { Abandons (S.world store.old) session self.old.current (forgetting result) (S.world store.new) }
         ensures left { self.new.current ≡ open_after self.old.current (forgetting result) }
     {

@@ -1,11 +1,11 @@
 //! What a transaction asks of a store in its read phase.
-ghost use Rattle.std.specs.Prelude.{◌≡◌, IfOk, IfErr, IsSome};
+ghost use Rattle.std.specs.Prelude.{◌≡◌, ℕ, IfOk, IfErr, IsSome};
 ghost use Rattle.std.specs.Option.{option_copied};
 ghost use Rattle.occ_types.specs.PlainData.{key_of, end_of};
 ghost use Rattle.occ_types.specs.Question.{One, Span};
 ghost use Rattle.occ_types.specs.declared.fault.Fault.TheVariants.{Memory};
 ghost use Rattle.occ_model.specs.World.{World};
-ghost use Rattle.occ_model.specs.Event.{Read, Forget};
+ghost use Rattle.occ_model.specs.Event.{Event, Reply, Read, Forget};
 ghost use Rattle.occ_model.specs.Step.{Step};
 ghost use Rattle.occ_open.specs.Pages.{first_rest_of, last_rest_of};
 ghost use Rattle.occ_open.specs.Replies.{reading, scanning, copying, forgetting};
@@ -18,8 +18,11 @@ use std::alloc::Allocator;
 pub trait Readable<A: Allocator> {
     ghost world: { Self → World };
 
-    /// What each call keeps of it beside its world, by how it was and how it is: nothing that clauses know, where an `impl` doesn't say.
-    ghost keeps: { Self → Self → Type 0 } = { λ old new. Unit {0} };
+    /// How an event moves it beside its world, with what it is replied: nothing that clauses know, where an `impl` doesn't say.
+    ghost moves: { Self → Event → Reply → Self → Type 0 } = { λ old event reply new. Unit {0} };
+
+    /// For which sessions it may be asked, as far as clauses are to know: for each, where an `impl` doesn't say.
+    ghost serves: { Self → ℕ → Type 0 } = { λ store session. Unit {0} };
 
     /// The tables of the store, and what fits them.
     fn schema(&self) -> &Schema<A>
@@ -35,8 +38,9 @@ pub trait Readable<A: Allocator> {
         table: usize,
         key: &Key<A>,
     ) -> Result<Option<Row<A>>, Fault>
+        requires served { serves self.old session }
         ensures step { Step (world self.old) (Read session number start (One table (key_of key.now))) (reading result) (world self.new) }
-        ensures keeps { keeps self.old self.new };
+        ensures moves { moves self.old (Read session number start (One table (key_of key.now))) (reading result) self.new };
 
     /// The rows of a table from the lower end on and below the upper one, with their keys and in the order of the keys. The question is
     /// noted with its answer as by `read`, which may share the rows.
@@ -49,8 +53,9 @@ pub trait Readable<A: Allocator> {
         lower: Option<&Key<A>>,
         upper: Option<&Key<A>>,
     ) -> Result<RangeRows<A>, Fault>
+        requires served { serves self.old session }
         ensures step { Step (world self.old) (Read session number start (Span table (end_of (option_copied lower.entry)) (end_of (option_copied upper.entry)))) (scanning result) (world self.new) }
-        ensures keeps { keeps self.old self.new };
+        ensures moves { moves self.old (Read session number start (Span table (end_of (option_copied lower.entry)) (end_of (option_copied upper.entry)))) (scanning result) self.new };
 
     /// The same, as copies of the rows that the caller alone owns.
     fn scan_apart(
@@ -62,8 +67,9 @@ pub trait Readable<A: Allocator> {
         lower: Option<&Key<A>>,
         upper: Option<&Key<A>>,
     ) -> Result<Vec<(Key<A>, Row<A>), A>, Fault>
+        requires served { serves self.old session }
         ensures step { Step (world self.old) (Read session number start (Span table (end_of (option_copied lower.entry)) (end_of (option_copied upper.entry)))) (copying result) (world self.new) }
-        ensures keeps { keeps self.old self.new };
+        ensures moves { moves self.old (Read session number start (Span table (end_of (option_copied lower.entry)) (end_of (option_copied upper.entry)))) (copying result) self.new };
 
     /// Where the rows behind the first page of a range begin, of at most `most` rows, or one where `most` is 0; none where no row is
     /// left, or the range doesn't fit the schema. It notes nothing. Refused with `Memory` where rows are left and there is none for the
@@ -91,6 +97,7 @@ pub trait Readable<A: Allocator> {
 
     /// Forgets what a session has read under a number, and answers whether it has read anything. It takes no memory.
     fn forget(&mut self, session: usize, number: u64) -> Result<bool, Fault>
+        requires served { serves self.old session }
         ensures step { Step (world self.old) (Forget session number) (forgetting result) (world self.new) }
-        ensures keeps { keeps self.old self.new };
+        ensures moves { moves self.old (Forget session number) (forgetting result) self.new };
 }

@@ -1,10 +1,11 @@
-use Rattle.std.proofs.Common.{ap, sym, subst, ◌∙◌}
+use Rattle.std.proofs.Common.{◌≡◌, ap, sym, subst, ◌∙◌}
 use Rattle.std.specs.Option.{option_copied}
 use Rattle.occ_types.specs.PlainData.{end_of}
 use Rattle.occ_types.specs.Question.{Question, Span}
 use Rattle.occ_types.specs.Schema.{check_question}
+use Rattle.occ_model.specs.Step.{Step}
 use Rattle.occ_open.specs.Replies.{scanning}
-use Rattle.occ_open.specs.Transactions.{CopyScans, CopyWantsRange, OrStarves}
+use Rattle.occ_open.specs.Transactions.{CopyScansBy, CopyWantsRange, OrStarvesBy}
 use Rattle.occ_open.proofs.asking.scan.Goals as goal
 
 -- the question is for this range
@@ -19,7 +20,16 @@ scan_asked-requires-clause-fits g c =
 
 pub returns-clause-step : goal.returns-clause-step
 returns-clause-step g c =
-    let old = g.S.Readable.world c.args.store.now in
-    let new = g.S.Readable.world c.scan_asked.new.store in
+    let schema = (g.S.Readable.world c.args.store.now).settings.schema in
     let reply = scanning c.scan_asked.result in
-    subst (λ (q : Question). OrStarves (CopyWantsRange old.settings.schema q) old reply new (CopyScans old c.args.session q c.args.copy.now reply new)) c.in_ok-question.ensures.value c.scan_asked.ensures.step
+    subst (λ (q : Question). OrStarvesBy (CopyWantsRange schema q) (g.S.Readable.world c.scan_asked.new.store ≡ g.S.Readable.world c.args.store.now) reply
+    (CopyScansBy schema (g.S.Readable.world c.scan_asked.new.store ≡ g.S.Readable.world c.args.store.now) (λ event reply. Step (g.S.Readable.world c.args.store.now) event reply (g.S.Readable.world c.scan_asked.new.store)) c.args.session q c.args.copy.now reply))
+    c.in_ok-question.ensures.value c.scan_asked.ensures.step
+
+pub returns-clause-moves : goal.returns-clause-moves
+returns-clause-moves g c =
+    let schema = (g.S.Readable.world c.args.store.now).settings.schema in
+    let reply = scanning c.scan_asked.result in
+    subst (λ (q : Question). OrStarvesBy (CopyWantsRange schema q) (c.scan_asked.new.store ≡ c.args.store.now) reply
+    (CopyScansBy schema (c.scan_asked.new.store ≡ c.args.store.now) (λ event reply. g.S.Readable.moves c.args.store.now event reply c.scan_asked.new.store) c.args.session q c.args.copy.now reply))
+    c.in_ok-question.ensures.value c.scan_asked.ensures.moves

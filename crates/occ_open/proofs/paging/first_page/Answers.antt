@@ -1,14 +1,14 @@
-use Rattle.std.proofs.Common.{Err, ap, sym, subst, ◌∙◌}
+use Rattle.std.proofs.Common.{◌≡◌, Err, ap, sym, refl, ◌∙◌}
 use Rattle.std.proofs.lemmas.Result.{err_from_is_err_and}
-use Rattle.std.specs.Option.{option_copied, option_or}
+use Rattle.std.specs.Option.{option_copied}
 use Rattle.occ_types.specs.PlainData.{end_of}
 use Rattle.occ_types.specs.Question.{Span}
 use Rattle.occ_model.specs.State.{Rows}
-use Rattle.occ_model.specs.Event.{Reply, Answered, Refused}
+use Rattle.occ_model.specs.Event.{Answered, Refused}
+use Rattle.occ_model.specs.Step.{Step}
 use Rattle.occ_model.specs.Paging as pages
-use Rattle.occ_open.specs.Pages.{paging, first_rest_of, CopyWantsPage}
-use Rattle.occ_open.specs.Transactions.{CopyScans, OrStarves}
-use Rattle.occ_open.proofs.PageScans.{nearer_end, page_scanned}
+use Rattle.occ_open.specs.Pages.{paging, first_rest_of}
+use Rattle.occ_open.proofs.PageScans.{page_end, page_scanned}
 use Rattle.occ_open.proofs.paging.first_page.Goals as goal
 
 -- the page was refused
@@ -17,15 +17,22 @@ returns-in_err-rows-clause-step g c =
     let a = end_of (option_copied c.args.lower) in
     let b = end_of (option_copied c.args.upper) in
     let rest = first_rest_of (g.S.Readable.world c.args.store.now) c.args.table a b c.args.most in
-    let nearer =
-    ap (λ r. end_of (option_copied r)) c.or-upper.ensures ∙ nearer_end c.as_ref.result c.args.upper
-    ∙ ap (λ r. option_or (end_of r) b) c.as_ref.ensures.value ∙ ap (λ r. option_or r b) c.in_ok-rest.ensures.rest in
+    let nearer = page_end c.as_ref.result c.args.upper c.or-upper.result _ rest c.or-upper.ensures c.as_ref.ensures.value c.in_ok-rest.ensures.rest in
     let p = err_from_is_err_and c.from_residual-in_err-rows.result c.from_residual-in_err-rows.ensures.1 in
-    let old = g.S.Readable.world c.args.store.now in
-    let new = g.S.Readable.world c.scan.new.store in
-    let question = pages.first_page c.args.table a b rest in
-    subst (λ (reply : Reply). OrStarves (CopyWantsPage old.settings.schema question rest) old reply new (CopyScans old c.args.session question c.args.copy.now reply new)) (sym (ap paging (p.1 ∙ ap Err p.2)))
-    (page_scanned c.args.session c.args.copy.now (Span c.args.table a (end_of (option_copied c.or-upper.result))) question rest (Refused c.in_err-rows.field-0.0) (ap (λ e. Span c.args.table a e) nearer) c.in_err-rows.ensures.step)
+    page_scanned (g.S.Readable.world c.args.store.now).settings.schema (g.S.Readable.world c.scan.new.store ≡ g.S.Readable.world c.args.store.now) (λ event reply. Step (g.S.Readable.world c.args.store.now) event reply (g.S.Readable.world c.scan.new.store))
+    c.args.session c.args.copy.now (Span c.args.table a (end_of (option_copied c.or-upper.result))) (pages.first_page c.args.table a b rest) rest (Refused c.in_err-rows.field-0.0) _
+    (ap (λ e. Span c.args.table a e) nearer) (sym (ap paging (p.1 ∙ ap Err p.2))) c.in_err-rows.ensures.step
+
+pub returns-in_err-rows-clause-moves : goal.returns-in_err-rows-clause-moves
+returns-in_err-rows-clause-moves g c =
+    let a = end_of (option_copied c.args.lower) in
+    let b = end_of (option_copied c.args.upper) in
+    let rest = first_rest_of (g.S.Readable.world c.args.store.now) c.args.table a b c.args.most in
+    let nearer = page_end c.as_ref.result c.args.upper c.or-upper.result _ rest c.or-upper.ensures c.as_ref.ensures.value c.in_ok-rest.ensures.rest in
+    let p = err_from_is_err_and c.from_residual-in_err-rows.result c.from_residual-in_err-rows.ensures.1 in
+    page_scanned (g.S.Readable.world c.args.store.now).settings.schema (c.scan.new.store ≡ c.args.store.now) (λ event reply. g.S.Readable.moves c.args.store.now event reply c.scan.new.store)
+    c.args.session c.args.copy.now (Span c.args.table a (end_of (option_copied c.or-upper.result))) (pages.first_page c.args.table a b rest) rest (Refused c.in_err-rows.field-0.0) _
+    (ap (λ e. Span c.args.table a e) nearer) (sym (ap paging (p.1 ∙ ap Err p.2))) c.in_err-rows.ensures.moves
 
 -- and it was answered
 pub returns-clause-step : goal.returns-clause-step
@@ -33,7 +40,17 @@ returns-clause-step g c =
     let a = end_of (option_copied c.args.lower) in
     let b = end_of (option_copied c.args.upper) in
     let rest = first_rest_of (g.S.Readable.world c.args.store.now) c.args.table a b c.args.most in
-    let nearer =
-    ap (λ r. end_of (option_copied r)) c.or-upper.ensures ∙ nearer_end c.as_ref.result c.args.upper
-    ∙ ap (λ r. option_or (end_of r) b) c.as_ref.ensures.value ∙ ap (λ r. option_or r b) c.in_ok-rest.ensures.rest in
-    page_scanned c.args.session c.args.copy.now (Span c.args.table a (end_of (option_copied c.or-upper.result))) (pages.first_page c.args.table a b rest) rest (Answered (Rows c.in_ok-rows.rows)) (ap (λ e. Span c.args.table a e) nearer) c.in_ok-rows.ensures.step
+    let nearer = page_end c.as_ref.result c.args.upper c.or-upper.result _ rest c.or-upper.ensures c.as_ref.ensures.value c.in_ok-rest.ensures.rest in
+    page_scanned (g.S.Readable.world c.args.store.now).settings.schema (g.S.Readable.world c.scan.new.store ≡ g.S.Readable.world c.args.store.now) (λ event reply. Step (g.S.Readable.world c.args.store.now) event reply (g.S.Readable.world c.scan.new.store))
+    c.args.session c.args.copy.now (Span c.args.table a (end_of (option_copied c.or-upper.result))) (pages.first_page c.args.table a b rest) rest (Answered (Rows c.in_ok-rows.rows)) _
+    (ap (λ e. Span c.args.table a e) nearer) refl c.in_ok-rows.ensures.step
+
+pub returns-clause-moves : goal.returns-clause-moves
+returns-clause-moves g c =
+    let a = end_of (option_copied c.args.lower) in
+    let b = end_of (option_copied c.args.upper) in
+    let rest = first_rest_of (g.S.Readable.world c.args.store.now) c.args.table a b c.args.most in
+    let nearer = page_end c.as_ref.result c.args.upper c.or-upper.result _ rest c.or-upper.ensures c.as_ref.ensures.value c.in_ok-rest.ensures.rest in
+    page_scanned (g.S.Readable.world c.args.store.now).settings.schema (c.scan.new.store ≡ c.args.store.now) (λ event reply. g.S.Readable.moves c.args.store.now event reply c.scan.new.store)
+    c.args.session c.args.copy.now (Span c.args.table a (end_of (option_copied c.or-upper.result))) (pages.first_page c.args.table a b rest) rest (Answered (Rows c.in_ok-rows.rows)) _
+    (ap (λ e. Span c.args.table a e) nearer) refl c.in_ok-rows.ensures.moves
