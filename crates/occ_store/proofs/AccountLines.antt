@@ -7,11 +7,15 @@ use Rattle.std.proofs.Math.ListN.{drop_of_length-le}
 use Rattle.std.proofs.lemmas.List.{drop_more, take_all, take_more, length_push, append-nil, nil_from_length, length-append}
 use Rattle.occ_model.proofs.Tests.{and_true}
 use Rattle.occ_queue.specs.declared.items.Item as code_item
+use Rattle.occ_model.specs.World.{World, next_place}
+use Rattle.occ_model.specs.Step.{Run}
+use Rattle.occ_history.specs.History.{Happened, FrontView, Begins}
 use Rattle.occ_store.specs.Lanes.{LaneView}
-use Rattle.occ_store.specs.Names.{Named}
+use Rattle.occ_store.specs.Names.{Named, opened_as}
+use Rattle.occ_store.proofs.RowsCome.{rows_ran}
 use Rattle.occ_store.specs.Workers.{WorkerView}
 use Rattle.occ_store.specs.Sessions.{SessionView}
-use Rattle.occ_store.specs.Accounts.{LineView, IsLine, IsWorkerLine, AreLines, AreAllLines, IsRoom, AreRooms, are_hired, are_numbered, is_complete, end_fault}
+use Rattle.occ_store.specs.Accounts.{LineView, IsLine, IsWorkerLine, AreLines, AreAllLines, IsRoom, AreRooms, HasSeen, HaveSeen, IsOfHistory, are_hired, are_numbered, is_complete, end_fault}
 use Rattle.occ_types.specs.declared.fault.Fault.{Fault}
 use Rattle.occ_types.specs.declared.fault.Fault.TheVariants.{Memory, NoSession}
 
@@ -228,6 +232,28 @@ all_lines [] lanes sessions [] own are is = is
 all_lines [] lanes sessions (y ∷ ys) own are is = absurd are
 all_lines (x ∷ xs) lanes sessions [] own are is = absurd are
 all_lines (x ∷ xs) lanes sessions (y ∷ ys) own are is = (are.0, all_lines xs lanes sessions ys own are.1 is)
+
+-- one more has seen a beginning of the history
+pub seen_more : {X : Type 0} (front : X → FrontView) (story : List Happened) (before : List X) (x : X) → HaveSeen story front before → HasSeen story (front x) → HaveSeen story front (before ++ x ∷ [])
+seen_more front story [] x have has = (has, tt)
+seen_more front story (y ∷ ys) x have has = (have.0, seen_more front story ys x have.1 has)
+
+-- who is shown the whole history has seen a beginning of it
+pub has_seen : (story : List Happened) (from to front : FrontView) → Begins from to → to ≡ record from { seen = story } → from ≡ front → HasSeen story front
+has_seen story from to front begins seen is = subst (HasSeen story) is (subst (λ log. HasSeen log from) (ap (λ (f : FrontView). f.seen) seen) begins)
+
+-- and what was seen of the story that led to the state behind the lock tells whose history it is
+pub of_history : (named : Named) (workers : List WorkerView) (lanes : List LaneView) (story : List Happened) (world : World) (entered : ℕ) → Run (opened_as named) story world → entered + next_place (opened_as named) ≡ next_place world
+    → HaveSeen story (λ (worker : WorkerView). worker.front) workers → HaveSeen story (λ (lane : LaneView). lane.front) lanes → IsOfHistory named workers lanes entered
+of_history named workers lanes story world entered ran counts first second =
+    let brought = rows_ran (opened_as named) world story ran in
+    record { story = story; world = world; ran = ran; rows = omega arith; workers_saw = first; lanes_saw = second }
+
+-- where there are none, nothing entered
+pub of_none : (named : Named) (workers : List WorkerView) (lanes : List LaneView) (entered : ℕ) → length workers ≡ 0 → length lanes ≡ 0 → entered ≡ 0 → IsOfHistory named workers lanes entered
+of_none named [] [] entered none nobody is = record { story = []; world = opened_as named; ran = refl; rows = is; workers_saw = tt; lanes_saw = tt }
+of_none named (x ∷ xs) lanes entered none nobody is = absurd (omega arith)
+of_none named [] (x ∷ xs) entered none nobody is = absurd (omega arith)
 
 -- a sum over one more
 pub sum_more : {X : Type 0} (measure : X → ℕ) (before : List X) (x : X) → sum_by measure (before ++ x ∷ []) ≡ sum_by measure before + measure x

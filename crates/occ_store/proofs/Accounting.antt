@@ -2,7 +2,6 @@
 use Rattle.std.proofs.Common.{◌≡◌, ℕ, ◌+◌, ◌-◌, ◌≤◌, Bool, true, false, List, [], ◌∷◌, ◌++◌, length, Option, is_some, Result, IfSome, inl, inr, refl, sym, ap, subst, ◌∙◌, arith}
 use Rattle.std.specs.Prelude.{◌⊎◌, ◌&&◌, ◌||◌}
 use Rattle.std.specs.List.{list_any}
-use Rattle.std.proofs.lemmas.List.{length_push}
 use Rattle.std.proofs.lemmas.List.Folds.{list_any-append}
 use Rattle.boxcar.specs.Table.{Shelves, Where, Shows}
 use Rattle.occ_types.specs.declared.fault.Fault.{Fault}
@@ -14,6 +13,7 @@ use Rattle.occ_core.specs.declared.outcomes.Outcome as code_outcome
 use Rattle.occ_core.specs.declared.outcomes.Outcome.TheVariants as outcomes
 use Rattle.occ_queue.specs.Items.{is_mark}
 use Rattle.occ_filed.specs.Filed.{token_of}
+use Rattle.occ_history.specs.History.{FrontView}
 use Rattle.occ_store.specs.Locked.{Locked, rows_entered}
 use Rattle.occ_store.specs.Lanes.{Left, Nothing, Kept, Open, Decided, LaneView, AddsUp, count_if, is_closed, is_nothing, open_rows, token_left, left_entering, TakesIn, reached, Advances, GoesOn}
 use Rattle.occ_store.specs.Sessions.{SessionView}
@@ -22,10 +22,6 @@ use Rattle.occ_store.specs.Accounts.{kept_of, LineView, IsLine, IsWorkerLine}
 use Rattle.occ_store.specs.declared.serving.Point.{Point}
 use Rattle.occ_store.proofs.LaneSteps.{own_entering, room_entering}
 
--- nothing was taken
-pub unused_adds_up : (taken : List Item) → taken ≡ [] → AddsUp taken 0 Nothing
-unused_adds_up taken none = subst (λ (l : List Item). AddsUp l 0 Nothing) (sym none) refl
-
 -- the last item
 marked : (taken : List Item) (item : Item) → list_any is_mark taken ≡ false → list_any is_mark (taken ++ item ∷ []) ≡ is_mark item
 marked taken item none = list_any-append is_mark taken (item ∷ []) ∙ ap (λ b. b || list_any is_mark (item ∷ [])) none ∙ or_nil (is_mark item)
@@ -33,32 +29,6 @@ marked taken item none = list_any-append is_mark taken (item ∷ []) ∙ ap (λ 
     or_nil : (b : Bool) → (false || (b || false)) ≡ b
     or_nil true = refl
     or_nil false = refl
-
--- an item is taken, where no mark was
-pub taken_adds_up : (taken : List Item) (entered : ℕ) (item : Item) → AddsUp taken entered Nothing → list_any is_mark taken ≡ false → AddsUp (taken ++ item ∷ []) entered (Kept item)
-taken_adds_up taken entered item before none =
-    let more = length_push taken item in
-    let count : length taken ≡ entered + 0 = before ∙ ap (λ b. entered + count_if b) none in (omega arith, marked taken item none)
-
--- what was under way is out of the lane's hands for a moment
-pub open_away : (taken : List Item) (entered number : ℕ) (token : Option (Where Case)) → AddsUp taken entered (Open number token) → AddsUp taken entered Nothing
-open_away taken entered number token is =
-    let none : entered ≡ entered + 0 = omega arith in
-    is.0 ∙ none ∙ ap (λ b. entered + count_if b) (sym is.1)
-
-pub decided_away : (taken : List Item) (entered number : ℕ) (verdict : Verdict) → AddsUp taken entered (Decided number verdict) → AddsUp taken entered Nothing
-decided_away taken entered number verdict is =
-    let none : entered ≡ entered + 0 = omega arith in
-    is.0 ∙ none ∙ ap (λ b. entered + count_if b) (sym is.1)
-
--- and is back
-pub open_back : (taken : List Item) (entered number : ℕ) (token : Option (Where Case)) → AddsUp taken entered Nothing → list_any is_mark taken ≡ false → AddsUp taken entered (Open number token)
-open_back taken entered number token is none =
-    let count : length taken ≡ entered + 0 = is ∙ ap (λ b. entered + count_if b) none in (omega arith, none)
-
-pub decided_back : (taken : List Item) (entered number : ℕ) (verdict : Verdict) → AddsUp taken entered Nothing → list_any is_mark taken ≡ false → AddsUp taken entered (Decided number verdict)
-decided_back taken entered number verdict is none =
-    let count : length taken ≡ entered + 0 = is ∙ ap (λ b. entered + count_if b) none in (omega arith, none)
 
 -- what was kept is over, and no mark was taken
 over : (taken : List Item) (entered : ℕ) → (length taken ≡ entered + 1) × (list_any is_mark taken ≡ false) → length taken ≡ entered + 1 + count_if (list_any is_mark taken)
@@ -154,15 +124,15 @@ module _ (taken : List Item) (entered : ℕ) (left : Left) (was : AddsUp taken e
 
 -- a kept item entered, though it was taken out of the lane before
 module _ (seen old : LaneView) (judged : Option (Where Case)) (shared new : Locked) (result : Result Point Fault) (is : seen ≡ old) where
-  pub went_in : (item : Item) → seen.left ≡ Kept item → (left : Left) (entered : ℕ) → (reply : Reply)
-      × TakesIn seen.session seen.files seen.serial item shared reply new
+  pub went_in : (item : Item) → seen.left ≡ Kept item → (left : Left) (entered : ℕ) (front : FrontView) → (reply : Reply)
+      × TakesIn seen.front seen.session seen.files seen.serial item shared reply front new
       × (result ≡ reached reply)
       × (left ≡ left_entering item (token_of new.filed.tokens seen.session) reply)
       × (entered ≡ seen.entered + rows_entered reply)
-      → Advances old judged shared result (record seen { left = left; entered = entered }) new
-  went_in item at left entered step =
-      let after : LaneView = record seen { left = left; entered = entered } in
-      let goes : GoesOn (Kept item) seen judged shared result after new = (step.0, step.1, step.2, λ i. record seen { left = step.3 i; entered = step.4 i }) in
+      → Advances old judged shared result (record seen { left = left; entered = entered; front = front }) new
+  went_in item at left entered front step =
+      let after : LaneView = record seen { left = left; entered = entered; front = front } in
+      let goes : GoesOn (Kept item) seen judged shared result after new = (step.0, step.1, step.2, λ i. record seen { left = step.3 i; entered = step.4 i; front = front }) in
       subst (λ (l : LaneView). GoesOn l.left l judged shared result after new) is (subst (λ x. GoesOn x seen judged shared result after new) (sym at) goes)
 
 -- the line that is made of a lane and its session

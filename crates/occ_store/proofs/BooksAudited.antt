@@ -5,12 +5,10 @@ use Rattle.std.specs.Ordering.{nat_cmp}
 use Rattle.occ_types.specs.declared.fault.Fault.{Fault}
 use Rattle.occ_model.specs.State.{State}
 use Rattle.occ_model.specs.Log.{Case, LogRow, Base, Audited}
-use Rattle.occ_model.specs.World.{World, Settings, low}
-use Rattle.occ_model.specs.Invariant.{Invariant}
+use Rattle.occ_model.specs.World.{World, low}
 use Rattle.occ_log.specs.Rows.{log_of}
 use Rattle.occ_book.specs.declared.books.Book as code_book
 use Rattle.occ_store.specs.Books.{IsBookOf}
-use Rattle.occ_store.specs.Sessions.{InOneState}
 
 module _ {B : Type 0} (world : World) (base : B → Base) (marks : B → FinMap nat_cmp ℕ) (table : B → State) (log : B → List LogRow) where
   pub book_audited : (result : Result B Fault) → IfOk result (λ book. base book ≡ world.base) → IfOk result (λ book. marks book ≡ world.marks) → IfOk result (λ book. table book ≡ world.table)
@@ -42,9 +40,3 @@ module _ {Z : Type 0} (world : World) where
     counter = counter;
   }
   is_book (Err fault) base base_tables base_sessions log state tables marks sessions low_end counter = tt
-
--- what is so of the state that was looked at is so of some state
-pub seen_so : {X : Type 0} (settings : Settings) (Is : World → X → Type 0) (world : World) → Invariant world → world.settings ≡ settings → (result : Result X Fault)
-    → IfOk result (Is world) → IfOk result (λ x. InOneState settings (λ w. Is w x))
-seen_so settings Is world invariant own (Ok x) is = (world, invariant, own, is)
-seen_so settings Is world invariant own (Err fault) is = tt

@@ -1,11 +1,11 @@
 -- Each event keeps what stands behind the lock, with what it stores and counts.
-use Rattle.std.proofs.Common.{◌≡◌, ℕ, ◌+◌, Bool, true, false, ◌&&◌, map, Option, None, Some, Result, Err, refl, sym, ap, subst, ◌∙◌, arith}
+use Rattle.std.proofs.Common.{◌≡◌, ◌⊎◌, ⊎_elim, inl, inr, ℕ, ◌+◌, Bool, true, false, ◌&&◌, map, Option, None, Some, Result, Err, refl, sym, ap, subst, ◌∙◌, arith}
 use Rattle.occ_types.specs.declared.fault.Fault.{Fault}
 use Rattle.occ_types.specs.declared.fault.Fault.TheVariants.{WrongCase}
 use Rattle.occ_model.specs.Event.{Event, Decide, Finish, BackUp, Reply, Entered, Closed, Decided, Finished, BackedUp, RanAlone}
 use Rattle.occ_model.specs.World.{World, next_place}
 use Rattle.occ_model.specs.Refusal.{refusal}
-use Rattle.occ_model.specs.Step.{Step}
+use Rattle.occ_model.specs.Step.{Step, refused}
 use Rattle.occ_model.specs.Poll.{row_numbered}
 use Rattle.occ_model.specs.Invariant.{Invariant}
 use Rattle.occ_model.specs.EndLaws.{session_of}
@@ -23,8 +23,9 @@ use Rattle.occ_filed.specs.Filed.{Filed, Moves, DecidesBy, token_of, has_index}
 use Rattle.occ_published.specs.Published.{Published, NumbersFit, may_end, ends, CommitMayBeStored, BackUpMayBeStored}
 use Rattle.occ_published.proofs.Stored.{stays_published, commits_are_stored, back_ups_are_stored, serial_back_ups_are_stored}
 use Rattle.occ_store.specs.Names.{Named}
-use Rattle.occ_store.specs.Locked.{IsLocked, next_over, stored, told, cause_told, MayCommit, MayStore}
-use Rattle.occ_store.proofs.RowsCome.{rows_by, rows_come}
+use Rattle.occ_store.specs.Locked.{IsShown, next_over, stored, told, cause_told, MayCommit, MayStore, rows_by}
+use Rattle.occ_store.proofs.RowsCome.{rows_come}
+use Rattle.occ_model.proofs.Headlines.{refusals_leave}
 use Rattle.occ_store.proofs.CausesTold.{may_tell}
 
 and_false : (b : Bool) → (b && false) ≡ false
@@ -34,7 +35,7 @@ and_false false = refl
 module _ (named : Named) where
   -- over a step, with what is shown of it and counted
   pub over_step : (old new : Filed) (before after : Posted) (rows count : ℕ) (event : Event) (reply : Reply) → Step old.world event reply new.world → new.file ≡ old.file
-      → after.board ≡ before.board → Published new.world after.words → count ≡ rows + rows_by event reply → IsLocked named old before rows → IsLocked named new after count
+      → after.board ≡ before.board → Published new.world after.words → count ≡ rows + rows_by event reply → IsShown named old before rows → IsShown named new after count
   over_step old new before after rows count event reply step file board shown counts was =
       let come = rows_come old.world new.world event reply step in
       let counted = was.counted in
@@ -48,24 +49,24 @@ module _ (named : Named) where
 
   -- over an event that ends nothing and brings no row
   pub between : (old new : Filed) (posted : Posted) (rows : ℕ) (event : Event) (reply : Reply) → Invariant old.world → ends event reply ≡ false → rows_by event reply ≡ 0
-      → Step old.world event reply new.world → new.file ≡ old.file → IsLocked named old posted rows → IsLocked named new posted rows
+      → Step old.world event reply new.world → new.file ≡ old.file → IsShown named old posted rows → IsShown named new posted rows
   between old new posted rows event reply inv none few step file was =
       over_step old new posted posted rows rows event reply step file refl (stays_published old.world new.world posted.words event reply inv step none was.published) (omega arith) was
 
   -- over an event that ends a transaction and brings no row
   pub over_end : (old new : Filed) (before after : Posted) (rows : ℕ) (event : Event) (reply : Reply) → rows_by event reply ≡ 0 → Step old.world event reply new.world → new.file ≡ old.file
-      → after.board ≡ before.board → Published new.world after.words → IsLocked named old before rows → IsLocked named new after rows
+      → after.board ≡ before.board → Published new.world after.words → IsShown named old before rows → IsShown named new after rows
   over_end old new before after rows event reply few step file board shown was = over_step old new before after rows rows event reply step file board shown (omega arith) was
 
   -- over a decision by a verdict on a judged case
   pub over_judged : (old new : Filed) (posted : Posted) (rows session index : ℕ) (result : Result Verdict Fault) → Invariant old.world → DecidesBy old session index result new
-      → IsLocked named old posted rows → IsLocked named new posted rows
+      → IsShown named old posted rows → IsShown named new posted rows
   over_judged old new posted rows session index result inv decides was = go (refusal old.world (Decide session)) decides
     where
-      still : new ≡ old → IsLocked named new posted rows
-      still same = subst (λ f. IsLocked named f posted rows) (sym same) was
+      still : new ≡ old → IsShown named new posted rows
+      still same = subst (λ f. IsShown named f posted rows) (sym same) was
 
-      by : (own : Bool) → (elim own as (λ _. Type 0) [ true ↦ Moves old (Decide session) (replied Decided result) new | false ↦ (result ≡ Err WrongCase) × (new ≡ old) ]) → IsLocked named new posted rows
+      by : (own : Bool) → (elim own as (λ _. Type 0) [ true ↦ Moves old (Decide session) (replied Decided result) new | false ↦ (result ≡ Err WrongCase) × (new ≡ old) ]) → IsShown named new posted rows
       by true moves = between old new posted rows (Decide session) (replied Decided result) inv refl refl moves.0 (ap (λ f. f.file) moves.1) was
       by false wrong = still wrong.1
 
@@ -73,9 +74,37 @@ module _ (named : Named) where
           → (elim r as (λ _. Type 0) [
             | Some fault ↦ (result ≡ Err fault) × (new ≡ old)
             | None ↦ elim (has_index (token_of old.tokens session) index) as (λ _. Type 0) [ true ↦ Moves old (Decide session) (replied Decided result) new | false ↦ (result ≡ Err WrongCase) × (new ≡ old) ]
-          ]) → IsLocked named new posted rows
+          ]) → IsShown named new posted rows
       go (Some fault) d = still d.1
       go None d = by (has_index (token_of old.tokens session) index) d
+
+-- what a decision by a verdict on a judged case does to the world: a step, unless the verdict is on another case
+judged_by : (old new : Filed) (session index : ℕ) (result : Result Verdict Fault) → DecidesBy old session index result new
+    → Step old.world (Decide session) (replied Decided result) new.world ⊎ ((result ≡ Err WrongCase) × (new ≡ old))
+judged_by old new session index result decides = go (refusal old.world (Decide session)) refl decides
+  where
+    by : (own : Bool) → (elim own as (λ _. Type 0) [ true ↦ Moves old (Decide session) (replied Decided result) new | false ↦ (result ≡ Err WrongCase) × (new ≡ old) ])
+        → Step old.world (Decide session) (replied Decided result) new.world ⊎ ((result ≡ Err WrongCase) × (new ≡ old))
+    by true moves = inl moves.0
+    by false wrong = inr wrong
+
+    go : (r : Option Fault) → refusal old.world (Decide session) ≡ r
+        → (elim r as (λ _. Type 0) [
+          | Some fault ↦ (result ≡ Err fault) × (new ≡ old)
+          | None ↦ elim (has_index (token_of old.tokens session) index) as (λ _. Type 0) [ true ↦ Moves old (Decide session) (replied Decided result) new | false ↦ (result ≡ Err WrongCase) × (new ≡ old) ]
+        ]) → Step old.world (Decide session) (replied Decided result) new.world ⊎ ((result ≡ Err WrongCase) × (new ≡ old))
+    go (Some fault) is d = inl (refused fault is (ap (replied Decided) d.0) (ap (λ (f : Filed). f.world) d.1))
+    go None is d = by (has_index (token_of old.tokens session) index) d
+
+pub judged_step : (old new : Filed) (session index : ℕ) (result : Result Verdict Fault) → DecidesBy old session index result new → (result ≡ Err WrongCase → ⊥) → Step old.world (Decide session) (replied Decided result) new.world
+judged_step old new session index result decides own = ⊎_elim (λ step. step) (λ wrong. absurd (own wrong.0)) (judged_by old new session index result decides)
+
+-- and then it stays as it was
+pub judged_same : (old new : Filed) (session index : ℕ) (result : Result Verdict Fault) → DecidesBy old session index result new → result ≡ Err WrongCase → new.world ≡ old.world
+judged_same old new session index result decides wrong = ⊎_elim
+    (λ step. refusals_leave old.world new.world (Decide session) WrongCase (subst (λ (r : Result Verdict Fault). Step old.world (Decide session) (replied Decided r) new.world) wrong step))
+    (λ same. ap (λ (f : Filed). f.world) same.1)
+    (judged_by old new session index result decides)
 
 -- what a publisher shows that stored this
 pub shown_after : (world : World) (before after : Posted) (words : Words) → after ≡ record before { words = words } → Published world words → Published world after.words

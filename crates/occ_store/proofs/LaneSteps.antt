@@ -1,24 +1,26 @@
 -- What one event makes of a lane.
-use Rattle.std.proofs.Common.{◌≡◌, ℕ, ◌+◌, ◌≤◌, Bool, true, false, Option, None, Some, Result, Ok, Err, IfSome, is_some, refl, sym, ap, subst, ◌∙◌, arith}
+use Rattle.std.proofs.Common.{◌≡◌, ℕ, ◌+◌, ◌≤◌, Bool, true, false, [], ◌∷◌, ◌++◌, Option, None, Some, Result, Ok, inl, inr, IfSome, is_some, refl, sym, ap, subst, ◌∙◌, arith}
 use Rattle.std.specs.Prelude.{if◌then◌else◌}
+use mathlib.Core.List.{IsPrefix}
 use Rattle.boxcar.specs.Table.{Shelves, Where, Shows}
 use Rattle.occ_types.specs.declared.fault.Fault.{Fault}
 use Rattle.occ_model.specs.Log.{Case}
-use Rattle.occ_types.specs.Object.{Object}
-use Rattle.occ_model.specs.World.{World}
-use Rattle.occ_model.specs.Event.{Item, WriteOne, Finish, SerialEnd, Reply, Wrote, NoMore}
+use Rattle.occ_model.specs.Event.{Item, Event, Enter, Decide, WriteOne, Finish, SerialEnd, Reply}
+use Rattle.occ_model.specs.Event as events
+use Rattle.occ_model.specs.declared.verdict.Verdict.{Verdict}
 use Rattle.occ_model.specs.declared.verdict.Verdict.TheVariants as verdicts
 use Rattle.occ_model.specs.declared.verdict.Cause.{Cause}
 use Rattle.occ_model.specs.Replies.{replied}
-use Rattle.occ_core.specs.Replies.{outcome_of, wrote, written_in, next_object}
-use Rattle.occ_core.specs.declared.writing.SingleWrite.{SingleWrite}
-use Rattle.occ_core.specs.declared.writing.SingleWrite.TheVariants as writes
+use Rattle.occ_core.specs.Replies.{outcome_of, next_object}
 use Rattle.occ_core.specs.declared.outcomes.Outcome as code_outcome
 use Rattle.occ_core.specs.declared.outcomes.Outcome.TheVariants as outcomes
-use Rattle.occ_store.specs.Locked.{Locked, world_of, rows_entered, Happens, EntersAs}
+use Rattle.occ_history.specs.History.{FrontView}
+use Rattle.occ_history.proofs.Beginnings.{prefix_more, prefix_trans}
+use Rattle.occ_store.specs.Standing.{GoesOnTo}
+use Rattle.occ_store.specs.Locked.{Locked, world_of, rows_entered, Happens, Tells, EntersAs}
 use Rattle.occ_store.specs.declared.serving.Point.{Point}
-use Rattle.occ_store.specs.declared.serving.Point.TheVariants as points
-use Rattle.occ_store.specs.Lanes.{Left, Nothing, Kept, Decided, LaneView, GoesOn, Advances, token_left, open_rows, left_entering, left_ending, ends_serially, next_of, Ends, TakesIn, reached, point_of}
+use Rattle.occ_store.specs.Lanes.{Left, Nothing, Kept, Decided, LaneView, GoesOn, Advances, token_left, open_rows, left_entering, ends_serially, next_of, Ends, TakesIn, DecidesAs, reached, point_of}
+use Rattle.occ_store.proofs.Histories.{on_same}
 
 module _ {Z : Type 0} where
   -- what came of an entry is told by its point
@@ -47,54 +49,55 @@ module _ {Z : Type 0} where
   own_entering file item token (outcomes.RanAlone tn answers) own = tt
   own_entering file item token outcomes.MarkedClosed own = tt
 
--- the lane with another left, and with so many rows more
-pub entered_lane : (seen old : LaneView) (left after : Left) (entered rows : ℕ) → seen ≡ old → left ≡ after → entered ≡ seen.entered + rows
-    → ◌≡◌ {A = LaneView} (record seen { left = left; entered = entered }) (record old { left = after; entered = old.entered + rows })
-entered_lane seen old left after entered rows is lefts counts =
-    (λ i. record seen { left = lefts i; entered = counts i }) ∙ ap (λ (l : LaneView). record l { left = after; entered = l.entered + rows }) is
+-- what was seen goes on by an event
+pub tells_on : (me now : FrontView) (old new : Locked) (event : Event) (reply : Reply) → Tells me old event reply now new → GoesOnTo me now
+tells_on me now old new event reply told =
+    let seen : now.seen ≡ old.story.log ++ (event, reply) ∷ [] = ap (λ (f : FrontView). f.seen) told.seen in
+    (ap (λ (f : FrontView). f.party) told.seen, subst (IsPrefix me.seen) (sym seen) (prefix_trans me.seen old.story.log (old.story.log ++ (event, reply) ∷ []) told.before (prefix_more old.story.log ((event, reply) ∷ []))))
 
--- the lane with another left
-pub left_lane : (seen old : LaneView) (left after : Left) → seen ≡ old → left ≡ after → ◌≡◌ {A = LaneView} (record seen { left = left }) (record old { left = after })
-left_lane seen old left after is lefts = (λ i. record seen { left = lefts i }) ∙ ap (λ (l : LaneView). record l { left = after }) is
+-- and by a decision, or it stays where the verdict that is given is on another case
+pub decides_on : (session : ℕ) (judged : Option (Where Case)) (old new : Locked) (result : Result Verdict Fault) (me now : FrontView) → DecidesAs me session judged old result now new → GoesOnTo me now
+decides_on session None old new result me now happens = tells_on me now old new (Decide session) (replied events.Decided result) happens.2
+decides_on session (Some judged) old new result me now (decides, words, inl told) = tells_on me now old new (Decide session) (replied events.Decided result) told
+decides_on session (Some judged) old new result me now (decides, words, inr (wrong, same, story)) = on_same me now same
+
+-- a lane that keeps what it had left, and has seen more
+module _ (seen old : LaneView) (is : seen ≡ old) (front : FrontView) (left : Left) (after : LaneView) (keeps : after ≡ record seen { left = left; front = front }) where
+  told_front : front ≡ after.front
+  told_front = sym (ap (λ (l : LaneView). l.front) keeps)
+
+  pub kept_lane : after ≡ record old { left = left; front = after.front }
+  kept_lane = keeps ∙ (λ i. record (is i) { left = left; front = told_front i })
+
+  pub kept_told : (Told : LaneView → FrontView → Type 0) → Told seen front → Told old after.front
+  kept_told Told told = subst (λ (l : LaneView). Told l after.front) is (subst (Told seen) told_front told)
 
 -- an item ends serially where it does, and enters where not
-module _ (session : ℕ) (files serial : Bool) (item : Item) (old new : Locked) (reply : Reply) where
+module _ (session : ℕ) (files serial : Bool) (item : Item) (old new : Locked) (reply : Reply) (me now : FrontView) where
   abbrev Either : Bool → Type 0
   Either b = elim b as (λ _. Type 0) [
-    | true ↦ Happens old session (SerialEnd session item) reply new
-    | false ↦ (token : Option (Where Case)) × (files ≡ false → token ≡ None) × EntersAs old session item token reply new
+    | true ↦ Happens me old session (SerialEnd session item) reply now new
+    | false ↦ (token : Option (Where Case)) × (files ≡ false → token ≡ None) × EntersAs me old session item token reply now new
   ]
 
-  pub ends_at_once : (ends : Bool) → ends ≡ ends_serially (world_of old) serial item → ends ≡ true → Happens old session (SerialEnd session item) reply new → TakesIn session files serial item old reply new
+  pub ends_at_once : (ends : Bool) → ends ≡ ends_serially (world_of old) serial item → ends ≡ true → Happens me old session (SerialEnd session item) reply now new → TakesIn me session files serial item old reply now new
   ends_at_once ends is so happens = subst Either (sym so ∙ is) happens
 
-  pub comes_in : (ends : Bool) → ends ≡ ends_serially (world_of old) serial item → ends ≡ false → (token : Option (Where Case)) → (files ≡ false → token ≡ None) → EntersAs old session item token reply new
-      → TakesIn session files serial item old reply new
+  pub comes_in : (ends : Bool) → ends ≡ ends_serially (world_of old) serial item → ends ≡ false → (token : Option (Where Case)) → (files ≡ false → token ≡ None) → EntersAs me old session item token reply now new
+      → TakesIn me session files serial item old reply now new
   comes_in ends is not token none enters = subst Either (sym not ∙ is) (token, none, enters)
+
+  -- what was seen goes on by it
+  pub takes_on : TakesIn me session files serial item old reply now new → GoesOnTo me now
+  takes_on takes = go (ends_serially (world_of old) serial item) takes
+    where
+      go : (b : Bool) → Either b → GoesOnTo me now
+      go true happens = tells_on me now old new (SerialEnd session item) reply happens.2
+      go false (token, none, enters) = tells_on me now old new (Enter session item) reply enters.2
 
 -- with its own case or not
 pub files_it : (files : Bool) (token : Option (Where Case)) → files ≡ true → files ≡ false → token ≡ None
 files_it files token so not = cc
-
--- a single write reaches its point, and leaves the row
-pub reached_write : (world : World) (result : Result SingleWrite Fault) (told : Result Point Fault)
-    → told ≡ (elim result as (λ _. Result Point Fault) [ Ok write ↦ Ok points.Wrote | Err fault ↦ Err fault ]) → told ≡ reached (replied (wrote world) result)
-reached_write world (Ok (writes.Wrote row write)) told is = is ∙ go (written_in world row write)
-  where
-    go : (o : Option Object) → ◌≡◌ {A = Result Point Fault} (Ok points.Wrote) (reached (elim o as (λ _. Reply) [ None ↦ NoMore | Some object ↦ Wrote object ]))
-    go None = refl
-    go (Some object) = refl
-reached_write world (Ok writes.NoMore) told is = is
-reached_write world (Err fault) told is = is
-
-pub left_write : (world : World) (number : ℕ) (result : Result SingleWrite Fault) → Decided number verdicts.Commit ≡ left_ending number verdicts.Commit (replied (wrote world) result)
-left_write world number (Ok (writes.Wrote row write)) = go (written_in world row write)
-  where
-    go : (o : Option Object) → Decided number verdicts.Commit ≡ left_ending number verdicts.Commit (elim o as (λ _. Reply) [ None ↦ NoMore | Some object ↦ Wrote object ])
-    go None = refl
-    go (Some object) = refl
-left_write world number (Ok writes.NoMore) = refl
-left_write world number (Err fault) = refl
 
 -- what comes next of a row that is decided to commit
 module _ (b : Bool) (number : ℕ) (lane : LaneView) (old : Locked) (result : Result Point Fault) (after : LaneView) (new : Locked) (is : b ≡ is_some (next_object (world_of old) lane.session)) where

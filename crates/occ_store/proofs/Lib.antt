@@ -6,11 +6,14 @@ pub mod Keeping
 pub mod LaneSteps
 pub mod BaseLeft
 pub mod Happening
+pub mod Asking
+pub mod Histories
 pub mod Begun
 pub mod EmptyBase
 pub mod PartsMade
 pub mod Performing
 pub mod BooksAudited
+pub mod Observing
 pub mod Points
 pub mod Rounds
 pub mod Submittable

@@ -8,6 +8,7 @@ use Rattle.occ_types.specs.Schema.{Schema}
 use Rattle.boxcar.specs.Table.{Shelves}
 use Rattle.occ_model.specs.Log.{Base, last_folded}
 use Rattle.occ_model.specs.World.{Settings, World, resumed, next_place}
+use Rattle.occ_model.specs.Step.{Run}
 use Rattle.occ_board.specs.Rule.{Seated, Posted, fresh}
 use Rattle.occ_board.specs.Words.{continued}
 use Rattle.occ_queue.specs.Lanes.{Known}
@@ -15,12 +16,14 @@ use Rattle.occ_filed.specs.Filed.{Filed}
 use Rattle.occ_published.specs.Published.{Published}
 use Rattle.occ_published.proofs.Stored.{begun_is_published}
 use Rattle.occ_store.proofs.Begun.{begun_itself}
-use Rattle.occ_store.specs.Names.{Named, nowhere, lane_of}
-use Rattle.occ_store.specs.Locked.{IsLocked}
+use Rattle.occ_history.specs.History.{Session, Client, Lane, FrontView, StoryView, IsHere, clients, lanes, nowhere}
+use Rattle.occ_history.specs.Rule.{next_front, one_more, visitor}
+use Rattle.occ_store.specs.Names.{Named, lane_of, opened_as}
+use Rattle.occ_store.specs.Locked.{IsShown, IsLocked}
 use Rattle.occ_store.specs.Sessions.{SessionView}
 use Rattle.occ_store.specs.Lanes.{LaneView}
 use Rattle.occ_store.specs.Workers.{WorkerView}
-use Rattle.occ_store.specs.Frames.{PartView, PlaceView, AreSeats, NumbersHaveRoom, IsPart, AreParts, IsPlace, ArePlaces, IsFrame, named_by, fresh_worker, fresh_session, fresh_lane, workers_from, sessions_from, lanes_from}
+use Rattle.occ_store.specs.Frames.{PartView, PlaceView, AreSeats, NumbersHaveRoom, IsPart, AreParts, IsPlace, ArePlaces, IsFrame, named_by, fresh_worker, fresh_session, fresh_lane, workers_from, sessions_from, lanes_from, unseeing, seating}
 
 -- ---- the seats
 
@@ -102,30 +105,42 @@ pub lane_at : (parts : List PartView) (place : ℕ) (part : PartView) → place 
     → get_or (map (λ (p : PartView). p.receiver.lane) parts) place nowhere ≡ part.receiver.lane
 lane_at parts place part below at = get_or-map (λ (p : PartView). p.receiver.lane) parts place part nowhere below ∙ ap (λ (p : PartView). p.receiver.lane) (sym at)
 
+-- ---- the story
+
+-- one session more has a front
+pub story_more : (before after : StoryView) (sessions : ℕ) → before ≡ seating sessions → after ≡ one_more before → after ≡ seating (sessions + 1)
+story_more before after sessions so more = more ∙ ap one_more so
+
 -- ---- a worker of its place
 
-module _ (named : Named) (base : Base) (places : List PlaceView) (are : ArePlaces named.board named.settings.schema base 1 places) (at : ℕ) (place : PlaceView) (below : at < length places) (is : place ≡ get_or places at place) where
-  its_place : IsPlace named.board named.settings.schema (1 + at) (last_folded base (1 + at)) place
-  its_place = subst (IsPlace named.board named.settings.schema (1 + at) (last_folded base (1 + at))) (sym is) (place_at named.board named.settings.schema base 1 places at place are below)
+module _ (named : Named) (places : List PlaceView) (are : ArePlaces named.board named.settings.schema named.base 1 places) (at : ℕ) (place : PlaceView) (below : at < length places) (is : place ≡ get_or places at place) where
+  its_place : IsPlace named.board named.settings.schema (1 + at) (last_folded named.base (1 + at)) place
+  its_place = subst (IsPlace named.board named.settings.schema (1 + at) (last_folded named.base (1 + at))) (sym is) (place_at named.board named.settings.schema named.base 1 places at place are below)
 
   pub own_place : IsPlace named.board named.settings.schema place.session place.last place
   own_place = subst (λ (n : ℕ × ℕ). IsPlace named.board named.settings.schema n.0 n.1 place) (λ i. (sym its_place.number i, sym its_place.behind i)) its_place
 
+  -- it has the next front of the story
+  pub worker_front : (before : StoryView) (front : FrontView) → front ≡ next_front before → before ≡ seating at → front ≡ unseeing (Session place.session)
+  worker_front before front next so =
+      let number : at + 1 ≡ place.session = (let is = its_place.number in omega arith) in
+      next ∙ ap next_front so ∙ ap (λ n. unseeing (Session n)) number
+
   -- one worker more
-  pub workers_more : (before after : List WorkerView) (worker : WorkerView) → before ≡ workers_from named base at → worker ≡ fresh_worker named place.session place.last → after ≡ before ++ worker ∷ []
-      → after ≡ workers_from named base (at + 1)
+  pub workers_more : (before after : List WorkerView) (worker : WorkerView) → before ≡ workers_from named at → worker ≡ fresh_worker named place.session place.last → after ≡ before ++ worker ∷ []
+      → after ≡ workers_from named (at + 1)
   workers_more before after worker so fresh pushed =
-      let told : worker ≡ fresh_worker named (1 + at) (last_folded base (1 + at)) = fresh ∙ (λ i. fresh_worker named (its_place.number i) (its_place.behind i)) in
-      pushed ∙ (λ i. so i ++ told i ∷ []) ∙ sym (map-range_with_len_more (λ s. fresh_worker named s (last_folded base s)) 1 at (1 + at) refl)
+      let told : worker ≡ fresh_worker named (1 + at) (last_folded named.base (1 + at)) = fresh ∙ (λ i. fresh_worker named (its_place.number i) (its_place.behind i)) in
+      pushed ∙ (λ i. so i ++ told i ∷ []) ∙ sym (map-range_with_len_more (λ s. fresh_worker named s (last_folded named.base s)) 1 at (1 + at) refl)
 
 -- ---- a session and its lane, of their part
 
-module _ (named : Named) (base : Base) (parts : List PartView) (are : AreParts named.board named.settings.schema base (suc named.workers) parts) (at : ℕ) (part : PartView) (below : at < length parts) (is : part ≡ get_or parts at part) where
-  its_part : IsPart named.board named.settings.schema (suc named.workers + at) (last_folded base (suc named.workers + at)) part
-  its_part = subst (IsPart named.board named.settings.schema (suc named.workers + at) (last_folded base (suc named.workers + at))) (sym is)
-      (part_at named.board named.settings.schema base (suc named.workers) parts at part are below)
+module _ (named : Named) (parts : List PartView) (are : AreParts named.board named.settings.schema named.base (suc named.workers) parts) (at : ℕ) (part : PartView) (below : at < length parts) (is : part ≡ get_or parts at part) where
+  its_part : IsPart named.board named.settings.schema (suc named.workers + at) (last_folded named.base (suc named.workers + at)) part
+  its_part = subst (IsPart named.board named.settings.schema (suc named.workers + at) (last_folded named.base (suc named.workers + at))) (sym is)
+      (part_at named.board named.settings.schema named.base (suc named.workers) parts at part are below)
 
-  its_last : part.receiver.before ≡ last_folded base (suc named.workers + at)
+  its_last : part.receiver.before ≡ last_folded named.base (suc named.workers + at)
   its_last = ap (λ (k : Known). k.before) its_part.receiver
 
   pub own_part : IsPart named.board named.settings.schema part.session part.receiver.before part
@@ -137,18 +152,28 @@ module _ (named : Named) (base : Base) (parts : List PartView) (are : AreParts n
       let back : at ≡ part.session - suc named.workers = omega arith in
       sym (lane_at parts at part below is) ∙ (λ i. get_or (sym lanes i) (back i) nowhere)
 
-  -- one session more, and one lane
-  pub sessions_more : (before after : List SessionView) (session : SessionView) → before ≡ sessions_from named base at → session ≡ fresh_session named part.session part.receiver.before → after ≡ before ++ session ∷ []
-      → after ≡ sessions_from named base (at + 1)
-  sessions_more before after session so fresh pushed =
-      let told : session ≡ fresh_session named (suc named.workers + at) (last_folded base (suc named.workers + at)) = fresh ∙ (λ i. fresh_session named (its_part.number i) (its_last i)) in
-      pushed ∙ (λ i. so i ++ told i ∷ []) ∙ sym (map-range_with_len_more (λ s. fresh_session named s (last_folded base s)) (suc named.workers) at (suc named.workers + at) refl)
+  -- its client and its lane have the next front of the story between them
+  pub session_front : (before : StoryView) (front : FrontView) → front ≡ next_front before → before ≡ seating (named.workers + at) → front ≡ unseeing (Session part.session)
+  session_front before front next so =
+      let number : named.workers + at + 1 ≡ part.session = (let is = its_part.number in omega arith) in
+      next ∙ ap next_front so ∙ ap (λ n. unseeing (Session n)) number
 
-  pub lanes_more : (before after : List LaneView) (lane : LaneView) → before ≡ lanes_from named base at → lane ≡ fresh_lane named part.session part.receiver.before → after ≡ before ++ lane ∷ []
-      → after ≡ lanes_from named base (at + 1)
+  pub both_fronts : (before : StoryView) (front : FrontView) (fronts : FrontView × FrontView) → front ≡ next_front before → before ≡ seating (named.workers + at) → fronts ≡ (clients front, lanes front)
+      → fronts ≡ (unseeing (Client part.session), unseeing (Lane part.session))
+  both_fronts before front fronts next so are_both = are_both ∙ ap (λ (f : FrontView). (clients f, lanes f)) (session_front before front next so)
+
+  -- one session more, and one lane
+  pub sessions_more : (before after : List SessionView) (session : SessionView) → before ≡ sessions_from named at → session ≡ fresh_session named part.session part.receiver.before → after ≡ before ++ session ∷ []
+      → after ≡ sessions_from named (at + 1)
+  sessions_more before after session so fresh pushed =
+      let told : session ≡ fresh_session named (suc named.workers + at) (last_folded named.base (suc named.workers + at)) = fresh ∙ (λ i. fresh_session named (its_part.number i) (its_last i)) in
+      pushed ∙ (λ i. so i ++ told i ∷ []) ∙ sym (map-range_with_len_more (λ s. fresh_session named s (last_folded named.base s)) (suc named.workers) at (suc named.workers + at) refl)
+
+  pub lanes_more : (before after : List LaneView) (lane : LaneView) → before ≡ lanes_from named at → lane ≡ fresh_lane named part.session part.receiver.before → after ≡ before ++ lane ∷ []
+      → after ≡ lanes_from named (at + 1)
   lanes_more before after lane so fresh pushed =
-      let told : lane ≡ fresh_lane named (suc named.workers + at) (last_folded base (suc named.workers + at)) = fresh ∙ (λ i. fresh_lane named (its_part.number i) (its_last i)) in
-      pushed ∙ (λ i. so i ++ told i ∷ []) ∙ sym (map-range_with_len_more (λ s. fresh_lane named s (last_folded base s)) (suc named.workers) at (suc named.workers + at) refl)
+      let told : lane ≡ fresh_lane named (suc named.workers + at) (last_folded named.base (suc named.workers + at)) = fresh ∙ (λ i. fresh_lane named (its_part.number i) (its_last i)) in
+      pushed ∙ (λ i. so i ++ told i ∷ []) ∙ sym (map-range_with_len_more (λ s. fresh_lane named s (last_folded named.base s)) (suc named.workers) at (suc named.workers + at) refl)
 
 -- ---- the frame
 
@@ -173,9 +198,9 @@ frame_is filed file before posted places parts ledger_parts settings base counte
 
 -- of a named frame: what stands behind the lock of its store, its places and parts, and how many there are
 module _ (named : Named) (filed : Filed) (handle : Shelves) (posted : Posted) (places : List PlaceView) (parts : List PartView) (cut : ℕ) (is : IsFrame filed handle posted places parts cut)
-    (names : named_by filed posted places parts ≡ named) where
-  pub frame_locked : (rows : ℕ) → rows ≡ filed.world.base.place → IsLocked named filed posted rows
-  frame_locked rows before = record {
+    (story : TableId) (names : named_by filed posted story places parts ≡ named) where
+  frame_shown : (rows : ℕ) → rows ≡ filed.world.base.place → IsShown named filed posted rows
+  frame_shown rows before = record {
     published = subst (λ w. Published w posted.words) (sym is.begun)
         (subst (Published (resumed filed.world.settings filed.world.base filed.world.counter)) (sym is.words) (begun_is_published filed.world.settings filed.world.base filed.world.counter));
     settings = ap (λ (n : Named). n.settings) names;
@@ -184,11 +209,26 @@ module _ (named : Named) (filed : Filed) (handle : Shelves) (posted : Posted) (p
     counted = (let place = ap next_place is.begun in omega arith);
   }
 
-  pub places_named : ArePlaces named.board named.settings.schema filed.world.base 1 places
-  places_named = subst (λ (n : Named). ArePlaces n.board n.settings.schema filed.world.base 1 places) names is.places
+  -- nothing has happened to it yet
+  pub frame_begun : filed.world ≡ opened_as named
+  frame_begun = is.begun ∙ ap opened_as names
 
-  pub parts_named : AreParts named.board named.settings.schema filed.world.base (suc named.workers) parts
-  parts_named = subst (λ (n : Named). AreParts n.board n.settings.schema filed.world.base (suc n.workers) parts) names is.parts
+  pub frame_place : filed.world.base.place ≡ next_place (opened_as named)
+  frame_place = let same = ap (λ (w : World). w.base.place) frame_begun in omega arith
+
+  pub frame_locked : (rows sessions : ℕ) (seated led : StoryView) (front : FrontView) → rows ≡ filed.world.base.place → seated ≡ seating sessions → led ≡ seated → front ≡ visitor seated
+      → IsLocked named filed posted rows led front
+  frame_locked rows sessions seated led front before so same here = record {
+    shown = frame_shown rows before;
+    ran = subst (λ (s : StoryView). Run (opened_as named) s.log filed.world) (sym (same ∙ so)) frame_begun;
+    here = subst (λ (f : FrontView). IsHere f.party) (sym here) tt;
+  }
+
+  pub places_named : ArePlaces named.board named.settings.schema named.base 1 places
+  places_named = subst (λ (n : Named). ArePlaces n.board n.settings.schema n.base 1 places) names is.places
+
+  pub parts_named : AreParts named.board named.settings.schema named.base (suc named.workers) parts
+  parts_named = subst (λ (n : Named). AreParts n.board n.settings.schema n.base (suc n.workers) parts) names is.parts
 
   pub lanes_named : named.lanes ≡ map (λ (p : PartView). p.receiver.lane) parts
   lanes_named = sym (ap (λ (n : Named). n.lanes) names)

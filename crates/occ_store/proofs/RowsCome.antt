@@ -9,24 +9,12 @@ use Rattle.occ_model.specs.Operations.{Operation}
 use Rattle.occ_model.specs.Validity.{verdict}
 use Rattle.occ_model.specs.World.{World, low, next_place, latest, turn}
 use Rattle.occ_model.specs.Event.{Request, Alone, Close, Event, Read, Forget, Enter, Decide, WriteOne, Finish, BackUp, SerialEnd, RunAlone, Checkpoint, Reply, Refused, Wrote, NoMore}
-use Rattle.occ_model.specs.Step.{Step, refused, starved, taken, Taken, decided, validity_of, EndsSerially, RunsAlone, foldable_part, shortened}
+use Rattle.occ_model.specs.Step.{Step, Run, refused, starved, taken, Taken, decided, validity_of, EndsSerially, RunsAlone, foldable_part, shortened}
 use Rattle.occ_model.specs.declared.verdict.Verdict.{Verdict}
 use Rattle.occ_model.specs.declared.verdict.Verdict.TheVariants as verdicts
 use Rattle.occ_model.proofs.Folds.{part_rest}
-use Rattle.occ_store.specs.Locked.{rows_entered}
-
--- how many rows an event brings, by its reply
-abbrev pub rows_by : Event → Reply → ℕ
-rows_by (Read session number start question) reply = 0
-rows_by (Forget session number) reply = 0
-rows_by (Enter session item) reply = rows_entered reply
-rows_by (Decide session) reply = 0
-rows_by (WriteOne session) reply = 0
-rows_by (Finish session) reply = 0
-rows_by (BackUp session) reply = 0
-rows_by (SerialEnd session item) reply = rows_entered reply
-rows_by (RunAlone session number operations) reply = rows_entered reply
-rows_by Checkpoint reply = 0
+use Rattle.occ_history.specs.History.{Happened}
+use Rattle.occ_store.specs.Locked.{rows_entered, rows_by, rows_in}
 
 none_come : (event : Event) (fault : Fault) → rows_by event (Refused fault) ≡ 0
 none_come (Read session number start question) fault = refl
@@ -112,3 +100,11 @@ rows_come old new event reply (starved free takes told same) =
     let stays = ap next_place same in
     omega arith
 rows_come old new event reply (taken free t) = rows_taken old new event reply t
+
+-- A history brings what stands in the log then and did not at its beginning.
+pub rows_ran : (old new : World) (story : List Happened) → Run old story new → next_place new ≡ next_place old + rows_in story
+rows_ran old new [] ran = let same = ap next_place ran in omega arith
+rows_ran old new (first ∷ others) ran =
+    let one = rows_come old ran.0 first.0 first.1 ran.1 in
+    let more = rows_ran ran.0 new others ran.2 in
+    omega arith

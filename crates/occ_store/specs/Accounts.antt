@@ -1,12 +1,18 @@
 -- What became of the sessions of a store and of all that they handed in (our own choice).
 use Rattle.std.specs.Prelude.{◌≡◌, ℕ, suc, ◌+◌, ◌-◌, ◌≤◌, ◌==◌, ◌&&◌, Bool, true, false, List, [], ◌∷◌, ◌++◌, length, sum_by, vec_len, vec_capacity, Option, None, Some, is_some, Vec, if◌then◌else◌, ⊤}
+use Rattle.std.specs.List.{AllByRecursion}
+use mathlib.Core.List.{IsPrefix}
 use Rattle.occ_types.specs.declared.fault.Fault.{Fault}
 use Rattle.occ_types.specs.declared.fault.Fault.TheVariants as faults
 use Rattle.occ_model.specs.Event.{Item}
+use Rattle.occ_model.specs.World.{World}
+use Rattle.occ_model.specs.Step.{Run}
+use Rattle.occ_history.specs.History.{Happened, FrontView, IsWhole}
 use Rattle.occ_queue.specs.declared.items.Item as code_item
 use Rattle.occ_queue.specs.Items.{item_of, items_of}
 use Rattle.occ_store.specs.Lanes.{LaneView, Left, Nothing, Kept, Open, Decided, is_closed, count_if}
-use Rattle.occ_store.specs.Names.{Named}
+use Rattle.occ_store.specs.Locked.{rows_in}
+use Rattle.occ_store.specs.Names.{Named, opened_as}
 use Rattle.occ_store.specs.Sessions.{SessionView}
 use Rattle.occ_store.specs.Workers.{WorkerView}
 use Rattle.occ_store.specs.declared.accounts.AccountLine as code_line
@@ -87,6 +93,22 @@ end_fault named workers lanes sessions = if is_complete named workers lanes sess
 -- how many rows were entered
 abbrev pub rows_of : List WorkerView → List LaneView → ℕ
 rows_of workers lanes = sum_by (λ worker. worker.entered) workers + sum_by (λ lane. lane.entered) lanes
+
+-- what was seen is a beginning of the history, with all that is the party's own
+abbrev pub HasSeen : List Happened → FrontView → Type 0
+HasSeen story front = IsPrefix front.seen story × IsWhole front story
+
+abbrev pub HaveSeen : {X : Type 0} → List Happened → (X → FrontView) → List X → Type 0
+HaveSeen story front parties = AllByRecursion (λ party. HasSeen story (front party)) parties
+
+-- So many rows entered: those that the history of the store brought, of which each worker and each lane has seen a beginning, with all of its own events.
+pub record IsOfHistory (named : Named) (workers : List WorkerView) (lanes : List LaneView) (entered : ℕ) : Type 0 where
+  pub story : List Happened
+  pub world : World
+  pub ran : Run (opened_as named) story world
+  pub rows : entered ≡ rows_in story
+  pub workers_saw : HaveSeen story (λ worker. worker.front) workers
+  pub lanes_saw : HaveSeen story (λ lane. lane.front) lanes
 
 -- a measure of what is there, and 0 of nothing
 abbrev pub held : {X : Type 0} → (X → ℕ) → Option X → ℕ

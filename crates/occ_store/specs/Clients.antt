@@ -4,15 +4,15 @@ use Rattle.occ_types.specs.declared.fault.Fault.{Fault}
 use Rattle.occ_types.specs.declared.fault.Fault.TheVariants as faults
 use Rattle.occ_types.specs.Schema.{first_fault}
 use Rattle.occ_model.specs.Event.{Reply}
-use Rattle.occ_model.specs.World.{Settings}
-use Rattle.occ_sets.specs.Sets.{Copied}
-use Rattle.occ_open.specs.Transactions.{Abandons}
 use Rattle.occ_board.specs.declared.words.Last.{Last}
 use Rattle.occ_board.specs.declared.rule.Seen.{Seen}
-use Rattle.occ_store.specs.Sessions.{SessionView, closed, no_number, last_number, InOneHolding}
-use Rattle.occ_store.specs.Bodies.{Making, Becoming, ComesOf}
+use Rattle.occ_store.specs.Sessions.{SessionView, closed, no_number, last_number}
+use Rattle.occ_store.specs.Bodies.{Making}
 use Rattle.occ_store.specs.Ended.{IsTold}
-use Rattle.occ_store.specs.Tries.{Requests, LastMade, Tried, Ends, NotHandedIn}
+use Rattle.occ_store.specs.Names.{Named}
+use Rattle.occ_store.specs.Transactions.{AbandonsIn}
+use Rattle.occ_store.specs.Tries.{Requests, LastMade, Tried, Ends, lent}
+use Rattle.occ_history.specs.History.{FrontView}
 use Rattle.occ_case.specs.declared.ended.Ended.{Ended}
 use Rattle.occ_case.specs.declared.ended.Ended.TheVariants as ends
 use Rattle.occ_store.specs.declared.awaited.Pending as pendings
@@ -43,8 +43,8 @@ IsAwaited last pending (Pending again) = (again ≡ pending) × IsUntold last pe
 
 -- So many tries were made, each of which handed in one request. The last one has this number, was made by a run that answered this value, and isn't told as over; no transaction is open.
 pub record Waits {Value Error : Type 0} (Made : Making Value Error) (count : ℕ) (old : SessionView) (pending : pendings.Pending Value) (new : SessionView) : Type 0 where
-  pub requests : Requests Made count old new
-  pub answered : LastMade Made old.session requests.items pending.value
+  pub requests : Requests Made count old new.front new
+  pub answered : LastMade Made old.session requests.items pending.value new.front
   pub number : pending.number ≡ last_number new
   pub untold : IsUntold new.seat.last pending.number
   pub none_open : new.draft ≡ None
@@ -69,10 +69,9 @@ without_draft session = record session { draft = None }
 abbrev pub give_up_fault : SessionView → Option Fault
 give_up_fault session = first_fault (closed session ∷ no_number session ∷ [])
 
--- where a transaction is open, the state forgets what it read, in one holding of the lock
-abbrev pub Forgets : Settings → ℕ → Option Copied → Type 0
-Forgets settings session None = Unit {0}
-Forgets settings session (Some copy) = (reply : Reply) × InOneHolding settings (λ before after. Abandons before session (Some copy) reply after)
-
-abbrev pub LetsGo : Settings → SessionView → Type 0
-LetsGo settings session = Forgets settings session.session session.draft
+-- where a transaction is open, the state forgets what it read
+abbrev pub LetsGo : Named → SessionView → FrontView → Type 0
+LetsGo named session front = elim session.draft [
+  | None ↦ front ≡ session.front
+  | Some copy ↦ (reply : Reply) × AbandonsIn named (lent session) reply front
+]

@@ -4,12 +4,7 @@ use Rattle.occ_model.specs.declared.verdict.Verdict.{Verdict}
 use Rattle.occ_board.specs.declared.words.Last.{Last}
 use Rattle.occ_case.specs.Ended.{ended_by}
 use Rattle.occ_case.specs.declared.ended.Ended.{Ended}
-use Rattle.occ_case.specs.declared.ended.Ended.TheVariants.{Committed}
 
 -- as the board tells it of the transaction with a number, in which the run answered a value
 abbrev pub IsTold : {Value : Type 0} → Last → ℕ → Value → Ended Value → Type 0
 IsTold last number value ended = (last.number ≡ number) × ((verdict : Verdict) × (last.status ≡ Some verdict) × (ended ≡ ended_by last.tn value verdict))
-
--- as it tells that it committed, where what the run answered isn't told
-abbrev pub IsToldCommitted : Last → ℕ → ℕ → Type 0
-IsToldCommitted last number tn = IsTold {Value = Unit {0}} last number tt (Committed tn tt)

@@ -11,18 +11,17 @@ use Rattle.occ_board.specs.Rule.{Seated, Posted, fresh, unseen}
 use Rattle.occ_board.specs.Words.{continued}
 use Rattle.occ_queue.specs.Lanes.{Known}
 use Rattle.occ_filed.specs.Filed.{Filed}
+use Rattle.occ_history.specs.History.{Party, Session, Client, Lane, FrontView, StoryView}
 use Rattle.occ_store.specs.Names.{Named, lane_of}
 use Rattle.occ_store.specs.Sessions.{SessionView}
 use Rattle.occ_store.specs.Lanes.{LaneView, unused}
 use Rattle.occ_store.specs.Workers.{WorkerView, unused_worker}
 
--- what its name has to stand for, the name and the parts of its ledger, and the base and the counter that its store begins from
+-- what its name has to stand for, and the name and the parts of its ledger
 pub record Framed : Type 0 where
   pub named : Named
   pub ledger : ℕ
   pub parts : ℕ
-  pub base : Base
-  pub counter : ℕ
 
 -- what becomes of a session and its lane: its number, the seat, the two ends of the queue, and the tables
 pub record PartView : Type 0 where
@@ -85,10 +84,13 @@ abbrev pub NumbersHaveRoom : Base → ℕ → Type 0
 NumbersHaveRoom base sessions = (session : ℕ) → 0 < session → session ≤ sessions → last_folded base session ≤ MAX_NUMBER
 
 -- what a name for it has to stand for
-abbrev pub named_by : Filed → Posted → List PlaceView → List PartView → Named
-named_by filed posted places parts = record {
+abbrev pub named_by : Filed → Posted → TableId → List PlaceView → List PartView → Named
+named_by filed posted story places parts = record {
   settings = filed.world.settings;
+  base = filed.world.base;
+  counter = filed.world.counter;
   workers = length places;
+  story = story;
   file = filed.file;
   board = posted.board;
   lanes = map (λ (p : PartView). p.receiver.lane) parts;
@@ -104,6 +106,14 @@ pub record IsFrame (filed : Filed) (handle : Shelves) (posted : Posted) (hired :
   pub parts : AreParts posted.board filed.world.settings.schema filed.world.base (suc (length hired)) made
   pub ledger : cut ≡ filed.world.settings.sessions
 
+-- the front of a party that has seen nothing of the history
+abbrev pub unseeing : Party → FrontView
+unseeing party = record { party = party; seen = [] }
+
+-- the story of a store to which nothing has happened, in which so many sessions have a front
+abbrev pub seating : ℕ → StoryView
+seating sessions = record { log = []; sessions = sessions }
+
 -- a session that has done nothing yet, behind its last number, and its lane
 abbrev pub fresh_session : Named → ℕ → ℕ → SessionView
 fresh_session named session last = record {
@@ -112,30 +122,31 @@ fresh_session named session last = record {
   seat = unseen session;
   sender = untouched (lane_of named session) last;
   draft = None;
+  front = unseeing (Client session);
 }
 
 abbrev pub fresh_lane : Named → ℕ → ℕ → LaneView
-fresh_lane named session last = unused session (untouched (lane_of named session) last)
+fresh_lane named session last = unused session (untouched (lane_of named session) last) (unseeing (Lane session))
 
 abbrev pub fresh_worker : Named → ℕ → ℕ → WorkerView
-fresh_worker named session last = unused_worker session named.settings.schema (unseen session) last
+fresh_worker named session last = unused_worker session named.settings.schema (unseen session) last (unseeing (Session session))
 
--- so many workers, 1 and so on, the sessions behind the workers, and their lanes, each behind the last number that a base has of it
-abbrev pub workers_from : Named → Base → ℕ → List WorkerView
-workers_from named base count = map (λ session. fresh_worker named session (last_folded base session)) (range_with_len 1 count)
+-- so many workers, 1 and so on, the sessions behind the workers, and their lanes, each behind the last number that the store's base has of it
+abbrev pub workers_from : Named → ℕ → List WorkerView
+workers_from named count = map (λ session. fresh_worker named session (last_folded named.base session)) (range_with_len 1 count)
 
-abbrev pub sessions_from : Named → Base → ℕ → List SessionView
-sessions_from named base count = map (λ session. fresh_session named session (last_folded base session)) (range_with_len (suc named.workers) count)
+abbrev pub sessions_from : Named → ℕ → List SessionView
+sessions_from named count = map (λ session. fresh_session named session (last_folded named.base session)) (range_with_len (suc named.workers) count)
 
-abbrev pub lanes_from : Named → Base → ℕ → List LaneView
-lanes_from named base count = map (λ session. fresh_lane named session (last_folded base session)) (range_with_len (suc named.workers) count)
+abbrev pub lanes_from : Named → ℕ → List LaneView
+lanes_from named count = map (λ session. fresh_lane named session (last_folded named.base session)) (range_with_len (suc named.workers) count)
 
 -- the workers of a store, and its other sessions with their lanes
-abbrev pub fresh_workers : Named → Base → List WorkerView
-fresh_workers named base = workers_from named base named.workers
+abbrev pub fresh_workers : Named → List WorkerView
+fresh_workers named = workers_from named named.workers
 
-abbrev pub fresh_sessions : Named → Base → List SessionView
-fresh_sessions named base = sessions_from named base (named.settings.sessions - named.workers)
+abbrev pub fresh_sessions : Named → List SessionView
+fresh_sessions named = sessions_from named (named.settings.sessions - named.workers)
 
-abbrev pub fresh_lanes : Named → Base → List LaneView
-fresh_lanes named base = lanes_from named base (named.settings.sessions - named.workers)
+abbrev pub fresh_lanes : Named → List LaneView
+fresh_lanes named = lanes_from named (named.settings.sessions - named.workers)

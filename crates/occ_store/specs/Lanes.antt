@@ -1,9 +1,9 @@
 -- What clauses see of a lane, and what one event makes of it (our own choice).
-use Rattle.std.specs.Prelude.{◌≡◌, ℕ, ◌+◌, ◌==◌, ◌&&◌, Bool, true, false, List, length, Option, None, Some, Result, Ok, Err, is_some, if◌then◌else◌}
+use Rattle.std.specs.Prelude.{◌≡◌, ◌⊎◌, ℕ, ◌+◌, ◌==◌, ◌&&◌, Bool, true, false, List, length, Option, None, Some, Result, Ok, Err, is_some, if◌then◌else◌}
 use Rattle.std.specs.List.{list_any}
 use Rattle.boxcar.specs.Table.{Where}
 use Rattle.occ_types.specs.declared.fault.Fault.{Fault}
-use Rattle.occ_types.specs.declared.fault.Fault.TheVariants.{NothingEntered}
+use Rattle.occ_types.specs.declared.fault.Fault.TheVariants.{NothingEntered, WrongCase}
 use Rattle.occ_model.specs.Log.{Case}
 use Rattle.occ_model.specs.World.{World, active_count}
 use Rattle.occ_model.specs.Event.{Item, Request, Alone, Close, Event, Enter, Decide, WriteOne, Finish, SerialEnd, Reply, Refused, Answered, Forgotten, Entered, Closed, Wrote, NoMore, Finished, BackedUp, EndedBack, RanAlone, Folded}
@@ -15,7 +15,8 @@ use Rattle.occ_core.specs.Replies.{next_object}
 use Rattle.occ_queue.specs.Items.{item_of, number_of, is_mark}
 use Rattle.occ_queue.specs.Lanes.{Known}
 use Rattle.occ_filed.specs.Filed.{DecidesBy, token_of}
-use Rattle.occ_store.specs.Locked.{Locked, world_of, rows_entered, Happens, EntersAs, BacksUp}
+use Rattle.occ_history.specs.History.{Party, Session, Lane, FrontView}
+use Rattle.occ_store.specs.Locked.{Locked, world_of, rows_entered, Happens, Tells, EntersAs, BacksUp}
 use Rattle.occ_store.specs.declared.serving.Point.{Point}
 use Rattle.occ_store.specs.declared.serving.Point.TheVariants as points
 use Rattle.occ_store.specs.declared.unfinished.Left as code_left
@@ -35,7 +36,7 @@ module _ {Z : Type 0} where
   left_of (lefts.Open number token) = Open number token
   left_of (lefts.Decided number verdict) = Decided number verdict
 
--- Its session; what it took and heard of as pushed; what it has not ended; how many decisions came by a verdict from outside the lock, and how many rows it entered; whether its cases are filed, and whether a request ends serially where it can.
+-- Its session; what it took and heard of as pushed; what it has not ended; how many decisions came by a verdict from outside the lock, and how many rows it entered; whether its cases are filed, and whether a request ends serially where it can; and what it has seen of the history.
 pub record LaneView : Type 0 where
   pub session : ℕ
   pub receiver : Known
@@ -44,10 +45,15 @@ pub record LaneView : Type 0 where
   pub entered : ℕ
   pub files : Bool
   pub serial : Bool
+  pub front : FrontView
 
 -- the lane of a session out of which nothing was taken: its cases are filed, and nothing ends serially
-abbrev pub unused : ℕ → Known → LaneView
-unused session receiver = record { session = session; receiver = receiver; left = Nothing; judged = 0; entered = 0; files = true; serial = false }
+abbrev pub unused : ℕ → Known → FrontView → LaneView
+unused session receiver front = record { session = session; receiver = receiver; left = Nothing; judged = 0; entered = 0; files = true; serial = false; front = front }
+
+-- whose events of a session's ends are: its own, or its lane's
+abbrev pub IsDoer : Party → ℕ → Type 0
+IsDoer party session = (party ≡ Session session) ⊎ (party ≡ Lane session)
 
 -- how many rows that are not decided are left
 abbrev pub open_rows : Left → ℕ
@@ -151,16 +157,17 @@ left_ending number verdict (BackedUp backed) = Nothing
 left_ending number verdict reply = Decided number verdict
 
 -- An item enters, or ends serially. Where the lane files no cases its row has no token.
-abbrev pub TakesIn : ℕ → Bool → Bool → Item → Locked → Reply → Locked → Type 0
-TakesIn session files serial item old reply new = elim (ends_serially (world_of old) serial item) [
-  | true ↦ Happens old session (SerialEnd session item) reply new
-  | false ↦ (token : Option (Where Case)) × (files ≡ false → token ≡ None) × EntersAs old session item token reply new
+abbrev pub TakesIn : FrontView → ℕ → Bool → Bool → Item → Locked → Reply → FrontView → Locked → Type 0
+TakesIn me session files serial item old reply now new = elim (ends_serially (world_of old) serial item) [
+  | true ↦ Happens me old session (SerialEnd session item) reply now new
+  | false ↦ (token : Option (Where Case)) × (files ≡ false → token ≡ None) × EntersAs me old session item token reply now new
 ]
 
 -- A row is decided: by the verdict of a judged case of the file, which is refused where that is another case than the one that was filed for it; or now.
-abbrev pub DecidesAs : ℕ → Option (Where Case) → Locked → Result Verdict Fault → Locked → Type 0
-DecidesAs session None old result new = Happens old session (Decide session) (replied events.Decided result) new
-DecidesAs session (Some judged) old result new = DecidesBy old.filed session judged.index result new.filed × (new.words ≡ old.words)
+abbrev pub DecidesAs : FrontView → ℕ → Option (Where Case) → Locked → Result Verdict Fault → FrontView → Locked → Type 0
+DecidesAs me session None old result now new = Happens me old session (Decide session) (replied events.Decided result) now new
+DecidesAs me session (Some judged) old result now new = DecidesBy old.filed session judged.index result new.filed × (new.words ≡ old.words)
+    × (Tells me old (Decide session) (replied events.Decided result) now new ⊎ ((result ≡ Err WrongCase) × (now ≡ me) × (new.story ≡ old.story)))
 
 -- how many decisions came by a verdict from outside the lock, with this one
 abbrev pub judged_more : ℕ → Option (Where Case) → ℕ
@@ -169,32 +176,33 @@ judged_more judged (Some case) = judged + 1
 
 -- the lane after a decision, and the point that it reached; at a fault the row stays
 abbrev pub AfterDecision : LaneView → ℕ → Option (Where Case) → Option (Where Case) → Result Verdict Fault → Result Point Fault → LaneView → Type 0
-AfterDecision lane number token judged (Err fault) result after = (result ≡ Err fault) × (after ≡ record lane { left = Open number token })
+AfterDecision lane number token judged (Err fault) result after = (result ≡ Err fault) × (after ≡ record lane { left = Open number token; front = after.front })
 AfterDecision lane number token judged (Ok verdict) result after =
-    (result ≡ Ok points.Decided) × (after ≡ record lane { left = Decided number verdict; judged = judged_more lane.judged judged })
+    (result ≡ Ok points.Decided) × (after ≡ record lane { left = Decided number verdict; judged = judged_more lane.judged judged; front = after.front })
 
 -- An event of a row that is decided to commit: its next single write, or its finish.
 abbrev pub Ends : Event → ℕ → LaneView → Locked → Result Point Fault → LaneView → Locked → Type 0
 Ends event number lane old result after new =
-    (reply : Reply) × Happens old lane.session event reply new × (result ≡ reached reply)
-    × (after ≡ record lane { left = left_ending number verdicts.Commit reply })
+    (reply : Reply) × Happens lane.front old lane.session event reply after.front new × (result ≡ reached reply)
+    × (after ≡ record lane { left = left_ending number verdicts.Commit reply; front = after.front })
 
 -- One event of what a lane has left. Where nothing is left there is none.
 abbrev pub GoesOn : Left → LaneView → Option (Where Case) → Locked → Result Point Fault → LaneView → Locked → Type 0
 GoesOn Nothing lane judged old result after new = (result ≡ Err NothingEntered) × (after ≡ lane) × (new ≡ old)
 GoesOn (Kept item) lane judged old result after new =
-    (reply : Reply) × TakesIn lane.session lane.files lane.serial item old reply new × (result ≡ reached reply)
+    (reply : Reply) × TakesIn lane.front lane.session lane.files lane.serial item old reply after.front new × (result ≡ reached reply)
     × (after ≡ record lane {
       left = left_entering item (token_of new.filed.tokens lane.session) reply;
       entered = lane.entered + rows_entered reply;
+      front = after.front;
     })
 GoesOn (Open number token) lane judged old result after new =
-    (decided : Result Verdict Fault) × DecidesAs lane.session judged old decided new × AfterDecision lane number token judged decided result after
+    (decided : Result Verdict Fault) × DecidesAs lane.front lane.session judged old decided after.front new × AfterDecision lane number token judged decided result after
 GoesOn (Decided number verdicts.Commit) lane judged old result after new =
     Ends (next_of (world_of old) lane.session) number lane old result after new
 GoesOn (Decided number (verdicts.BackUp cause)) lane judged old result after new =
-    (reply : Reply) × BacksUp old lane.session cause reply new × (result ≡ reached reply)
-    × (after ≡ record lane { left = left_ending number (verdicts.BackUp cause) reply })
+    (reply : Reply) × BacksUp lane.front old lane.session cause reply after.front new × (result ≡ reached reply)
+    × (after ≡ record lane { left = left_ending number (verdicts.BackUp cause) reply; front = after.front })
 
 abbrev pub Advances : LaneView → Option (Where Case) → Locked → Result Point Fault → LaneView → Locked → Type 0
 Advances lane = GoesOn lane.left lane

@@ -12,6 +12,7 @@ pub mod Locked
 pub mod Names
 pub mod Serving
 pub mod Sessions
+pub mod Standing
 pub mod Transactions
 pub mod Tries
 pub mod Workers

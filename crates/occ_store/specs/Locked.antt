@@ -1,12 +1,13 @@
 -- What stands behind the lock of a store, and what the events do to it (our own choice).
-use Rattle.std.specs.Prelude.{◌≡◌, ℕ, ◌+◌, ◌^◌, ◌<◌, ◌≤◌, Option, None, Some}
+use Rattle.std.specs.Prelude.{◌≡◌, ℕ, ◌+◌, ◌^◌, ◌<◌, ◌≤◌, List, [], ◌∷◌, Option, None, Some}
 use Rattle.occ_types.specs.declared.limits.TheConstants.{MAX_COUNTER, MAX_NUMBER}
 use Rattle.boxcar.specs.Table.{Where}
 use Rattle.occ_model.specs.Log.{Case, LogRow, Standing, Open, Writing, Done, Back}
 use Rattle.occ_model.specs.World.{World, next_place}
 use Rattle.occ_model.specs.Invariant.{Invariant}
-use Rattle.occ_model.specs.Event.{Item, Event, BackUp, Reply, Entered, Finished, BackedUp, EndedBack, RanAlone}
+use Rattle.occ_model.specs.Event.{Item, Event, Read, Forget, Enter, Decide, WriteOne, Finish, BackUp, SerialEnd, RunAlone, Checkpoint, Reply, Entered, Finished, BackedUp, EndedBack, RanAlone}
 use Rattle.occ_model.specs.Poll.{row_numbered}
+use Rattle.occ_model.specs.Step.{Run}
 use Rattle.occ_model.specs.declared.verdict.Verdict.TheVariants as verdicts
 use Rattle.occ_model.specs.declared.verdict.Cause.{Cause}
 use Rattle.occ_board.specs.declared.words.Words.{Words}
@@ -16,20 +17,31 @@ use Rattle.occ_published.specs.Published.{Published, NumbersFit}
 use Rattle.occ_sets.specs.declared.log_rows.Standing as code_standing
 use Rattle.occ_sets.specs.declared.log_rows.Standing.TheVariants as standings
 use Rattle.occ_filed.specs.Filed.{Filed, Moves, Enters}
-use Rattle.occ_store.specs.Names.{Named}
+use Rattle.occ_history.specs.History.{Happened, FrontView, StoryView, IsHere}
+use Rattle.occ_history.specs.Clauses.{Lent}
+use Rattle.occ_history.specs.Clauses as history
+use Rattle.occ_store.specs.Names.{Named, opened_as}
 
--- The core with the file of its cases, and the words that stand on the board.
+-- The core with the file of its cases, the words that stand on the board, the story, and what who reads now has seen of it.
 pub record Locked : Type 0 where
   pub filed : Filed
   pub words : Words
+  pub story : StoryView
+  pub visitor : FrontView
 
--- What stands behind the lock of a named store. The words show the world; the store is the one that the name stands for; and the rows that the ledger counts, with those before the place that the store began at, are all that entered, those that were folded too.
-pub record IsLocked (named : Named) (filed : Filed) (posted : Posted) (rows : ℕ) : Type 0 where
+-- The words show the world; the store is the one that the name stands for; and the rows that the ledger counts, with those before the place that the store began at, are all that entered, those that were folded too.
+pub record IsShown (named : Named) (filed : Filed) (posted : Posted) (rows : ℕ) : Type 0 where
   pub published : Published filed.world posted.words
   pub settings : filed.world.settings ≡ named.settings
   pub file : filed.file ≡ named.file
   pub board : posted.board ≡ named.board
   pub counted : rows ≡ next_place filed.world
+
+-- What stands behind the lock of a named store. It shows the world, to which the story led from what the store was opened with; and who reads now was not lent out.
+pub record IsLocked (named : Named) (filed : Filed) (posted : Posted) (rows : ℕ) (story : StoryView) (visitor : FrontView) : Type 0 where
+  pub shown : IsShown named filed posted rows
+  pub ran : Run (opened_as named) story.log filed.world
+  pub here : IsHere visitor.party
 
 -- what the events rest on of every world of a core
 pub record IsLawful (world : World) : Type 0 where
@@ -92,9 +104,17 @@ told words session kept world (BackedUp number) =
     settled words session number (verdicts.BackUp (cause_told kept (row_numbered session number world.log)))
 told words session kept world reply = words
 
--- An event of a session happens: the core moves so, and what the reply tells is stored.
-abbrev pub Happens : Locked → ℕ → Event → Reply → Locked → Type 0
-Happens old session event reply new = Moves old.filed event reply new.filed × (new.words ≡ stored old.words session reply)
+-- the locked state, and what one has seen who has it
+abbrev pub lent_to : FrontView → Locked → Lent
+lent_to front locked = record { world = world_of locked; story = locked.story; visitor = front }
+
+-- the world steps so, and the story and who does it are told of it
+abbrev pub Tells : FrontView → Locked → Event → Reply → FrontView → Locked → Type 0
+Tells me old event reply now new = history.Happens (lent_to me old) event reply (lent_to now new)
+
+-- An event of a session happens: the core moves so, what the reply tells is stored, and the story is told of it.
+abbrev pub Happens : FrontView → Locked → ℕ → Event → Reply → FrontView → Locked → Type 0
+Happens me old session event reply now new = Moves old.filed event reply new.filed × (new.words ≡ stored old.words session reply) × Tells me old event reply now new
 
 -- A call of a read phase moves the world and the totals alone: the words stay, the file, and what shows its cases.
 pub record IsSameBeside (old new : Locked) : Type 0 where
@@ -102,14 +122,24 @@ pub record IsSameBeside (old new : Locked) : Type 0 where
   pub file : new.filed.file ≡ old.filed.file
   pub tokens : new.filed.tokens ≡ old.filed.tokens
 
+-- An event of a read phase: nothing else changes, and the story and who reads are told of it.
+abbrev pub ReadsSo : Locked → Event → Reply → Locked → Type 0
+ReadsSo old event reply new = IsSameBeside old new × Tells old.visitor old event reply new.visitor new
+
+-- with another one who reads
+abbrev pub visited : Locked → FrontView → Locked
+visited locked front = record locked { visitor = front }
+
 -- An entry, by which a request's case has this token.
-abbrev pub EntersAs : Locked → ℕ → Item → Option (Where Case) → Reply → Locked → Type 0
-EntersAs old session item token reply new = Enters old.filed session item token reply new.filed × (new.words ≡ stored old.words session reply)
+abbrev pub EntersAs : FrontView → Locked → ℕ → Item → Option (Where Case) → Reply → FrontView → Locked → Type 0
+EntersAs me old session item token reply now new = Enters old.filed session item token reply new.filed × (new.words ≡ stored old.words session reply)
+    × Tells me old (Enter session item) reply now new
 
 -- A back-up. It tells the cause with which the row stands in the log, or the one that was kept where the row was folded before.
-abbrev pub BacksUp : Locked → ℕ → Cause → Reply → Locked → Type 0
-BacksUp old session kept reply new =
+abbrev pub BacksUp : FrontView → Locked → ℕ → Cause → Reply → FrontView → Locked → Type 0
+BacksUp me old session kept reply now new =
     Moves old.filed (BackUp session) reply new.filed × (new.words ≡ told old.words session kept (world_of new) reply)
+    × Tells me old (BackUp session) reply now new
 
 -- how many rows came into the log by what was handed in, by its reply
 abbrev pub rows_entered : Reply → ℕ
@@ -118,6 +148,24 @@ rows_entered (Finished tn) = 1
 rows_entered (EndedBack cause) = 1
 rows_entered (RanAlone tn answers) = 1
 rows_entered reply = 0
+
+-- how many rows an event brings into the log, by its reply
+abbrev pub rows_by : Event → Reply → ℕ
+rows_by (Read session number start question) reply = 0
+rows_by (Forget session number) reply = 0
+rows_by (Enter session item) reply = rows_entered reply
+rows_by (Decide session) reply = 0
+rows_by (WriteOne session) reply = 0
+rows_by (Finish session) reply = 0
+rows_by (BackUp session) reply = 0
+rows_by (SerialEnd session item) reply = rows_entered reply
+rows_by (RunAlone session number operations) reply = rows_entered reply
+rows_by Checkpoint reply = 0
+
+-- how many rows a history brought into the log
+abbrev pub rows_in : List Happened → ℕ
+rows_in [] = 0
+rows_in (happened ∷ others) = rows_by happened.0 happened.1 + rows_in others
 
 -- how a row stands, without its case
 abbrev pub told_standing : Standing → code_standing.Standing (Unit {0})

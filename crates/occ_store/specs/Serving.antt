@@ -7,8 +7,8 @@ use Rattle.occ_types.specs.declared.fault.Fault.{Fault}
 use Rattle.occ_types.specs.declared.fault.Fault.TheVariants.{Memory, StoreBusy}
 use Rattle.occ_model.specs.Log.{Case}
 use Rattle.occ_model.specs.Event.{Item}
-use Rattle.occ_model.specs.World.{Settings}
 use Rattle.occ_model.specs.Invariant.{Invariant}
+use Rattle.occ_model.specs.Step.{Run}
 use Rattle.occ_model.specs.declared.verdict.Verdict.{Verdict}
 use Rattle.occ_model.specs.declared.verdict.Verdict.TheVariants as verdicts
 use Rattle.occ_queue.specs.Items.{number_of, is_mark}
@@ -17,6 +17,8 @@ use Rattle.occ_store.specs.declared.serving.Point.{Point}
 use Rattle.occ_store.specs.declared.serving.Point.TheVariants as points
 use Rattle.occ_store.specs.declared.serving.Served.{Served}
 use Rattle.occ_store.specs.declared.serving.Served.TheVariants as served
+use Rattle.occ_store.specs.Names.{Named, opened_as}
+use Rattle.occ_store.specs.Standing.{GoesOnTo}
 use Rattle.occ_store.specs.Locked.{Locked, world_of}
 use Rattle.occ_store.specs.Lanes.{LaneView, Left, Nothing, Kept, Open, Decided, number_left, is_open, is_closed, keeps_alone, Advances}
 
@@ -46,40 +48,40 @@ ComesOf stops number (Ok (served.Stopped point)) lane = StandsAt point number la
 ComesOf stops number (Ok served.LaneClosed) lane = is_closed lane ≡ true
 ComesOf stops number (Err fault) lane = number_left lane.left ≡ Some number
 
--- One event of a lane, in one holding of the lock: what it makes of the lane and of some state of the store, which has the law and these settings. No clause can name the state, since other threads move it between two holdings.
-abbrev pub Happened : Settings → LaneView → Result Point Fault → LaneView → Type 0
-Happened settings lane reached after = (judged : Option (Where Case)) × (old : Locked) × (new : Locked) × Invariant (world_of old) × ((world_of old).settings ≡ settings)
-    × Advances lane judged old reached after new
+-- One event of a lane: what it makes of the lane and of the state of the store, to which the story led.
+abbrev pub Happened : Named → LaneView → Result Point Fault → LaneView → Type 0
+Happened named lane reached after = (judged : Option (Where Case)) × (old : Locked) × (new : Locked) × Invariant (world_of old) × ((world_of old).settings ≡ named.settings)
+    × Run (opened_as named) old.story.log (world_of old) × Advances lane judged old reached after new
 
--- The lane came to this by an event of what has this number, which reached a point, or was refused.
-abbrev pub CameBy : Settings → ℕ → Result Point Fault → LaneView → Type 0
-CameBy settings number reached new = (before : LaneView) × (number_left before.left ≡ Some number) × Happened settings before reached new
+-- The lane came to this by an event of what has this number, which reached a point, or was refused, in a history that goes on from what it had seen.
+abbrev pub CameBy : Named → LaneView → ℕ → Result Point Fault → LaneView → Type 0
+CameBy named old number reached new = (before : LaneView) × GoesOnTo old.front before.front × (number_left before.left ≡ Some number) × Happened named before reached new
 
 -- by one that was not refused
-abbrev pub HasMoved : Settings → ℕ → LaneView → Type 0
-HasMoved settings number new = (point : Point) × CameBy settings number (Ok point) new
+abbrev pub HasMoved : Named → LaneView → ℕ → LaneView → Type 0
+HasMoved named old number new = (point : Point) × CameBy named old number (Ok point) new
 
 -- or it is as it was
-abbrev pub MayHaveMoved : Settings → LaneView → ℕ → LaneView → Type 0
-MayHaveMoved settings old number new = (new ≡ old) ⊎ HasMoved settings number new
+abbrev pub MayHaveMoved : Named → LaneView → ℕ → LaneView → Type 0
+MayHaveMoved named old number new = (new ≡ old) ⊎ HasMoved named old number new
 
 -- what is kept waits until no row is active
 abbrev pub IsBusy : Fault → Left → Type 0
 IsBusy fault left = (fault ≡ StoreBusy) × (keeps_alone left ≡ true)
 
 -- On which event of what has this number an answer rests: a transaction is told as over by an event that ended it, and what is refused was refused by the store. Where an item was taken, and before a decision, there may have been none.
-abbrev pub RestsOn : Settings → LaneView → ℕ → Result Served Fault → LaneView → Type 0
-RestsOn settings old number (Ok (served.Settled settled)) new = HasMoved settings number new
-RestsOn settings old number (Ok served.Idle) new = ⊥
-RestsOn settings old number (Ok served.Busy) new = CameBy settings number (Err StoreBusy) new
-RestsOn settings old number (Ok (served.Stopped points.Took)) new = MayHaveMoved settings old number new
-RestsOn settings old number (Ok (served.Stopped points.Entered)) new = HasMoved settings number new
-RestsOn settings old number (Ok (served.Stopped points.Judged)) new = MayHaveMoved settings old number new
-RestsOn settings old number (Ok (served.Stopped points.Decided)) new = HasMoved settings number new
-RestsOn settings old number (Ok (served.Stopped points.Wrote)) new = HasMoved settings number new
-RestsOn settings old number (Ok (served.Stopped points.Settled)) new = HasMoved settings number new
-RestsOn settings old number (Ok served.LaneClosed) new = HasMoved settings number new
-RestsOn settings old number (Err fault) new = CameBy settings number (Err fault) new × (IsBusy fault new.left → ⊥)
+abbrev pub RestsOn : Named → LaneView → ℕ → Result Served Fault → LaneView → Type 0
+RestsOn named old number (Ok (served.Settled settled)) new = HasMoved named old number new
+RestsOn named old number (Ok served.Idle) new = ⊥
+RestsOn named old number (Ok served.Busy) new = CameBy named old number (Err StoreBusy) new
+RestsOn named old number (Ok (served.Stopped points.Took)) new = MayHaveMoved named old number new
+RestsOn named old number (Ok (served.Stopped points.Entered)) new = HasMoved named old number new
+RestsOn named old number (Ok (served.Stopped points.Judged)) new = MayHaveMoved named old number new
+RestsOn named old number (Ok (served.Stopped points.Decided)) new = HasMoved named old number new
+RestsOn named old number (Ok (served.Stopped points.Wrote)) new = HasMoved named old number new
+RestsOn named old number (Ok (served.Stopped points.Settled)) new = HasMoved named old number new
+RestsOn named old number (Ok served.LaneClosed) new = HasMoved named old number new
+RestsOn named old number (Err fault) new = CameBy named old number (Err fault) new × (IsBusy fault new.left → ⊥)
 
 -- how it may be told that an event was not refused
 abbrev pub TellsOfMove : Served → Type 0
@@ -94,8 +96,8 @@ abbrev pub IsSame : LaneView → LaneView → Type 0
 IsSame old new = (new.session ≡ old.session) × (new.receiver ≡ old.receiver) × (new.files ≡ old.files) × (new.serial ≡ old.serial)
 
 -- so it is with what was left: nothing is taken, and what is answered rests on an event
-abbrev pub CarriesOn : Settings → Stops → LaneView → ℕ → Result Served Fault → LaneView → Type 0
-CarriesOn settings stops old number result new = (IsSame old new × RestsOn settings old number result new) × ComesOf stops number result new
+abbrev pub CarriesOn : Named → Stops → LaneView → ℕ → Result Served Fault → LaneView → Type 0
+CarriesOn named stops old number result new = (IsSame old new × RestsOn named old number result new) × ComesOf stops number result new
 
 -- what an event makes of a lane: it takes nothing, and where it is refused what is left stays
 abbrev pub Moves : LaneView → ℕ → Result Point Fault → LaneView → Type 0
@@ -103,10 +105,10 @@ Moves old number (Ok point) new = IsSame old new × IsAt point number new.left
 Moves old number (Err fault) new = IsSame old new × (new.left ≡ old.left)
 
 -- one event and the gate after it, and whether more is to be done
-abbrev pub Turns : Settings → Stops → LaneView → ℕ → Result (Option Served) Fault → LaneView → Type 0
-Turns settings stops old number (Ok None) new = (IsSame old new × HasMoved settings number new) × (number_left new.left ≡ Some number)
-Turns settings stops old number (Ok (Some served)) new = CarriesOn settings stops old number (Ok served) new
-Turns settings stops old number (Err fault) new = CarriesOn settings stops old number (Err fault) new
+abbrev pub Turns : Named → Stops → LaneView → ℕ → Result (Option Served) Fault → LaneView → Type 0
+Turns named stops old number (Ok None) new = (IsSame old new × HasMoved named old number new) × (number_left new.left ≡ Some number)
+Turns named stops old number (Ok (Some served)) new = CarriesOn named stops old number (Ok served) new
+Turns named stops old number (Err fault) new = CarriesOn named stops old number (Err fault) new
 
 -- the lane with one more item, which it keeps
 abbrev pub keeping : LaneView → Item → LaneView
@@ -124,35 +126,35 @@ abbrev pub HeedsAll : Stops → ℕ → Result Served Fault → Type 0
 HeedsAll must session (Ok served) = Heeds must session served
 HeedsAll must session (Err fault) = Unit {0}
 
-abbrev pub HeedsTurn : Settings → Stops → LaneView → ℕ → Result (Option Served) Fault → LaneView → Type 0
-HeedsTurn settings must old number (Ok None) new = (is_open old.left ≡ true → must points.Judged old.session number → ⊥)
-    × ((point : Point) × CameBy settings number (Ok point) new × (must point new.session number → ⊥))
-HeedsTurn settings must old number (Ok (Some served)) new = Heeds must new.session served
-HeedsTurn settings must old number (Err fault) new = Unit {0}
+abbrev pub HeedsTurn : Named → Stops → LaneView → ℕ → Result (Option Served) Fault → LaneView → Type 0
+HeedsTurn named must old number (Ok None) new = (is_open old.left ≡ true → must points.Judged old.session number → ⊥)
+    × ((point : Point) × CameBy named old number (Ok point) new × (must point new.session number → ⊥))
+HeedsTurn named must old number (Ok (Some served)) new = Heeds must new.session served
+HeedsTurn named must old number (Err fault) new = Unit {0}
 
 -- What a call finds: what was left; or, where nothing was, an item that it takes; or nothing to do, and all stays.
-abbrev pub Resumes : Settings → Stops → LaneView → Result Served Fault → LaneView → Type 0
-Resumes settings stops old result new = (number : ℕ) × (number_left old.left ≡ Some number) × CarriesOn settings stops old number result new
+abbrev pub Resumes : Named → Stops → LaneView → Result Served Fault → LaneView → Type 0
+Resumes named stops old result new = (number : ℕ) × (number_left old.left ≡ Some number) × CarriesOn named stops old number result new
 
-abbrev pub TakesUp : Settings → Stops → LaneView → Result Served Fault → LaneView → Type 0
-TakesUp settings stops old result new = (item : Item) × (old.left ≡ Nothing) × CarriesOn settings stops (keeping old item) (number_of item) result new
+abbrev pub TakesUp : Named → Stops → LaneView → Result Served Fault → LaneView → Type 0
+TakesUp named stops old result new = (item : Item) × (old.left ≡ Nothing) × CarriesOn named stops (keeping old item) (number_of item) result new
 
 abbrev pub FindsNothing : LaneView → Result Served Fault → Served → LaneView → Type 0
 FindsNothing old result answer new = (old.left ≡ Nothing) × (new ≡ old) × (result ≡ Ok answer)
 
 -- Where nothing is left: it takes the next item; or none waits, as far as was heard; or the mark was taken before.
-abbrev pub TakesNext : Settings → Stops → LaneView → Result Served Fault → LaneView → Type 0
-TakesNext settings stops old result new = TakesUp settings stops old result new
+abbrev pub TakesNext : Named → Stops → LaneView → Result Served Fault → LaneView → Type 0
+TakesNext named stops old result new = TakesUp named stops old result new
     ⊎ (FindsNothing old result served.Idle new × (list_any is_mark old.receiver.taken ≡ false) × IsPrefix old.receiver.pushed old.receiver.taken
     ⊎ FindsNothing old result served.LaneClosed new × (list_any is_mark old.receiver.taken ≡ true))
 
 -- one serving, from what it finds to what comes of it
-abbrev pub Serves : Settings → Stops → LaneView → Result Served Fault → LaneView → Type 0
-Serves settings stops old result new = Resumes settings stops old result new ⊎ TakesNext settings stops old result new
+abbrev pub Serves : Named → Stops → LaneView → Result Served Fault → LaneView → Type 0
+Serves named stops old result new = Resumes named stops old result new ⊎ TakesNext named stops old result new
 
--- a lane that was served, however often: it is of the same session, and what it took comes after what it had taken
+-- a lane that was served, however often: it is of the same session, what it took comes after what it had taken, and what it has seen goes on
 abbrev pub IsServed : LaneView → LaneView → Type 0
-IsServed old new = (new.session ≡ old.session) × IsPrefix old.receiver.taken new.receiver.taken
+IsServed old new = (new.session ≡ old.session) × IsPrefix old.receiver.taken new.receiver.taken × GoesOnTo old.front new.front
 
 -- so is each of these lanes
 pub record AreServed (old new : List LaneView) : Type 0 where
@@ -171,33 +173,33 @@ abbrev pub AllAreOver : Stops → List LaneView → Type 0
 AllAreOver stops lanes = (place : ℕ) (none : LaneView) → place < length lanes → IsOver stops (get_or lanes place none)
 
 -- a lane that met this fault when it was served last, and keeps what it had
-abbrev pub HasMet : Settings → Stops → Fault → LaneView → Type 0
-HasMet settings stops fault lane = (before : LaneView) × Serves settings stops before (Err fault) lane
+abbrev pub HasMet : Named → Stops → Fault → LaneView → Type 0
+HasMet named stops fault lane = (before : LaneView) × Serves named stops before (Err fault) lane
 
 -- a lane that is over, or met some fault
-abbrev pub HasEnded : Settings → Stops → LaneView → Type 0
-HasEnded settings stops lane = IsOver stops lane ⊎ ((fault : Fault) × HasMet settings stops fault lane)
+abbrev pub HasEnded : Named → Stops → LaneView → Type 0
+HasEnded named stops lane = IsOver stops lane ⊎ ((fault : Fault) × HasMet named stops fault lane)
 
 -- so have those lanes that are marked, and so have all
-abbrev pub HaveEnded : Settings → Stops → List Bool → List LaneView → Type 0
-HaveEnded settings stops marked lanes = (place : ℕ) (none : LaneView) → get_or marked place false ≡ true → HasEnded settings stops (get_or lanes place none)
+abbrev pub HaveEnded : Named → Stops → List Bool → List LaneView → Type 0
+HaveEnded named stops marked lanes = (place : ℕ) (none : LaneView) → get_or marked place false ≡ true → HasEnded named stops (get_or lanes place none)
 
-abbrev pub AllHaveEnded : Settings → Stops → List LaneView → Type 0
-AllHaveEnded settings stops lanes = (place : ℕ) (none : LaneView) → place < length lanes → HasEnded settings stops (get_or lanes place none)
+abbrev pub AllHaveEnded : Named → Stops → List LaneView → Type 0
+AllHaveEnded named stops lanes = (place : ℕ) (none : LaneView) → place < length lanes → HasEnded named stops (get_or lanes place none)
 
 -- the fault that is told was met by one of those lanes that are marked, and by one of all
-abbrev pub IsMetMarked : Settings → Stops → Option Fault → List Bool → List LaneView → Type 0
-IsMetMarked settings stops None marked lanes = Unit {0}
-IsMetMarked settings stops (Some fault) marked lanes = (place : ℕ) × (get_or marked place false ≡ true) × ((none : LaneView) → HasMet settings stops fault (get_or lanes place none))
+abbrev pub IsMetMarked : Named → Stops → Option Fault → List Bool → List LaneView → Type 0
+IsMetMarked named stops None marked lanes = Unit {0}
+IsMetMarked named stops (Some fault) marked lanes = (place : ℕ) × (get_or marked place false ≡ true) × ((none : LaneView) → HasMet named stops fault (get_or lanes place none))
 
-abbrev pub IsMet : Settings → Stops → Option Fault → List LaneView → Type 0
-IsMet settings stops None lanes = Unit {0}
-IsMet settings stops (Some fault) lanes = (place : ℕ) × (place < length lanes) × ((none : LaneView) → HasMet settings stops fault (get_or lanes place none))
+abbrev pub IsMet : Named → Stops → Option Fault → List LaneView → Type 0
+IsMet named stops None lanes = Unit {0}
+IsMet named stops (Some fault) lanes = (place : ℕ) × (place < length lanes) × ((none : LaneView) → HasMet named stops fault (get_or lanes place none))
 
 -- What comes of serving lanes until each has ended, or the store is stopped: all have, where it wasn't stopped, and the fault that is told was met by one of them; or there is no memory for it, and all stay.
-abbrev pub Ends : Settings → Stops → List LaneView → Option Fault → Bool → List LaneView → Type 0
-Ends settings stops old fault stopped new = ((stopped ≡ false → AllHaveEnded settings stops new) × IsMet settings stops fault new) ⊎ ((fault ≡ Some Memory) × (new ≡ old))
+abbrev pub Ends : Named → Stops → List LaneView → Option Fault → Bool → List LaneView → Type 0
+Ends named stops old fault stopped new = ((stopped ≡ false → AllHaveEnded named stops new) × IsMet named stops fault new) ⊎ ((fault ≡ Some Memory) × (new ≡ old))
 
 -- What a turn of a lane tells of faults: none that is new; or the first one, which the lane met in this turn.
-abbrev pub TellsFault : Settings → Stops → LaneView → Option Fault → Option Fault → LaneView → Type 0
-TellsFault settings stops old before after new = (after ≡ before) ⊎ ((before ≡ None) × ((fault : Fault) × (after ≡ Some fault) × Serves settings stops old (Err fault) new))
+abbrev pub TellsFault : Named → Stops → LaneView → Option Fault → Option Fault → LaneView → Type 0
+TellsFault named stops old before after new = (after ≡ before) ⊎ ((before ≡ None) × ((fault : Fault) × (after ≡ Some fault) × Serves named stops old (Err fault) new))

@@ -7,22 +7,22 @@ use Rattle.occ_types.specs.Schema.{Schema, fault_if, first_fault}
 use Rattle.occ_model.specs.Operations.{Operation}
 use Rattle.occ_model.specs.Event.{Item, Request, Alone, Close}
 use Rattle.occ_model.specs.Refusal.{numbers_exhausted, check_operations}
-use Rattle.occ_model.specs.World.{Settings, World}
-use Rattle.occ_model.specs.Invariant.{Invariant}
 use Rattle.occ_sets.specs.Sets.{Copied}
 use Rattle.occ_queue.specs.Lanes.{Known, as_queue, pushing}
 use Rattle.occ_queue.specs.Numbering as numbering
 use Rattle.occ_board.specs.declared.rule.Seen.{Seen}
 use Rattle.occ_board.specs.Rule.{started}
 use Rattle.occ_open.specs.Transactions as transactions
+use Rattle.occ_history.specs.History.{FrontView}
 
--- Its number, the tables of its store, what its seat has seen of the board, what it pushed and heard of as taken, and the transaction that it has open.
+-- Its number, the tables of its store, what its seat has seen of the board, what it pushed and heard of as taken, the transaction that it has open, and what it has seen of the history.
 pub record SessionView : Type 0 where
   pub session : ℕ
   pub schema : Schema
   pub seat : Seen
   pub sender : Known
   pub draft : Option Copied
+  pub front : FrontView
 
 -- the number of the next transaction
 abbrev pub due : SessionView → ℕ
@@ -112,11 +112,3 @@ alone_fault session operations = first_fault (
 -- a call that pushes is refused by the first fault that applies, or else where the queue is full
 abbrev pub IsRefusedBy : Option Fault → SessionView → Fault → Type 0
 IsRefusedBy known session fault = first_fault (known ∷ queue_full session ∷ []) ≡ Some fault
-
--- A call within one holding of the lock: some state of the store, which has the law and these settings, and what the call makes of it. No clause can name the state, since other threads move it between two holdings.
-abbrev pub InOneHolding : Settings → (World → World → Type 0) → Type 0
-InOneHolding settings Is = (old : World) × (new : World) × Invariant old × (old.settings ≡ settings) × Is old new
-
--- A look at the state within one holding of the lock: what is seen is so of some state of the store, which has the law and these settings.
-abbrev pub InOneState : Settings → (World → Type 0) → Type 0
-InOneState settings Is = (world : World) × Invariant world × (world.settings ≡ settings) × Is world

@@ -1,7 +1,95 @@
--- What clauses see of the transaction that a body runs in: its session, and the private copy where it is open (our own choice).
-use Rattle.std.specs.Prelude.{ℕ, Option}
+-- What clauses see of the transaction that a body runs in, and what it is answered (our own choice).
+use Rattle.std.specs.Prelude.{◌≡◌, ◌⊎◌, ℕ, Option, IfOk, Result}
+use Rattle.occ_types.specs.declared.fault.Fault.{Fault}
+use Rattle.occ_types.specs.declared.fault.Fault.TheVariants.{Memory}
+use Rattle.occ_types.specs.Key.{Key}
+use Rattle.occ_types.specs.PlainData.{end_of}
+use Rattle.occ_types.specs.Question.{Question, One, Span}
+use Rattle.occ_types.specs.Schema.{Schema}
+use Rattle.occ_model.specs.Event.{Event, Reply, Refused}
+use Rattle.occ_model.specs.World.{World}
 use Rattle.occ_sets.specs.Sets.{Copied}
+use Rattle.occ_open.specs.declared.pages.Page as code_page
+use Rattle.occ_open.specs.Pages.{paging, WantsPage}
+use Rattle.occ_open.specs.Transactions.{GetsBy, ScansBy, AbandonsBy, OrStarvesBy, WantsOwn, WantsRange}
+use Rattle.occ_history.specs.History.{Party, Session, Client, FrontView}
+use Rattle.occ_store.specs.Locked.{Locked, world_of, IsSameBeside, Tells}
+use Rattle.occ_store.specs.Names.{Named}
+use Rattle.occ_store.specs.Standing.{StandsIn, StandsInWhere}
 
+-- Its session, the private copy where it is open, and what the session has seen of the history.
 pub record TransactionView : Type 0 where
   pub session : ℕ
   pub draft : Option Copied
+  pub front : FrontView
+
+-- whose reads are those of a session: its own, or its client's
+abbrev pub IsReader : Party → ℕ → Type 0
+IsReader party session = (party ≡ Session session) ⊎ (party ≡ Client session)
+
+-- nothing of it changes but what its session has seen
+abbrev pub IsSeeing : TransactionView → TransactionView → Type 0
+IsSeeing before after = after ≡ record before { front = after.front }
+
+-- what a question of it is replied, by what "nothing moves" and "this event is replied so" mean
+abbrev pub AsksBy : Schema → Type 0 → (Event → Reply → Type 0) → TransactionView → Question → Reply → Type 0
+AsksBy schema Stays Moves transaction (One table key) reply = GetsBy schema Stays Moves transaction.session (table, key) transaction.draft reply
+AsksBy schema Stays Moves transaction (Span table lower upper) reply = ScansBy schema Stays Moves transaction.session (Span table lower upper) transaction.draft reply
+
+-- a question of it wants memory of its own
+abbrev pub WantsMemory : Schema → TransactionView → Question → Type 0
+WantsMemory schema transaction (One table key) = WantsOwn schema (table, key) transaction.draft
+WantsMemory schema transaction (Span table lower upper) = WantsRange schema (Span table lower upper) transaction.draft
+
+-- it is replied so, or there is no memory for that, which moves nothing
+abbrev pub AsksOrStarvesBy : Schema → Type 0 → (Event → Reply → Type 0) → TransactionView → Question → Reply → Type 0
+AsksOrStarvesBy schema Stays Moves transaction question reply =
+    OrStarvesBy (WantsMemory schema transaction question) Stays reply (AsksBy schema Stays Moves transaction question reply)
+
+-- on the locked state nothing moves, or an event of a read phase happens
+abbrev pub StaysOn : FrontView → Locked → FrontView → Locked → Type 0
+StaysOn me old now new = (now ≡ me) × (new ≡ old)
+
+abbrev pub ReadsOn : FrontView → Locked → FrontView → Locked → Event → Reply → Type 0
+ReadsOn me old now new event reply = IsSameBeside old new × Tells me old event reply now new
+
+-- what a question is replied on the locked state, or that there is no memory for it
+abbrev pub AsksOn : TransactionView → Locked → Question → Reply → TransactionView → Locked → Type 0
+AsksOn before old question reply after new = IsSeeing before after
+    × AsksOrStarvesBy (world_of old).settings.schema (StaysOn before.front old after.front new) (ReadsOn before.front old after.front new) before question reply
+
+-- What a question is replied: its own write of the key; or what stands in the history, with its own writes over it.
+abbrev pub Asks : Named → TransactionView → Question → Reply → TransactionView → Type 0
+Asks named before question reply after = IsSeeing before after
+    × AsksBy named.settings.schema (after.front ≡ before.front) (λ event given. StandsIn named before.front event given after.front) before question reply
+
+-- or there is no memory for that, which moves nothing
+abbrev pub AsksOrStarves : Named → TransactionView → Question → Reply → TransactionView → Type 0
+AsksOrStarves named before question reply after = IsSeeing before after
+    × AsksOrStarvesBy named.settings.schema (after.front ≡ before.front) (λ event given. StandsIn named before.front event given after.front) before question reply
+
+module _ {Z : Type 0} where
+  -- The page of a range, by the question that its rest makes of it, and where the rest begins. That is so in the world in which the question stands in the history.
+  abbrev pub AsksPage : Named → TransactionView → (Option Key → Question) → (World → Option Key) → Result (code_page.Page Z) Fault → TransactionView → Type 0
+  AsksPage named before question rest_of result after = IsSeeing before after × ((rest : Option Key)
+      × OrStarvesBy (WantsPage named.settings.schema (question rest) rest before.draft) (after.front ≡ before.front) (paging result)
+      (ScansBy named.settings.schema (after.front ≡ before.front) (λ event given. StandsInWhere named (λ old. rest_of old ≡ rest) before.front event given after.front)
+      before.session (question rest) before.draft (paging result))
+      × IfOk result (λ page. end_of page.rest ≡ rest))
+
+  -- the same on the locked state
+  abbrev pub AsksPageOn : TransactionView → Locked → (Option Key → Question) → (World → Option Key) → Result (code_page.Page Z) Fault → TransactionView → Locked → Type 0
+  AsksPageOn before old question rest_of result after new = IsSeeing before after × (let rest = rest_of (world_of old) in
+      OrStarvesBy (WantsPage (world_of old).settings.schema (question rest) rest before.draft) (StaysOn before.front old after.front new) (paging result)
+      (ScansBy (world_of old).settings.schema (StaysOn before.front old after.front new) (ReadsOn before.front old after.front new)
+      before.session (question rest) before.draft (paging result))
+      × IfOk result (λ page. end_of page.rest ≡ rest))
+
+-- the state forgets what it read on the locked state, if it is open
+abbrev pub AbandonsOn : TransactionView → Locked → Reply → FrontView → Locked → Type 0
+AbandonsOn before old reply front new = AbandonsBy (StaysOn before.front old front new) (ReadsOn before.front old front new) before.session before.draft reply
+
+-- The state forgets what it read, if it is open.
+abbrev pub AbandonsIn : Named → TransactionView → Reply → FrontView → Type 0
+AbandonsIn named before reply front =
+    AbandonsBy (front ≡ before.front) (λ event given. StandsIn named before.front event given front) before.session before.draft reply

@@ -1,13 +1,15 @@
 //! The closing account of a store.
 ghost use Rattle.std.specs.Prelude.{◌≡◌, ◌==◌, ◌&&◌, ◌+◌, ◌^◌, ◌<◌, ◌≤◌, ℕ, suc, true, List, [], ◌++◌, length, map, sum_by, vec_len, vec_capacity, IfOk, IfErr, IsOkUnless, MatchResult};
 ghost use Rattle.occ_types.specs.declared.fault.Fault.TheVariants.{Memory};
-ghost use Rattle.occ_store.specs.Accounts.{LineView, kept_in, kept_of, line_of, IsLine, IsWorkerLine, AreLines, AreAllLines, are_hired, are_numbered, is_complete, end_fault, rows_of, held, IsRoom, AreRooms};
+ghost use Rattle.occ_store.specs.Accounts.{LineView, kept_in, kept_of, line_of, IsLine, IsWorkerLine, AreLines, AreAllLines, are_hired, are_numbered, is_complete, end_fault, rows_of, IsOfHistory, HasSeen, HaveSeen, held, IsRoom, AreRooms};
 ghost use Rattle.occ_store.specs.Lanes.{left_of};
 
 use crate::lanes::Lane;
 use crate::names::Name;
 use crate::sessions::Session;
+use crate::shared::Shared;
 use crate::stores::Store;
+use crate::transactions::Transaction;
 use crate::unfinished::Left;
 use crate::workers::Worker;
 use occ_queue::{Item, drain};
@@ -51,8 +53,8 @@ impl<N: Name, A: Allocator + Copy> Store<N, A> {
     /// Ends all workers, lanes and sessions of the store, and tells what became of what was handed in, with a line for each, the workers'
     /// lines first. What a worker handed in is the rows that it entered, and the item that it keeps. Of each other session, what was
     /// pushed is what its lane took, followed by what is left; and what was taken is the rows that the lane entered, the closing mark once
-    /// that has entered, and the item that the lane keeps. The rows that entered are those of all workers and lanes. What a session has
-    /// open was never pushed, and is dropped. The store itself stays, for its book. It takes the lock.
+    /// that has entered, and the item that the lane keeps. The rows that entered are those of all workers and lanes, and those that the
+    /// history brought. What a session has open was never pushed, and is dropped. The store itself stays, for its book. It takes the lock.
     ///
     /// Refused, the first of these that holds: with `NoSession` where these are not all workers, lanes and sessions of the store, each
     /// list in the order of the numbers, as `Store::open` gives them; and with `Memory` where there is none for the account. The lists are
@@ -65,6 +67,7 @@ impl<N: Name, A: Allocator + Copy> Store<N, A> {
         sessions: Vec<Session<N, A>, A>,
     ) -> Result<Account<A>, Refused<Parties<N, A>>>
         ensures entered { IfOk result (λ account. account.entered ≡ rows_of workers.items lanes.items) }
+        ensures history { IfOk result (λ account. IsOfHistory N.named workers.items lanes.items account.entered) }
         ensures lines { IfOk result (λ account. AreAllLines workers.items lanes.items sessions.items (map line_of account.lines.items)) }
         ensures handed_back { IfErr result (λ refused. refused.value ≡ (workers, lanes, sessions)) }
         ensures fault { MatchResult result
@@ -84,7 +87,11 @@ impl<N: Name, A: Allocator + Copy> Store<N, A> {
         }
         let alloc = *lanes.allocator();
         match room(alloc, workers.len(), lanes.as_slice(), sessions.as_slice()) {
-            Ok((rooms, lines)) => Ok(self.account(rt, workers, lanes, sessions, rooms, lines)),
+            Ok((rooms, lines)) => {
+                self.cut.law();
+                let mut shared = self.lock(rt);
+                Ok(shared.account(rt, workers, lanes, sessions, rooms, lines))
+            }
             Err(fault) => Err(Refused {
                 value: (workers, lanes, sessions),
                 fault,
@@ -106,10 +113,12 @@ impl<N: Name, A: Allocator + Copy> Store<N, A> {
         let count = self.lock(rt).sessions();
         is_complete(count, workers, lanes, sessions)
     }
+}
 
+impl<N: Name, A: Allocator + Copy> Shared<N, A> {
     // The account of all workers, lanes and sessions, in the room for what each queue has left and for the lines. It takes no memory.
     fn account<R: Wait>(
-        &self,
+        &mut self,
         rt: &R,
         workers: Vec<Worker<N, A>, A>,
         lanes: Vec<Lane<N, A>, A>,
@@ -117,32 +126,26 @@ impl<N: Name, A: Allocator + Copy> Store<N, A> {
         rooms: Vec<Vec<Item<A>, A>, A>,
         lines: Vec<AccountLine<A>, A>,
     ) -> Account<A>
+        requires cut { N.parts ≡ N.named.settings.sessions }
         requires complete { is_complete N.named workers.items lanes.items sessions.items ≡ true }
         requires rooms { AreRooms lanes.items sessions.items rooms.items }
         requires empty { (lines.items ≡ []) × (vec_len lines ≡ 0) }
         requires room { length workers.items + length lanes.items ≤ vec_capacity lines }
         ensures entered { result.entered ≡ rows_of workers.items lanes.items }
+        ensures history { IsOfHistory N.named workers.items lanes.items result.entered }
         ensures lines { AreAllLines workers.items lanes.items sessions.items (map line_of result.lines.items) }
     {
+        self.law();
         let alloc = *lanes.allocator();
         let mut lines = lines;
         let mut parts: Option<Share<N>> = None;
-        end_workers(alloc, workers, &mut lines, &mut parts);
-        end_lanes(rt, lanes, sessions, rooms, &mut lines, &mut parts);
+        end_workers(alloc, self, workers, &mut lines, &mut parts);
+        end_lanes(rt, self, lanes, sessions, rooms, &mut lines, &mut parts);
         let entered = match parts {
             None => 0,
-            Some(mut whole) => self.entered(rt, &mut whole),
+            Some(mut whole) => self.entered(&mut whole),
         };
         Account { entered, lines }
-    }
-
-    // How many rows entered, as all parts of the ledger together have it.
-    fn entered<R: Wait>(&self, rt: &R, whole: &mut Share<N>) -> u64
-        requires { whole.old.parts ≡ N.named.settings.sessions }
-        ensures { result ≡ whole.old.amount }
-    {
-        self.cut.law();
-        self.lock(rt).entered(whole)
     }
 }
 
@@ -259,9 +262,10 @@ fn room_for<N: Name, A: Allocator + Copy>(
     Ok(Vec::with_capacity(alloc, left as usize)?)
 }
 
-// Ends the workers: the lines, of which there are none before, and the parts of the ledger.
+// Ends the workers: the lines, of which there are none before, and the parts of the ledger. Each has seen a beginning of the history.
 fn end_workers<N: Name, A: Allocator + Copy>(
     alloc: A,
+    shared: &mut Shared<N, A>,
     workers: Vec<Worker<N, A>, A>,
     lines: &mut Vec<AccountLine<A>, A>,
     parts: &mut Option<Share<N>>,
@@ -273,17 +277,21 @@ fn end_workers<N: Name, A: Allocator + Copy>(
     ensures capacity { vec_capacity lines.new ≡ vec_capacity lines.old }
     ensures parts { held (λ s. s.parts) parts.new ≡ held (λ s. s.parts) parts.old + length workers.items }
     ensures amount { held (λ s. s.amount) parts.new ≡ held (λ s. s.amount) parts.old + sum_by (λ worker. worker.entered) workers.items }
+    ensures saw { HaveSeen shared.old.story.log (λ worker. worker.front) workers.items }
+    ensures same { shared.new ≡ shared.old }
 {
     for worker in workers {
-        let (line, part) = worker_line(alloc, worker);
+        let (line, part) = worker_line(alloc, shared, worker);
         merge(parts, part);
         lines.push_reserved(line);
     }
 }
 
 // Ends the lanes and their sessions: their lines come behind those that are there, and their parts of the ledger join those that are.
+// Each lane has seen a beginning of the history.
 fn end_lanes<N: Name, A: Allocator + Copy, R: Wait>(
     rt: &R,
+    shared: &mut Shared<N, A>,
     lanes: Vec<Lane<N, A>, A>,
     sessions: Vec<Session<N, A>, A>,
     rooms: Vec<Vec<Item<A>, A>, A>,
@@ -296,6 +304,8 @@ fn end_lanes<N: Name, A: Allocator + Copy, R: Wait>(
     ensures lines { (own : List LineView) × (map line_of lines.new.items ≡ map line_of lines.old.items ++ own) × AreLines lanes.items sessions.items own }
     ensures parts { held (λ s. s.parts) parts.new ≡ held (λ s. s.parts) parts.old + length lanes.items }
     ensures amount { held (λ s. s.amount) parts.new ≡ held (λ s. s.amount) parts.old + sum_by (λ lane. lane.entered) lanes.items }
+    ensures saw { HaveSeen shared.old.story.log (λ lane. lane.front) lanes.items }
+    ensures same { shared.new ≡ shared.old }
 {
     let mut clients = sessions.into_iter();
     let mut rooms = rooms.into_iter();
@@ -306,7 +316,7 @@ fn end_lanes<N: Name, A: Allocator + Copy, R: Wait>(
         let Some(room) = rooms.next() else {
             unreachable!()
         };
-        let (line, part) = line_of(rt, lane, client, room);
+        let (line, part) = line_of(rt, shared, lane, client, room);
         merge(parts, part);
         lines.push_reserved(line);
     }
@@ -315,12 +325,16 @@ fn end_lanes<N: Name, A: Allocator + Copy, R: Wait>(
 // The line of a worker, and its part of the ledger.
 fn worker_line<N: Name, A: Allocator + Copy>(
     alloc: A,
+    shared: &mut Shared<N, A>,
     worker: Worker<N, A>,
 ) -> (AccountLine<A>, Share<N>)
     ensures line { IsWorkerLine worker (line_of result.0) }
     ensures part { (result.1.parts ≡ 1) × (result.1.amount ≡ worker.entered) }
+    ensures saw { HasSeen shared.old.story.log worker.front }
+    ensures same { shared.new ≡ shared.old }
 {
     let Worker {
+        transaction,
         first,
         last,
         entered,
@@ -328,6 +342,8 @@ fn worker_line<N: Name, A: Allocator + Copy>(
         share,
         ..
     } = worker;
+    let Transaction { mut front, .. } = transaction;
+    shared.show_to(&mut front);
     let handed_in = last - first;
     let line = AccountLine {
         pushed: handed_in,
@@ -342,6 +358,7 @@ fn worker_line<N: Name, A: Allocator + Copy>(
 // The line of a session and its lane, and the lane's part of the ledger.
 fn line_of<N: Name, A: Allocator + Copy, R: Wait>(
     rt: &R,
+    shared: &mut Shared<N, A>,
     lane: Lane<N, A>,
     session: Session<N, A>,
     room: Vec<Item<A>, A>,
@@ -350,14 +367,18 @@ fn line_of<N: Name, A: Allocator + Copy, R: Wait>(
     requires room { IsRoom lane session room }
     ensures line { IsLine lane session (line_of result.0) }
     ensures part { (result.1.parts ≡ 1) × (result.1.amount ≡ lane.entered) }
+    ensures saw { HasSeen shared.old.story.log lane.front }
+    ensures same { shared.new ≡ shared.old }
 {
     let Lane {
         receiver,
         left,
         entered,
+        mut front,
         share,
         ..
     } = lane;
+    shared.show_to(&mut front);
     let Session { sender, .. } = session;
     let line = AccountLine {
         pushed: sender.pushed(),

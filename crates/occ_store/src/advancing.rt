@@ -1,5 +1,5 @@
 //! One event of a lane, on the locked state.
-ghost use Rattle.std.specs.Prelude.{◌≡◌, ◌⊎◌, ◌+◌, ◌^◌, ◌<◌, ◌≤◌, ℕ, List, false, None, IfSome, IfOk, IfErr, OnOk, is_some};
+ghost use Rattle.std.specs.Prelude.{◌≡◌, ◌⊎◌, ◌+◌, ◌^◌, ◌<◌, ◌≤◌, List, false, None, IfSome, IfOk, IfErr, OnOk, is_some};
 ghost use Rattle.std.specs.List.{list_any};
 ghost use Rattle.boxcar.specs.Table.{Shows};
 ghost use Rattle.occ_model.specs.Event.{Item as PlainItem, WriteOne, Finish, Reply};
@@ -9,10 +9,10 @@ ghost use Rattle.occ_core.specs.Replies.{outcome_of, next_object, CanEnter, CanE
 ghost use Rattle.occ_queue.specs.Items.{item_of, number_of, is_mark};
 ghost use Rattle.occ_filed.specs.Filed.{token_of};
 ghost use Rattle.occ_store.specs.Locked.{world_of, rows_entered};
-ghost use Rattle.occ_store.specs.Lanes.{Nothing, Kept, Open, Decided, left_of, token_left, open_rows, ends_serially, reached, point_of, left_entering, AddsUp, Ends, TakesIn, DecidesAs, GoesOn, Advances};
+ghost use Rattle.occ_store.specs.Lanes.{IsDoer, Nothing, Kept, Open, Decided, left_of, token_left, open_rows, ends_serially, reached, point_of, left_entering, AddsUp, Ends, TakesIn, DecidesAs, GoesOn, Advances};
 
 use crate::lanes::Lane;
-use crate::names::Name;
+use crate::names::{FrontOf, Name};
 use crate::publishing::rows_in;
 use crate::serving::Point;
 use crate::shared::Shared;
@@ -50,7 +50,17 @@ impl<N: Name, A: Allocator + Copy> Lane<N, A> {
                 let policy = (self.files, self.serial);
                 let share = &mut self.share;
                 let entered = &mut self.entered;
-                let (left, reached) = enter(rt, shared, self.session, item, share, entered, policy);
+                let me = &mut self.front;
+                let (left, reached) = enter(
+                    rt,
+                    shared,
+                    me,
+                    self.session,
+                    item,
+                    share,
+                    entered,
+                    policy,
+                );
                 self.left = left;
                 reached
             }
@@ -81,7 +91,7 @@ impl<N: Name, A: Allocator + Copy> Lane<N, A> {
             None => 0,
             Some(_) => 1,
         };
-        match decide_as(shared, self.session, judged) {
+        match decide_as(shared, &mut self.front, self.session, judged) {
             Ok(verdict) => {
                 self.judged += more;
                 self.left = Left::Decided { number, verdict };
@@ -113,7 +123,7 @@ impl<N: Name, A: Allocator + Copy> Lane<N, A> {
         requires unmarked { list_any is_mark self.old.receiver.taken ≡ false }
         ensures { Ends (WriteOne self.old.session) number self.old shared.old result self.new shared.new }
     {
-        let wrote = shared.write_one(self.session);
+        let wrote = shared.write_one(&mut self.front, self.session);
         self.keep(committing(number));
         match wrote {
             Ok(_write) => Ok(Point::Wrote),
@@ -127,7 +137,7 @@ impl<N: Name, A: Allocator + Copy> Lane<N, A> {
         requires unmarked { list_any is_mark self.old.receiver.taken ≡ false }
         ensures { Ends (Finish self.old.session) number self.old shared.old result self.new shared.new }
     {
-        match shared.finish(self.session) {
+        match shared.finish(&mut self.front, self.session) {
             Ok(_tn) => Ok(Point::Settled),
             Err(fault) => {
                 self.keep(committing(number));
@@ -147,7 +157,7 @@ impl<N: Name, A: Allocator + Copy> Lane<N, A> {
         requires unmarked { list_any is_mark self.old.receiver.taken ≡ false }
         ensures { GoesOn (Decided number (BackUp cause)) self.old None shared.old result self.new shared.new }
     {
-        match shared.back_up(self.session, cause) {
+        match shared.back_up(&mut self.front, self.session, cause) {
             Ok(_number) => Ok(Point::Settled),
             Err(fault) => {
                 let verdict = Verdict::BackUp(cause);
@@ -172,15 +182,17 @@ impl<N: Name, A: Allocator + Copy> Lane<N, A> {
 fn enter<N: Name, A: Allocator + Copy, R: Wait>(
     rt: &R,
     shared: &mut Shared<N, A>,
+    me: &mut FrontOf<N>,
     session: usize,
     item: Item<A>,
     share: &mut Share<N>,
     entered: &mut u64,
     policy: (bool, bool),
 ) -> (Left<A>, Result<Point, Fault>)
+    requires own { IsDoer me.old.party session }
     requires part { 0 < share.old.parts }
     requires amount { share.old.amount ≡ entered.old }
-    ensures step { (reply : Reply) × TakesIn session policy.0 policy.1 (item_of item) shared.old reply shared.new × (result.1 ≡ reached reply)
+    ensures step { (reply : Reply) × TakesIn me.old session policy.0 policy.1 (item_of item) shared.old reply me.new shared.new × (result.1 ≡ reached reply)
         × (left_of result.0 ≡ left_entering (item_of item) (token_of shared.new.filed.tokens session) reply) × (entered.new ≡ entered.old + rows_entered reply) }
     ensures own { IfSome (token_left (left_of result.0)) (Shows N.named.file) }
     ensures room { entered.old + open_rows (left_of result.0) ≤ entered.new }
@@ -189,7 +201,7 @@ fn enter<N: Name, A: Allocator + Copy, R: Wait>(
     ensures parts { share.new.parts ≡ share.old.parts }
 {
     let number = item.number();
-    match take_in(rt, shared, session, item, share, policy) {
+    match take_in(rt, shared, me, session, item, share, policy) {
         Ok(outcome) => {
             *entered += rows_in(&outcome);
             let token = shared.token(session);
@@ -203,13 +215,15 @@ fn enter<N: Name, A: Allocator + Copy, R: Wait>(
 fn take_in<N: Name, A: Allocator + Copy, R: Wait>(
     rt: &R,
     shared: &mut Shared<N, A>,
+    me: &mut FrontOf<N>,
     session: usize,
     item: Item<A>,
     share: &mut Share<N>,
     policy: (bool, bool),
 ) -> Result<Outcome<A>, Refused<Item<A>>>
+    requires own { IsDoer me.old.party session }
     requires part { 0 < share.old.parts }
-    ensures step { TakesIn session policy.0 policy.1 (item_of item) shared.old (replied_back outcome_of result) shared.new }
+    ensures step { TakesIn me.old session policy.0 policy.1 (item_of item) shared.old (replied_back outcome_of result) me.new shared.new }
     ensures outcome { IfOk result (λ outcome. CanEnter (item_of item) outcome ⊎ CanEnd (item_of item) outcome) }
     ensures handed_back { IfErr result (λ refused. item_of refused.value ≡ item_of item) }
     ensures counted { share.new.amount ≡ share.old.amount + rows_entered (replied_back outcome_of result) }
@@ -218,12 +232,12 @@ fn take_in<N: Name, A: Allocator + Copy, R: Wait>(
 {
     let (files, serial) = policy;
     if ends_serially(shared, serial, &item) {
-        return shared.serial_end(session, item, share);
+        return shared.serial_end(me, session, item, share);
     }
     if files {
-        return shared.enter(rt, session, item, share);
+        return shared.enter(rt, me, session, item, share);
     }
-    shared.enter_unfiled(session, item, share)
+    shared.enter_unfiled(me, session, item, share)
 }
 
 // Whether an item ends serially.
@@ -246,15 +260,17 @@ fn ends_serially<N: Name, A: Allocator + Copy>(
 // A decision, by the verdict of a judged case where there is one.
 fn decide_as<N: Name, A: Allocator + Copy>(
     shared: &mut Shared<N, A>,
+    me: &mut FrontOf<N>,
     session: usize,
     judged: Option<Judged<A>>,
 ) -> Result<Verdict, Fault>
+    requires own { IsDoer me.old.party session }
     requires own_file { IfSome judged (Shows N.named.file) }
-    ensures { DecidesAs session judged shared.old result shared.new }
+    ensures { DecidesAs me.old session judged shared.old result me.new shared.new }
 {
     match judged {
-        None => shared.decide(session),
-        Some(judged) => shared.decide_by(session, judged),
+        None => shared.decide(me, session),
+        Some(judged) => shared.decide_by(me, session, judged),
     }
 }
 

@@ -2,9 +2,11 @@
 ghost use Rattle.std.specs.Prelude.{◌≡◌};
 ghost use Rattle.occ_core.specs.Figures.{figures_of, IsBalanced, numbers_left};
 ghost use Rattle.occ_store.specs.Locked.{world_of};
-ghost use Rattle.occ_store.specs.Counted.{InOneLook, IsCountOf};
+ghost use Rattle.occ_store.specs.Counted.{IsCountOf};
+ghost use Rattle.occ_store.specs.Standing.{SeesWhole};
 
 use crate::names::Name;
+use crate::observers::Observer;
 use crate::shared::Shared;
 use crate::stores::Store;
 use occ_core::Counts;
@@ -30,22 +32,29 @@ impl<N: Name, A: Allocator + Copy> Shared<N, A> {
 
 impl<N: Name, A: Allocator + Copy> Store<N, A> {
     /// The figures of the store, all of one state: they add up, whatever threads did. It takes the lock, and no memory.
-    pub fn counts<R: Wait>(&self, rt: &R) -> Counts
-        ensures figures { InOneLook N.named.settings (IsCountOf result) }
+    pub fn counts<R: Wait>(&self, rt: &R, observer: &mut Observer<N>) -> Counts
+        ensures figures { SeesWhole N.named (IsCountOf result) observer.old observer.new }
         ensures balanced { IsBalanced result }
     {
-        let shared = self.lock(rt);
+        let mut shared = self.lock(rt);
         shared.law();
+        shared.show_to(&mut observer.front);
         shared.counts()
     }
 
     /// How many numbers a session has left, the one of its closing mark among them; none where there is no such session. It takes the
     /// lock, and no memory.
-    pub fn numbers_left<R: Wait>(&self, rt: &R, session: usize) -> Option<u64>
-        ensures { InOneLook N.named.settings (λ world totals. result ≡ numbers_left world session) }
+    pub fn numbers_left<R: Wait>(
+        &self,
+        rt: &R,
+        observer: &mut Observer<N>,
+        session: usize,
+    ) -> Option<u64>
+        ensures { SeesWhole N.named (λ world. result ≡ numbers_left world session) observer.old observer.new }
     {
-        let shared = self.lock(rt);
+        let mut shared = self.lock(rt);
         shared.law();
+        shared.show_to(&mut observer.front);
         shared.numbers_left(session)
     }
 }

@@ -14,12 +14,12 @@ ghost use Rattle.occ_core.specs.Resuming.{resume_fault, CannotGoOn};
 
 use crate::parts::{Part, Place};
 use crate::publishing::law;
-use crate::schemas::copied;
 use occ_board::{Board, Publisher, Seat};
 use occ_book::Base;
 use occ_case::CaseFile;
 use occ_core::Core;
 use occ_filed::FiledCore;
+use occ_history::BlankStory;
 use occ_queue::lane_behind;
 use occ_types::limits::MAX_NUMBER;
 use occ_types::{Fault, Refused, Schema};
@@ -28,13 +28,14 @@ use std::marker::Model;
 use std::sync::Arc;
 use std::sync::ledger::Blank;
 
-/// All of a store but its name: the core with the file of its cases, the board, and the queue of each session.
+/// All of a store but its name: the core with the file of its cases, the board, the story, and the queue of each session.
 #[derive(Drop)]
 pub struct Frame<A: Allocator + Copy> {
     pub(crate) alloc: A,
     pub(crate) filed: FiledCore<A>,
     pub(crate) file: Arc<CaseFile<A>, A>,
     pub(crate) publisher: Publisher<A>,
+    pub(crate) story: BlankStory<A>,
     pub(crate) places: Vec<Place<A>, A>,
     pub(crate) parts: Vec<Part<A>, A>,
     pub(crate) rows: Blank,
@@ -51,7 +52,7 @@ impl<A: Allocator + Copy> Model for Frame<A> {
 
     ghost coded = { Prim.hlevel (codes, finite.code, shelves_coded) };
 
-    ghost view = { λ f. record { named = named_by f.filed f.publisher f.places.items f.parts.items; ledger = f.rows.name; parts = f.rows.parts; base = f.filed.world.base; counter = f.filed.world.counter } };
+    ghost view = { λ f. record { named = named_by f.filed f.publisher f.story f.places.items f.parts.items; ledger = f.rows.name; parts = f.rows.parts } };
 
     ghost invariant = { λ f. IsFrame f.filed (arc_value f.file) f.publisher f.places.items f.parts.items f.rows.parts };
 }
@@ -70,8 +71,8 @@ impl<A: Allocator + Copy> Frame<A> {
         keep: usize,
     ) -> Result<Frame<A>, Refused<Schema<A>>>
         ensures settings { IfOk result (λ frame. frame.named.settings ≡ record { schema = schema; sessions = sessions; keep = keep }) }
-        ensures empty { IfOk result (λ frame. frame.base ≡ empty_base) }
-        ensures counter { IfOk result (λ frame. frame.counter ≡ 0) }
+        ensures empty { IfOk result (λ frame. frame.named.base ≡ empty_base) }
+        ensures counter { IfOk result (λ frame. frame.named.counter ≡ 0) }
         ensures workers { IfOk result (λ frame. frame.named.workers ≡ min workers sessions) }
         ensures room { IfOk result (λ frame. All (HasRoomFor capacity) frame.named.lanes) }
         ensures handed_back { IfErr result (λ refused. (refused.value ≡ schema) × (refused.fault ≡ Memory)) }
@@ -114,8 +115,8 @@ impl<A: Allocator + Copy> Frame<A> {
         counter: u64,
     ) -> Result<Frame<A>, Refused<(Schema<A>, Base<A>)>>
         ensures settings { IfOk result (λ frame. frame.named.settings ≡ record { schema = schema; sessions = sessions; keep = keep }) }
-        ensures base { IfOk result (λ frame. frame.base ≡ base.base) }
-        ensures counter { IfOk result (λ frame. frame.counter ≡ counter) }
+        ensures base { IfOk result (λ frame. frame.named.base ≡ base.base) }
+        ensures counter { IfOk result (λ frame. frame.named.counter ≡ counter) }
         ensures workers { IfOk result (λ frame. frame.named.workers ≡ min workers sessions) }
         ensures room { IfOk result (λ frame. All (HasRoomFor capacity) frame.named.lanes) }
         ensures fits { IfOk result (λ _. resume_fault schema sessions base counter ≡ None) }
@@ -124,6 +125,7 @@ impl<A: Allocator + Copy> Frame<A> {
     {
         let Seating {
             publisher,
+            story,
             places,
             parts,
         } = match room(alloc, &schema, sessions, workers, capacity, &base) {
@@ -144,6 +146,7 @@ impl<A: Allocator + Copy> Frame<A> {
             filed,
             file,
             publisher,
+            story,
             places,
             parts,
             rows: Blank::new(sessions as u64),
@@ -151,10 +154,11 @@ impl<A: Allocator + Copy> Frame<A> {
     }
 }
 
-// What takes memory beside the core: the board, and what becomes of each worker and of each other session.
+// What takes memory beside the core: the board, the story, and what becomes of each worker and of each other session.
 #[derive(Drop)]
 struct Seating<A: Allocator + Copy> {
     publisher: Publisher<A>,
+    story: BlankStory<A>,
     places: Vec<Place<A>, A>,
     parts: Vec<Part<A>, A>,
 }
@@ -176,8 +180,9 @@ fn room<A: Allocator + Copy>(
     ensures parts { IfOk result (λ made. NumbersHaveRoom base.now.base sessions → AreParts made.publisher.board schema.now base.now.base (suc (length made.places.items)) made.parts.items) }
     ensures memory { IsOkUnless result Memory }
 {
-    let tables = copied(alloc, schema)?;
+    let tables = schema.clone()?;
     let tables = Arc::new(alloc, tables)?;
+    let story = BlankStory::new(alloc)?;
     let (publisher, seats) = Board::new(alloc, sessions)?;
     let mut seats = seats;
     let hired = first_ones(workers, seats.len());
@@ -186,6 +191,7 @@ fn room<A: Allocator + Copy>(
     let parts = parts(alloc, hired, others, &tables, capacity, base)?;
     Ok(Seating {
         publisher,
+        story,
         places,
         parts,
     })

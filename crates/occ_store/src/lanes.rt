@@ -5,10 +5,11 @@ ghost use Rattle.boxcar.specs.Table.{Shows};
 ghost use Rattle.occ_model.specs.Event.{Item as PlainItem};
 ghost use Rattle.occ_queue.specs.Items.{item_of, number_of};
 ghost use Rattle.occ_queue.specs.Lanes.{taking};
+ghost use Rattle.occ_history.specs.History.{Lane as LaneParty};
 ghost use Rattle.occ_store.specs.Names.{lane_of};
 ghost use Rattle.occ_store.specs.Lanes.{Nothing, Kept, number_left, token_left, unused, is_closed, is_open, keeps_alone};
 
-use crate::names::Name;
+use crate::names::{FrontOf, Name};
 use crate::unfinished::Left;
 use occ_case::{CaseFile, Judged, judge};
 use occ_queue::{Item, Receiver};
@@ -28,6 +29,7 @@ pub struct Lane<N: Name, A: Allocator + Copy> {
     pub(crate) entered: u64,
     pub(crate) files: bool,
     pub(crate) serial: bool,
+    pub(crate) front: FrontOf<N>,
     pub(crate) share: Share<N>,
 }
 
@@ -35,6 +37,7 @@ impl<N: Name, A: Allocator + Copy> Model for Lane<N, A> {
     ghost use Rattle.std.specs.Prelude.{◌≡◌, ◌+◌, ◌≤◌, ℕ, Some, IfSome};
     ghost use Rattle.std.specs.Coded.{codes};
     ghost use Rattle.boxcar.specs.Table.{where_coded, Shows};
+    ghost use Rattle.occ_history.specs.History.{Lane};
     ghost use Rattle.occ_store.specs.Names.{lane_of};
     ghost use Rattle.occ_store.specs.Lanes.{LaneView, left_of, token_left, open_rows, AddsUp};
 
@@ -42,9 +45,10 @@ impl<N: Name, A: Allocator + Copy> Model for Lane<N, A> {
 
     ghost coded = { Prim.hlevel (codes, where_coded) };
 
-    ghost view = { λ l. record { session = l.session; receiver = l.receiver; left = left_of l.left; judged = l.judged; entered = l.entered; files = l.files; serial = l.serial } };
+    ghost view = { λ l. record { session = l.session; receiver = l.receiver; left = left_of l.left; judged = l.judged; entered = l.entered; files = l.files; serial = l.serial; front = l.front } };
 
     ghost invariant = { λ l. (l.receiver.lane ≡ lane_of N.named l.session)
+        × (l.front.party ≡ Lane l.session)
         × IfSome (token_left (left_of l.left)) (Shows N.named.file)
         × (l.share.parts ≡ 1)
         × (l.share.amount ≡ l.entered)
@@ -149,12 +153,14 @@ impl<N: Name, A: Allocator + Copy> Lane<N, A> {
 pub(crate) fn unused_lane<N: Name, A: Allocator + Copy>(
     session: usize,
     receiver: Receiver<A>,
+    front: FrontOf<N>,
     share: Share<N>,
 ) -> Lane<N, A>
     requires lane { receiver.lane ≡ lane_of N.named session }
+    requires own { front.party ≡ LaneParty session }
     requires taken { receiver.taken ≡ [] }
     requires share { (share.parts ≡ 1) × (share.amount ≡ 0) }
-    ensures { result ≡ unused session receiver }
+    ensures { result ≡ unused session receiver front }
 {
     Lane {
         session,
@@ -164,6 +170,7 @@ pub(crate) fn unused_lane<N: Name, A: Allocator + Copy>(
         entered: 0,
         files: true,
         serial: false,
+        front,
         share,
     }
 }

@@ -19,8 +19,8 @@ impl<N: Name, A: Allocator + Copy> Store<N, A> {
     /// Refused with `StoreBusy`, and the store handed back with all that it holds, while a transaction is active: a lane is stopped, or
     /// met a fault, between its entry and its end. So serve the lanes until each answers `Idle` or `LaneClosed`, and end them (`end`).
     pub fn into_base(self) -> Result<Base<A>, Refused<Store<N, A>>>
-        ensures left { IfOk result (IsLeft N.named.settings) }
-        ensures busy { IfErr result (λ refused. (refused.fault ≡ StoreBusy) × WasActive N.named.settings) }
+        ensures left { IfOk result (IsLeft N.named) }
+        ensures busy { IfErr result (λ refused. (refused.fault ≡ StoreBusy) × WasActive N.named) }
     {
         let Store {
             shared,
@@ -48,8 +48,8 @@ impl<N: Name, A: Allocator + Copy> Store<N, A> {
 impl<N: Name, A: Allocator + Copy> Shared<N, A> {
     // What it leaves, as `FiledCore::into_base` tells. Refused as that is, and handed back then.
     fn into_base(self) -> Result<Base<A>, Refused<Shared<N, A>>>
-        ensures left { IfOk result (IsLeft N.named.settings) }
-        ensures busy { IfErr result (λ refused. (refused.fault ≡ StoreBusy) × WasActive N.named.settings) }
+        ensures left { IfOk result (IsLeft N.named) }
+        ensures busy { IfErr result (λ refused. (refused.fault ≡ StoreBusy) × WasActive N.named) }
         ensures handed_back { IfErr result (λ refused. refused.value ≡ self) }
     {
         self.law();
@@ -57,6 +57,8 @@ impl<N: Name, A: Allocator + Copy> Shared<N, A> {
             filed,
             publisher,
             rows,
+            story,
+            visitor,
             origin,
         } = self;
         match filed.into_base() {
@@ -66,6 +68,8 @@ impl<N: Name, A: Allocator + Copy> Shared<N, A> {
                     filed: value,
                     publisher,
                     rows,
+                    story,
+                    visitor,
                     origin,
                 },
                 fault,

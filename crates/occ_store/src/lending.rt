@@ -9,11 +9,14 @@ use occ_types::{Fault, Key, Row, Schema};
 use std::alloc::Allocator;
 
 impl<N: Name, A: Allocator + Copy> Readable<A> for Shared<N, A> {
-    ghost use Rattle.occ_store.specs.Locked.{IsSameBeside};
+    ghost use Rattle.occ_store.specs.Locked.{ReadsSo};
+    ghost use Rattle.occ_store.specs.Transactions.{IsReader};
 
     ghost world = { λ shared. shared.filed.world };
 
-    ghost keeps = { IsSameBeside };
+    ghost moves = { ReadsSo };
+
+    ghost serves = { λ shared session. IsReader shared.visitor.party session };
 
     fn schema(&self) -> &Schema<A> {
         self.core().schema()

@@ -1,6 +1,7 @@
 //! The name of a store, by which its parts know one another.
 ghost use Rattle.std.specs.Prelude.{◌≡◌};
 
+use occ_history::{Front, StoryName};
 use std::marker::{Brand, Model, PhantomData};
 use std::sync::ledger::Ledger;
 
@@ -22,8 +23,8 @@ impl Stoppable for Brand {
     ghost stoppable = { tt };
 }
 
-/// Which store it is: what it was opened with, its file of cases, its board and its lanes; and the ledger in which its lanes count the
-/// rows that they enter, with a part for each. A program calls a function of its own, generic over it, with `Brand`, and picks it there.
+/// Which store it is: what it was opened with, its story, its file of cases, its board and its lanes; and the ledger in which its lanes
+/// count the rows that they enter, with a part for each. A program calls a function of its own, generic over it, with `Brand`, and picks it there.
 pub trait Name: Ledger + MayStop {
     ghost use Rattle.occ_store.specs.Names.{Named};
 
@@ -35,6 +36,19 @@ impl Name for Brand {
 
     ghost named = { unnamed };
 }
+
+/// The name of a store's story, by the name of the store.
+#[derive(Drop)]
+pub struct OwnStory<N: Name> {
+    _name: PhantomData<N>,
+}
+
+impl<N: Name> StoryName for OwnStory<N> {
+    ghost story = { N.named.story };
+}
+
+/// What a session, a lane, a worker or an observer has seen of the history of its store. It has no bytes.
+pub(crate) type FrontOf<N> = Front<OwnStory<N>>;
 
 /// That the ledger has a part for each session of the store.
 #[derive(Drop)]

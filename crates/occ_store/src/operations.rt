@@ -40,7 +40,7 @@ impl<N: Name, A: Allocator + Copy, R: Wait> Body<N, A, R> for Operations<'_, A> 
 
     type Error = Fault;
 
-    ghost makes = { λ body. Performing N.named.settings (ops_of body.list.now) };
+    ghost makes = { λ body. Performing N.named (ops_of body.list.now) };
 
     fn run(
         &mut self,
@@ -59,7 +59,7 @@ fn perform_all<N: Name, A: Allocator + Copy, R: Wait>(
     transaction: &mut Transaction<N, A>,
     operations: &[Op<A>],
 ) -> Result<(), Fault>
-    ensures { Performing N.named.settings (ops_of operations.now) transaction.old result transaction.new }
+    ensures { Performing N.named (ops_of operations.now) transaction.old result transaction.new }
 {
     for operation in operations {
         perform(rt, store, transaction, operation)?;
@@ -74,7 +74,7 @@ fn perform<N: Name, A: Allocator + Copy, R: Wait>(
     transaction: &mut Transaction<N, A>,
     operation: &Op<A>,
 ) -> Result<(), Fault>
-    ensures { PerformingOne N.named.settings (op_of operation.now) transaction.old result transaction.new }
+    ensures { PerformingOne N.named (op_of operation.now) transaction.old result transaction.new }
 {
     match operation {
         Op::Get { table, key } => dropped(get(rt, store, transaction, *table, key)),
@@ -103,11 +103,11 @@ fn dropped<T: Drop>(answer: Result<T, Fault>) -> Result<(), Fault>
 fn get<N: Name, A: Allocator + Copy, R: Wait>(
     rt: &R,
     store: &Store<N, A>,
-    transaction: &Transaction<N, A>,
+    transaction: &mut Transaction<N, A>,
     table: usize,
     key: &Key<A>,
 ) -> Result<Option<Row<A>>, Fault>
-    ensures { Asked Found N.named.settings transaction.now (One table (key_of key.now)) result }
+    ensures { Asked Found N.named transaction.old (One table (key_of key.now)) result transaction.new }
 {
     transaction.get(rt, store, table, key)
 }
@@ -116,12 +116,12 @@ fn get<N: Name, A: Allocator + Copy, R: Wait>(
 fn scan<N: Name, A: Allocator + Copy, R: Wait>(
     rt: &R,
     store: &Store<N, A>,
-    transaction: &Transaction<N, A>,
+    transaction: &mut Transaction<N, A>,
     table: usize,
     lower: &Option<Key<A>>,
     upper: &Option<Key<A>>,
 ) -> Result<RangeRows<A>, Fault>
-    ensures { Asked Rows N.named.settings transaction.now (Span table (end_of lower.now) (end_of upper.now)) result }
+    ensures { Asked Rows N.named transaction.old (Span table (end_of lower.now) (end_of upper.now)) result transaction.new }
 {
     transaction.scan(rt, store, table, lower.as_ref(), upper.as_ref())
 }
@@ -133,7 +133,7 @@ fn put<N: Name, A: Allocator + Copy>(
     key: &Key<A>,
     row: &Row<A>,
 ) -> Result<(), Fault>
-    ensures { Written N.named.settings transaction.old (table, key_of key.now) (Some row.now) result transaction.new }
+    ensures { Written N.named transaction.old (table, key_of key.now) (Some row.now) result transaction.new }
 {
     let row = row.clone()?;
     write(transaction, table, key, row)
@@ -146,7 +146,7 @@ fn write<N: Name, A: Allocator + Copy>(
     key: &Key<A>,
     row: Row<A>,
 ) -> Result<(), Fault>
-    ensures { Written N.named.settings transaction.old (table, key_of key.now) (Some row) result transaction.new }
+    ensures { Written N.named transaction.old (table, key_of key.now) (Some row) result transaction.new }
 {
     let key = key.clone()?;
     match transaction.put(table, key, row) {
@@ -161,7 +161,7 @@ fn delete<N: Name, A: Allocator + Copy>(
     table: usize,
     key: &Key<A>,
 ) -> Result<(), Fault>
-    ensures { Written N.named.settings transaction.old (table, key_of key.now) None result transaction.new }
+    ensures { Written N.named transaction.old (table, key_of key.now) None result transaction.new }
 {
     let key = key.clone()?;
     match transaction.delete(table, key) {
@@ -179,7 +179,7 @@ fn add<N: Name, A: Allocator + Copy, R: Wait>(
     key: &Key<A>,
     amount: &i64,
 ) -> Result<(), Fault>
-    ensures { PerformingOne N.named.settings (Add table (key_of key.now) amount.now) transaction.old result transaction.new }
+    ensures { PerformingOne N.named (Add table (key_of key.now) amount.now) transaction.old result transaction.new }
 {
     let row = get(rt, store, transaction, table, key)?;
     let sum = added(&row, amount);

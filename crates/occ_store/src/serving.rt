@@ -1,5 +1,5 @@
 //! How a lane is served: one holding of the lock for each event, and a gate between them.
-ghost use Rattle.std.specs.Prelude.{◌≡◌, ◌⊎◌, ℕ, Some, None, Ok, IfSome, IfNone, IsTrue, true};
+ghost use Rattle.std.specs.Prelude.{◌≡◌, ◌⊎◌, ℕ, Some, Ok, IfSome, IfNone, IsTrue, true};
 ghost use Rattle.occ_store.specs.Lanes.{Nothing, number_left, is_open};
 ghost use Rattle.occ_store.specs.Serving.{StandsAt, IsAt, IsBusy, Happened, TellsOfMove, Heeds, HeedsTurn, HeedsAll, ComesOf, CarriesOn, Moves, Turns, Resumes, TakesNext, Serves, FindsNothing};
 ghost use Rattle.occ_store.specs.declared.serving.Served.TheVariants.{Idle};
@@ -154,7 +154,7 @@ impl<N: Name, A: Allocator + Copy> Lane<N, A> {
         store: &Store<N, A>,
         gate: &G,
     ) -> Result<Served, Fault>
-        ensures serves { Serves N.named.settings (G.may_stop gate.now) self.old result self.new }
+        ensures serves { Serves N.named (G.may_stop gate.now) self.old result self.new }
         ensures heeds { HeedsAll (G.must_stop gate.now) self.new.session result }
     {
         match self.number() {
@@ -170,7 +170,7 @@ impl<N: Name, A: Allocator + Copy> Lane<N, A> {
         store: &Store<N, A>,
         gate: &G,
     ) -> Result<Served, Fault>
-        ensures resumes { Resumes N.named.settings (G.may_stop gate.now) self.old result self.new ⊎ FindsNothing self.old result Idle self.new }
+        ensures resumes { Resumes N.named (G.may_stop gate.now) self.old result self.new ⊎ FindsNothing self.old result Idle self.new }
         ensures heeds { HeedsAll (G.must_stop gate.now) self.new.session result }
     {
         match self.number() {
@@ -187,7 +187,7 @@ impl<N: Name, A: Allocator + Copy> Lane<N, A> {
         gate: &G,
     ) -> Result<Served, Fault>
         requires { self.old.left ≡ Nothing }
-        ensures takes { TakesNext N.named.settings (G.may_stop gate.now) self.old result self.new }
+        ensures takes { TakesNext N.named (G.may_stop gate.now) self.old result self.new }
         ensures heeds { HeedsAll (G.must_stop gate.now) self.new.session result }
     {
         if self.is_closed() {
@@ -203,7 +203,6 @@ impl<N: Name, A: Allocator + Copy> Lane<N, A> {
     }
 
     // Does all that is to be done with what is left.
-    #[tactic(auto, using(crate::proofs::Points::carried, crate::proofs::Points::moved_on))]
     fn carry_on<R: Wait, G: Gate>(
         &mut self,
         rt: &R,
@@ -212,7 +211,7 @@ impl<N: Name, A: Allocator + Copy> Lane<N, A> {
         number: u64,
     ) -> Result<Served, Fault>
         requires { number_left self.old.left ≡ Some number }
-        ensures carries { CarriesOn N.named.settings (G.may_stop gate.now) self.old number result self.new }
+        ensures carries { CarriesOn N.named (G.may_stop gate.now) self.old number result self.new }
         ensures heeds { HeedsAll (G.must_stop gate.now) self.new.session result }
     {
         for _ in rt.forever() {
@@ -236,8 +235,8 @@ impl<N: Name, A: Allocator + Copy> Lane<N, A> {
         number: u64,
     ) -> Result<Option<Served>, Fault>
         requires { number_left self.old.left ≡ Some number }
-        ensures turns { Turns N.named.settings (G.may_stop gate.now) self.old number result self.new }
-        ensures heeds { HeedsTurn N.named.settings (G.must_stop gate.now) self.old number result self.new }
+        ensures turns { Turns N.named (G.may_stop gate.now) self.old number result self.new }
+        ensures heeds { HeedsTurn N.named (G.must_stop gate.now) self.old number result self.new }
     {
         let judged = self.judge(store.case_file());
         if self.stops_at_verdict(gate, number) {
@@ -259,7 +258,7 @@ impl<N: Name, A: Allocator + Copy> Lane<N, A> {
         judged: Option<Judged<A>>,
     ) -> Result<Point, Fault>
         requires own_file { IfSome judged (Shows N.named.file) }
-        ensures happened { Happened N.named.settings self.old result self.new }
+        ensures happened { Happened N.named self.old result self.new }
         ensures moves { (number : ℕ) → number_left self.old.left ≡ Some number → Moves self.old number result self.new }
     {
         let mut shared = store.lock(rt);

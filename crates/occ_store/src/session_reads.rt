@@ -1,14 +1,14 @@
 //! What a session writes and reads in its open transaction.
-ghost use Rattle.std.specs.Prelude.{◌≡◌, None, Some, IfOk, IfErr, OnOk, OnErr, MatchResult};
+ghost use Rattle.std.specs.Prelude.{◌≡◌, None, Some, IfErr, OnOk, OnErr, MatchResult};
 ghost use Rattle.std.specs.Option.{option_copied};
 ghost use Rattle.occ_types.specs.PlainData.{key_of, end_of};
-ghost use Rattle.occ_types.specs.Question.{Span};
+ghost use Rattle.occ_types.specs.Question.{One, Span};
 ghost use Rattle.occ_model.specs.Paging.{first_page, last_page};
-ghost use Rattle.occ_open.specs.Pages.{paging, first_rest_of, last_rest_of, WantsPage, ScansPage};
+ghost use Rattle.occ_open.specs.Pages.{first_rest_of, last_rest_of};
 ghost use Rattle.occ_open.specs.Replies.{reading, scanning, forgetting};
-ghost use Rattle.occ_open.specs.Transactions.{IsRefusedBy, write_fault, written, WantsRoom, WantsOwn, Gets, WantsRange, Scans, Abandons, open_after, OrStarves};
-ghost use Rattle.occ_store.specs.Locked.{world_of, IsSameBeside};
-ghost use Rattle.occ_store.specs.Sessions.{InOneHolding};
+ghost use Rattle.occ_open.specs.Transactions.{IsRefusedBy, write_fault, written, WantsRoom, open_after};
+ghost use Rattle.occ_store.specs.Transactions.{AsksOn, AsksPageOn, AbandonsOn, AsksOrStarves, AsksPage, AbandonsIn};
+ghost use Rattle.occ_store.specs.Tries.{lent};
 
 use crate::names::Name;
 use crate::sessions::Session;
@@ -33,7 +33,7 @@ impl<N: Name, A: Allocator + Copy> Session<N, A> {
             (λ _. write_fault self.old.schema (table, key_of key) (Some row) self.old.draft ≡ None)
             (λ refused. IsRefusedBy (write_fault self.old.schema (table, key_of key) (Some row) self.old.draft) (WantsRoom (table, key_of key) self.old.draft) refused.fault) }
     {
-        self.open.put(self.transaction.schema(), table, key, row)
+        self.transaction.put(table, key, row)
     }
 
     /// Deletes the row under a key of a table, which is a write also where the table has no such row. Refused as `put`.
@@ -45,139 +45,119 @@ impl<N: Name, A: Allocator + Copy> Session<N, A> {
             (λ _. write_fault self.old.schema (table, key_of key) None self.old.draft ≡ None)
             (λ refused. IsRefusedBy (write_fault self.old.schema (table, key_of key) None self.old.draft) (WantsRoom (table, key_of key) self.old.draft) refused.fault) }
     {
-        self.open.delete(self.transaction.schema(), table, key)
+        self.transaction.delete(table, key)
     }
 
     /// The row under a key of a table, in the open transaction: its own write of the key, and else what the state answers, which notes
     /// the question in the transaction's read phase. Refused, the first of these that holds: with `NoReadOpen`; with `NoTable`,
     /// `WrongKind` or `TooLong` where the key doesn't fit; with `Memory` where there is none for a copy of an own row; and as the core
     /// refuses a read.
-    #[tactic(auto, using(crate::proofs::Happening::still_beside))]
     pub fn get_in(
-        &self,
+        &mut self,
         shared: &mut Shared<N, A>,
         table: usize,
         key: &Key<A>,
     ) -> Result<Option<Row<A>>, Fault>
-        ensures step { OrStarves (WantsOwn (world_of shared.old).settings.schema (table, key_of key.now) self.now.draft) (world_of shared.old) (reading result) (world_of shared.new)
-            (Gets (world_of shared.old) self.now.session (table, key_of key.now) self.now.draft (reading result) (world_of shared.new)) }
-        ensures beside { IsSameBeside shared.old shared.new }
+        ensures asks { AsksOn (lent self.old) shared.old (One table (key_of key.now)) (reading result) (lent self.new) shared.new }
+        ensures same { self.new ≡ record self.old { front = self.new.front } }
     {
-        self.open.get_in(shared, self.session, table, key)
+        self.transaction.get_in(shared, table, key)
     }
 
     /// The rows of a table from the lower end on and below the upper one, in the order of their keys, in the open transaction: what the
     /// state answers to the whole range, which it notes in the transaction's read phase, with the own writes over it. Refused, the first
     /// of these that holds: with `NoReadOpen`; with `NoTable`, `WrongKind`, `TooLong` or `EmptyRange` where the range doesn't fit; with
     /// `Memory`; and as the core refuses a read.
-    #[tactic(auto, using(crate::proofs::Happening::still_beside))]
     pub fn scan_in(
-        &self,
+        &mut self,
         shared: &mut Shared<N, A>,
         table: usize,
         lower: Option<&Key<A>>,
         upper: Option<&Key<A>>,
     ) -> Result<RangeRows<A>, Fault>
-        ensures step { OrStarves (WantsRange (world_of shared.old).settings.schema (Span table (end_of (option_copied lower.entry)) (end_of (option_copied upper.entry))) self.now.draft) (world_of shared.old) (scanning result) (world_of shared.new)
-            (Scans (world_of shared.old) self.now.session (Span table (end_of (option_copied lower.entry)) (end_of (option_copied upper.entry))) self.now.draft (scanning result) (world_of shared.new)) }
-        ensures beside { IsSameBeside shared.old shared.new }
+        ensures asks { AsksOn (lent self.old) shared.old (Span table (end_of (option_copied lower.entry)) (end_of (option_copied upper.entry))) (scanning result) (lent self.new) shared.new }
+        ensures same { self.new ≡ record self.old { front = self.new.front } }
     {
-        self.open.scan_in(shared, self.session, table, lower, upper)
+        self.transaction.scan_in(shared, table, lower, upper)
     }
 
     /// The first rows of a range, at most `most` of them, or one where `most` is 0, and where the rows behind them begin, which is the
     /// lower end of the next page. The state is asked for the part of the range up to there, which it notes, so that a row that comes
     /// in behind the page is no conflict. The own writes of that part are laid over the rows, so that the page may show more rows than
     /// `most`, or fewer. Refused as `scan_in`, and with `Memory` where rows are left and there is none for the key at which they begin.
-    #[tactic(auto, using(crate::proofs::Happening::still_beside))]
     pub fn scan_first_in(
-        &self,
+        &mut self,
         shared: &mut Shared<N, A>,
         table: usize,
         lower: Option<&Key<A>>,
         upper: Option<&Key<A>>,
         most: usize,
     ) -> Result<Page<A>, Fault>
-        ensures step { let rest = first_rest_of (world_of shared.old) table (end_of (option_copied lower.entry)) (end_of (option_copied upper.entry)) most in
-            OrStarves (WantsPage (world_of shared.old).settings.schema (first_page table (end_of (option_copied lower.entry)) (end_of (option_copied upper.entry)) rest) rest self.now.draft) (world_of shared.old) (paging result) (world_of shared.new)
-            (Scans (world_of shared.old) self.now.session (first_page table (end_of (option_copied lower.entry)) (end_of (option_copied upper.entry)) rest) self.now.draft (paging result) (world_of shared.new)) }
-        ensures rest { IfOk result (λ page. end_of page.rest ≡ first_rest_of (world_of shared.old) table (end_of (option_copied lower.entry)) (end_of (option_copied upper.entry)) most) }
-        ensures beside { IsSameBeside shared.old shared.new }
+        ensures asks { AsksPageOn (lent self.old) shared.old (first_page table (end_of (option_copied lower.entry)) (end_of (option_copied upper.entry))) (λ world. first_rest_of world table (end_of (option_copied lower.entry)) (end_of (option_copied upper.entry)) most) result (lent self.new) shared.new }
+        ensures same { self.new ≡ record self.old { front = self.new.front } }
     {
-        self.open
-            .scan_first_in(shared, self.session, table, lower, upper, most)
+        self.transaction
+            .scan_first_in(shared, table, lower, upper, most)
     }
 
     /// The last rows of a range, at most `most` of them, or one where `most` is 0, and where the rows before them end, which is the upper
     /// end of the page before. Noted, overlaid and refused as by `scan_first_in`.
-    #[tactic(auto, using(crate::proofs::Happening::still_beside))]
     pub fn scan_last_in(
-        &self,
+        &mut self,
         shared: &mut Shared<N, A>,
         table: usize,
         lower: Option<&Key<A>>,
         upper: Option<&Key<A>>,
         most: usize,
     ) -> Result<Page<A>, Fault>
-        ensures step { let rest = last_rest_of (world_of shared.old) table (end_of (option_copied lower.entry)) (end_of (option_copied upper.entry)) most in
-            OrStarves (WantsPage (world_of shared.old).settings.schema (last_page table (end_of (option_copied lower.entry)) (end_of (option_copied upper.entry)) rest) rest self.now.draft) (world_of shared.old) (paging result) (world_of shared.new)
-            (Scans (world_of shared.old) self.now.session (last_page table (end_of (option_copied lower.entry)) (end_of (option_copied upper.entry)) rest) self.now.draft (paging result) (world_of shared.new)) }
-        ensures rest { IfOk result (λ page. end_of page.rest ≡ last_rest_of (world_of shared.old) table (end_of (option_copied lower.entry)) (end_of (option_copied upper.entry)) most) }
-        ensures beside { IsSameBeside shared.old shared.new }
+        ensures asks { AsksPageOn (lent self.old) shared.old (last_page table (end_of (option_copied lower.entry)) (end_of (option_copied upper.entry))) (λ world. last_rest_of world table (end_of (option_copied lower.entry)) (end_of (option_copied upper.entry)) most) result (lent self.new) shared.new }
+        ensures same { self.new ≡ record self.old { front = self.new.front } }
     {
-        self.open
-            .scan_last_in(shared, self.session, table, lower, upper, most)
+        self.transaction
+            .scan_last_in(shared, table, lower, upper, most)
     }
 
     /// The state forgets what the open transaction read, and none is open then. Its number is not spent. It answers whether anything was
     /// read. Refused with `NoReadOpen`, and as the core refuses it; the transaction stays open then. It takes no memory.
-    #[tactic(auto, using(crate::proofs::Happening::still_beside))]
     pub fn abandon_in(&mut self, shared: &mut Shared<N, A>) -> Result<bool, Fault>
-        ensures step { Abandons (world_of shared.old) self.old.session self.old.draft (forgetting result) (world_of shared.new) }
-        ensures left { self.new ≡ record self.old { draft = open_after self.old.draft (forgetting result) } }
-        ensures beside { IsSameBeside shared.old shared.new }
+        ensures forgets { AbandonsOn (lent self.old) shared.old (forgetting result) self.new.front shared.new }
+        ensures left { self.new ≡ record self.old { draft = open_after self.old.draft (forgetting result); front = self.new.front } }
     {
-        self.open.abandon_in(shared, self.session)
+        self.transaction.abandon_in(shared)
     }
 
     /// As `get_in`, in a holding of the lock of its own.
     pub fn get<R: Wait>(
-        &self,
+        &mut self,
         rt: &R,
         store: &Store<N, A>,
         table: usize,
         key: &Key<A>,
     ) -> Result<Option<Row<A>>, Fault>
-        ensures { InOneHolding N.named.settings (λ old new.
-            OrStarves (WantsOwn old.settings.schema (table, key_of key.now) self.now.draft) old (reading result) new
-            (Gets old self.now.session (table, key_of key.now) self.now.draft (reading result) new)) }
+        ensures asks { AsksOrStarves N.named (lent self.old) (One table (key_of key.now)) (reading result) (lent self.new) }
+        ensures same { self.new ≡ record self.old { front = self.new.front } }
     {
-        let mut shared = store.lock(rt);
-        shared.law();
-        self.get_in(&mut shared, table, key)
+        self.transaction.get(rt, store, table, key)
     }
 
     /// As `scan_in`, in a holding of the lock of its own.
     pub fn scan<R: Wait>(
-        &self,
+        &mut self,
         rt: &R,
         store: &Store<N, A>,
         table: usize,
         lower: Option<&Key<A>>,
         upper: Option<&Key<A>>,
     ) -> Result<RangeRows<A>, Fault>
-        ensures { InOneHolding N.named.settings (λ old new.
-            OrStarves (WantsRange old.settings.schema (Span table (end_of (option_copied lower.entry)) (end_of (option_copied upper.entry))) self.now.draft) old (scanning result) new
-            (Scans old self.now.session (Span table (end_of (option_copied lower.entry)) (end_of (option_copied upper.entry))) self.now.draft (scanning result) new)) }
+        ensures asks { AsksOrStarves N.named (lent self.old) (Span table (end_of (option_copied lower.entry)) (end_of (option_copied upper.entry))) (scanning result) (lent self.new) }
+        ensures same { self.new ≡ record self.old { front = self.new.front } }
     {
-        let mut shared = store.lock(rt);
-        shared.law();
-        self.scan_in(&mut shared, table, lower, upper)
+        self.transaction.scan(rt, store, table, lower, upper)
     }
 
     /// As `scan_first_in`, in a holding of the lock of its own.
     pub fn scan_first<R: Wait>(
-        &self,
+        &mut self,
         rt: &R,
         store: &Store<N, A>,
         table: usize,
@@ -185,16 +165,16 @@ impl<N: Name, A: Allocator + Copy> Session<N, A> {
         upper: Option<&Key<A>>,
         most: usize,
     ) -> Result<Page<A>, Fault>
-        ensures { InOneHolding N.named.settings (λ old new. ScansPage old self.now.session (first_page table (end_of (option_copied lower.entry)) (end_of (option_copied upper.entry))) (first_rest_of old table (end_of (option_copied lower.entry)) (end_of (option_copied upper.entry)) most) self.now.draft result new) }
+        ensures asks { AsksPage N.named (lent self.old) (first_page table (end_of (option_copied lower.entry)) (end_of (option_copied upper.entry))) (λ world. first_rest_of world table (end_of (option_copied lower.entry)) (end_of (option_copied upper.entry)) most) result (lent self.new) }
+        ensures same { self.new ≡ record self.old { front = self.new.front } }
     {
-        let mut shared = store.lock(rt);
-        shared.law();
-        self.scan_first_in(&mut shared, table, lower, upper, most)
+        self.transaction
+            .scan_first(rt, store, table, lower, upper, most)
     }
 
     /// As `scan_last_in`, in a holding of the lock of its own.
     pub fn scan_last<R: Wait>(
-        &self,
+        &mut self,
         rt: &R,
         store: &Store<N, A>,
         table: usize,
@@ -202,20 +182,18 @@ impl<N: Name, A: Allocator + Copy> Session<N, A> {
         upper: Option<&Key<A>>,
         most: usize,
     ) -> Result<Page<A>, Fault>
-        ensures { InOneHolding N.named.settings (λ old new. ScansPage old self.now.session (last_page table (end_of (option_copied lower.entry)) (end_of (option_copied upper.entry))) (last_rest_of old table (end_of (option_copied lower.entry)) (end_of (option_copied upper.entry)) most) self.now.draft result new) }
+        ensures asks { AsksPage N.named (lent self.old) (last_page table (end_of (option_copied lower.entry)) (end_of (option_copied upper.entry))) (λ world. last_rest_of world table (end_of (option_copied lower.entry)) (end_of (option_copied upper.entry)) most) result (lent self.new) }
+        ensures same { self.new ≡ record self.old { front = self.new.front } }
     {
-        let mut shared = store.lock(rt);
-        shared.law();
-        self.scan_last_in(&mut shared, table, lower, upper, most)
+        self.transaction
+            .scan_last(rt, store, table, lower, upper, most)
     }
 
     /// As `abandon_in`, in a holding of the lock of its own.
     pub fn abandon<R: Wait>(&mut self, rt: &R, store: &Store<N, A>) -> Result<bool, Fault>
-        ensures step { InOneHolding N.named.settings (λ old new. Abandons old self.old.session self.old.draft (forgetting result) new) }
-        ensures left { self.new ≡ record self.old { draft = open_after self.old.draft (forgetting result) } }
+        ensures forgets { AbandonsIn N.named (lent self.old) (forgetting result) self.new.front }
+        ensures left { self.new ≡ record self.old { draft = open_after self.old.draft (forgetting result); front = self.new.front } }
     {
-        let mut shared = store.lock(rt);
-        shared.law();
-        self.abandon_in(&mut shared)
+        self.transaction.abandon(rt, store)
     }
 }

@@ -1,8 +1,8 @@
 //! The tries of a client whose lane another thread serves.
-ghost use Rattle.std.specs.Prelude.{◌≡◌, ◌<◌, Some, Ok, IfOk, IfErr, OnErr};
+ghost use Rattle.std.specs.Prelude.{◌≡◌, ◌<◌, Some, Ok, IfOk, IfErr};
 ghost use Rattle.occ_open.specs.Transactions.{begun as no_writes};
 ghost use Rattle.occ_store.specs.Bodies.{Goes};
-ghost use Rattle.occ_store.specs.Tries.{HandsInUpTo, HandsInFewer, HandsInOne, NotHandedIn, RunsIn, RunFails, Reopens, most_tries};
+ghost use Rattle.occ_store.specs.Tries.{HandsInFewer, HandsInOne, RunsIn, RunFails, Reopens, most_tries};
 ghost use Rattle.occ_store.specs.Clients.{Awaits, TriedSo};
 
 use crate::awaited::{Awaited, Pending};
@@ -41,8 +41,7 @@ impl<N: Name, A: Allocator + Copy> Session<N, A> {
         body: &mut B,
     ) -> Result<Awaited<B::Value>, B::Error>
         ensures awaited { IfOk result (λ awaited. Awaits (B.makes body.old) (most_tries tries) self.old awaited self.new) }
-        ensures fewer { OnErr result (HandsInFewer (B.makes body.old) (most_tries tries) self.old self.new) }
-        ensures error { IfErr result (NotHandedIn (B.makes body.old) B.Error.from_gives N.named.settings self.new) }
+        ensures fewer { IfErr result (λ error. HandsInFewer (B.makes body.old) B.Error.from_gives N.named (most_tries tries) self.old error self.new) }
     {
         self.try_up_to(rt, store, at_least_one(tries), patience, body)
     }
@@ -58,8 +57,7 @@ impl<N: Name, A: Allocator + Copy> Session<N, A> {
     ) -> Result<Awaited<B::Value>, B::Error>
         requires { 0 < most }
         ensures awaited { IfOk result (λ awaited. Awaits (B.makes body.old) most self.old awaited self.new) }
-        ensures fewer { OnErr result (HandsInFewer (B.makes body.old) most self.old self.new) }
-        ensures error { IfErr result (NotHandedIn (B.makes body.old) B.Error.from_gives N.named.settings self.new) }
+        ensures fewer { IfErr result (λ error. HandsInFewer (B.makes body.old) B.Error.from_gives N.named most self.old error self.new) }
     {
         let mut awaited = self.try_once(rt, store, patience, body)?;
         for tried in 1..most {
@@ -80,8 +78,7 @@ impl<N: Name, A: Allocator + Copy> Session<N, A> {
         body: &mut B,
     ) -> Result<Awaited<B::Value>, B::Error>
         ensures awaited { IfOk result (λ awaited. TriedSo (B.makes body.old) 1 self.old awaited self.new) }
-        ensures none { OnErr result (HandsInUpTo (B.makes body.old) 0 self.old self.new) }
-        ensures error { IfErr result (NotHandedIn (B.makes body.old) B.Error.from_gives N.named.settings self.new) }
+        ensures none { IfErr result (λ error. HandsInFewer (B.makes body.old) B.Error.from_gives N.named 1 self.old error self.new) }
         ensures keeps { Goes (B.makes body.new) (B.makes body.old) }
     {
         let pending = self.hand_in(rt, store, patience, body)?;
@@ -97,8 +94,7 @@ impl<N: Name, A: Allocator + Copy> Session<N, A> {
         body: &mut B,
     ) -> Result<Pending<B::Value>, B::Error>
         ensures ok { IfOk result (λ pending. HandsInOne (B.makes body.old) self.old pending.number pending.value self.new) }
-        ensures none { OnErr result (HandsInUpTo (B.makes body.old) 0 self.old self.new) }
-        ensures error { IfErr result (NotHandedIn (B.makes body.old) B.Error.from_gives N.named.settings self.new) }
+        ensures none { IfErr result (λ error. HandsInFewer (B.makes body.old) B.Error.from_gives N.named 1 self.old error self.new) }
         ensures keeps { Goes (B.makes body.new) (B.makes body.old) }
     {
         let (number, start) = match self.begin() {
@@ -119,9 +115,9 @@ impl<N: Name, A: Allocator + Copy> Session<N, A> {
         start: u64,
     ) -> Result<B::Value, B::Error>
         requires begun { self.old.draft ≡ Some (no_writes number start) }
-        ensures made { IfOk result (λ value. RunsIn (B.makes body.old) self.old (Ok value) self.new.draft) }
-        ensures error { IfErr result (RunFails (B.makes body.old) B.Error.from_gives self.old) }
-        ensures again { Reopens self.old number self.new }
+        ensures made { IfOk result (λ value. RunsIn (B.makes body.old) self.old (Ok value) self.new.draft self.new.front) }
+        ensures error { IfErr result (λ error. RunFails (B.makes body.old) B.Error.from_gives self.old error self.new.front) }
+        ensures again { Reopens (record self.old { front = self.new.front }) number self.new }
         ensures keeps { Goes (B.makes body.new) (B.makes body.old) }
     {
         let open = self.lend();
@@ -143,14 +139,15 @@ impl<N: Name, A: Allocator + Copy> Session<N, A> {
         body: &mut B,
         lent: OpenTransaction<A>,
     ) -> (Result<B::Value, B::Error>, OpenTransaction<A>)
-        ensures made { RunsIn (B.makes body.old) (record self.old { draft = lent }) result.0 result.1 }
-        ensures same { self.new ≡ self.old }
+        requires none { self.old.draft ≡ None }
+        ensures made { RunsIn (B.makes body.old) (record self.old { draft = lent }) result.0 result.1 self.new.front }
+        ensures same { self.new ≡ record self.old { front = self.new.front } }
         ensures keeps { Goes (B.makes body.new) (B.makes body.old) }
     {
-        let session = self.session();
-        let _none = self.transaction.replace(session, lent);
+        let _none = self.transaction.replace(lent);
         let ran = body.run(rt, store, &mut self.transaction);
-        let back = self.transaction.replace(session, OpenTransaction::none());
+        let _session = self.transaction.session();
+        let back = self.transaction.replace(OpenTransaction::none());
         (ran, back)
     }
 }

@@ -14,7 +14,6 @@ use occ_model::Verdict;
 use occ_open::OpenTransaction;
 use occ_types::Fault;
 use std::alloc::Allocator;
-use std::mem;
 use std::sync::Wait;
 
 impl<N: Name, A: Allocator + Copy> Session<N, A> {
@@ -24,7 +23,7 @@ impl<N: Name, A: Allocator + Copy> Session<N, A> {
         ensures left { self.new ≡ record self.old { draft = None } }
         ensures next { MayBeSubmitted self.old.sender self.old.draft }
     {
-        mem::replace(&mut self.open, OpenTransaction::none())
+        self.transaction.replace(OpenTransaction::none())
     }
 
     /// Takes back the transaction of a number that was lent. Where another one comes, or none, one without a write is open in its place,
@@ -42,16 +41,16 @@ impl<N: Name, A: Allocator + Copy> Session<N, A> {
         ensures fault { IsOkUnless result OutOfTurn }
     {
         if back.number() == Some(number) {
-            self.open = back;
+            let _none = self.transaction.replace(back);
             return Ok(());
         }
-        self.open.begin(self.alloc, number, start)?;
+        self.transaction.begin(self.alloc, number, start)?;
         Err(Fault::OutOfTurn)
     }
 
     /// The open transaction is given up. What the state answers isn't told: it is refused only where it has no such session.
     pub(crate) fn give_up_open<R: Wait>(&mut self, rt: &R, store: &Store<N, A>)
-        ensures { GivesUp N.named.settings self.old self.new }
+        ensures { GivesUp N.named self.old self.new }
     {
         let _forgotten = self.abandon(rt, store);
         let _none = self.lend();

@@ -1,5 +1,5 @@
 //! How a client waits whose lane another thread serves: for the end of what it handed in, and for room in its queue.
-ghost use Rattle.std.specs.Prelude.{◌≡◌, ◌⊎◌, ◌+◌, Ok, IfOk, IfErr, IfSome, IfNone, OnErr, MatchResult, None, Some};
+ghost use Rattle.std.specs.Prelude.{◌≡◌, ◌⊎◌, ◌+◌, Ok, IsOk, IfOk, IfErr, IfSome, IfNone, OnErr, MatchResult, None, Some};
 ghost use Rattle.occ_model.specs.Event.{Close};
 ghost use Rattle.occ_board.specs.Rule.{polled};
 ghost use Rattle.occ_store.specs.Bodies.{ComesOf};
@@ -107,8 +107,8 @@ impl<N: Name, A: Allocator + Copy> Session<N, A> {
         ran: Result<V, E>,
     ) -> Result<Pending<V>, E>
         ensures ok { IfOk result (λ pending. (ran ≡ Ok pending.value) × Submits self.old pending.number self.new) }
-        ensures given_up { OnErr result (GivesUp N.named.settings self.old self.new) }
-        ensures error { IfErr result (λ error. (ran ≡ Err error) ⊎ ComesOf E.from_gives (IsRefusedBy (submit_fault self.old) self.old) error) }
+        ensures given_up { OnErr result (GivesUp N.named self.old self.new) }
+        ensures error { IfErr result (λ error. (ran ≡ Err error) ⊎ (IsOk ran × ComesOf E.from_gives (IsRefusedBy (submit_fault self.old) self.old) error)) }
     {
         let error = match self.submit_where_it_ran(rt, patience, ran) {
             Ok(pending) => return Ok(pending),
@@ -127,7 +127,7 @@ impl<N: Name, A: Allocator + Copy> Session<N, A> {
     ) -> Result<Pending<V>, E>
         ensures ok { IfOk result (λ pending. (ran ≡ Ok pending.value) × Submits self.old pending.number self.new) }
         ensures err { OnErr result (self.new ≡ self.old) }
-        ensures error { IfErr result (λ error. (ran ≡ Err error) ⊎ ComesOf E.from_gives (IsRefusedBy (submit_fault self.old) self.old) error) }
+        ensures error { IfErr result (λ error. (ran ≡ Err error) ⊎ (IsOk ran × ComesOf E.from_gives (IsRefusedBy (submit_fault self.old) self.old) error)) }
     {
         let value = match ran {
             Ok(value) => value,
@@ -151,12 +151,12 @@ impl<N: Name, A: Allocator + Copy> Session<N, A> {
         store: &Store<N, A>,
         patience: u64,
     ) -> Result<u64, Fault>
-        ensures ok { IfOk result (λ number. (number ≡ due self.old) × (self.new ≡ handed_in self.old (Close number))) }
-        ensures err { OnErr result (self.new ≡ without_draft self.old) }
+        ensures ok { IfOk result (λ number. (number ≡ due self.old) × (self.new ≡ record (handed_in self.old (Close number)) { front = self.new.front })) }
+        ensures err { OnErr result (self.new ≡ record (without_draft self.old) { front = self.new.front }) }
         ensures fault { MatchResult result
             (λ _. give_up_fault self.old ≡ None)
             (IsRefusedBy (give_up_fault self.old) self.old) }
-        ensures forgotten { LetsGo N.named.settings self.old }
+        ensures forgotten { LetsGo N.named self.old self.new.front }
     {
         self.let_go(rt, store);
         self.close_patiently(rt, patience)
@@ -164,10 +164,10 @@ impl<N: Name, A: Allocator + Copy> Session<N, A> {
 
     // What is open is given up, where something is.
     fn let_go<R: Wait>(&mut self, rt: &R, store: &Store<N, A>)
-        ensures none { self.new ≡ without_draft self.old }
-        ensures forgotten { LetsGo N.named.settings self.old }
+        ensures none { self.new ≡ record (without_draft self.old) { front = self.new.front } }
+        ensures forgotten { LetsGo N.named self.old self.new.front }
     {
-        if self.open.is_open() {
+        if self.transaction.is_open() {
             self.give_up_open(rt, store);
         }
     }

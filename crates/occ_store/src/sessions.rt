@@ -9,10 +9,11 @@ ghost use Rattle.occ_queue.specs.Items.{item_of};
 ghost use Rattle.occ_queue.specs.declared.items.Item.TheVariants as items;
 ghost use Rattle.occ_board.specs.Words.{HasRoom};
 ghost use Rattle.occ_board.specs.Rule.{polled, Rises};
+ghost use Rattle.occ_history.specs.History.{Client};
 ghost use Rattle.occ_store.specs.Names.{lane_of};
 ghost use Rattle.occ_store.specs.Sessions.{due, begin_fault, begun, submit_fault, Submits, close_fault, alone_fault, handed_in, draft_of, is_alone, IsRefusedBy};
 
-use crate::names::Name;
+use crate::names::{FrontOf, Name};
 use crate::transactions::Transaction;
 use occ_board::{Last, Seat};
 use occ_open::OpenTransaction;
@@ -29,26 +30,26 @@ use std::sync::{Arc, Wait};
 #[derive(Drop)]
 pub struct Session<N: Name, A: Allocator + Copy> {
     pub(crate) alloc: A,
-    pub(crate) session: usize,
     pub(crate) transaction: Transaction<N, A>,
     pub(crate) seat: Seat<A>,
     pub(crate) sender: Sender<A>,
-    pub(crate) open: OpenTransaction<A>,
 }
 
 impl<N: Name, A: Allocator + Copy> Model for Session<N, A> {
     ghost use Rattle.std.specs.Prelude.{◌≡◌};
+    ghost use Rattle.occ_history.specs.History.{Client};
     ghost use Rattle.occ_store.specs.Names.{lane_of};
     ghost use Rattle.occ_store.specs.Sessions.{SessionView, MayBeSubmitted};
 
     ghost Value = { SessionView };
 
-    ghost view = { λ s. record { session = s.session; schema = N.named.settings.schema; seat = s.seat.seen; sender = s.sender; draft = s.open } };
+    ghost view = { λ s. record { session = s.transaction.session; schema = N.named.settings.schema; seat = s.seat.seen; sender = s.sender; draft = s.transaction.draft; front = s.transaction.front } };
 
     ghost invariant = { λ s. (s.seat.board ≡ N.named.board)
-        × (s.seat.seen.session ≡ s.session)
-        × (s.sender.lane ≡ lane_of N.named s.session)
-        × MayBeSubmitted s.sender s.open };
+        × (s.seat.seen.session ≡ s.transaction.session)
+        × (s.sender.lane ≡ lane_of N.named s.transaction.session)
+        × MayBeSubmitted s.sender s.transaction.draft
+        × (s.transaction.front.party ≡ Client s.transaction.session) };
 }
 
 impl<N: Name, A: Allocator + Copy> Session<N, A> {
@@ -59,19 +60,19 @@ impl<N: Name, A: Allocator + Copy> Session<N, A> {
         schema: Arc<Schema<A>, A>,
         seat: Seat<A>,
         sender: Sender<A>,
+        front: FrontOf<N>,
     ) -> Session<N, A>
         requires schema { arc_value schema ≡ N.named.settings.schema }
         requires board { (seat.board ≡ N.named.board) × (seat.seen.session ≡ session) }
         requires lane { sender.lane ≡ lane_of N.named session }
-        ensures { result ≡ record { session = session; schema = arc_value schema; seat = seat.seen; sender = sender; draft = None } }
+        requires own { front.party ≡ Client session }
+        ensures { result ≡ record { session = session; schema = arc_value schema; seat = seat.seen; sender = sender; draft = None; front = front } }
     {
         Session {
             alloc,
-            session,
-            transaction: Transaction::new(session, schema),
+            transaction: Transaction::new(session, schema, front),
             seat,
             sender,
-            open: OpenTransaction::none(),
         }
     }
 
@@ -79,7 +80,7 @@ impl<N: Name, A: Allocator + Copy> Session<N, A> {
     pub fn session(&self) -> usize
         ensures { result ≡ self.now.session }
     {
-        self.session
+        self.transaction.session()
     }
 
     /// The tables of the store.
@@ -94,7 +95,7 @@ impl<N: Name, A: Allocator + Copy> Session<N, A> {
     pub fn open_number(&self) -> Option<u64>
         ensures { result ≡ option_map (λ copy. copy.number) self.now.draft }
     {
-        self.open.number()
+        self.transaction.number()
     }
 
     /// The last transaction of the session that is over, by one atomic load, which waits for nobody.
@@ -121,7 +122,7 @@ impl<N: Name, A: Allocator + Copy> Session<N, A> {
         if self.sender.is_closed() {
             return Err(Fault::Closed);
         }
-        if self.open.is_open() {
+        if self.transaction.is_open() {
             return Err(Fault::ReadOpen);
         }
         self.sender.close(rt)
@@ -164,7 +165,7 @@ impl<N: Name, A: Allocator + Copy> Session<N, A> {
         if self.sender.is_closed() {
             return Err(Fault::Closed);
         }
-        if self.open.is_open() {
+        if self.transaction.is_open() {
             return Err(Fault::ReadOpen);
         }
         if self.sender.next() >= MAX_NUMBER {
@@ -193,7 +194,7 @@ impl<N: Name, A: Allocator + Copy> Session<N, A> {
         if self.sender.is_closed() {
             return Err(Fault::Closed);
         }
-        if self.open.is_open() {
+        if self.transaction.is_open() {
             return Err(Fault::ReadOpen);
         }
         let number = self.sender.next();
@@ -201,7 +202,7 @@ impl<N: Name, A: Allocator + Copy> Session<N, A> {
             return Err(Fault::NumbersExhausted);
         }
         let start = self.seat.start();
-        self.open.begin(self.alloc, number, start)?;
+        self.transaction.begin(self.alloc, number, start)?;
         Ok((number, start))
     }
 
@@ -219,7 +220,7 @@ impl<N: Name, A: Allocator + Copy> Session<N, A> {
         if self.sender.is_closed() {
             return Err(Fault::Closed);
         }
-        let (number, start, writes) = self.open.into_request()?;
+        let (number, start, writes) = self.transaction.into_request()?;
         let item = Item::Request {
             number,
             start,
@@ -229,11 +230,21 @@ impl<N: Name, A: Allocator + Copy> Session<N, A> {
             Ok(()) => Ok(number),
             Err(refused) => {
                 let Refused { value, fault } = refused;
-                self.open = reopened(rt, value);
+                put_back(&mut self.transaction, reopened(rt, value));
                 Err(fault)
             }
         }
     }
+}
+
+// A transaction is open again, where none is.
+fn put_back<N: Name, A: Allocator + Copy>(
+    transaction: &mut Transaction<N, A>,
+    draft: OpenTransaction<A>,
+)
+    ensures { transaction.new ≡ record transaction.old { draft = draft } }
+{
+    let _none = transaction.replace(draft);
 }
 
 // The transaction that a request was made of. Nobody shares its writes, so that they come back at the first try, which takes no memory.

@@ -1,5 +1,5 @@
 //! What stands behind the lock of a store.
-ghost use Rattle.std.specs.Prelude.{◌≡◌, ℕ, IfSome, IsOkUnless, IfOk, option_map};
+ghost use Rattle.std.specs.Prelude.{◌≡◌, ◌+◌, ℕ, IfSome, IsOkUnless, IfOk, option_map};
 ghost use Rattle.boxcar.specs.Table.{Shows};
 ghost use Rattle.occ_model.specs.Invariant.{Invariant};
 ghost use Rattle.occ_model.specs.Content.{IsInSchema};
@@ -11,30 +11,67 @@ ghost use Rattle.occ_log.specs.Rows.{standing_of, log_of};
 ghost use Rattle.occ_types.specs.declared.fault.Fault.TheVariants.{Memory};
 ghost use Rattle.occ_core.specs.Totals.{AddUp};
 ghost use Rattle.occ_filed.specs.Filed.{token_of};
-ghost use Rattle.occ_store.specs.Locked.{world_of, told_standing};
+ghost use Rattle.occ_model.specs.Step.{Run};
+ghost use Rattle.occ_history.specs.History.{IsHere};
+ghost use Rattle.occ_store.specs.Names.{opened_as};
+ghost use Rattle.occ_store.specs.Locked.{world_of, told_standing, visited};
 ghost use Rattle.occ_store.specs.Books.{IsBookOf};
 
-use crate::names::Name;
+use crate::names::{FrontOf, Name, OwnStory};
 use crate::publishing::law;
 use occ_board::Publisher;
 use occ_book::Standing;
 use occ_case::{CaseToken, OpenCase};
 use occ_core::Core;
 use occ_filed::FiledCore;
+use occ_history::Story;
 use occ_types::Fault;
 use std::alloc::Allocator;
-use std::marker::Model;
+use std::marker::{Model, PhantomData};
+use std::mem;
 use std::sync::ledger::{Book, Share};
 
-/// The locked state of a store: its core with the file of its cases, the publisher of its board, and the book of the rows that lanes
-/// entered. Clauses see the world of the core, with what shows its cases, and the words that stand on the board; these show the world.
+/// The locked state of a store: its core with the file of its cases, the publisher of its board, the book of the rows that lanes
+/// entered, and the story of all that happened. Clauses see the world of the core, with what shows its cases, the words that stand on
+/// the board, which show the world, and the story, which led to it.
 #[derive(Drop)]
 pub struct Shared<N: Name, A: Allocator + Copy> {
     pub(crate) filed: FiledCore<A>,
     pub(crate) publisher: Publisher<A>,
     pub(crate) rows: Book<N>,
-    // The place that the store began at: no lane entered the rows before it.
-    pub(crate) origin: u64,
+    pub(crate) story: Story<OwnStory<N>, A>,
+    // What who reads now has seen. A session swaps its own in for the time of its call.
+    pub(crate) visitor: FrontOf<N>,
+    pub(crate) origin: Origin<N>,
+}
+
+/// The place that the store began at, in the order of all rows: no lane entered the rows before it.
+#[derive(Drop)]
+pub(crate) struct Origin<N: Name> {
+    place: u64,
+    _name: PhantomData<N>,
+    ghost begun: { place ≡ next_place (opened_as N.named) },
+}
+
+impl<N: Name> Origin<N> {
+    /// The place that the name stands for.
+    pub(crate) fn new(place: u64) -> Origin<N>
+        requires { place ≡ next_place (opened_as N.named) }
+        ensures { result.place ≡ place }
+    {
+        Origin {
+            place,
+            _name: PhantomData,
+        }
+    }
+
+    /// It as a number.
+    pub(crate) fn place(&self) -> u64
+        ensures same { result ≡ self.now.place }
+        ensures begun { result ≡ next_place (opened_as N.named) }
+    {
+        self.place
+    }
 }
 
 impl<N: Name, A: Allocator + Copy> Model for Shared<N, A> {
@@ -48,16 +85,16 @@ impl<N: Name, A: Allocator + Copy> Model for Shared<N, A> {
 
     ghost coded = { Prim.hlevel (codes, finite.code, shelves_coded, where_coded) };
 
-    ghost view = { λ s. record { filed = s.filed; words = s.publisher.words } };
+    ghost view = { λ s. record { filed = s.filed; words = s.publisher.words; story = s.story; visitor = s.visitor } };
 
-    ghost invariant = { λ s. IsLocked N.named s.filed s.publisher (s.rows.total + s.origin) };
+    ghost invariant = { λ s. IsLocked N.named s.filed s.publisher (s.rows.total + s.origin.place) s.story s.visitor };
 }
 
 impl<N: Name, A: Allocator + Copy> Shared<N, A> {
     /// The law of every store, whatever its threads did: its log is in order, serial replay explains each committed transaction, and the
     /// table with the rest of each open write phase is the replay of the whole log; what stands in it fits its tables and sessions; and
-    /// what stands on the board shows the last transaction of each session that is over; and the totals of its figures add up. It computes
-    /// nothing.
+    /// what stands on the board shows the last transaction of each session that is over; and the totals of its figures add up. The story
+    /// led to it, from what the store was opened with. It computes nothing.
     pub fn law(&self)
         ensures invariant { Invariant (world_of self.now) }
         ensures content { IsInSchema (world_of self.now) }
@@ -67,8 +104,19 @@ impl<N: Name, A: Allocator + Copy> Shared<N, A> {
         ensures settings { (world_of self.now).settings ≡ N.named.settings }
         ensures file { self.now.filed.file ≡ N.named.file }
         ensures totals { AddUp self.now.filed.totals (world_of self.now) }
+        ensures ran { Run (opened_as N.named) self.now.story.log (world_of self.now) }
     {
         self.filed.core().law();
+    }
+
+    // Swaps what who reads now has seen with what another one has.
+    pub(crate) fn visit(&mut self, front: &mut FrontOf<N>)
+        requires { IsHere front.old.party }
+        ensures visits { self.new ≡ visited self.old front.old }
+        ensures back { front.new ≡ self.old.visitor }
+        ensures here { IsHere self.old.visitor.party }
+    {
+        mem::swap(&mut self.visitor, front);
     }
 
     /// The core, for all that it shows.
@@ -100,10 +148,11 @@ impl<N: Name, A: Allocator + Copy> Shared<N, A> {
     pub(crate) fn entered(&mut self, whole: &mut Share<N>) -> u64
         requires all { whole.old.parts ≡ N.parts }
         ensures counted { result ≡ whole.old.amount }
+        ensures begun { result + next_place (opened_as N.named) ≡ next_place (world_of self.old) }
         ensures same { self.new ≡ self.old }
     {
         self.rows.audit(whole);
-        all_rows(&self.filed) - self.origin
+        all_rows(&self.filed) - self.origin.place()
     }
 
     /// How the row of a session's transaction with this number stands; none where it does not stand in the log.

@@ -1,30 +1,22 @@
 //! The store: what threads share.
-ghost use Rattle.std.specs.Prelude.{◌≡◌, ◌≤◌, ◌+◌, suc, [], map, length, vec_len, vec_capacity, option_map, IfOk, IfErr, IsOkUnless};
+ghost use Rattle.std.specs.Prelude.{◌≡◌, ◌≤◌, ◌+◌, suc, [], map, length, vec_len, vec_capacity, IfOk, IfErr, IsOkUnless};
 ghost use Rattle.std.specs.Arc.{arc_value};
 ghost use Rattle.occ_types.specs.declared.fault.Fault.TheVariants.{Memory};
-ghost use Rattle.occ_model.specs.Log.{Audited, Base};
-ghost use Rattle.occ_model.specs.Event.{Checkpoint, Folded};
-ghost use Rattle.occ_model.specs.Step.{Step};
-ghost use Rattle.occ_model.specs.Poll.{row_numbered};
-ghost use Rattle.occ_model.specs.Replies.{replied};
-ghost use Rattle.occ_log.specs.Rows.{log_of};
 ghost use Rattle.occ_store.specs.Names.{lane_of};
-ghost use Rattle.occ_store.specs.Locked.{told_standing};
-ghost use Rattle.occ_store.specs.Books.{IsBookOf};
-ghost use Rattle.occ_store.specs.Sessions.{InOneHolding, InOneState};
-ghost use Rattle.occ_store.specs.Frames.{IsPart, AreParts, IsPlace, ArePlaces, fresh_worker, fresh_session, fresh_lane, workers_from, sessions_from, lanes_from, fresh_workers, fresh_sessions, fresh_lanes};
+ghost use Rattle.occ_store.specs.Frames.{IsPart, AreParts, IsPlace, ArePlaces, fresh_worker, fresh_session, fresh_lane, workers_from, sessions_from, lanes_from, fresh_workers, fresh_sessions, fresh_lanes, unseeing, seating};
+ghost use Rattle.occ_history.specs.History.{Session as SessionParty, Client as ClientParty, Lane as LaneParty};
 
 use crate::frames::Frame;
 use crate::lanes::{Lane, unused_lane};
 use crate::leases::Turns;
-use crate::names::{Cut, Name};
+use crate::names::{Cut, FrontOf, Name, OwnStory};
 use crate::parts::{Part, Place};
 use crate::sessions::Session;
-use crate::shared::Shared;
+use crate::shared::{Origin, Shared};
 use crate::stopping::StopWord;
 use crate::workers::{Worker, unused_worker};
-use occ_book::{Book, Standing};
-use occ_case::{CaseFile, OpenCase};
+use occ_case::CaseFile;
+use occ_history::Story;
 use occ_types::{Fault, Refused};
 use std::alloc::Allocator;
 use std::marker::PhantomData;
@@ -77,14 +69,14 @@ pub type Opened<N, A> = (
 );
 
 impl<N: Name, A: Allocator + Copy> Store<N, A> {
-    /// Opens the store of a frame, under its name; each session begins behind the last number that the frame's base has of it. Refused
+    /// Opens the store of a frame, under its name; each session begins behind the last number that the base has of it. Refused
     /// with `Memory` where there is none for the three lists, and the frame is handed back whole.
     pub fn open(frame: Frame<A>) -> Result<Opened<N, A>, Refused<Frame<A>>>
         requires named { frame.named ≡ N.named }
         requires ledger { (frame.ledger ≡ N.name) × (frame.parts ≡ N.parts) }
-        ensures workers { IfOk result (λ opened. opened.1.items ≡ fresh_workers N.named frame.base) }
-        ensures sessions { IfOk result (λ opened. opened.2.items ≡ fresh_sessions N.named frame.base) }
-        ensures lanes { IfOk result (λ opened. opened.3.items ≡ fresh_lanes N.named frame.base) }
+        ensures workers { IfOk result (λ opened. opened.1.items ≡ fresh_workers N.named) }
+        ensures sessions { IfOk result (λ opened. opened.2.items ≡ fresh_sessions N.named) }
+        ensures lanes { IfOk result (λ opened. opened.3.items ≡ fresh_lanes N.named) }
         ensures handed_back { IfErr result (λ refused. (refused.value ≡ frame) × (refused.fault ≡ Memory)) }
     {
         let origin = frame.filed.core().base().place() as u64;
@@ -106,19 +98,31 @@ impl<N: Name, A: Allocator + Copy> Store<N, A> {
             filed,
             file,
             publisher,
+            story,
             places,
             parts,
             rows,
         } = frame;
         let (rows, mut share) = rows.open::<N>();
-        hire(alloc, places, &mut share, &mut workers);
-        seat(alloc, parts, &mut share, &mut clients, &mut lanes);
+        let mut story = Story::named(story);
+        hire(alloc, places, &mut story, &mut share, &mut workers);
+        seat(
+            alloc,
+            parts,
+            &mut story,
+            &mut share,
+            &mut clients,
+            &mut lanes,
+        );
+        let visitor = story.visitor();
         let store = Store {
             shared: Mutex::new(Shared {
                 filed,
                 publisher,
                 rows,
-                origin,
+                story,
+                visitor,
+                origin: Origin::new(origin),
             }),
             lease: Mutex::new(Turns),
             file: OwnFile::new(file),
@@ -126,28 +130,6 @@ impl<N: Name, A: Allocator + Copy> Store<N, A> {
             stop_word: StopWord::new(),
         };
         Ok((store, workers, clients, lanes))
-    }
-
-    /// All that the store shows now, as values of its own: its audit is yes, whatever threads did. Refused with `Memory` where there is
-    /// none for it. It takes the lock.
-    pub fn book<R: Wait>(&self, rt: &R) -> Result<Book<A, OpenCase<A>>, Fault>
-        ensures shows { IfOk result (λ book. InOneState N.named.settings (λ world. IsBookOf world book)) }
-        ensures audited { IfOk result (λ book. Audited book.base.base book.marks.marks book.table.state (log_of book.log.items)) }
-        ensures memory { IsOkUnless result Memory }
-    {
-        let shared = self.lock(rt);
-        shared.law();
-        shared.book()
-    }
-
-    /// Folds the settled beginning of the log into the base, and answers how many rows it folded. Refused as `Core::checkpoint` is. It
-    /// takes the lock.
-    pub fn checkpoint<R: Wait>(&self, rt: &R) -> Result<usize, Fault>
-        ensures { InOneHolding N.named.settings (λ old new. Step old Checkpoint (replied Folded result) new) }
-    {
-        let mut shared = self.lock(rt);
-        shared.law();
-        shared.checkpoint()
     }
 }
 
@@ -162,16 +144,6 @@ impl<N: Name, A: Allocator + Copy> Store<N, A> {
         ensures { result.now ≡ N.named.file }
     {
         self.file.cases()
-    }
-
-    /// How the row of a session's transaction with this number stands; none where it does not stand in the log, as before its entry and
-    /// after it was folded. It takes the lock, and no memory.
-    pub fn row<R: Wait>(&self, rt: &R, session: usize, number: u64) -> Option<Standing<()>>
-        ensures { InOneState N.named.settings (λ world. result ≡ option_map (λ row. told_standing row.standing) (row_numbered session number world.log)) }
-    {
-        let shared = self.lock(rt);
-        shared.law();
-        shared.row(session, number)
     }
 }
 
@@ -203,18 +175,22 @@ fn room<N: Name, A: Allocator + Copy>(
 fn hire<N: Name, A: Allocator + Copy>(
     alloc: A,
     places: Vec<Place<A>, A>,
+    story: &mut Story<OwnStory<N>, A>,
     share: &mut Share<N>,
     workers: &mut Vec<Worker<N, A>, A>,
 )
-    requires places { (base : Base) × ArePlaces N.named.board N.named.settings.schema base 1 places.items }
+    requires places { ArePlaces N.named.board N.named.settings.schema N.named.base 1 places.items }
+    requires story { story.old ≡ seating 0 }
     requires ledger { (length places.items ≤ share.old.parts) × (share.old.amount ≡ 0) }
     requires empty { (workers.old.items ≡ []) × (vec_len workers.old ≡ 0) }
     requires room { length places.items ≤ vec_capacity workers.old }
-    ensures workers { (base : Base) → ArePlaces N.named.board N.named.settings.schema base 1 places.items → workers.new.items ≡ workers_from N.named base (length places.items) }
+    ensures workers { workers.new.items ≡ workers_from N.named (length places.items) }
+    ensures story { story.new ≡ seating (length places.items) }
     ensures ledger { (share.new.parts + length places.items ≡ share.old.parts) × (share.new.amount ≡ 0) }
 {
     for place in places {
-        workers.push_reserved(hired(alloc, place, share.split_off(1, 0)));
+        let front = story.next_session();
+        workers.push_reserved(hired(alloc, place, front, share.split_off(1, 0)));
     }
 }
 
@@ -222,28 +198,39 @@ fn hire<N: Name, A: Allocator + Copy>(
 fn seat<N: Name, A: Allocator + Copy>(
     alloc: A,
     parts: Vec<Part<A>, A>,
+    story: &mut Story<OwnStory<N>, A>,
     share: &mut Share<N>,
     sessions: &mut Vec<Session<N, A>, A>,
     lanes: &mut Vec<Lane<N, A>, A>,
 )
-    requires parts { (base : Base) × AreParts N.named.board N.named.settings.schema base (suc N.named.workers) parts.items }
+    requires parts { AreParts N.named.board N.named.settings.schema N.named.base (suc N.named.workers) parts.items }
     requires lanes { N.named.lanes ≡ map (λ part. part.receiver.lane) parts.items }
+    requires story { story.old ≡ seating N.named.workers }
     requires ledger { (length parts.items ≤ share.old.parts) × (share.old.amount ≡ 0) }
     requires empty { (sessions.old.items ≡ []) × (lanes.old.items ≡ []) }
     requires none { (vec_len sessions.old ≡ 0) × (vec_len lanes.old ≡ 0) }
     requires room { (length parts.items ≤ vec_capacity sessions.old) × (length parts.items ≤ vec_capacity lanes.old) }
-    ensures sessions { (base : Base) → AreParts N.named.board N.named.settings.schema base (suc N.named.workers) parts.items → sessions.new.items ≡ sessions_from N.named base (length parts.items) }
-    ensures lanes { (base : Base) → AreParts N.named.board N.named.settings.schema base (suc N.named.workers) parts.items → lanes.new.items ≡ lanes_from N.named base (length parts.items) }
+    ensures sessions { sessions.new.items ≡ sessions_from N.named (length parts.items) }
+    ensures lanes { lanes.new.items ≡ lanes_from N.named (length parts.items) }
+    ensures story { story.new ≡ seating (N.named.workers + length parts.items) }
 {
     for part in parts {
-        let (session, lane) = named(alloc, part, share.split_off(1, 0));
+        let front = story.next_session();
+        let fronts = story.client_and_lane(front);
+        let (session, lane) = named(alloc, part, fronts, share.split_off(1, 0));
         sessions.push_reserved(session);
         lanes.push_reserved(lane);
     }
 }
 
 // The worker of a place.
-fn hired<N: Name, A: Allocator + Copy>(alloc: A, place: Place<A>, share: Share<N>) -> Worker<N, A>
+fn hired<N: Name, A: Allocator + Copy>(
+    alloc: A,
+    place: Place<A>,
+    front: FrontOf<N>,
+    share: Share<N>,
+) -> Worker<N, A>
+    requires front { front ≡ unseeing (SessionParty place.session) }
     requires place { IsPlace N.named.board N.named.settings.schema place.session place.last place }
     requires share { (share.parts ≡ 1) × (share.amount ≡ 0) }
     ensures { result ≡ fresh_worker N.named place.session place.last }
@@ -254,15 +241,17 @@ fn hired<N: Name, A: Allocator + Copy>(alloc: A, place: Place<A>, share: Share<N
         schema,
         last,
     } = place;
-    unused_worker(alloc, session, schema, seat, last, share)
+    unused_worker(alloc, session, schema, seat, last, front, share)
 }
 
 // The session of a part, and its lane.
 fn named<N: Name, A: Allocator + Copy>(
     alloc: A,
     part: Part<A>,
+    fronts: (FrontOf<N>, FrontOf<N>),
     share: Share<N>,
 ) -> (Session<N, A>, Lane<N, A>)
+    requires fronts { fronts ≡ (unseeing (ClientParty part.session), unseeing (LaneParty part.session)) }
     requires part { IsPart N.named.board N.named.settings.schema part.session part.receiver.before part }
     requires lane { part.receiver.lane ≡ lane_of N.named part.session }
     requires share { (share.parts ≡ 1) × (share.amount ≡ 0) }
@@ -276,6 +265,7 @@ fn named<N: Name, A: Allocator + Copy>(
         receiver,
         schema,
     } = part;
-    let client = Session::new(alloc, session, schema, seat, sender);
-    (client, unused_lane(session, receiver, share))
+    let (own, lanes) = fronts;
+    let client = Session::new(alloc, session, schema, seat, sender, own);
+    (client, unused_lane(session, receiver, lanes, share))
 }

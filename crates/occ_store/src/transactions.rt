@@ -1,28 +1,27 @@
 //! What the body of a transaction may do.
-ghost use Rattle.std.specs.Prelude.{◌≡◌, None, Some, IfErr, OnOk, OnErr, MatchResult};
+ghost use Rattle.std.specs.Prelude.{◌≡◌, None, Some, option_map, is_some, IfOk, IfErr, OnOk, OnErr, MatchResult};
 ghost use Rattle.std.specs.Arc.{arc_value};
-ghost use Rattle.std.specs.Option.{option_copied};
-ghost use Rattle.occ_types.specs.PlainData.{key_of, end_of};
-ghost use Rattle.occ_types.specs.Question.{Span};
-ghost use Rattle.occ_model.specs.Paging.{first_page, last_page};
-ghost use Rattle.occ_open.specs.Pages.{first_rest_of, last_rest_of, ScansPage};
-ghost use Rattle.occ_open.specs.Replies.{reading, scanning};
-ghost use Rattle.occ_open.specs.Transactions.{IsRefusedBy, write_fault, written, WantsRoom, WantsOwn, Gets, WantsRange, Scans, OrStarves};
-ghost use Rattle.occ_store.specs.Sessions.{InOneHolding};
+ghost use Rattle.std.specs.Result.{result_err};
+ghost use Rattle.occ_types.specs.PlainData.{key_of};
+ghost use Rattle.occ_model.specs.Refusal.{numbers_exhausted};
+ghost use Rattle.occ_open.specs.Transactions.{IsRefusedBy, begun, none_open, write_fault, written, WantsRoom};
+ghost use Rattle.occ_sets.specs.Sets.{IsWriteSet};
+ghost use Rattle.occ_store.specs.Transactions.{IsReader};
 
-use crate::names::Name;
+use crate::names::{FrontOf, Name};
 use crate::stores::Store;
-use occ_open::{OpenTransaction, Page};
-use occ_sets::{RangeRows, Write};
+use occ_open::OpenTransaction;
+use occ_sets::{RequestWrites, Write};
 use occ_types::{Fault, Key, Refused, Row, Schema};
 use std::alloc::Allocator;
-use std::marker::{Model, PhantomData};
+use std::marker::Model;
 use std::mem;
 use std::sync::{Arc, Wait};
 
 /// What a transaction reads and writes, and what it answers. A worker or a session runs it, and runs it anew after a back-up, so that it
 /// begins from what it reads each time, and leaves nothing outside that a later run would see.
 pub trait Body<N: Name, A: Allocator + Copy, R: Wait> {
+    ghost use Rattle.std.specs.Prelude.{◌≡◌};
     ghost use Rattle.occ_store.specs.Bodies.{Making, Goes};
 
     /// What a run answers. What the run answered that committed is handed on, and what the others did is dropped.
@@ -35,8 +34,8 @@ pub trait Body<N: Name, A: Allocator + Copy, R: Wait> {
     /// say.
     ghost makes: { Self → Making Self.Value Self.Error } = { λ body before ran after. Unit {0} };
 
-    /// Reads and writes in the transaction. An error abandons the transaction, and is answered as it is. What a later run may make,
-    /// this one may make.
+    /// Reads and writes in the transaction, which stays that of its session. An error abandons the transaction, and is answered as it
+    /// is. What a later run may make, this one may make.
     fn run(
         &mut self,
         rt: &R,
@@ -44,55 +43,57 @@ pub trait Body<N: Name, A: Allocator + Copy, R: Wait> {
         work: &mut Transaction<N, A>,
     ) -> Result<Self::Value, Self::Error>
         ensures made { makes self.old work.old result work.new }
-        ensures keeps { Goes (makes self.new) (makes self.old) };
+        ensures keeps { Goes (makes self.new) (makes self.old) }
+        ensures own { work.new.front.party ≡ work.old.front.party };
 }
 
-/// The transaction that was begun, for a body to read and write in. A worker or a session owns one, which has the tables of the store.
+/// The transaction that was begun, for a body to read and write in. A worker or a session owns one, which has the tables of the store, and
+/// what the session has seen of the store's history.
 #[derive(Drop)]
 pub struct Transaction<N: Name, A: Allocator + Copy> {
-    session: usize,
+    pub(crate) session: usize,
     schema: Arc<Schema<A>, A>,
-    draft: OpenTransaction<A>,
-    name: PhantomData<N>,
+    pub(crate) draft: OpenTransaction<A>,
+    pub(crate) front: FrontOf<N>,
 }
 
 impl<N: Name, A: Allocator + Copy> Model for Transaction<N, A> {
     ghost use Rattle.std.specs.Prelude.{◌≡◌};
     ghost use Rattle.std.specs.Arc.{arc_value};
-    ghost use Rattle.occ_store.specs.Transactions.{TransactionView};
+    ghost use Rattle.occ_store.specs.Transactions.{TransactionView, IsReader};
 
     ghost Value = { TransactionView };
 
-    ghost view = { λ t. record { session = t.session; draft = t.draft } };
+    ghost view = { λ t. record { session = t.session; draft = t.draft; front = t.front } };
 
-    ghost invariant = { λ t. arc_value t.schema ≡ N.named.settings.schema };
+    ghost invariant = { λ t. (arc_value t.schema ≡ N.named.settings.schema) × IsReader t.front.party t.session };
 }
 
 impl<N: Name, A: Allocator + Copy> Transaction<N, A> {
     /// That of a session, in which none is begun.
-    pub(crate) fn new(session: usize, schema: Arc<Schema<A>, A>) -> Transaction<N, A>
+    pub(crate) fn new(
+        session: usize,
+        schema: Arc<Schema<A>, A>,
+        front: FrontOf<N>,
+    ) -> Transaction<N, A>
         requires schema { arc_value schema ≡ N.named.settings.schema }
-        ensures { result ≡ record { session = session; draft = None } }
+        requires reader { IsReader front.party session }
+        ensures { result ≡ record { session = session; draft = None; front = front } }
     {
         Transaction {
             session,
             schema,
             draft: OpenTransaction::none(),
-            name: PhantomData,
+            front,
         }
     }
 
-    /// Puts this one of this session in, and takes out the one that was in it.
-    pub(crate) fn replace(
-        &mut self,
-        session: usize,
-        draft: OpenTransaction<A>,
-    ) -> OpenTransaction<A>
-        ensures was { result ≡ self.old.draft }
-        ensures new { self.new ≡ record { session = session; draft = draft } }
+    /// The session that it is of.
+    pub(crate) fn session(&self) -> usize
+        ensures session { result ≡ self.now.session }
+        ensures reader { IsReader self.now.front.party self.now.session }
     {
-        self.session = session;
-        mem::replace(&mut self.draft, draft)
+        self.session
     }
 
     /// The tables of the store.
@@ -101,82 +102,52 @@ impl<N: Name, A: Allocator + Copy> Transaction<N, A> {
     {
         &self.schema
     }
+
+    /// Whether one is open.
+    pub(crate) fn is_open(&self) -> bool
+        ensures { result ≡ is_some self.now.draft }
+    {
+        self.draft.is_open()
+    }
+
+    /// The number of the one that is open.
+    pub(crate) fn number(&self) -> Option<u64>
+        ensures { result ≡ option_map (λ copy. copy.number) self.now.draft }
+    {
+        self.draft.number()
+    }
+
+    /// Opens one with this number, which starts at this counter, in the place of what was open. Refused with `NumbersExhausted` where only
+    /// the number of the closing mark is left, and none is open then.
+    pub(crate) fn begin(&mut self, alloc: A, number: u64, start: u64) -> Result<(), Fault>
+        ensures ok { OnOk result (self.new ≡ record self.old { draft = Some (begun number start) }) }
+        ensures err { OnErr result (self.new ≡ record self.old { draft = None }) }
+        ensures fault { result_err result ≡ numbers_exhausted number }
+    {
+        self.draft = OpenTransaction::none();
+        self.draft.begin(alloc, number, start)
+    }
+
+    /// The request that it becomes, as `OpenTransaction::into_request`. None is open then.
+    pub(crate) fn into_request(&mut self) -> Result<(u64, u64, RequestWrites<A>), Fault>
+        ensures ok { IfOk result (λ request. self.old.draft ≡ Some (record { number = request.0; start = request.1; writes = request.2 })) }
+        ensures fits { IfOk result (λ request. IsWriteSet request.2) }
+        ensures none { self.new ≡ record self.old { draft = None } }
+        ensures fault { result_err result ≡ none_open self.old.draft }
+    {
+        self.draft.into_request()
+    }
+
+    /// Puts another one in, and takes out the one that was open.
+    pub(crate) fn replace(&mut self, draft: OpenTransaction<A>) -> OpenTransaction<A>
+        ensures was { result ≡ self.old.draft }
+        ensures new { self.new ≡ record self.old { draft = draft } }
+    {
+        mem::replace(&mut self.draft, draft)
+    }
 }
 
 impl<N: Name, A: Allocator + Copy> Transaction<N, A> {
-    /// The row under a key of a table: its own write of the key, and else what the store answers. Refused as `Session::get`.
-    pub fn get<R: Wait>(
-        &self,
-        rt: &R,
-        store: &Store<N, A>,
-        table: usize,
-        key: &Key<A>,
-    ) -> Result<Option<Row<A>>, Fault>
-        ensures { InOneHolding N.named.settings (λ old new.
-            OrStarves (WantsOwn old.settings.schema (table, key_of key.now) self.now.draft) old (reading result) new
-            (Gets old self.now.session (table, key_of key.now) self.now.draft (reading result) new)) }
-    {
-        let mut shared = store.lock(rt);
-        shared.law();
-        self.draft.get_in(&mut *shared, self.session, table, key)
-    }
-
-    /// The rows of a table from the lower end on and below the upper one, in the order of their keys, with its own writes over them.
-    /// Refused as `Session::scan`.
-    pub fn scan<R: Wait>(
-        &self,
-        rt: &R,
-        store: &Store<N, A>,
-        table: usize,
-        lower: Option<&Key<A>>,
-        upper: Option<&Key<A>>,
-    ) -> Result<RangeRows<A>, Fault>
-        ensures { InOneHolding N.named.settings (λ old new.
-            OrStarves (WantsRange old.settings.schema (Span table (end_of (option_copied lower.entry)) (end_of (option_copied upper.entry))) self.now.draft) old (scanning result) new
-            (Scans old self.now.session (Span table (end_of (option_copied lower.entry)) (end_of (option_copied upper.entry))) self.now.draft (scanning result) new)) }
-    {
-        let mut shared = store.lock(rt);
-        shared.law();
-        self.draft
-            .scan_in(&mut *shared, self.session, table, lower, upper)
-    }
-
-    /// The first rows of a range, at most `most` of them, and where the rows behind them begin, as `Session::scan_first`.
-    pub fn scan_first<R: Wait>(
-        &self,
-        rt: &R,
-        store: &Store<N, A>,
-        table: usize,
-        lower: Option<&Key<A>>,
-        upper: Option<&Key<A>>,
-        most: usize,
-    ) -> Result<Page<A>, Fault>
-        ensures { InOneHolding N.named.settings (λ old new. ScansPage old self.now.session (first_page table (end_of (option_copied lower.entry)) (end_of (option_copied upper.entry))) (first_rest_of old table (end_of (option_copied lower.entry)) (end_of (option_copied upper.entry)) most) self.now.draft result new) }
-    {
-        let mut shared = store.lock(rt);
-        shared.law();
-        self.draft
-            .scan_first_in(&mut *shared, self.session, table, lower, upper, most)
-    }
-
-    /// The last rows of a range, at most `most` of them, and where the rows before them end, as `Session::scan_last`.
-    pub fn scan_last<R: Wait>(
-        &self,
-        rt: &R,
-        store: &Store<N, A>,
-        table: usize,
-        lower: Option<&Key<A>>,
-        upper: Option<&Key<A>>,
-        most: usize,
-    ) -> Result<Page<A>, Fault>
-        ensures { InOneHolding N.named.settings (λ old new. ScansPage old self.now.session (last_page table (end_of (option_copied lower.entry)) (end_of (option_copied upper.entry))) (last_rest_of old table (end_of (option_copied lower.entry)) (end_of (option_copied upper.entry)) most) self.now.draft result new) }
-    {
-        let mut shared = store.lock(rt);
-        shared.law();
-        self.draft
-            .scan_last_in(&mut *shared, self.session, table, lower, upper, most)
-    }
-
     /// Writes a row under a key of a table, in the transaction alone. Refused as `Session::put`, and the write is handed back then.
     pub fn put(&mut self, table: usize, key: Key<A>, row: Row<A>) -> Result<(), Refused<Write<A>>>
         ensures ok { OnOk result (self.new ≡ record self.old { draft = written self.old.draft (table, key_of key) (Some row) }) }

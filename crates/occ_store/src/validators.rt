@@ -64,7 +64,7 @@ impl<N: Name, A: Allocator + Copy> Group<N, A> {
     pub fn serve<R: Wait + Clock, G: Gate>(&mut self, rt: &R, store: &Store<N, A>, gate: &G)
         ensures served { AreServed self.old.lanes.items self.new.lanes.items }
         ensures over { self.new.fault ≡ None → self.new.stopped ≡ false → AllAreOver (G.may_stop gate.now) self.new.lanes.items }
-        ensures ended { Ends N.named.settings (G.may_stop gate.now) self.old.lanes.items self.new.fault self.new.stopped self.new.lanes.items }
+        ensures ended { Ends N.named (G.may_stop gate.now) self.old.lanes.items self.new.fault self.new.stopped self.new.lanes.items }
         ensures stopped { self.new.stopped ≡ true → N.may_be_stopped }
     {
         self.fault = None;
@@ -85,14 +85,14 @@ impl<N: Name, A: Allocator + Copy> Group<N, A> {
     )
         requires marks { length over.old.items ≡ length self.old.lanes.items }
         requires over { self.old.fault ≡ None → AreOver (G.may_stop gate.now) over.old.items self.old.lanes.items }
-        requires ended { HaveEnded N.named.settings (G.may_stop gate.now) over.old.items self.old.lanes.items }
+        requires ended { HaveEnded N.named (G.may_stop gate.now) over.old.items self.old.lanes.items }
         requires stopped { self.old.stopped ≡ true → N.may_be_stopped }
-        requires met { IsMetMarked N.named.settings (G.may_stop gate.now) self.old.fault over.old.items self.old.lanes.items }
+        requires met { IsMetMarked N.named (G.may_stop gate.now) self.old.fault over.old.items self.old.lanes.items }
         ensures served { AreServed self.old.lanes.items self.new.lanes.items }
         ensures over { self.new.fault ≡ None → self.new.stopped ≡ false → AllAreOver (G.may_stop gate.now) self.new.lanes.items }
-        ensures ended { self.new.stopped ≡ false → AllHaveEnded N.named.settings (G.may_stop gate.now) self.new.lanes.items }
+        ensures ended { self.new.stopped ≡ false → AllHaveEnded N.named (G.may_stop gate.now) self.new.lanes.items }
         ensures stopped { self.new.stopped ≡ true → N.may_be_stopped }
-        ensures met { IsMet N.named.settings (G.may_stop gate.now) self.new.fault self.new.lanes.items }
+        ensures met { IsMet N.named (G.may_stop gate.now) self.new.fault self.new.lanes.items }
     {
         let mut idle = 0u64;
         for _ in rt.forever() {
@@ -119,15 +119,15 @@ impl<N: Name, A: Allocator + Copy> Group<N, A> {
     ) -> bool
         requires marks { length over.old.items ≡ length self.old.lanes.items }
         requires over { self.old.fault ≡ None → AreOver (G.may_stop gate.now) over.old.items self.old.lanes.items }
-        requires ended { HaveEnded N.named.settings (G.may_stop gate.now) over.old.items self.old.lanes.items }
+        requires ended { HaveEnded N.named (G.may_stop gate.now) over.old.items self.old.lanes.items }
         requires stopped { self.old.stopped ≡ true → N.may_be_stopped }
-        requires met { IsMetMarked N.named.settings (G.may_stop gate.now) self.old.fault over.old.items self.old.lanes.items }
+        requires met { IsMetMarked N.named (G.may_stop gate.now) self.old.fault over.old.items self.old.lanes.items }
         ensures marks { length over.new.items ≡ length self.new.lanes.items }
         ensures served { AreServed self.old.lanes.items self.new.lanes.items }
         ensures over { self.new.fault ≡ None → AreOver (G.may_stop gate.now) over.new.items self.new.lanes.items }
-        ensures ended { HaveEnded N.named.settings (G.may_stop gate.now) over.new.items self.new.lanes.items }
+        ensures ended { HaveEnded N.named (G.may_stop gate.now) over.new.items self.new.lanes.items }
         ensures stopped { self.new.stopped ≡ true → N.may_be_stopped }
-        ensures met { IsMetMarked N.named.settings (G.may_stop gate.now) self.new.fault over.new.items self.new.lanes.items }
+        ensures met { IsMetMarked N.named (G.may_stop gate.now) self.new.fault over.new.items self.new.lanes.items }
     {
         let mut moved = false;
         for place in 0..self.lanes.len() {
@@ -150,15 +150,15 @@ impl<N: Name, A: Allocator + Copy> Group<N, A> {
         requires there { place < length self.old.lanes.items }
         requires marks { length over.old.items ≡ length self.old.lanes.items }
         requires over { self.old.fault ≡ None → AreOver (G.may_stop gate.now) over.old.items self.old.lanes.items }
-        requires ended { HaveEnded N.named.settings (G.may_stop gate.now) over.old.items self.old.lanes.items }
+        requires ended { HaveEnded N.named (G.may_stop gate.now) over.old.items self.old.lanes.items }
         requires stopped { self.old.stopped ≡ true → N.may_be_stopped }
-        requires met { IsMetMarked N.named.settings (G.may_stop gate.now) self.old.fault over.old.items self.old.lanes.items }
+        requires met { IsMetMarked N.named (G.may_stop gate.now) self.old.fault over.old.items self.old.lanes.items }
         ensures marks { length over.new.items ≡ length self.new.lanes.items }
         ensures served { AreServed self.old.lanes.items self.new.lanes.items }
         ensures over { self.new.fault ≡ None → AreOver (G.may_stop gate.now) over.new.items self.new.lanes.items }
-        ensures ended { HaveEnded N.named.settings (G.may_stop gate.now) over.new.items self.new.lanes.items }
+        ensures ended { HaveEnded N.named (G.may_stop gate.now) over.new.items self.new.lanes.items }
         ensures stopped { self.new.stopped ≡ true → N.may_be_stopped }
-        ensures met { IsMetMarked N.named.settings (G.may_stop gate.now) self.new.fault over.new.items self.new.lanes.items }
+        ensures met { IsMetMarked N.named (G.may_stop gate.now) self.new.fault over.new.items self.new.lanes.items }
     {
         if over[place] {
             return false;
@@ -185,7 +185,7 @@ fn serve_one<N: Name, A: Allocator + Copy, R: Wait, G: Gate>(
     store: &Store<N, A>,
     gate: &G,
 ) -> Result<Served, Fault>
-    ensures { Serves N.named.settings (G.may_stop gate.now) lane.old result lane.new }
+    ensures { Serves N.named (G.may_stop gate.now) lane.old result lane.new }
 {
     lane.serve_one(rt, store, gate)
 }
@@ -202,9 +202,9 @@ fn serve_lane<N: Name, A: Allocator + Copy, R: Wait, G: Gate>(
     ensures served { IsServed lane.old lane.new }
     ensures over { result ≡ Over → fault.new ≡ None → IsOver (G.may_stop gate.now) lane.new }
     ensures first { fault.new ≡ None → fault.old ≡ None }
-    ensures ended { result ≡ Over → HasEnded N.named.settings (G.may_stop gate.now) lane.new }
+    ensures ended { result ≡ Over → HasEnded N.named (G.may_stop gate.now) lane.new }
     ensures still { (fault.new ≡ fault.old) ⊎ (result ≡ Over) }
-    ensures tells { TellsFault N.named.settings (G.may_stop gate.now) lane.old fault.old fault.new lane.new }
+    ensures tells { TellsFault N.named (G.may_stop gate.now) lane.old fault.old fault.new lane.new }
 {
     match serve_one(lane, rt, store, gate) {
         Ok(Served::Settled(_)) => Turn::Moved,

@@ -1,18 +1,22 @@
 //! How a worker ends its transactions: one holding of the lock for each event.
 ghost use Rattle.std.specs.Prelude.{◌≡◌, ◌+◌, ◌^◌, ◌<◌, ℕ, false, Some, None, Ok, IfOk, IfErr, IfSome, OnErr, OnOk};
-ghost use Rattle.occ_model.specs.Event.{Item as PlainItem, Reply};
-ghost use Rattle.occ_model.specs.Replies.{replied_back};
+ghost use Rattle.occ_model.specs.Event.{Item as PlainItem, Reply, BackedUp, Decide};
+ghost use Rattle.occ_model.specs.Event as events;
+ghost use Rattle.occ_history.specs.History.{Session as SessionParty};
+ghost use Rattle.occ_model.specs.Replies.{replied_back, replied};
 ghost use Rattle.occ_model.specs.declared.verdict.Verdict.TheVariants.{Commit, BackUp};
 ghost use Rattle.occ_core.specs.Replies.{outcome_of};
 ghost use Rattle.occ_queue.specs.Items.{item_of, number_of, is_mark};
-ghost use Rattle.occ_store.specs.Locked.{rows_entered};
+ghost use Rattle.occ_store.specs.Locked.{rows_entered, Happens, BacksUp};
 ghost use Rattle.occ_store.specs.Lanes.{Nothing, Kept, Decided, left_of, token_left, number_left};
-ghost use Rattle.occ_store.specs.Workers.{HandedIn, IsUnmarked, IsUnmarkedOutcome, IsRow, begin_fault, holding, unentered, IsKept, Over, LeftOver, GoesOn, LeftOf, StaysLeft, HappensTo, Takes, TakesIn, Advances, IsAnswered, left_taking, DecidesSo, Commits, ConcludesAs};
+ghost use Rattle.occ_store.specs.Workers.{HandedIn, IsUnmarked, IsUnmarkedOutcome, IsRow, begin_fault, holding, unentered, IsKept, Over, LeftOver, EndsLeft, GoesOn, LeftOf, StaysLeft, HappensTo, Takes, TakesIn, Advances, IsAnswered, left_taking, DecidesSo, Commits, ConcludesAs};
+ghost use Rattle.occ_store.specs.Standing.{GoesOnTo};
 
 use crate::names::Name;
 use crate::publishing::rows_in;
 use crate::shared::Shared;
 use crate::stores::Store;
+use crate::transactions::Transaction;
 use crate::unfinished::Left;
 use crate::workers::Worker;
 use occ_case::{Cause, Ended, Verdict};
@@ -39,10 +43,11 @@ impl<N: Name, A: Allocator + Copy> Worker<N, A> {
         requires spare { begin_fault self.old ≡ None }
         requires next { number_of (item_of item) ≡ self.old.last + 1 }
         requires unmarked { is_mark (item_of item) ≡ false }
-        ensures over { IfOk result (λ ended. Over N.named.settings self.old.session (item_of item) ended) }
-        ensures nothing_left { OnOk result (self.new ≡ record self.old { last = self.old.last + 1; entered = self.old.entered + 1 }) }
-        ensures kept { OnErr result (IsKept self.new × (self.new ≡ record self.old { last = self.old.last + 1; entered = self.new.entered; left = self.new.left })) }
-        ensures left { OnErr result (LeftOf N.named.settings self.old.session (item_of item) self.new.left) }
+        ensures over { IfOk result (λ ended. Over N.named self.old.session (item_of item) ended self.old.front self.new.front) }
+        ensures nothing_left { OnOk result (self.new ≡ record self.old { last = self.old.last + 1; entered = self.old.entered + 1; front = self.new.front }) }
+        ensures kept { OnErr result (IsKept self.new × (self.new ≡ record self.old { last = self.old.last + 1; entered = self.new.entered; left = self.new.left; front = self.new.front })) }
+        ensures left { OnErr result (LeftOf N.named self.old.session (item_of item) self.new.left self.old.front self.new.front) }
+        ensures seen { OnErr result (GoesOnTo self.old.front self.new.front) }
     {
         match self.hand_in(rt, store, item) {
             Ok(Some(ended)) => Ok(ended),
@@ -62,7 +67,7 @@ impl<N: Name, A: Allocator + Copy> Worker<N, A> {
         requires spare { begin_fault self.old ≡ None }
         requires next { number_of (item_of item) ≡ self.old.last + 1 }
         requires unmarked { is_mark (item_of item) ≡ false }
-        ensures { HappensTo N.named.settings (holding self.old (item_of item)) (Kept (item_of item)) result self.new }
+        ensures { HappensTo N.named (holding self.old (item_of item)) (Kept (item_of item)) result self.new }
     {
         let mut shared = store.lock(rt);
         shared.law();
@@ -84,7 +89,7 @@ impl<N: Name, A: Allocator + Copy> Worker<N, A> {
         let number = item.number();
         let share = &mut self.share;
         let entered = &mut self.entered;
-        let (left, taken) = take_in(shared, self.session, item, share, entered);
+        let (left, taken) = self.transaction.take_in(shared, item, share, entered);
         self.last = number;
         self.left = left;
         taken
@@ -105,9 +110,11 @@ impl<N: Name, A: Allocator + Copy> Worker<N, A> {
     /// Brings to its end what an error left, where something is. How that ended is not told. A worker that has nothing left doesn't take
     /// the lock.
     pub(crate) fn end_left<R: Wait>(&mut self, rt: &R, store: &Store<N, A>) -> Result<(), Fault>
-        ensures nothing_left { OnOk result (self.new ≡ record self.old { left = Nothing; entered = self.new.entered }) }
-        ensures kept { OnErr result (IsKept self.new × (self.new ≡ record self.old { left = self.new.left; entered = self.new.entered })) }
-        ensures left { OnErr result (StaysLeft N.named.settings self.old self.new) }
+        ensures ended { OnOk result (EndsLeft N.named self.old self.new.front) }
+        ensures nothing_left { OnOk result (self.new ≡ record self.old { left = Nothing; entered = self.new.entered; front = self.new.front }) }
+        ensures kept { OnErr result (IsKept self.new × (self.new ≡ record self.old { left = self.new.left; entered = self.new.entered; front = self.new.front })) }
+        ensures left { OnErr result (StaysLeft N.named self.old self.new) }
+        ensures seen { GoesOnTo self.old.front self.new.front }
     {
         if !self.has_left() {
             return Ok(());
@@ -125,10 +132,11 @@ impl<N: Name, A: Allocator + Copy> Worker<N, A> {
         rt: &R,
         store: &Store<N, A>,
     ) -> Result<Option<Ended<()>>, Fault>
-        ensures over { IfOk result (LeftOver N.named.settings self.old) }
-        ensures nothing_left { OnOk result (self.new ≡ record self.old { left = Nothing; entered = self.new.entered }) }
-        ensures kept { OnErr result (IsKept self.new × (self.new ≡ record self.old { left = self.new.left; entered = self.new.entered })) }
-        ensures left { OnErr result (StaysLeft N.named.settings self.old self.new) }
+        ensures over { IfOk result (λ ended. LeftOver N.named self.old ended self.new.front) }
+        ensures nothing_left { OnOk result (self.new ≡ record self.old { left = Nothing; entered = self.new.entered; front = self.new.front }) }
+        ensures kept { OnErr result (IsKept self.new × (self.new ≡ record self.old { left = self.new.left; entered = self.new.entered; front = self.new.front })) }
+        ensures left { OnErr result (StaysLeft N.named self.old self.new) }
+        ensures seen { GoesOnTo self.old.front self.new.front }
     {
         if !self.has_left() {
             return Ok(None);
@@ -146,10 +154,11 @@ impl<N: Name, A: Allocator + Copy> Worker<N, A> {
     // Brings to its end what is left, in a lease.
     fn go_on_leased<R: Wait>(&mut self, rt: &R, store: &Store<N, A>) -> Result<Ended<()>, Fault>
         requires { IsKept self.old }
-        ensures over { IfOk result (λ ended. LeftOver N.named.settings self.old (Some ended)) }
-        ensures nothing_left { OnOk result (self.new ≡ record self.old { left = Nothing; entered = self.old.entered + unentered self.old.left }) }
-        ensures goes_on { OnErr result (GoesOn N.named.settings self.old self.new) }
-        ensures left { OnErr result (StaysLeft N.named.settings self.old self.new) }
+        ensures over { IfOk result (λ ended. LeftOver N.named self.old (Some ended) self.new.front) }
+        ensures nothing_left { OnOk result (self.new ≡ record self.old { left = Nothing; entered = self.old.entered + unentered self.old.left; front = self.new.front }) }
+        ensures goes_on { OnErr result (GoesOn N.named self.old self.new) }
+        ensures left { OnErr result (StaysLeft N.named self.old self.new) }
+        ensures seen { GoesOnTo self.old.front self.new.front }
     {
         let _lease = store.lease(rt);
         self.go_on(rt, store)
@@ -158,10 +167,11 @@ impl<N: Name, A: Allocator + Copy> Worker<N, A> {
     // Brings to its end what is left.
     fn go_on<R: Wait>(&mut self, rt: &R, store: &Store<N, A>) -> Result<Ended<()>, Fault>
         requires { IsKept self.old }
-        ensures over { IfOk result (λ ended. LeftOver N.named.settings self.old (Some ended)) }
-        ensures nothing_left { OnOk result (self.new ≡ record self.old { left = Nothing; entered = self.old.entered + unentered self.old.left }) }
-        ensures goes_on { OnErr result (GoesOn N.named.settings self.old self.new) }
-        ensures left { OnErr result (StaysLeft N.named.settings self.old self.new) }
+        ensures over { IfOk result (λ ended. LeftOver N.named self.old (Some ended) self.new.front) }
+        ensures nothing_left { OnOk result (self.new ≡ record self.old { left = Nothing; entered = self.old.entered + unentered self.old.left; front = self.new.front }) }
+        ensures goes_on { OnErr result (GoesOn N.named self.old self.new) }
+        ensures left { OnErr result (StaysLeft N.named self.old self.new) }
+        ensures seen { GoesOnTo self.old.front self.new.front }
     {
         for _ in rt.forever() {
             match self.event(rt, store) {
@@ -175,7 +185,7 @@ impl<N: Name, A: Allocator + Copy> Worker<N, A> {
 
     // One event of what is left, in a holding of the lock. How the transaction ended, where it is over by it.
     fn event<R: Wait>(&mut self, rt: &R, store: &Store<N, A>) -> Result<Option<Ended<()>>, Fault>
-        ensures { HappensTo N.named.settings self.old self.old.left result self.new }
+        ensures { HappensTo N.named self.old self.old.left result self.new }
     {
         let mut shared = store.lock(rt);
         shared.law();
@@ -193,7 +203,7 @@ impl<N: Name, A: Allocator + Copy> Worker<N, A> {
             Left::Kept(item) => {
                 let share = &mut self.share;
                 let entered = &mut self.entered;
-                let (left, taken) = take_in(shared, self.session, item, share, entered);
+                let (left, taken) = self.transaction.take_in(shared, item, share, entered);
                 self.left = left;
                 taken
             }
@@ -211,7 +221,7 @@ impl<N: Name, A: Allocator + Copy> Worker<N, A> {
         requires last { number ≡ self.old.last }
         ensures { DecidesSo self.old number shared.old result self.new shared.new }
     {
-        match shared.decide(self.session) {
+        match self.transaction.decide(shared) {
             Ok(verdict) => {
                 self.keep(Left::Decided { number, verdict });
                 Ok(None)
@@ -230,7 +240,7 @@ impl<N: Name, A: Allocator + Copy> Worker<N, A> {
         requires last { number ≡ self.old.last }
         ensures { ConcludesAs self.old number Commit shared.old result self.new shared.new }
     {
-        match write_or_finish(shared, self.session) {
+        match self.transaction.write_or_finish(shared) {
             Ok(Some(ended)) => Ok(Some(ended)),
             Ok(None) => {
                 self.keep(committing(number));
@@ -254,7 +264,7 @@ impl<N: Name, A: Allocator + Copy> Worker<N, A> {
         requires last { number ≡ self.old.last }
         ensures { ConcludesAs self.old number (BackUp cause) shared.old result self.new shared.new }
     {
-        match shared.back_up(self.session, cause) {
+        match self.transaction.back_up(shared, cause) {
             Ok(_number) => Ok(Some(Ended::BackedUp(cause))),
             Err(fault) => {
                 let verdict = Verdict::BackUp(cause);
@@ -274,72 +284,101 @@ impl<N: Name, A: Allocator + Copy> Worker<N, A> {
     }
 }
 
-// The row of a session that is decided to commit does its next single write, or finishes.
-fn write_or_finish<N: Name, A: Allocator + Copy>(
-    shared: &mut Shared<N, A>,
-    session: usize,
-) -> Result<Option<Ended<()>>, Fault>
-    ensures { Commits session shared.old result shared.new }
-{
-    if shared.core().next_write(session).is_some() {
-        let _write = shared.write_one(session)?;
-        return Ok(None);
+// The events of a worker's transaction, on the locked state.
+impl<N: Name, A: Allocator + Copy> Transaction<N, A> {
+    // Its row is decided.
+    fn decide(&mut self, shared: &mut Shared<N, A>) -> Result<Verdict, Fault>
+        requires own { self.old.front.party ≡ SessionParty self.old.session }
+        ensures decided { Happens self.old.front shared.old self.old.session (Decide self.old.session) (replied events.Decided result) self.new.front shared.new }
+        ensures same { self.new ≡ record self.old { front = self.new.front } }
+        ensures party { self.new.front.party ≡ self.old.front.party }
+    {
+        shared.decide(&mut self.front, self.session)
     }
-    let tn = shared.finish(session)?;
-    Ok(Some(Ended::Committed { tn, value: () }))
-}
 
-// An item comes in. It answers what is left of it, and how it ended, where it is over.
-fn take_in<N: Name, A: Allocator + Copy>(
-    shared: &mut Shared<N, A>,
-    session: usize,
-    item: Item<A>,
-    share: &mut Share<N>,
-    entered: &mut u64,
-) -> (Left<A>, Result<Option<Ended<()>>, Fault>)
-    requires part { 0 < share.old.parts }
-    requires amount { share.old.amount ≡ entered.old }
-    requires unmarked { is_mark (item_of item) ≡ false }
-    ensures step { (reply : Reply) × Takes session (item_of item) shared.old reply shared.new × IsAnswered reply result.1
-        × (left_of result.0 ≡ left_taking (item_of item) reply) × (entered.new ≡ entered.old + rows_entered reply) }
-    ensures handed_in { (first last : ℕ) → HandedIn first last entered.old (Kept (item_of item)) → HandedIn first last entered.new (left_of result.0) }
-    ensures unfiled { token_left (left_of result.0) ≡ None }
-    ensures number { IfSome (number_left (left_of result.0)) (λ number. number ≡ number_of (item_of item)) }
-    ensures unmarked { IsUnmarked (left_of result.0) }
-    ensures amount { share.new.amount ≡ entered.new }
-    ensures parts { share.new.parts ≡ share.old.parts }
-{
-    let number = item.number();
-    match enter(shared, session, item, share) {
-        Ok(outcome) => {
-            *entered += rows_in(&outcome);
-            let (left, ended) = after(outcome, number);
-            (left, Ok(ended))
+    // Its row, which was decided to commit, does its next single write, or finishes.
+    fn write_or_finish(&mut self, shared: &mut Shared<N, A>) -> Result<Option<Ended<()>>, Fault>
+        requires own { self.old.front.party ≡ SessionParty self.old.session }
+        ensures commits { Commits self.old.front self.old.session shared.old result self.new.front shared.new }
+        ensures same { self.new ≡ record self.old { front = self.new.front } }
+        ensures party { self.new.front.party ≡ self.old.front.party }
+    {
+        if shared.core().next_write(self.session).is_some() {
+            let _write = shared.write_one(&mut self.front, self.session)?;
+            return Ok(None);
         }
-        Err(refused) => (Left::Kept(refused.value), Err(refused.fault)),
+        let tn = shared.finish(&mut self.front, self.session)?;
+        Ok(Some(Ended::Committed { tn, value: () }))
     }
-}
 
-// An item ends serially where no row is active, and else enters, without a case that is filed.
-fn enter<N: Name, A: Allocator + Copy>(
-    shared: &mut Shared<N, A>,
-    session: usize,
-    item: Item<A>,
-    share: &mut Share<N>,
-) -> Result<Outcome<A>, Refused<Item<A>>>
-    requires part { 0 < share.old.parts }
-    requires unmarked { is_mark (item_of item) ≡ false }
-    ensures step { Takes session (item_of item) shared.old (replied_back outcome_of result) shared.new }
-    ensures unmarked { IfOk result IsUnmarkedOutcome }
-    ensures handed_back { IfErr result (λ refused. item_of refused.value ≡ item_of item) }
-    ensures counted { share.new.amount ≡ share.old.amount + rows_entered (replied_back outcome_of result) }
-    ensures bound { OnOk result (share.new.amount < 2 ^ 64) }
-    ensures parts { share.new.parts ≡ share.old.parts }
-{
-    if shared.core().active() == 0 {
-        return shared.serial_end(session, item, share);
+    // Its row is backed up, for the cause that was kept.
+    fn back_up(&mut self, shared: &mut Shared<N, A>, cause: Cause) -> Result<u64, Fault>
+        requires own { self.old.front.party ≡ SessionParty self.old.session }
+        ensures backed_up { BacksUp self.old.front shared.old self.old.session cause (replied BackedUp result) self.new.front shared.new }
+        ensures same { self.new ≡ record self.old { front = self.new.front } }
+        ensures party { self.new.front.party ≡ self.old.front.party }
+    {
+        shared.back_up(&mut self.front, self.session, cause)
     }
-    shared.enter_unfiled(session, item, share)
+
+    // An item comes in. It answers what is left of it, and how it ended, where it is over.
+    fn take_in(
+        &mut self,
+        shared: &mut Shared<N, A>,
+        item: Item<A>,
+        share: &mut Share<N>,
+        entered: &mut u64,
+    ) -> (Left<A>, Result<Option<Ended<()>>, Fault>)
+        requires own { self.old.front.party ≡ SessionParty self.old.session }
+        requires part { 0 < share.old.parts }
+        requires amount { share.old.amount ≡ entered.old }
+        requires unmarked { is_mark (item_of item) ≡ false }
+        ensures step { (reply : Reply) × Takes self.old.front self.old.session (item_of item) shared.old reply self.new.front shared.new × IsAnswered reply result.1
+            × (left_of result.0 ≡ left_taking (item_of item) reply) × (entered.new ≡ entered.old + rows_entered reply) }
+        ensures same { self.new ≡ record self.old { front = self.new.front } }
+        ensures party { self.new.front.party ≡ self.old.front.party }
+        ensures handed_in { (first last : ℕ) → HandedIn first last entered.old (Kept (item_of item)) → HandedIn first last entered.new (left_of result.0) }
+        ensures unfiled { token_left (left_of result.0) ≡ None }
+        ensures number { IfSome (number_left (left_of result.0)) (λ number. number ≡ number_of (item_of item)) }
+        ensures unmarked { IsUnmarked (left_of result.0) }
+        ensures amount { share.new.amount ≡ entered.new }
+        ensures parts { share.new.parts ≡ share.old.parts }
+    {
+        let number = item.number();
+        match self.enter(shared, item, share) {
+            Ok(outcome) => {
+                *entered += rows_in(&outcome);
+                let (left, ended) = after(outcome, number);
+                (left, Ok(ended))
+            }
+            Err(refused) => (Left::Kept(refused.value), Err(refused.fault)),
+        }
+    }
+
+    // An item ends serially where no row is active, and else enters, without a case that is filed.
+    fn enter(
+        &mut self,
+        shared: &mut Shared<N, A>,
+        item: Item<A>,
+        share: &mut Share<N>,
+    ) -> Result<Outcome<A>, Refused<Item<A>>>
+        requires own { self.old.front.party ≡ SessionParty self.old.session }
+        requires part { 0 < share.old.parts }
+        requires unmarked { is_mark (item_of item) ≡ false }
+        ensures step { Takes self.old.front self.old.session (item_of item) shared.old (replied_back outcome_of result) self.new.front shared.new }
+        ensures same { self.new ≡ record self.old { front = self.new.front } }
+        ensures party { self.new.front.party ≡ self.old.front.party }
+        ensures unmarked { IfOk result IsUnmarkedOutcome }
+        ensures handed_back { IfErr result (λ refused. item_of refused.value ≡ item_of item) }
+        ensures counted { share.new.amount ≡ share.old.amount + rows_entered (replied_back outcome_of result) }
+        ensures bound { OnOk result (share.new.amount < 2 ^ 64) }
+        ensures parts { share.new.parts ≡ share.old.parts }
+    {
+        if shared.core().active() == 0 {
+            return shared.serial_end(&mut self.front, self.session, item, share);
+        }
+        shared.enter_unfiled(&mut self.front, self.session, item, share)
+    }
 }
 
 // What is left of an item with this number by what came of it, and how it ended, where it is over.

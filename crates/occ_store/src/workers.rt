@@ -1,19 +1,20 @@
 //! Workers: a session whose one thread ends its transactions itself.
-ghost use Rattle.std.specs.Prelude.{◌≡◌, ◌⊎◌, ◌<◌, ◌≤◌, true, ⊤, if◌then◌else◌, ◌==◌, is_some, IfErr, IfOk, OnOk, OnErr, IsTrue, MatchOption};
+ghost use Rattle.std.specs.Prelude.{◌≡◌, ◌<◌, ◌≤◌, true, ⊤, if◌then◌else◌, ◌==◌, is_some, IfErr, IfOk, OnOk, OnErr, IsTrue, MatchOption};
 ghost use Rattle.std.specs.Arc.{arc_value};
 ghost use Rattle.std.specs.Result.{result_err};
-ghost use Rattle.occ_core.specs.AutoCheckpoints.{no_checkpoints, due_each, is_due, checked_point, counted};
+ghost use Rattle.occ_core.specs.AutoCheckpoints.{due_each, is_due, checked_point, counted};
 ghost use Rattle.occ_sets.specs.Operations.{ops_of};
 ghost use Rattle.occ_types.specs.declared.limits.TheConstants.{MAX_NUMBER};
 ghost use Rattle.occ_store.specs.Bodies.{stays_fault, Performing};
 ghost use Rattle.occ_store.specs.Lanes.{Nothing, number_left};
 ghost use Rattle.occ_store.specs.Tries.{most_tries};
-ghost use Rattle.occ_store.specs.Workers.{unused_worker, alone_fault, Ends, HandsInUpTo, HandsInFewer, Stops, TriesList, Runs, RunsOut, RunStops, RunsAlone, HandsInAlone, AloneStops, IsKept, Counts, count_ended, count_tried, count_listed, count_run};
+ghost use Rattle.occ_store.specs.Workers.{unused_worker, alone_fault, Ends, HandsInUpTo, HandsInFewer, TriesList, Runs, RunsOut, RunStops, RunsAlone, HandsInAlone, AloneStops, IsKept, Counts, count_ended, count_tried, count_listed, count_run, AfterPoint, PointStands};
+ghost use Rattle.occ_history.specs.History.{Session as SessionParty};
 
 use crate::leases::Lease;
-use crate::names::Name;
+use crate::names::{FrontOf, Name};
 use crate::operations::{Operations, copied};
-use crate::short_logs::{checkpoint_if_due, count_end};
+use crate::short_logs::count_end;
 use crate::stores::Store;
 use crate::transactions::{Body, Transaction};
 use crate::unfinished::Left;
@@ -36,7 +37,6 @@ use std::sync::{Arc, Wait};
 #[derive(Drop)]
 pub struct Worker<N: Name, A: Allocator + Copy> {
     pub(crate) alloc: A,
-    pub(crate) session: usize,
     pub(crate) transaction: Transaction<N, A>,
     pub(crate) seat: Seat<A>,
     // The number that it began behind, and the one of the last transaction that it handed in.
@@ -53,6 +53,7 @@ impl<N: Name, A: Allocator + Copy> Model for Worker<N, A> {
     ghost use Rattle.std.specs.Coded.{codes};
     ghost use Rattle.boxcar.specs.Table.{where_coded};
     ghost use Rattle.occ_types.specs.declared.limits.TheConstants.{MAX_NUMBER};
+    ghost use Rattle.occ_history.specs.History.{Session};
     ghost use Rattle.occ_store.specs.Lanes.{left_of, token_left, number_left};
     ghost use Rattle.occ_store.specs.Workers.{WorkerView, HandedIn, IsUnmarked};
 
@@ -60,10 +61,11 @@ impl<N: Name, A: Allocator + Copy> Model for Worker<N, A> {
 
     ghost coded = { Prim.hlevel (codes, where_coded) };
 
-    ghost view = { λ w. record { session = w.session; schema = N.named.settings.schema; seat = w.seat.seen; first = w.first; last = w.last; entered = w.entered; left = left_of w.left; checkpoints = w.checkpoints } };
+    ghost view = { λ w. record { session = w.transaction.session; schema = N.named.settings.schema; seat = w.seat.seen; first = w.first; last = w.last; entered = w.entered; left = left_of w.left; checkpoints = w.checkpoints; front = w.transaction.front } };
 
     ghost invariant = { λ w. (w.seat.board ≡ N.named.board)
-        × (w.seat.seen.session ≡ w.session)
+        × (w.seat.seen.session ≡ w.transaction.session)
+        × (w.transaction.front.party ≡ Session w.transaction.session)
         × (w.share.parts ≡ 1)
         × (w.share.amount ≡ w.entered)
         × (w.last ≤ MAX_NUMBER)
@@ -78,7 +80,7 @@ impl<N: Name, A: Allocator + Copy> Worker<N, A> {
     pub fn session(&self) -> usize
         ensures { result ≡ self.now.session }
     {
-        self.session
+        self.transaction.session()
     }
 
     /// The tables of the store.
@@ -135,9 +137,15 @@ impl<N: Name, A: Allocator + Copy> Worker<N, A> {
         store: &Store<N, A>,
     ) -> Option<Result<usize, Fault>>
         ensures due { is_some result ≡ is_due self.old.checkpoints }
-        ensures left { self.new ≡ record self.old { checkpoints = checked_point result self.old.checkpoints } }
+        ensures stands { PointStands N.named result self.old.front self.new.front }
+        ensures left { self.new ≡ record self.old { checkpoints = checked_point result self.old.checkpoints; front = self.new.front } }
     {
-        checkpoint_if_due(&mut self.checkpoints, rt, store)
+        if !self.checkpoints.is_due() {
+            return None;
+        }
+        let folded = Some(self.transaction.checkpoint(rt, store));
+        self.checkpoints.note(&folded);
+        folded
     }
 
     // Counts how a transaction ended, where it committed.
@@ -174,10 +182,9 @@ impl<N: Name, A: Allocator + Copy> Worker<N, A> {
         tries: usize,
         body: &mut B,
     ) -> Result<Ended<B::Value>, B::Error>
-        ensures ended { IfOk result (λ ended. Ends N.named.settings (B.makes body.old) (most_tries tries) self.old ended self.new) }
-        ensures few { OnErr result (HandsInUpTo N.named.settings (B.makes body.old) (most_tries tries) self.old self.new) }
-        ensures fewer { OnErr result (self.new.left ≡ Nothing → HandsInFewer N.named.settings (B.makes body.old) (most_tries tries) self.old self.new) }
-        ensures error { IfErr result (Stops (B.makes body.old) B.Error.from_gives N.named.settings self.new) }
+        ensures ended { IfOk result (λ ended. AfterPoint N.named self.old (λ begun. Ends N.named (B.makes body.old) (most_tries tries) begun ended self.new)) }
+        ensures few { IfErr result (λ error. AfterPoint N.named self.old (λ begun. HandsInUpTo N.named (B.makes body.old) B.Error.from_gives (most_tries tries) begun error self.new)) }
+        ensures fewer { IfErr result (λ error. self.new.left ≡ Nothing → AfterPoint N.named self.old (λ begun. HandsInFewer N.named (B.makes body.old) B.Error.from_gives (most_tries tries) begun error self.new)) }
         ensures counts { Counts (count_tried result) self.old.checkpoints self.new.checkpoints }
     {
         let _made = self.checkpoint_if_due(rt, store);
@@ -193,10 +200,9 @@ impl<N: Name, A: Allocator + Copy> Worker<N, A> {
         tries: usize,
         body: &mut B,
     ) -> Result<Ended<B::Value>, B::Error>
-        ensures ended { IfOk result (λ ended. Ends N.named.settings (B.makes body.old) (most_tries tries) self.old ended self.new) }
-        ensures few { OnErr result (HandsInUpTo N.named.settings (B.makes body.old) (most_tries tries) self.old self.new) }
-        ensures fewer { OnErr result (self.new.left ≡ Nothing → HandsInFewer N.named.settings (B.makes body.old) (most_tries tries) self.old self.new) }
-        ensures error { IfErr result (Stops (B.makes body.old) B.Error.from_gives N.named.settings self.new) }
+        ensures ended { IfOk result (λ ended. AfterPoint N.named self.old (λ begun. Ends N.named (B.makes body.old) (most_tries tries) begun ended self.new)) }
+        ensures few { IfErr result (λ error. AfterPoint N.named self.old (λ begun. HandsInUpTo N.named (B.makes body.old) B.Error.from_gives (most_tries tries) begun error self.new)) }
+        ensures fewer { IfErr result (λ error. self.new.left ≡ Nothing → AfterPoint N.named self.old (λ begun. HandsInFewer N.named (B.makes body.old) B.Error.from_gives (most_tries tries) begun error self.new)) }
         ensures counts { Counts (count_tried result) self.old.checkpoints self.new.checkpoints }
     {
         let _made = self.checkpoint_if_due(rt, store);
@@ -213,10 +219,9 @@ impl<N: Name, A: Allocator + Copy> Worker<N, A> {
         body: &mut B,
     ) -> Result<Ended<B::Value>, B::Error>
         requires { 0 < most }
-        ensures ended { IfOk result (λ ended. Ends N.named.settings (B.makes body.old) most self.old ended self.new) }
-        ensures few { OnErr result (HandsInUpTo N.named.settings (B.makes body.old) most self.old self.new) }
-        ensures fewer { OnErr result (self.new.left ≡ Nothing → HandsInFewer N.named.settings (B.makes body.old) most self.old self.new) }
-        ensures error { IfErr result (Stops (B.makes body.old) B.Error.from_gives N.named.settings self.new) }
+        ensures ended { IfOk result (λ ended. Ends N.named (B.makes body.old) most self.old ended self.new) }
+        ensures few { IfErr result (λ error. HandsInUpTo N.named (B.makes body.old) B.Error.from_gives most self.old error self.new) }
+        ensures fewer { IfErr result (λ error. self.new.left ≡ Nothing → HandsInFewer N.named (B.makes body.old) B.Error.from_gives most self.old error self.new) }
         ensures counts { self.new.checkpoints ≡ count_tried result self.old.checkpoints }
     {
         let ended = self.try_up_to(rt, store, within, most, body)?;
@@ -240,10 +245,9 @@ impl<N: Name, A: Allocator + Copy> Worker<N, A> {
         operations: &[Op<A>],
     ) -> Result<u64, Fault>
         ensures checked { MatchOption (alone_fault self.old (ops_of operations.now)) ⊤ (λ fault. (result ≡ Err fault) × (self.new ≡ self.old)) }
-        ensures committed { IfOk result (λ tn. Runs N.named.settings tries (ops_of operations.now) self.old tn self.new) }
+        ensures committed { IfOk result (λ tn. AfterPoint N.named self.old (λ begun. Runs N.named tries (ops_of operations.now) begun tn self.new)) }
         ensures nothing_left { OnOk result (self.new.left ≡ Nothing) }
-        ensures few { OnErr result (RunsOut N.named.settings tries (ops_of operations.now) self.old self.new) }
-        ensures fault { IfErr result (RunStops N.named.settings (ops_of operations.now) self.new) }
+        ensures refused { IfErr result (λ fault. RunStops N.named tries (ops_of operations.now) self.old fault self.new) }
         ensures counts { MatchOption (alone_fault self.old (ops_of operations.now)) (Counts (count_run result) self.old.checkpoints self.new.checkpoints) (λ _. ⊤) }
     {
         self.check_alone(operations)?;
@@ -259,10 +263,9 @@ impl<N: Name, A: Allocator + Copy> Worker<N, A> {
         tries: usize,
         operations: &[Op<A>],
     ) -> Result<u64, Fault>
-        ensures committed { IfOk result (λ tn. Runs N.named.settings tries (ops_of operations.now) self.old tn self.new) }
+        ensures committed { IfOk result (λ tn. Runs N.named tries (ops_of operations.now) self.old tn self.new) }
         ensures nothing_left { OnOk result (self.new.left ≡ Nothing) }
-        ensures few { OnErr result (RunsOut N.named.settings tries (ops_of operations.now) self.old self.new) }
-        ensures fault { IfErr result (λ fault. Stops (Performing N.named.settings (ops_of operations.now)) stays_fault N.named.settings self.new fault ⊎ AloneStops (ops_of operations.now) self.new fault) }
+        ensures few { IfErr result (λ fault. RunsOut N.named tries (ops_of operations.now) self.old fault self.new) }
         ensures counts { self.new.checkpoints ≡ count_run result self.old.checkpoints }
     {
         let Some(tn) = self.try_list(rt, store, tries, operations)? else {
@@ -292,10 +295,9 @@ impl<N: Name, A: Allocator + Copy> Worker<N, A> {
         tries: usize,
         operations: &[Op<A>],
     ) -> Result<Option<u64>, Fault>
-        ensures tried { IfOk result (λ tn. TriesList N.named.settings tries (ops_of operations.now) self.old tn self.new) }
+        ensures tried { IfOk result (λ tn. TriesList N.named tries (ops_of operations.now) self.old tn self.new) }
         ensures committed { IfOk result (λ tn. is_some tn ≡ true → self.new.left ≡ Nothing) }
-        ensures few { OnErr result (HandsInUpTo N.named.settings (Performing N.named.settings (ops_of operations.now)) tries self.old self.new) }
-        ensures fault { IfErr result (Stops (Performing N.named.settings (ops_of operations.now)) stays_fault N.named.settings self.new) }
+        ensures few { IfErr result (λ fault. HandsInUpTo N.named (Performing N.named (ops_of operations.now)) stays_fault tries self.old fault self.new) }
         ensures counts { self.new.checkpoints ≡ count_listed result self.old.checkpoints }
     {
         if tries == 0 {
@@ -313,7 +315,7 @@ impl<N: Name, A: Allocator + Copy> Worker<N, A> {
         store: &Store<N, A>,
         operations: &[Op<A>],
     ) -> Result<u64, Fault>
-        ensures committed { IfOk result (λ tn. RunsAlone N.named.settings (ops_of operations.now) self.old tn self.new) }
+        ensures committed { IfOk result (λ tn. RunsAlone N.named (ops_of operations.now) self.old tn self.new) }
         ensures few { OnErr result (HandsInAlone (ops_of operations.now) self.old self.new) }
         ensures fault { IfErr result (AloneStops (ops_of operations.now) self.new) }
         ensures counts { self.new.checkpoints ≡ count_run result self.old.checkpoints }
@@ -341,18 +343,19 @@ pub(crate) fn unused_worker<N: Name, A: Allocator + Copy>(
     schema: Arc<Schema<A>, A>,
     seat: Seat<A>,
     last: u64,
+    front: FrontOf<N>,
     share: Share<N>,
 ) -> Worker<N, A>
     requires schema { arc_value schema ≡ N.named.settings.schema }
     requires board { (seat.board ≡ N.named.board) × (seat.seen.session ≡ session) }
     requires last { last ≤ MAX_NUMBER }
+    requires own { front.party ≡ SessionParty session }
     requires share { (share.parts ≡ 1) × (share.amount ≡ 0) }
-    ensures { result ≡ unused_worker session (arc_value schema) seat.seen last }
+    ensures { result ≡ unused_worker session (arc_value schema) seat.seen last front }
 {
     Worker {
         alloc,
-        session,
-        transaction: Transaction::new(session, schema),
+        transaction: Transaction::new(session, schema, front),
         seat,
         first: last,
         last,

@@ -1,11 +1,12 @@
-use Rattle.std.proofs.Common.{◌+◌, ◌≤◌, [], ◌∷◌, length, map, sym, ap, subst, ◌∙◌, rules, arith, length-append}
+use Rattle.std.proofs.Common.{◌+◌, ◌≤◌, [], ◌∷◌, length, map, refl, sym, ap, subst, ◌∙◌, rules, arith, length-append}
 use Rattle.std.specs.Prelude.{vec_len}
 use Rattle.std.proofs.lemmas.List.{map-id, map-append}
 use Rattle.std.proofs.lemmas.Iterator.Consumers.{YieldsList-turn, YieldsList-end}
 use Rattle.std.proofs.lemmas.Iterator.Adapters.{YieldsList-from_vec}
+use Rattle.occ_store.specs.Locked.{Locked}
 use Rattle.occ_store.specs.Lanes.{LaneView}
-use Rattle.occ_store.specs.Accounts.{line_of, held}
-use Rattle.occ_store.proofs.AccountLines.{walk_begins, both_here, own_room, own_session, walk_on, walk_ends, counted_more, measured_more, measured_all}
+use Rattle.occ_store.specs.Accounts.{HasSeen, HaveSeen, line_of, held}
+use Rattle.occ_store.proofs.AccountLines.{walk_begins, both_here, own_room, own_session, walk_on, walk_ends, seen_more, counted_more, measured_more, measured_all}
 use Rattle.occ_store.proofs.accounts.end_lanes.Goals as goal
 
 pub loop-lane-init : goal.loop-lane-init
@@ -23,6 +24,8 @@ loop-lane-init g c =
       c.requires.room,
       omega arith,
       omega arith,
+      tt,
+      refl,
     )
 
 pub unreachable-requires : goal.unreachable-requires
@@ -84,6 +87,8 @@ loop-lane-preserved g c =
       subst (λ n. vec_len c.args.lines.now + length c.args.lanes.items ≤ n) (sym c.push_reserved.ensures.capacity) kept.4,
       counted_more _ _ _ _ c.loop-lane.yielded c.in-Some.lane c.merge.ensures.parts c.line_of-line.ensures.part.0 kept.5,
       measured_more (λ (lane : LaneView). lane.entered) _ _ _ _ c.loop-lane.yielded c.in-Some.lane c.merge.ensures.amount c.line_of-line.ensures.part.1 kept.6,
+      seen_more (λ (lane : LaneView). lane.front) _ c.loop-lane.yielded c.in-Some.lane kept.7 (subst (λ (s : Locked). HasSeen s.story.log c.in-Some.lane.front) kept.8 c.line_of-line.ensures.saw),
+      c.line_of-line.ensures.same ∙ kept.8,
     )
 
 pub returns-clause-lines : goal.returns-clause-lines
@@ -105,3 +110,12 @@ returns-clause-parts g c =
     let count = end.1 in
     let so = c.loop-lane.invariant.5 in
     omega arith
+
+pub returns-clause-saw : goal.returns-clause-saw
+returns-clause-saw g c =
+    let end = YieldsList-end (YieldsList-from_vec {s = c.into_iter-lane-iterator.result} c.args.lanes.items (search rules) (search rules))
+    c.loop-lane.yielded c.loop-lane.lane-iterator c.loop-lane.yielded_by c.next.result c.next.new.self c.in-None.is c.next.ensures.steps in
+    subst (HaveSeen c.args.shared.now.story.log (λ (lane : LaneView). lane.front)) (sym (map-id c.loop-lane.yielded) ∙ end.0) c.loop-lane.invariant.7
+
+pub returns-clause-same : goal.returns-clause-same
+returns-clause-same g c = c.loop-lane.invariant.8

@@ -2,7 +2,7 @@ use Rattle.std.proofs.Common.{◌≡◌, ◌+◌, ◌≤◌, length, map}
 use Rattle.std.specs.Prelude.{sum_by, vec_len, vec_capacity}
 use Rattle.std.specs.Vec.Iter.{into_iter_items, into_iter_len}
 use Rattle.occ_store.specs.Lanes.{LaneView}
-use Rattle.occ_store.specs.Accounts.{line_of, held}
+use Rattle.occ_store.specs.Accounts.{HaveSeen, line_of, held}
 use Rattle.occ_store.proofs.AccountLines.{Walked}
 use Rattle.occ_store.proofs.accounts.end_lanes.Given as goal
 
@@ -16,3 +16,5 @@ invariant-loop-lane g l =
     × (vec_len l.fn.lines + length l.fn.lanes.items ≤ vec_capacity l.lines)
     × (held (λ s. s.parts) l.parts ≡ held (λ s. s.parts) l.fn.parts + length l.yielded)
     × (held (λ s. s.amount) l.parts ≡ held (λ s. s.amount) l.fn.parts + sum_by (λ (lane : LaneView). lane.entered) l.yielded)
+    × HaveSeen l.fn.shared.story.log (λ (lane : LaneView). lane.front) l.yielded
+    × (l.shared ≡ l.fn.shared)

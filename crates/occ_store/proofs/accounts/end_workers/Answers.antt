@@ -2,9 +2,10 @@ use Rattle.std.proofs.Common.{◌≡◌, ◌+◌, ◌≤◌, [], ◌∷◌, ◌+
 use Rattle.std.proofs.lemmas.List.{map-id, map-append}
 use Rattle.std.proofs.lemmas.Iterator.Consumers.{YieldsList-turn, YieldsList-end}
 use Rattle.std.proofs.lemmas.Iterator.Adapters.{YieldsList-from_vec}
+use Rattle.occ_store.specs.Locked.{Locked}
 use Rattle.occ_store.specs.Workers.{WorkerView}
-use Rattle.occ_store.specs.Accounts.{LineView, AreAllLines, line_of}
-use Rattle.occ_store.proofs.AccountLines.{worker_lines_more, worker_lines_end, counted_more, measured_more, measured_all}
+use Rattle.occ_store.specs.Accounts.{LineView, AreAllLines, HasSeen, HaveSeen, line_of}
+use Rattle.occ_store.proofs.AccountLines.{worker_lines_more, worker_lines_end, seen_more, counted_more, measured_more, measured_all}
 use Rattle.occ_store.proofs.accounts.end_workers.Goals as goal
 
 pub loop-worker-init : goal.loop-worker-init
@@ -14,6 +15,8 @@ loop-worker-init g c = (
   refl,
   omega arith,
   omega arith,
+  tt,
+  refl,
 )
 
 pub push_reserved-requires : goal.push_reserved-requires
@@ -36,6 +39,8 @@ loop-worker-preserved g c =
       c.push_reserved.ensures.capacity ∙ kept.2,
       counted_more _ _ _ _ c.loop-worker.yielded c.in-Some.worker c.merge.ensures.parts c.worker_line-line.ensures.part.0 kept.3,
       measured_more (λ (worker : WorkerView). worker.entered) _ _ _ _ c.loop-worker.yielded c.in-Some.worker c.merge.ensures.amount c.worker_line-line.ensures.part.1 kept.4,
+      seen_more (λ (worker : WorkerView). worker.front) _ c.loop-worker.yielded c.in-Some.worker kept.5 (subst (λ (s : Locked). HasSeen s.story.log c.in-Some.worker.front) kept.6 c.worker_line-line.ensures.saw),
+      c.worker_line-line.ensures.same ∙ kept.6,
     )
 
 pub returns-clause-lines : goal.returns-clause-lines
@@ -63,3 +68,12 @@ returns-clause-parts g c =
     let count = end.1 in
     let so = c.loop-worker.invariant.3 in
     omega arith
+
+pub returns-clause-saw : goal.returns-clause-saw
+returns-clause-saw g c =
+    let end = YieldsList-end (YieldsList-from_vec {s = c.into_iter-worker-iterator.result} c.args.workers.items (search rules) (search rules))
+    c.loop-worker.yielded c.loop-worker.worker-iterator c.loop-worker.yielded_by c.next.result c.next.new.self c.in-None.is c.next.ensures.steps in
+    subst (HaveSeen c.args.shared.now.story.log (λ (worker : WorkerView). worker.front)) (sym (map-id c.loop-worker.yielded) ∙ end.0) c.loop-worker.invariant.5
+
+pub returns-clause-same : goal.returns-clause-same
+returns-clause-same g c = c.loop-worker.invariant.6

@@ -40,7 +40,7 @@ returns-clause-places g c = λ room.
     let below : c.first_ones-hired.result ≤ c.args.sessions = omega arith in
     let first = first_seats board _ _ c.first_ones-hired.result c.args.sessions c.in_ok-publisher.ensures.seats below c.in_ok-others.ensures.items in
     let count = first.1 in
-    subst (λ (s : Schema). ArePlaces board s c.args.base.now.base 1 c.in_ok-places.places.items) (c.in_ok-tables-2.ensures.ok ∙ c.in_ok-tables.ensures.same)
+    subst (λ (s : Schema). ArePlaces board s c.args.base.now.base 1 c.in_ok-places.places.items) (c.in_ok-tables-2.ensures.ok ∙ c.in_ok-tables.ensures.cases)
     (c.in_ok-places.ensures.places board first.0 (fewer_have_room c.args.base.now.base c.args.sessions _ room (omega arith)))
 
 pub returns-clause-parts : goal.returns-clause-parts
@@ -55,5 +55,5 @@ returns-clause-parts g c = λ room.
     let other = other_seats board _ _ c.first_ones-hired.result c.args.sessions c.in_ok-publisher.ensures.seats below c.in_ok-others.ensures.tail in
     let many = other.1 in
     subst (λ n. AreParts board c.args.schema.now c.args.base.now.base (suc n) c.in_ok-parts.parts.items) (sym (c.in_ok-places.ensures.count ∙ first))
-    (subst (λ (s : Schema). AreParts board s c.args.base.now.base (suc c.first_ones-hired.result) c.in_ok-parts.parts.items) (c.in_ok-tables-2.ensures.ok ∙ c.in_ok-tables.ensures.same)
+    (subst (λ (s : Schema). AreParts board s c.args.base.now.base (suc c.first_ones-hired.result) c.in_ok-parts.parts.items) (c.in_ok-tables-2.ensures.ok ∙ c.in_ok-tables.ensures.cases)
     (c.in_ok-parts.ensures.parts board other.0 (fewer_have_room c.args.base.now.base c.args.sessions _ room (omega arith))))

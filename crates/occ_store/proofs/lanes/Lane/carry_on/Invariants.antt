@@ -8,5 +8,5 @@ abbrev pub invariant-loop : goal.invariant-loop
 invariant-loop g l = record {
   same : IsSame l.fn.self l.self;
   left : number_left l.self.left ≡ Some l.number;
-  moved : MayHaveMoved g.N.Name.named.settings l.fn.self l.number l.self;
+  moved : MayHaveMoved g.N.Name.named l.fn.self l.number l.self;
 }

@@ -1,5 +1,7 @@
 use Rattle.std.proofs.Common.{◌≡◌, sym, subst, ◌∙◌}
 use Rattle.occ_model.specs.Invariant.{Invariant}
+use Rattle.occ_model.specs.Step.{Run}
+use Rattle.occ_store.specs.Names.{opened_as}
 use Rattle.occ_store.specs.Locked.{Locked, world_of}
 use Rattle.occ_store.proofs.Points.{moves}
 use Rattle.occ_store.proofs.lanes.Lane.event.Goals as goal
@@ -13,6 +15,7 @@ returns-clause-happened g c =
       c.advance.new.shared,
       subst (λ (s : Locked). Invariant (world_of s)) same c.law.ensures.invariant,
       subst (λ (s : Locked). (world_of s).settings ≡ g.N.Name.named.settings) same c.law.ensures.settings,
+      subst (λ (s : Locked). Run (opened_as g.N.Name.named) s.story.log (world_of s)) same c.law.ensures.ran,
       c.advance.ensures,
     )
 

@@ -17,8 +17,8 @@ pub returns-in-Stop-clause-takes : goal.returns-in-Stop-clause-takes
 returns-in-Stop-clause-takes g c =
     let stops = g.G.Gate.may_stop c.args.gate.now in
     let some = c.in-Some.ensures.some in
-    inl (takes_up _ stops c.args.self.now c.take.new.self c.take.new.self c.in-Some.number (Ok (Stopped Took)) some.0 c.requires some.2 some.1
-    (stops_there _ stops c.take.new.self some.0 c.in-Some.number c.session.result (ap (λ lane. lane.left) some.2) some.1 c.session.ensures (c.pass.ensures.may c.in-Stop.is)))
+    inl (takes_up g.N.Name.named stops c.args.self.now c.take.new.self c.take.new.self c.in-Some.number (Ok (Stopped Took)) some.0 c.requires some.2 some.1
+    (stops_there g.N.Name.named stops c.take.new.self some.0 c.in-Some.number c.session.result (ap (λ lane. lane.left) some.2) some.1 c.session.ensures (c.pass.ensures.may c.in-Stop.is)))
 
 pub carry_on-requires : goal.carry_on-requires
 carry_on-requires g c = let some = c.in-Some.ensures.some in ap (λ lane. number_left lane.left) some.2 ∙ ap Some (sym some.1)
@@ -26,4 +26,4 @@ carry_on-requires g c = let some = c.in-Some.ensures.some in ap (λ lane. number
 pub returns-in-Go-clause-takes : goal.returns-in-Go-clause-takes
 returns-in-Go-clause-takes g c =
     let some = c.in-Some.ensures.some in
-    inl (takes_up _ (g.G.Gate.may_stop c.args.gate.now) c.args.self.now c.take.new.self c.carry_on.new.self c.in-Some.number c.carry_on.result some.0 c.requires some.2 some.1 c.carry_on.ensures.carries)
+    inl (takes_up g.N.Name.named (g.G.Gate.may_stop c.args.gate.now) c.args.self.now c.take.new.self c.carry_on.new.self c.in-Some.number c.carry_on.result some.0 c.requires some.2 some.1 c.carry_on.ensures.carries)

@@ -1,15 +1,15 @@
-use Rattle.std.proofs.Common.{◌≡◌, sym, subst, ◌∙◌}
-use Rattle.occ_model.specs.Invariant.{Invariant}
-use Rattle.occ_store.specs.Locked.{Locked, world_of}
+use Rattle.std.proofs.Common.{subst}
+use Rattle.occ_open.specs.Replies.{forgetting}
+use Rattle.occ_store.specs.Sessions.{SessionView}
+use Rattle.occ_store.specs.Transactions.{AbandonsIn}
+use Rattle.occ_store.specs.Tries.{lent}
+use Rattle.occ_store.proofs.Submittable.{forgets_one}
 use Rattle.occ_store.proofs.sessions.Session.abandon.Goals as goal
 
--- the state that the lock lent, and what the call made of it
-pub returns-clause-step : goal.returns-clause-step
-returns-clause-step g c =
-    let same = c.deref.ensures ∙ sym c.deref_mut.ensures.value in (
-      world_of c.deref_mut.result.now,
-      world_of c.abandon_in.new.shared,
-      subst (λ (s : Locked). Invariant (world_of s)) same c.law.ensures.invariant,
-      subst (λ (s : Locked). (world_of s).settings ≡ g.N.Name.named.settings) same c.law.ensures.settings,
-      c.abandon_in.ensures.step,
-    )
+pub invariant_of-self : goal.invariant_of-self
+invariant_of-self g c =
+    forgets_one g.N.Name.named c.self.inside.seat.board c.self.inside.seat.seen c.self.inside.sender c.self.inside.transaction c.abandon.new.self (forgetting c.abandon.result) c.abandon.ensures.left c.abandon.ensures.own c.self.invariant
+
+pub returns-clause-forgets : goal.returns-clause-forgets
+returns-clause-forgets g c =
+    subst (λ (v : SessionView). AbandonsIn g.N.Name.named (lent v) (forgetting c.abandon.result) c.abandon.new.self.front) c.self.view_is c.abandon.ensures.forgets

@@ -1,15 +1,18 @@
-use Rattle.std.proofs.Common.{◌≡◌, sym, subst, ◌∙◌}
-use Rattle.occ_model.specs.Invariant.{Invariant}
-use Rattle.occ_store.specs.Locked.{Locked, world_of}
+use Rattle.std.proofs.Common.{subst}
+use Rattle.occ_types.specs.PlainData.{key_of}
+use Rattle.occ_types.specs.Question.{One}
+use Rattle.occ_open.specs.Replies.{reading}
+use Rattle.occ_store.specs.Sessions.{SessionView}
+use Rattle.occ_store.specs.Transactions.{AsksOrStarves}
+use Rattle.occ_store.specs.Tries.{lent}
+use Rattle.occ_store.proofs.Submittable.{sees_one}
 use Rattle.occ_store.proofs.sessions.Session.get.Goals as goal
 
--- the state that the lock lent, and what the call made of it
-pub returns : goal.returns
-returns g c =
-    let same = c.deref.ensures ∙ sym c.deref_mut.ensures.value in (
-      world_of c.deref_mut.result.now,
-      world_of c.get_in.new.shared,
-      subst (λ (s : Locked). Invariant (world_of s)) same c.law.ensures.invariant,
-      subst (λ (s : Locked). (world_of s).settings ≡ g.N.Name.named.settings) same c.law.ensures.settings,
-      c.get_in.ensures.step,
-    )
+pub invariant_of-self : goal.invariant_of-self
+invariant_of-self g c =
+    sees_one g.N.Name.named c.self.inside.seat.board c.self.inside.seat.seen c.self.inside.sender c.self.inside.transaction c.get.new.self c.get.ensures.asks.0 c.get.ensures.own c.self.invariant
+
+pub returns-clause-asks : goal.returns-clause-asks
+returns-clause-asks g c =
+    subst (λ (v : SessionView). AsksOrStarves g.N.Name.named (lent v) (One c.args.table (key_of c.args.key.now)) (reading c.get.result) c.get.new.self)
+    c.self.view_is c.get.ensures.asks

@@ -1,15 +1,20 @@
-use Rattle.std.proofs.Common.{◌≡◌, sym, subst, ◌∙◌}
-use Rattle.occ_model.specs.Invariant.{Invariant}
-use Rattle.occ_store.specs.Locked.{Locked, world_of}
+use Rattle.std.proofs.Common.{subst}
+use Rattle.std.specs.Option.{option_copied}
+use Rattle.occ_types.specs.PlainData.{end_of}
+use Rattle.occ_model.specs.Paging.{first_page}
+use Rattle.occ_model.specs.World.{World}
+use Rattle.occ_open.specs.Pages.{first_rest_of}
+use Rattle.occ_store.specs.Sessions.{SessionView}
+use Rattle.occ_store.specs.Transactions.{AsksPage}
+use Rattle.occ_store.specs.Tries.{lent}
+use Rattle.occ_store.proofs.Submittable.{sees_one}
 use Rattle.occ_store.proofs.sessions.Session.scan_first.Goals as goal
 
--- the state that the lock lent, and what the call made of it
-pub returns : goal.returns
-returns g c =
-    let same = c.deref.ensures ∙ sym c.deref_mut.ensures.value in (
-      world_of c.deref_mut.result.now,
-      world_of c.scan_first_in.new.shared,
-      subst (λ (s : Locked). Invariant (world_of s)) same c.law.ensures.invariant,
-      subst (λ (s : Locked). (world_of s).settings ≡ g.N.Name.named.settings) same c.law.ensures.settings,
-      (c.scan_first_in.ensures.step, c.scan_first_in.ensures.rest),
-    )
+pub invariant_of-self : goal.invariant_of-self
+invariant_of-self g c =
+    sees_one g.N.Name.named c.self.inside.seat.board c.self.inside.seat.seen c.self.inside.sender c.self.inside.transaction c.scan_first.new.self c.scan_first.ensures.asks.0 c.scan_first.ensures.own c.self.invariant
+
+pub returns-clause-asks : goal.returns-clause-asks
+returns-clause-asks g c =
+    subst (λ (v : SessionView). AsksPage g.N.Name.named (lent v) (first_page c.args.table (end_of (option_copied c.args.lower)) (end_of (option_copied c.args.upper))) (λ (w : World). first_rest_of w c.args.table (end_of (option_copied c.args.lower)) (end_of (option_copied c.args.upper)) c.args.most) c.scan_first.result c.scan_first.new.self)
+    c.self.view_is c.scan_first.ensures.asks

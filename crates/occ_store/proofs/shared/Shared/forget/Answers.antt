@@ -1,10 +1,14 @@
 use Rattle.std.proofs.Common.{refl, sym, ap}
 use Rattle.occ_store.proofs.Keeping.{between}
-use Rattle.occ_store.proofs.Happening.{stored_by, happens}
+use Rattle.occ_store.proofs.Happening.{stored_by, happens_visiting, ran_on, still_here}
 use Rattle.occ_store.proofs.shared.Shared.forget.Goals as goal
 
 pub invariant_of-self : goal.invariant_of-self
-invariant_of-self g c = between _ _ _ _ _ _ _ c.law.ensures.invariant refl refl c.forget.ensures.0 (ap (λ f. f.file) c.forget.ensures.1) c.self.invariant
+invariant_of-self g c = record {
+  shown = between _ _ _ _ _ _ _ c.law.ensures.invariant refl refl c.forget-known.ensures.0 (ap (λ f. f.file) c.forget-known.ensures.1) c.self.invariant.shown;
+  ran = ran_on g.N.Name.named _ _ _ _ _ _ c.self.invariant.ran c.forget-known.ensures.0 c.add.ensures.added;
+  here = still_here c.self.inside.visitor c.add.new.me _ _ c.self.invariant.here c.add.ensures.seen;
+}
 
 pub returns : goal.returns
-returns g c = happens _ _ _ c.self.view_is _ _ _ _ _ (sym (stored_by _ _ _ c.forget.result (λ x. refl))) c.forget.ensures
+returns g c = happens_visiting _ _ _ _ _ c.self.view_is c.add.new.me _ _ _ _ _ c.add.ensures.added c.add.ensures.before c.add.ensures.whole c.add.ensures.seen _ (sym (stored_by _ c.args.session _ c.forget-known.result (λ x. refl))) c.forget-known.ensures

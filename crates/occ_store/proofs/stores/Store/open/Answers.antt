@@ -1,7 +1,6 @@
 use Rattle.std.proofs.Common.{◌≡◌, ◌+◌, ◌≤◌, ◌-◌, suc, length, sym, ap, subst, ◌∙◌, arith}
-use Rattle.occ_model.specs.Log.{Base}
-use Rattle.occ_store.specs.Frames.{ArePlaces, AreParts, workers_from, sessions_from, lanes_from}
-use Rattle.occ_store.proofs.PartsMade.{places_named, parts_named, lanes_named, workers_named, count_named, others_named, cut_named, frame_locked}
+use Rattle.occ_store.specs.Frames.{workers_from, sessions_from, lanes_from, seating}
+use Rattle.occ_store.proofs.PartsMade.{places_named, parts_named, lanes_named, workers_named, count_named, others_named, cut_named, frame_place, frame_locked}
 use Rattle.occ_store.proofs.stores.Store.open.Goals as goal
 
 pub open-rows-requires-clause-name : goal.open-rows-requires-clause-name
@@ -10,19 +9,20 @@ open-rows-requires-clause-name g c = ap (λ f. f.ledger) c.frame.view_is ∙ c.r
 pub open-rows-requires-clause-parts : goal.open-rows-requires-clause-parts
 open-rows-requires-clause-parts g c = ap (λ f. f.parts) c.frame.view_is ∙ c.requires.ledger.1
 
+pub named-story-requires : goal.named-story-requires
+named-story-requires g c = ap (λ f. f.named.story) c.frame.view_is ∙ ap (λ n. n.story) c.requires.named
+
 pub hire-requires-clause-places : goal.hire-requires-clause-places
-hire-requires-clause-places g c =
-    let named = g.N.Name.named in
-    let from = ap (λ f. f.base) c.frame.view_is in (
-      c.args.frame.base,
-      subst (λ (b : Base). ArePlaces named.board named.settings.schema b 1 c.frame.inside.places.items) from (places_named _ _ _ _ _ _ _ c.frame.invariant (ap (λ f. f.named) c.frame.view_is ∙ c.requires.named)),
-    )
+hire-requires-clause-places g c = places_named _ _ _ _ _ _ _ c.frame.invariant _ (ap (λ f. f.named) c.frame.view_is ∙ c.requires.named)
+
+pub hire-requires-clause-story : goal.hire-requires-clause-story
+hire-requires-clause-story g c = c.named-story.ensures
 
 pub hire-requires-clause-ledger : goal.hire-requires-clause-ledger
 hire-requires-clause-ledger g c =
     let names = ap (λ f. f.named) c.frame.view_is ∙ c.requires.named in
-    let count = count_named _ _ _ _ _ _ _ c.frame.invariant names in
-    let cut = cut_named _ _ _ _ _ _ _ c.frame.invariant names in
+    let count = count_named _ _ _ _ _ _ _ c.frame.invariant _ names in
+    let cut = cut_named _ _ _ _ _ _ _ c.frame.invariant _ names in
     let own = ap (λ f. f.parts) c.frame.view_is ∙ c.requires.ledger.1 in
     let parts = c.open-rows.ensures.parts in
     (omega arith, c.open-rows.ensures.amount)
@@ -38,21 +38,19 @@ hire-requires-clause-room g c =
     omega arith
 
 pub seat-requires-clause-parts : goal.seat-requires-clause-parts
-seat-requires-clause-parts g c =
-    let named = g.N.Name.named in
-    let from = ap (λ f. f.base) c.frame.view_is in (
-      c.args.frame.base,
-      subst (λ (b : Base). AreParts named.board named.settings.schema b (suc named.workers) c.frame.inside.parts.items) from (parts_named _ _ _ _ _ _ _ c.frame.invariant (ap (λ f. f.named) c.frame.view_is ∙ c.requires.named)),
-    )
+seat-requires-clause-parts g c = parts_named _ _ _ _ _ _ _ c.frame.invariant _ (ap (λ f. f.named) c.frame.view_is ∙ c.requires.named)
 
 pub seat-requires-clause-lanes : goal.seat-requires-clause-lanes
-seat-requires-clause-lanes g c = lanes_named _ _ _ _ _ _ _ c.frame.invariant (ap (λ f. f.named) c.frame.view_is ∙ c.requires.named)
+seat-requires-clause-lanes g c = lanes_named _ _ _ _ _ _ _ c.frame.invariant _ (ap (λ f. f.named) c.frame.view_is ∙ c.requires.named)
+
+pub seat-requires-clause-story : goal.seat-requires-clause-story
+seat-requires-clause-story g c = c.hire.ensures.story ∙ ap seating (workers_named _ _ _ _ _ _ _ c.frame.invariant _ (ap (λ f. f.named) c.frame.view_is ∙ c.requires.named))
 
 pub seat-requires-clause-ledger : goal.seat-requires-clause-ledger
 seat-requires-clause-ledger g c =
     let names = ap (λ f. f.named) c.frame.view_is ∙ c.requires.named in
-    let count = count_named _ _ _ _ _ _ _ c.frame.invariant names in
-    let cut = cut_named _ _ _ _ _ _ _ c.frame.invariant names in
+    let count = count_named _ _ _ _ _ _ _ c.frame.invariant _ names in
+    let cut = cut_named _ _ _ _ _ _ _ c.frame.invariant _ names in
     let own = ap (λ f. f.parts) c.frame.view_is ∙ c.requires.ledger.1 in
     let parts = c.open-rows.ensures.parts in
     let given = c.hire.ensures.ledger.0 in
@@ -72,35 +70,31 @@ seat-requires-clause-room g c =
     let second = c.in-Ok.ensures.room.2 in
     (omega arith, omega arith)
 
+pub new-requires : goal.new-requires
+new-requires g c =
+    c.place-origin.ensures ∙ ap (λ b. b.place) c.base.ensures.base ∙ ap (λ w. w.base.place) c.core.ensures.world
+    ∙ frame_place _ _ _ _ _ _ _ c.frame.invariant _ (ap (λ f. f.named) c.frame.view_is ∙ c.requires.named)
+
 pub invariant_of-new : goal.invariant_of-new
 invariant_of-new g c =
     let none = c.open-rows.ensures.total in
     let place = c.place-origin.ensures ∙ ap (λ b. b.place) c.base.ensures.base ∙ ap (λ w. w.base.place) c.core.ensures.world in
-    frame_locked _ _ _ _ _ _ _ c.frame.invariant (ap (λ f. f.named) c.frame.view_is ∙ c.requires.named) _ (omega arith)
+    frame_locked _ _ _ _ _ _ _ c.frame.invariant _ (ap (λ f. f.named) c.frame.view_is ∙ c.requires.named) _ _ _ _ _ (omega arith) c.seat.ensures.story c.visitor-visitor.ensures.same c.visitor-visitor.ensures.front
 
 pub returns-clause-workers : goal.returns-clause-workers
 returns-clause-workers g c =
-    let named = g.N.Name.named in
     let names = ap (λ f. f.named) c.frame.view_is ∙ c.requires.named in
-    let from = ap (λ f. f.base) c.frame.view_is in
-    c.hire.ensures.workers c.args.frame.base (subst (λ (b : Base). ArePlaces named.board named.settings.schema b 1 c.frame.inside.places.items) from (places_named _ _ _ _ _ _ _ c.frame.invariant names))
-    ∙ ap (workers_from named c.args.frame.base) (workers_named _ _ _ _ _ _ _ c.frame.invariant names)
+    c.hire.ensures.workers ∙ ap (workers_from g.N.Name.named) (workers_named _ _ _ _ _ _ _ c.frame.invariant _ names)
 
 pub returns-clause-sessions : goal.returns-clause-sessions
 returns-clause-sessions g c =
-    let named = g.N.Name.named in
     let names = ap (λ f. f.named) c.frame.view_is ∙ c.requires.named in
-    let from = ap (λ f. f.base) c.frame.view_is in
-    c.seat.ensures.sessions c.args.frame.base (subst (λ (b : Base). AreParts named.board named.settings.schema b (suc named.workers) c.frame.inside.parts.items) from (parts_named _ _ _ _ _ _ _ c.frame.invariant names))
-    ∙ ap (sessions_from named c.args.frame.base) (others_named _ _ _ _ _ _ _ c.frame.invariant names)
+    c.seat.ensures.sessions ∙ ap (sessions_from g.N.Name.named) (others_named _ _ _ _ _ _ _ c.frame.invariant _ names)
 
 pub returns-clause-lanes : goal.returns-clause-lanes
 returns-clause-lanes g c =
-    let named = g.N.Name.named in
     let names = ap (λ f. f.named) c.frame.view_is ∙ c.requires.named in
-    let from = ap (λ f. f.base) c.frame.view_is in
-    c.seat.ensures.lanes c.args.frame.base (subst (λ (b : Base). AreParts named.board named.settings.schema b (suc named.workers) c.frame.inside.parts.items) from (parts_named _ _ _ _ _ _ _ c.frame.invariant names))
-    ∙ ap (lanes_from named c.args.frame.base) (others_named _ _ _ _ _ _ _ c.frame.invariant names)
+    c.seat.ensures.lanes ∙ ap (lanes_from g.N.Name.named) (others_named _ _ _ _ _ _ _ c.frame.invariant _ names)
 
-pub new-requires-3 : goal.new-requires-3
-new-requires-3 g c = c.frame.invariant.shared ∙ ap (λ n. n.file) (ap (λ f. f.named) c.frame.view_is ∙ c.requires.named)
+pub new-requires-4 : goal.new-requires-4
+new-requires-4 g c = c.frame.invariant.shared ∙ ap (λ n. n.file) (ap (λ f. f.named) c.frame.view_is ∙ c.requires.named)

@@ -12,7 +12,7 @@ loop-preserved g c = record {
 }
 
 pub returns-then-all-clause-met : goal.returns-then-all-clause-met
-returns-then-all-clause-met g c = met_all g.N.Name.named.settings (g.G.Gate.may_stop c.args.gate.now) c.loop.self.fault c.loop.over.items c.loop.self.lanes.items c.loop.invariant.marks c.loop.invariant.met
+returns-then-all-clause-met g c = met_all g.N.Name.named (g.G.Gate.may_stop c.args.gate.now) c.loop.self.fault c.loop.over.items c.loop.self.lanes.items c.loop.invariant.marks c.loop.invariant.met
 
 pub returns-then-self-clause-met : goal.returns-then-self-clause-met
-returns-then-self-clause-met g c = met_all g.N.Name.named.settings (g.G.Gate.may_stop c.args.gate.now) c.loop.self.fault c.loop.over.items c.loop.self.lanes.items c.loop.invariant.marks c.loop.invariant.met
+returns-then-self-clause-met g c = met_all g.N.Name.named (g.G.Gate.may_stop c.args.gate.now) c.loop.self.fault c.loop.over.items c.loop.self.lanes.items c.loop.invariant.marks c.loop.invariant.met

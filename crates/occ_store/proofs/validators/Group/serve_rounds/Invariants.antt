@@ -9,6 +9,6 @@ invariant-loop g l = record {
   served : AreServed l.fn.self.lanes.items l.self.lanes.items;
   over : l.self.fault ≡ None → AreOver (g.G.Gate.may_stop l.gate) l.over.items l.self.lanes.items;
   stopped : l.self.stopped ≡ true → g.N.MayStop.may_be_stopped;
-  ended : HaveEnded g.N.Name.named.settings (g.G.Gate.may_stop l.gate) l.over.items l.self.lanes.items;
-  met : IsMetMarked g.N.Name.named.settings (g.G.Gate.may_stop l.gate) l.self.fault l.over.items l.self.lanes.items;
+  ended : HaveEnded g.N.Name.named (g.G.Gate.may_stop l.gate) l.over.items l.self.lanes.items;
+  met : IsMetMarked g.N.Name.named (g.G.Gate.may_stop l.gate) l.self.fault l.over.items l.self.lanes.items;
 }

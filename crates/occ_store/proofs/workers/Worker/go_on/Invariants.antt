@@ -3,4 +3,4 @@ use Rattle.occ_store.proofs.workers.Worker.go_on.Given as goal
 
 -- what is left comes to the end that it came to at first
 abbrev pub invariant-loop : goal.invariant-loop
-invariant-loop g l = Onward g.N.Name.named.settings l.fn.self l.self
+invariant-loop g l = Onward g.N.Name.named l.fn.self l.self

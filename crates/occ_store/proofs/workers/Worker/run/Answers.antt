@@ -1,20 +1,15 @@
-use Rattle.occ_core.specs.AutoCheckpoints.{checked_point}
+use Rattle.std.proofs.Common.{ℕ}
 use Rattle.occ_sets.specs.Operations.{ops_of}
-use Rattle.occ_store.proofs.WorkerTries.{on_err_any, runs_none, run_stops, ran_from, out_from}
+use Rattle.occ_store.specs.Workers.{WorkerView, Runs}
+use Rattle.occ_store.proofs.WorkerTries.{ok_after, run_stops}
 use Rattle.occ_store.proofs.workers.Worker.run.Goals as goal
 
 pub returns-clause-committed : goal.returns-clause-committed
 returns-clause-committed g c =
-    ran_from g.N.Name.named.settings c.args.tries (ops_of c.args.operations.now) c.args.self.now c.checkpoint_if_due-made.new.self c.run_checked.new.self
-    (checked_point c.checkpoint_if_due-made.result c.args.self.now.checkpoints) c.run_checked.result c.checkpoint_if_due-made.ensures.left c.run_checked.ensures.committed
+    ok_after g.N.Name.named c.args.self.now c.checkpoint_if_due-made.new.self c.checkpoint_if_due-made.result c.checkpoint_if_due-made.ensures.due c.checkpoint_if_due-made.ensures.stands c.checkpoint_if_due-made.ensures.left
+    (λ (tn : ℕ) (begun : WorkerView). Runs g.N.Name.named c.args.tries (ops_of c.args.operations.now) begun tn c.run_checked.new.self) c.run_checked.result c.run_checked.ensures.committed
 
-pub returns-clause-few : goal.returns-clause-few
-returns-clause-few g c =
-    out_from g.N.Name.named.settings c.args.tries (ops_of c.args.operations.now) c.args.self.now c.checkpoint_if_due-made.new.self c.run_checked.new.self
-    (checked_point c.checkpoint_if_due-made.result c.args.self.now.checkpoints) c.run_checked.result c.checkpoint_if_due-made.ensures.left c.run_checked.ensures.few
-
-pub returns-in_err-check_alone-clause-few : goal.returns-in_err-check_alone-clause-few
-returns-in_err-check_alone-clause-few g c = on_err_any _ (runs_none g.N.Name.named.settings c.args.tries (ops_of c.args.operations.now) c.args.self.now)
-
-pub returns-clause-fault : goal.returns-clause-fault
-returns-clause-fault g c = run_stops g.N.Name.named.settings (ops_of c.args.operations.now) c.run_checked.new.self c.run_checked.result c.run_checked.ensures.fault
+pub returns-clause-refused : goal.returns-clause-refused
+returns-clause-refused g c =
+    run_stops g.N.Name.named c.args.self.now c.checkpoint_if_due-made.new.self c.checkpoint_if_due-made.result c.checkpoint_if_due-made.ensures.due c.checkpoint_if_due-made.ensures.stands c.checkpoint_if_due-made.ensures.left
+    c.args.tries (ops_of c.args.operations.now) c.run_checked.new.self c.run_checked.result c.run_checked.ensures.few

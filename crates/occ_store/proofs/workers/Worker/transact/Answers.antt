@@ -1,24 +1,23 @@
 use Rattle.std.proofs.Common.{ap, ◌∙◌}
-use Rattle.occ_core.specs.AutoCheckpoints.{checked_point}
 use Rattle.occ_store.specs.Tries.{most_tries}
 use Rattle.occ_store.specs.Workers.{WorkerView, count_tried}
-use Rattle.occ_store.proofs.WorkerTries.{ended_from, few_from, fewer_then}
+use Rattle.occ_store.proofs.WorkerTries.{ended_after, few_after, fewer_after}
 use Rattle.occ_store.proofs.workers.Worker.transact.Goals as goal
 
 pub returns-clause-ended : goal.returns-clause-ended
 returns-clause-ended g c =
-    ended_from g.N.Name.named.settings (g.B.Body.makes c.args.body.now) c.at_least_one.result (most_tries c.args.tries) c.args.self.now c.checkpoint_if_due-made.new.self c.try_and_count.new.self
-    (checked_point c.checkpoint_if_due-made.result c.args.self.now.checkpoints) c.try_and_count.result c.at_least_one.ensures.most c.checkpoint_if_due-made.ensures.left c.try_and_count.ensures.ended
+    ended_after g.N.Name.named c.args.self.now c.checkpoint_if_due-made.new.self c.checkpoint_if_due-made.result c.checkpoint_if_due-made.ensures.due c.checkpoint_if_due-made.ensures.stands c.checkpoint_if_due-made.ensures.left
+    (g.B.Body.makes c.args.body.now) g.B.Error.From.from_gives c.at_least_one.result (most_tries c.args.tries) c.at_least_one.ensures.most c.try_and_count.new.self c.try_and_count.result c.try_and_count.ensures.ended
 
 pub returns-clause-few : goal.returns-clause-few
 returns-clause-few g c =
-    few_from g.N.Name.named.settings (g.B.Body.makes c.args.body.now) c.at_least_one.result (most_tries c.args.tries) c.args.self.now c.checkpoint_if_due-made.new.self c.try_and_count.new.self
-    (checked_point c.checkpoint_if_due-made.result c.args.self.now.checkpoints) c.try_and_count.result c.at_least_one.ensures.most c.checkpoint_if_due-made.ensures.left c.try_and_count.ensures.few
+    few_after g.N.Name.named c.args.self.now c.checkpoint_if_due-made.new.self c.checkpoint_if_due-made.result c.checkpoint_if_due-made.ensures.due c.checkpoint_if_due-made.ensures.stands c.checkpoint_if_due-made.ensures.left
+    (g.B.Body.makes c.args.body.now) g.B.Error.From.from_gives c.at_least_one.result (most_tries c.args.tries) c.at_least_one.ensures.most c.try_and_count.new.self c.try_and_count.result c.try_and_count.ensures.few
 
 pub returns-clause-fewer : goal.returns-clause-fewer
 returns-clause-fewer g c =
-    fewer_then g.N.Name.named.settings (g.B.Body.makes c.args.body.now) c.at_least_one.result (most_tries c.args.tries) c.args.self.now c.checkpoint_if_due-made.new.self c.try_and_count.new.self
-    (checked_point c.checkpoint_if_due-made.result c.args.self.now.checkpoints) c.try_and_count.result c.at_least_one.ensures.most c.checkpoint_if_due-made.ensures.left c.try_and_count.ensures.fewer
+    fewer_after g.N.Name.named c.args.self.now c.checkpoint_if_due-made.new.self c.checkpoint_if_due-made.result c.checkpoint_if_due-made.ensures.due c.checkpoint_if_due-made.ensures.stands c.checkpoint_if_due-made.ensures.left
+    (g.B.Body.makes c.args.body.now) g.B.Error.From.from_gives c.at_least_one.result (most_tries c.args.tries) c.at_least_one.ensures.most c.try_and_count.new.self c.try_and_count.result c.try_and_count.ensures.fewer
 
 pub returns-clause-counts : goal.returns-clause-counts
 returns-clause-counts g c = (

@@ -5,8 +5,8 @@ use Rattle.occ_store.proofs.workers.Worker.try_list.Goals as goal
 
 pub returns-clause-tried : goal.returns-clause-tried
 returns-clause-tried g c =
-    tries_list g.N.Name.named.settings c.args.tries (ops_of c.args.operations.now) c.args.self.now c.try_and_count.new.self c.in_ok-ended.ended c.tn.result c.tn.ensures c.in_ok-ended.ensures.ended
+    tries_list g.N.Name.named c.args.tries (ops_of c.args.operations.now) c.args.self.now c.try_and_count.new.self c.in_ok-ended.ended c.tn.result c.tn.ensures c.in_ok-ended.ensures.ended
 
 pub returns-clause-committed : goal.returns-clause-committed
 returns-clause-committed g c =
-    λ some. nothing_then g.N.Name.named.settings (Performing g.N.Name.named.settings (ops_of c.args.operations.now)) c.args.tries c.args.self.now c.try_and_count.new.self c.in_ok-ended.ended c.in_ok-ended.ensures.ended
+    λ some. nothing_then g.N.Name.named (Performing g.N.Name.named (ops_of c.args.operations.now)) c.args.tries c.args.self.now c.try_and_count.new.self c.in_ok-ended.ended c.in_ok-ended.ensures.ended

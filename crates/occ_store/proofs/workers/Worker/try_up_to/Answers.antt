@@ -1,23 +1,21 @@
-use Rattle.std.proofs.Common.{arith, suc, ap, refl, ◌∙◌, ◌<◌, ◌≡◌, ◌+◌}
-use Rattle.occ_store.proofs.WorkerTries.{on_err_any, at_error, refused_first, refused_more, fewer, fewer_on_err, tried_first, tried_more, stops_later, ends_now, ends_last}
+use Rattle.std.proofs.Common.{arith, suc, refl, ◌∙◌}
+use Rattle.occ_store.proofs.WorkerTries.{at_error, refused_first, refused_more, fewer, tried_first, tried_more, ends_now, ends_last}
 use Rattle.occ_store.proofs.workers.Worker.try_up_to.Goals as goal
 
 pub returns-in_err-ended-clause-few : goal.returns-in_err-ended-clause-few
 returns-in_err-ended-clause-few g c =
-    on_err_any _ (refused_first g.N.Name.named.settings (g.B.Body.makes c.args.body.now) c.args.most c.args.self.now c.try_leased.new.self c.requires c.in_err-ended.ensures.few)
+    at_error _ c.from_residual.result c.in_err-ended.field-0.0 c.from_residual.ensures.1
+    (refused_first g.N.Name.named (g.B.Body.makes c.args.body.now) g.B.Error.From.from_gives c.args.most c.args.self.now c.try_leased.new.self c.in_err-ended.field-0.0 c.requires c.in_err-ended.ensures.refused)
 
 pub returns-in_err-ended-clause-fewer : goal.returns-in_err-ended-clause-fewer
 returns-in_err-ended-clause-fewer g c =
-    fewer_on_err g.N.Name.named.settings (g.B.Body.makes c.args.body.now) c.args.most c.args.self.now c.try_leased.new.self _
-    (refused_first g.N.Name.named.settings (g.B.Body.makes c.args.body.now) c.args.most c.args.self.now c.try_leased.new.self c.requires c.in_err-ended.ensures.few)
-
-pub returns-in_err-ended-clause-error : goal.returns-in_err-ended-clause-error
-returns-in_err-ended-clause-error g c =
-    at_error _ c.from_residual.result c.in_err-ended.field-0.0 c.from_residual.ensures.1 c.in_err-ended.ensures.error
+    at_error _ c.from_residual.result c.in_err-ended.field-0.0 c.from_residual.ensures.1
+    (fewer g.N.Name.named (g.B.Body.makes c.args.body.now) g.B.Error.From.from_gives c.args.most c.args.self.now c.try_leased.new.self c.in_err-ended.field-0.0
+    (refused_first g.N.Name.named (g.B.Body.makes c.args.body.now) g.B.Error.From.from_gives c.args.most c.args.self.now c.try_leased.new.self c.in_err-ended.field-0.0 c.requires c.in_err-ended.ensures.refused))
 
 pub loop-tried-init : goal.loop-tried-init
 loop-tried-init g c = (
-  (0, refl, tried_first g.N.Name.named.settings (g.B.Body.makes c.args.body.now) c.args.self.now c.try_leased.new.self c.in_ok-ended.ended c.in_ok-ended.ensures.ended),
+  (0, refl, tried_first g.N.Name.named (g.B.Body.makes c.args.body.now) c.args.self.now c.try_leased.new.self c.in_ok-ended.ended c.in_ok-ended.ensures.ended),
   c.try_leased.ensures.keeps,
   c.try_leased.ensures.counts,
 )
@@ -26,27 +24,24 @@ pub returns-in-Committed-clause-ended : goal.returns-in-Committed-clause-ended
 returns-in-Committed-clause-ended g c =
     let tried = c.loop-tried.invariant.0.1 in
     let below = c.loop-tried-test.true in
-    ends_now g.N.Name.named.settings (g.B.Body.makes c.args.body.now) c.loop-tried.invariant.0.0 c.args.most c.in-Committed.tn c.in-Committed.value c.args.self.now c.loop-tried.self c.loop-tried.ended (omega arith) c.in-Committed.is c.loop-tried.invariant.0.2
+    ends_now g.N.Name.named (g.B.Body.makes c.args.body.now) c.loop-tried.invariant.0.0 c.args.most c.in-Committed.tn c.in-Committed.value c.args.self.now c.loop-tried.self c.loop-tried.ended (omega arith) c.in-Committed.is c.loop-tried.invariant.0.2
 
 pub returns-in_err-ended-2-clause-few : goal.returns-in_err-ended-2-clause-few
 returns-in_err-ended-2-clause-few g c =
     let tried = c.loop-tried.invariant.0.1 in
     let below = c.loop-tried-test.true in
-    on_err_any _ (refused_more g.N.Name.named.settings (g.B.Body.makes c.args.body.now) (g.B.Body.makes c.loop-tried.body) c.loop-tried.invariant.0.0 c.args.most c.args.self.now c.loop-tried.self c.try_leased-in-loop-tried.new.self
-    c.in-BackedUp.field-0 c.loop-tried.ended (omega arith) c.in-BackedUp.is c.loop-tried.invariant.1 c.loop-tried.invariant.0.2 c.in_err-ended-2.ensures.few)
+    at_error _ c.from_residual-in_err-ended-2.result c.in_err-ended-2.field-0.0 c.from_residual-in_err-ended-2.ensures.1
+    (refused_more g.N.Name.named (g.B.Body.makes c.args.body.now) (g.B.Body.makes c.loop-tried.body) g.B.Error.From.from_gives c.loop-tried.invariant.0.0 c.args.most c.args.self.now c.loop-tried.self c.try_leased-in-loop-tried.new.self
+    c.in-BackedUp.field-0 c.loop-tried.ended c.in_err-ended-2.field-0.0 (omega arith) c.in-BackedUp.is c.loop-tried.invariant.1 c.loop-tried.invariant.0.2 c.in_err-ended-2.ensures.refused)
 
 pub returns-in_err-ended-2-clause-fewer : goal.returns-in_err-ended-2-clause-fewer
 returns-in_err-ended-2-clause-fewer g c =
     let tried = c.loop-tried.invariant.0.1 in
     let below = c.loop-tried-test.true in
-    fewer_on_err g.N.Name.named.settings (g.B.Body.makes c.args.body.now) c.args.most c.args.self.now c.try_leased-in-loop-tried.new.self _
-    (refused_more g.N.Name.named.settings (g.B.Body.makes c.args.body.now) (g.B.Body.makes c.loop-tried.body) c.loop-tried.invariant.0.0 c.args.most c.args.self.now c.loop-tried.self c.try_leased-in-loop-tried.new.self
-    c.in-BackedUp.field-0 c.loop-tried.ended (omega arith) c.in-BackedUp.is c.loop-tried.invariant.1 c.loop-tried.invariant.0.2 c.in_err-ended-2.ensures.few)
-
-pub returns-in_err-ended-2-clause-error : goal.returns-in_err-ended-2-clause-error
-returns-in_err-ended-2-clause-error g c =
-    stops_later (g.B.Body.makes c.args.body.now) (g.B.Body.makes c.loop-tried.body) g.B.Error.From.from_gives g.N.Name.named.settings c.try_leased-in-loop-tried.new.self c.from_residual-in_err-ended-2.result c.in_err-ended-2.field-0.0
-    c.from_residual-in_err-ended-2.ensures.1 c.loop-tried.invariant.1 c.in_err-ended-2.ensures.error
+    at_error _ c.from_residual-in_err-ended-2.result c.in_err-ended-2.field-0.0 c.from_residual-in_err-ended-2.ensures.1
+    (fewer g.N.Name.named (g.B.Body.makes c.args.body.now) g.B.Error.From.from_gives c.args.most c.args.self.now c.try_leased-in-loop-tried.new.self c.in_err-ended-2.field-0.0
+    (refused_more g.N.Name.named (g.B.Body.makes c.args.body.now) (g.B.Body.makes c.loop-tried.body) g.B.Error.From.from_gives c.loop-tried.invariant.0.0 c.args.most c.args.self.now c.loop-tried.self c.try_leased-in-loop-tried.new.self
+    c.in-BackedUp.field-0 c.loop-tried.ended c.in_err-ended-2.field-0.0 (omega arith) c.in-BackedUp.is c.loop-tried.invariant.1 c.loop-tried.invariant.0.2 c.in_err-ended-2.ensures.refused))
 
 pub returns-clause-ended : goal.returns-clause-ended
 returns-clause-ended g c =
@@ -55,7 +50,7 @@ returns-clause-ended g c =
     let end = c.loop-tried.auto.tried-end (omega arith) in
     let last = c.loop-tried-test.false in
     let tried = c.loop-tried.invariant.0.1 in
-    ends_last g.N.Name.named.settings (g.B.Body.makes c.args.body.now) c.loop-tried.invariant.0.0 c.args.most c.args.self.now c.loop-tried.self c.loop-tried.ended (omega arith) c.loop-tried.invariant.0.2
+    ends_last g.N.Name.named (g.B.Body.makes c.args.body.now) c.loop-tried.invariant.0.0 c.args.most c.args.self.now c.loop-tried.self c.loop-tried.ended (omega arith) c.loop-tried.invariant.0.2
 
 pub loop-tried-preserved : goal.loop-tried-preserved
 loop-tried-preserved g c =
@@ -63,7 +58,7 @@ loop-tried-preserved g c =
       (
         suc c.loop-tried.invariant.0.0,
         omega arith,
-        tried_more g.N.Name.named.settings (g.B.Body.makes c.args.body.now) (g.B.Body.makes c.loop-tried.body) c.loop-tried.invariant.0.0 c.args.self.now c.loop-tried.self c.try_leased-in-loop-tried.new.self
+        tried_more g.N.Name.named (g.B.Body.makes c.args.body.now) (g.B.Body.makes c.loop-tried.body) c.loop-tried.invariant.0.0 c.args.self.now c.loop-tried.self c.try_leased-in-loop-tried.new.self
             c.in-BackedUp.field-0 c.loop-tried.ended c.in_ok-ended-2.ended c.in-BackedUp.is c.loop-tried.invariant.1 c.loop-tried.invariant.0.2 c.in_ok-ended-2.ensures.ended,
       ),
       λ before ran after made. c.loop-tried.invariant.1 before ran after (c.try_leased-in-loop-tried.ensures.keeps before ran after made),

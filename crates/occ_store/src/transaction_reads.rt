@@ -1,0 +1,229 @@
+//! What a transaction asks of its store.
+ghost use Rattle.std.specs.Prelude.{◌≡◌};
+ghost use Rattle.std.specs.Option.{option_copied};
+ghost use Rattle.occ_types.specs.PlainData.{key_of, end_of};
+ghost use Rattle.occ_types.specs.Question.{One, Span};
+ghost use Rattle.occ_model.specs.Paging.{first_page, last_page};
+ghost use Rattle.occ_open.specs.Pages.{first_rest_of, last_rest_of};
+ghost use Rattle.occ_open.specs.Replies.{reading, scanning, forgetting};
+ghost use Rattle.occ_open.specs.Transactions.{open_after};
+ghost use Rattle.occ_model.specs.Event.{Forget, Checkpoint, Folded};
+ghost use Rattle.occ_model.specs.Replies.{replied};
+ghost use Rattle.occ_store.specs.Transactions.{ReadsOn, AsksOn, AsksPageOn, AbandonsOn, AsksOrStarves, AsksPage, AbandonsIn};
+ghost use Rattle.occ_store.specs.Standing.{StandsIn};
+ghost use Rattle.occ_store.specs.Workers.{Forgets};
+
+use crate::names::Name;
+use crate::shared::Shared;
+use crate::stores::Store;
+use crate::transactions::Transaction;
+use occ_open::Page;
+use occ_sets::RangeRows;
+use occ_types::{Fault, Key, Row};
+use std::alloc::Allocator;
+use std::sync::Wait;
+
+// On the locked state: who has it lends what he has seen for the time of the call.
+impl<N: Name, A: Allocator + Copy> Transaction<N, A> {
+    pub(crate) fn get_in(
+        &mut self,
+        shared: &mut Shared<N, A>,
+        table: usize,
+        key: &Key<A>,
+    ) -> Result<Option<Row<A>>, Fault>
+        ensures asks { AsksOn self.old shared.old (One table (key_of key.now)) (reading result) self.new shared.new }
+        ensures own { self.new.front.party ≡ self.old.front.party }
+    {
+        shared.visit(&mut self.front);
+        let row = self.draft.get_in(shared, self.session, table, key);
+        shared.visit(&mut self.front);
+        row
+    }
+
+    pub(crate) fn scan_in(
+        &mut self,
+        shared: &mut Shared<N, A>,
+        table: usize,
+        lower: Option<&Key<A>>,
+        upper: Option<&Key<A>>,
+    ) -> Result<RangeRows<A>, Fault>
+        ensures asks { AsksOn self.old shared.old (Span table (end_of (option_copied lower.entry)) (end_of (option_copied upper.entry))) (scanning result) self.new shared.new }
+        ensures own { self.new.front.party ≡ self.old.front.party }
+    {
+        shared.visit(&mut self.front);
+        let rows = self
+            .draft
+            .scan_in(shared, self.session, table, lower, upper);
+        shared.visit(&mut self.front);
+        rows
+    }
+
+    pub(crate) fn scan_first_in(
+        &mut self,
+        shared: &mut Shared<N, A>,
+        table: usize,
+        lower: Option<&Key<A>>,
+        upper: Option<&Key<A>>,
+        most: usize,
+    ) -> Result<Page<A>, Fault>
+        ensures asks { AsksPageOn self.old shared.old (first_page table (end_of (option_copied lower.entry)) (end_of (option_copied upper.entry))) (λ world. first_rest_of world table (end_of (option_copied lower.entry)) (end_of (option_copied upper.entry)) most) result self.new shared.new }
+        ensures own { self.new.front.party ≡ self.old.front.party }
+    {
+        shared.visit(&mut self.front);
+        let page = self
+            .draft
+            .scan_first_in(shared, self.session, table, lower, upper, most);
+        shared.visit(&mut self.front);
+        page
+    }
+
+    pub(crate) fn scan_last_in(
+        &mut self,
+        shared: &mut Shared<N, A>,
+        table: usize,
+        lower: Option<&Key<A>>,
+        upper: Option<&Key<A>>,
+        most: usize,
+    ) -> Result<Page<A>, Fault>
+        ensures asks { AsksPageOn self.old shared.old (last_page table (end_of (option_copied lower.entry)) (end_of (option_copied upper.entry))) (λ world. last_rest_of world table (end_of (option_copied lower.entry)) (end_of (option_copied upper.entry)) most) result self.new shared.new }
+        ensures own { self.new.front.party ≡ self.old.front.party }
+    {
+        shared.visit(&mut self.front);
+        let page = self
+            .draft
+            .scan_last_in(shared, self.session, table, lower, upper, most);
+        shared.visit(&mut self.front);
+        page
+    }
+
+    pub(crate) fn abandon_in(&mut self, shared: &mut Shared<N, A>) -> Result<bool, Fault>
+        ensures forgets { AbandonsOn self.old shared.old (forgetting result) self.new.front shared.new }
+        ensures left { self.new ≡ record self.old { draft = open_after self.old.draft (forgetting result); front = self.new.front } }
+        ensures own { self.new.front.party ≡ self.old.front.party }
+    {
+        shared.visit(&mut self.front);
+        let known = self.draft.abandon_in(shared, self.session);
+        shared.visit(&mut self.front);
+        known
+    }
+
+    // What was read under a number, whatever is open.
+    fn forget_in(&mut self, shared: &mut Shared<N, A>, number: u64) -> Result<bool, Fault>
+        ensures forgets { ReadsOn self.old.front shared.old self.new.front shared.new (Forget self.old.session number) (forgetting result) }
+        ensures same { self.new ≡ record self.old { front = self.new.front } }
+        ensures own { self.new.front.party ≡ self.old.front.party }
+    {
+        shared.visit(&mut self.front);
+        let known = shared.forget(self.session, number);
+        shared.visit(&mut self.front);
+        known
+    }
+}
+
+impl<N: Name, A: Allocator + Copy> Transaction<N, A> {
+    /// The row under a key of a table: its own write of the key, and else what the store answers. Refused as `Session::get`.
+    pub fn get<R: Wait>(
+        &mut self,
+        rt: &R,
+        store: &Store<N, A>,
+        table: usize,
+        key: &Key<A>,
+    ) -> Result<Option<Row<A>>, Fault>
+        ensures asks { AsksOrStarves N.named self.old (One table (key_of key.now)) (reading result) self.new }
+        ensures own { self.new.front.party ≡ self.old.front.party }
+    {
+        let mut shared = store.lock(rt);
+        shared.law();
+        self.get_in(&mut shared, table, key)
+    }
+
+    /// The rows of a table from the lower end on and below the upper one, in the order of their keys, with its own writes over them.
+    /// Refused as `Session::scan`.
+    pub fn scan<R: Wait>(
+        &mut self,
+        rt: &R,
+        store: &Store<N, A>,
+        table: usize,
+        lower: Option<&Key<A>>,
+        upper: Option<&Key<A>>,
+    ) -> Result<RangeRows<A>, Fault>
+        ensures asks { AsksOrStarves N.named self.old (Span table (end_of (option_copied lower.entry)) (end_of (option_copied upper.entry))) (scanning result) self.new }
+        ensures own { self.new.front.party ≡ self.old.front.party }
+    {
+        let mut shared = store.lock(rt);
+        shared.law();
+        self.scan_in(&mut shared, table, lower, upper)
+    }
+
+    /// The first rows of a range, at most `most` of them, and where the rows behind them begin, as `Session::scan_first`.
+    pub fn scan_first<R: Wait>(
+        &mut self,
+        rt: &R,
+        store: &Store<N, A>,
+        table: usize,
+        lower: Option<&Key<A>>,
+        upper: Option<&Key<A>>,
+        most: usize,
+    ) -> Result<Page<A>, Fault>
+        ensures asks { AsksPage N.named self.old (first_page table (end_of (option_copied lower.entry)) (end_of (option_copied upper.entry))) (λ world. first_rest_of world table (end_of (option_copied lower.entry)) (end_of (option_copied upper.entry)) most) result self.new }
+        ensures own { self.new.front.party ≡ self.old.front.party }
+    {
+        let mut shared = store.lock(rt);
+        shared.law();
+        self.scan_first_in(&mut shared, table, lower, upper, most)
+    }
+
+    /// The last rows of a range, at most `most` of them, and where the rows before them end, as `Session::scan_last`.
+    pub fn scan_last<R: Wait>(
+        &mut self,
+        rt: &R,
+        store: &Store<N, A>,
+        table: usize,
+        lower: Option<&Key<A>>,
+        upper: Option<&Key<A>>,
+        most: usize,
+    ) -> Result<Page<A>, Fault>
+        ensures asks { AsksPage N.named self.old (last_page table (end_of (option_copied lower.entry)) (end_of (option_copied upper.entry))) (λ world. last_rest_of world table (end_of (option_copied lower.entry)) (end_of (option_copied upper.entry)) most) result self.new }
+        ensures own { self.new.front.party ≡ self.old.front.party }
+    {
+        let mut shared = store.lock(rt);
+        shared.law();
+        self.scan_last_in(&mut shared, table, lower, upper, most)
+    }
+
+    /// The state forgets what it read, and none is open then.
+    pub(crate) fn abandon<R: Wait>(&mut self, rt: &R, store: &Store<N, A>) -> Result<bool, Fault>
+        ensures forgets { AbandonsIn N.named self.old (forgetting result) self.new.front }
+        ensures left { self.new ≡ record self.old { draft = open_after self.old.draft (forgetting result); front = self.new.front } }
+        ensures own { self.new.front.party ≡ self.old.front.party }
+    {
+        let mut shared = store.lock(rt);
+        shared.law();
+        self.abandon_in(&mut shared)
+    }
+
+    /// The store forgets what was read under a number. What it answers isn't told: it is refused only where it has no such session.
+    pub(crate) fn forget<R: Wait>(&mut self, rt: &R, store: &Store<N, A>, number: u64)
+        ensures forgets { Forgets N.named self.old.session number self.old.front self.new.front }
+        ensures same { self.new ≡ record self.old { front = self.new.front } }
+        ensures own { self.new.front.party ≡ self.old.front.party }
+    {
+        let mut shared = store.lock(rt);
+        shared.law();
+        let _forgotten = self.forget_in(&mut shared, number);
+    }
+
+    /// Folds the settled beginning of the log into the base, as `Store::checkpoint`.
+    pub(crate) fn checkpoint<R: Wait>(
+        &mut self,
+        rt: &R,
+        store: &Store<N, A>,
+    ) -> Result<usize, Fault>
+        ensures stands { StandsIn N.named self.old.front Checkpoint (replied Folded result) self.new.front }
+        ensures same { self.new ≡ record self.old { front = self.new.front } }
+    {
+        let mut shared = store.lock(rt);
+        shared.law();
+        shared.checkpoint(&mut self.front)
+    }
+}
