@@ -73,10 +73,8 @@ impl<N: Name, A: Allocator + Copy, R: Wait> Body<N, A, R> for Visit {
         bank: &Store<N, A>,
         work: &mut Transaction<N, A>,
     ) -> Result<bool, Fault> {
-        for (account, amount) in [(self.from, -1), (self.to, 1)] {
-            let balance = number_in(work.get(rt, bank, TABLE, &Key::Num(account))?);
-            work.put(TABLE, account.into(), balance.saturating_add(amount).into())?;
-        }
+        add(rt, bank, work, self.from, -1)?;
+        add(rt, bank, work, self.to, 1)?;
         if !self.sums {
             return Ok(true);
         }
@@ -84,6 +82,21 @@ impl<N: Name, A: Allocator + Copy, R: Wait> Body<N, A, R> for Visit {
         let rows = work.scan(rt, bank, TABLE, unbounded.as_ref(), unbounded.as_ref())?;
         Ok(sum(&rows) == 0)
     }
+}
+
+/// Adds to the balance of an account.
+fn add<N: Name, A: Allocator + Copy, R: Wait>(
+    rt: &R,
+    bank: &Store<N, A>,
+    work: &mut Transaction<N, A>,
+    account: u64,
+    amount: i64,
+) -> Result<(), Fault>
+    ensures own { work.new.front.party ≡ work.old.front.party }
+{
+    let balance = number_in(work.get(rt, bank, TABLE, &Key::Num(account))?);
+    work.put(TABLE, account.into(), balance.saturating_add(amount).into())?;
+    Ok(())
 }
 
 /// The sum of some accounts.

@@ -1,12 +1,13 @@
 //! Transactions of a session and its lane, which one thread serves by hand.
 use crate::rows::operations;
 use crate::tasks::By;
-use crate::turns::{Draft, Turn};
+use crate::turns::Turn;
 use occ_store::{AlwaysGo, Lane, Name, Served, Session, Store};
 use occ_types::Fault;
 use std::alloc::Allocator;
 use std::sync::Wait;
 use std::thread;
+use std::time::Clock;
 
 /// A session and its lane.
 #[derive(Drop)]
@@ -36,7 +37,7 @@ impl<N: Name, A: Allocator + Copy> Client<N, A> {
     }
 
     /// Tries a transaction. Its transaction number; none where it was backed up.
-    pub(crate) fn transact<R: Wait>(
+    pub(crate) fn transact<R: Wait + Clock>(
         &mut self,
         rt: &R,
         store: &Store<N, A>,
@@ -58,16 +59,15 @@ impl<N: Name, A: Allocator + Copy> Client<N, A> {
         self.session.poll().tn
     }
 
-    /// Begins a transaction, reads and writes in it, and hands it in.
-    fn hand_in<R: Wait>(
+    /// Begins a transaction, reads and writes in it, and hands it in. Its end is seen once the lane was served.
+    fn hand_in<R: Wait + Clock>(
         &mut self,
         rt: &R,
         store: &Store<N, A>,
         turn: &mut Turn,
-    ) -> Result<u64, Fault> {
-        let _begun = self.session.begin()?;
-        turn.run_in(rt, store, &mut Draft::Session(&mut self.session))?;
-        self.session.submit(rt)
+    ) -> Result<(), Fault> {
+        let _pending = self.session.transact(rt, store, 1, 0, turn)?;
+        Ok(())
     }
 
     /// Hands in a transaction as operations that run alone.

@@ -102,6 +102,7 @@ fn is_explained<N: Name, A: Allocator + Copy, R: Wait>(
     alloc: A,
     store: &Store<N, A>,
 ) -> Result<bool, Fault> {
-    let book = store.book(rt)?;
+    let mut observer = store.observer(rt);
+    let book = store.book(rt, &mut observer)?;
     audit_rows(alloc, &book.view())
 }

@@ -58,7 +58,8 @@ pub(crate) fn close<N: Name, A: Allocator + Copy, R: Wait>(
     }
     let sessions = clients.len() as u64;
     let account = bank.end(rt, workers, lanes, clients)?;
-    let counts = bank.counts(rt);
+    let mut observer = bank.observer(rt);
+    let counts = bank.counts(rt, &mut observer);
     let died = tally.died.load(Ordering::SeqCst);
     let told = tally.committed.load(Ordering::SeqCst);
     let right = tally.wrong.load(Ordering::SeqCst) == 0
@@ -126,7 +127,8 @@ fn is_explained<N: Name, A: Allocator + Copy, R: Wait>(
     alloc: A,
     bank: &Store<N, A>,
 ) -> Result<bool, Fault> {
-    let book = bank.book(rt)?;
+    let mut observer = bank.observer(rt);
+    let book = bank.book(rt, &mut observer)?;
     let mut sum = 0i64;
     if let Some(rows) = book.table.table(TABLE) {
         for (_, row) in rows {

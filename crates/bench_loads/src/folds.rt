@@ -46,6 +46,7 @@ pub(crate) fn fold<N: Name, A: Allocator + Copy, R: Wait>(
     rt: &R,
     store: &Store<N, A>,
 ) -> Result<(), Fault> {
-    let _folded = store.checkpoint(rt)?;
+    let mut observer = store.observer(rt);
+    let _folded = store.checkpoint(rt, &mut observer)?;
     Ok(())
 }

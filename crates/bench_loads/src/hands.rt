@@ -33,7 +33,7 @@ pub(crate) struct Hand<'a, N: Name, A: Allocator + Copy> {
 
 impl<N: Name, A: Allocator + Copy> Maker<'_, N, A> {
     /// Tries a transaction, within a lease where there is one. Its transaction number; none where it was backed up.
-    fn transact<R: Wait>(
+    fn transact<R: Wait + Clock>(
         &mut self,
         rt: &R,
         store: &Store<N, A>,
@@ -89,7 +89,7 @@ impl<'a, N: Name, A: Allocator + Copy> Hand<'a, N, A> {
     }
 
     /// Makes a transaction: it is tried until it commits. Its transaction number.
-    fn make<R: Wait>(
+    fn make<R: Wait + Clock>(
         &mut self,
         rt: &R,
         store: &Store<N, A>,
@@ -107,7 +107,7 @@ impl<'a, N: Name, A: Allocator + Copy> Hand<'a, N, A> {
     }
 
     /// Makes the next transactions of its part, so many.
-    fn play<R: Wait>(
+    fn play<R: Wait + Clock>(
         &mut self,
         rt: &R,
         store: &Store<N, A>,

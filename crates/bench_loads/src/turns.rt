@@ -1,55 +1,12 @@
 //! What a thread does in a transaction.
+ghost use Rattle.std.specs.Prelude.{◌≡◌};
+
 use crate::loads::{Shape, amount};
 use crate::rows::TABLE;
-use occ_sets::RangeRows;
-use occ_store::{Body, Name, Session, Store, Transaction};
-use occ_types::{Fault, Key, Row};
+use occ_store::{Body, Name, Store, Transaction};
+use occ_types::{Fault, Key};
 use std::alloc::Allocator;
 use std::sync::Wait;
-
-/// A transaction that is open: a session's, or that of a worker.
-#[derive(Drop)]
-pub(crate) enum Draft<'a, N: Name, A: Allocator + Copy> {
-    Session(&'a mut Session<N, A>),
-    Worker(&'a mut Transaction<N, A>),
-}
-
-impl<N: Name, A: Allocator + Copy> Draft<'_, N, A> {
-    /// The row under a key.
-    fn row<R: Wait>(
-        &self,
-        rt: &R,
-        store: &Store<N, A>,
-        key: &Key<A>,
-    ) -> Result<Option<Row<A>>, Fault> {
-        match self {
-            Draft::Session(session) => session.get(rt, store, TABLE, key),
-            Draft::Worker(transaction) => transaction.get(rt, store, TABLE, key),
-        }
-    }
-
-    /// The rows from one end on and below another.
-    fn rows<R: Wait>(
-        &self,
-        rt: &R,
-        store: &Store<N, A>,
-        lower: Option<&Key<A>>,
-        upper: Option<&Key<A>>,
-    ) -> Result<RangeRows<A>, Fault> {
-        match self {
-            Draft::Session(session) => session.scan(rt, store, TABLE, lower, upper),
-            Draft::Worker(transaction) => transaction.scan(rt, store, TABLE, lower, upper),
-        }
-    }
-
-    /// Writes a number under a key.
-    fn write(&mut self, key: u64, number: i64) -> Result<(), Fault> {
-        match self {
-            Draft::Session(session) => Ok(session.put(TABLE, key.into(), number.into())?),
-            Draft::Worker(transaction) => Ok(transaction.put(TABLE, key.into(), number.into())?),
-        }
-    }
-}
 
 /// A transaction of a load, and how often it was run.
 #[derive(Clone, Copy)]
@@ -72,7 +29,7 @@ impl Turn {
         }
     }
 
-    /// The one that counts all rows and puts their number under key 0. A worker's deletes key 1 before.
+    /// The one that counts all rows and puts their number under key 0. It deletes key 1 before.
     pub(crate) fn counting(shape: Shape) -> Turn {
         Turn {
             counted: Some(0),
@@ -90,18 +47,20 @@ impl Turn {
         self.runs.saturating_sub(1)
     }
 
-    /// Reads and writes in a transaction that is open.
-    pub(crate) fn run_in<N: Name, A: Allocator + Copy, R: Wait>(
+    /// Reads and writes as the load does, or counts.
+    fn run_in<N: Name, A: Allocator + Copy, R: Wait>(
         &mut self,
         rt: &R,
         store: &Store<N, A>,
-        draft: &mut Draft<'_, N, A>,
-    ) -> Result<(), Fault> {
+        work: &mut Transaction<N, A>,
+    ) -> Result<(), Fault>
+        ensures own { work.new.front.party ≡ work.old.front.party }
+    {
         self.runs = self.runs.saturating_add(1);
         if self.counted.is_some() {
-            return self.count(rt, store, draft);
+            return self.count(rt, store, work);
         }
-        self.read_and_write(rt, store, draft)
+        self.read_and_write(rt, store, work)
     }
 
     /// Counts all rows, and puts their number.
@@ -109,12 +68,14 @@ impl Turn {
         &mut self,
         rt: &R,
         store: &Store<N, A>,
-        draft: &mut Draft<'_, N, A>,
-    ) -> Result<(), Fault> {
+        work: &mut Transaction<N, A>,
+    ) -> Result<(), Fault>
+        ensures own { work.new.front.party ≡ work.old.front.party }
+    {
         let unbounded = None;
-        let rows = draft.rows(rt, store, unbounded.as_ref(), unbounded.as_ref())?;
+        let rows = work.scan(rt, store, TABLE, unbounded.as_ref(), unbounded.as_ref())?;
         self.counted = Some(rows.len());
-        draft.write(0, rows.len() as i64)
+        write(work, 0, rows.len() as i64)
     }
 
     /// Reads and writes as the load does.
@@ -122,20 +83,52 @@ impl Turn {
         &self,
         rt: &R,
         store: &Store<N, A>,
-        draft: &mut Draft<'_, N, A>,
-    ) -> Result<(), Fault> {
-        let mut number = self.scan(rt, store, draft)?;
+        work: &mut Transaction<N, A>,
+    ) -> Result<(), Fault>
+        ensures own { work.new.front.party ≡ work.old.front.party }
+    {
+        let mut number = self.scan(rt, store, work)?;
         for place in 0..self.shape.reads.max(self.shape.writes) {
             let key = self.shape.key(self.first, place);
-            if place < self.shape.reads {
-                let row = draft.row(rt, store, &Key::Num(key))?;
-                number = row.as_ref().and_then(|row| row.int(0)).unwrap_or(0);
-            }
-            if place < self.shape.writes {
-                draft.write(key, number.saturating_add(amount(place)))?;
-            }
+            number = self.read_at(rt, store, work, place, key, number)?;
+            self.write_at(work, place, key, number)?;
         }
         Ok(())
+    }
+
+    /// Reads the row at a place, where the load reads so many. Its number, or else the one that was read before.
+    fn read_at<N: Name, A: Allocator + Copy, R: Wait>(
+        &self,
+        rt: &R,
+        store: &Store<N, A>,
+        work: &mut Transaction<N, A>,
+        place: u64,
+        key: u64,
+        number: i64,
+    ) -> Result<i64, Fault>
+        ensures own { work.new.front.party ≡ work.old.front.party }
+    {
+        if place >= self.shape.reads {
+            return Ok(number);
+        }
+        let row = work.get(rt, store, TABLE, &Key::Num(key))?;
+        Ok(row.as_ref().and_then(|row| row.int(0)).unwrap_or(0))
+    }
+
+    /// Writes a row at a place, where the load writes so many.
+    fn write_at<N: Name, A: Allocator + Copy>(
+        &self,
+        work: &mut Transaction<N, A>,
+        place: u64,
+        key: u64,
+        number: i64,
+    ) -> Result<(), Fault>
+        ensures own { work.new.front.party ≡ work.old.front.party }
+    {
+        if place >= self.shape.writes {
+            return Ok(());
+        }
+        write(work, key, number.saturating_add(amount(place)))
     }
 
     /// Reads the range, where the load has one. The number in its first row.
@@ -143,14 +136,16 @@ impl Turn {
         &self,
         rt: &R,
         store: &Store<N, A>,
-        draft: &Draft<'_, N, A>,
-    ) -> Result<i64, Fault> {
+        work: &mut Transaction<N, A>,
+    ) -> Result<i64, Fault>
+        ensures own { work.new.front.party ≡ work.old.front.party }
+    {
         if self.shape.span == 0 {
             return Ok(0);
         }
         let (lower, upper) = (self.first, self.first.saturating_add(self.shape.span));
         let (lower, upper) = (Key::Num(lower), Key::Num(upper));
-        let rows = draft.rows(rt, store, Some(&lower), Some(&upper))?;
+        let rows = work.scan(rt, store, TABLE, Some(&lower), Some(&upper))?;
         let first = rows.as_slice().first();
         Ok(first.and_then(|(_, row)| row.int(0)).unwrap_or(0))
     }
@@ -169,15 +164,26 @@ impl<N: Name, A: Allocator + Copy, R: Wait> Body<N, A, R> for Turn {
     ) -> Result<(), Fault> {
         if self.counted.is_some() {
             delete(work, 1)?;
+            return self.run_in(rt, store, work);
         }
-        self.run_in(rt, store, &mut Draft::Worker(work))
+        self.run_in(rt, store, work)
     }
 }
 
-/// Deletes the row under a key.
-fn delete<N: Name, A: Allocator + Copy>(
-    transaction: &mut Transaction<N, A>,
+/// Writes a number under a key.
+fn write<N: Name, A: Allocator + Copy>(
+    work: &mut Transaction<N, A>,
     key: u64,
-) -> Result<(), Fault> {
-    Ok(transaction.delete(TABLE, key.into())?)
+    number: i64,
+) -> Result<(), Fault>
+    ensures own { work.new.front.party ≡ work.old.front.party }
+{
+    Ok(work.put(TABLE, key.into(), number.into())?)
+}
+
+/// Deletes the row under a key.
+fn delete<N: Name, A: Allocator + Copy>(work: &mut Transaction<N, A>, key: u64) -> Result<(), Fault>
+    ensures own { work.new.front.party ≡ work.old.front.party }
+{
+    Ok(work.delete(TABLE, key.into())?)
 }

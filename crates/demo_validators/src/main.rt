@@ -79,7 +79,9 @@ fn add<N: Name, A: Allocator + Copy, R: Wait>(
     work: &mut Transaction<N, A>,
     account: u64,
     amount: i64,
-) -> Result<(), Fault> {
+) -> Result<(), Fault>
+    ensures own { work.new.front.party ≡ work.old.front.party }
+{
     let row = work.get(rt, bank, 0, &Key::Num(account))?;
     let balance = row.as_ref().and_then(|row| row.int(0)).unwrap_or(0);
     work.put(0, account.into(), balance.saturating_add(amount).into())?;
@@ -90,8 +92,10 @@ fn add<N: Name, A: Allocator + Copy, R: Wait>(
 fn sum<N: Name, A: Allocator + Copy, R: Wait>(
     rt: &R,
     bank: &Store<N, A>,
-    work: &Transaction<N, A>,
-) -> Result<i64, Fault> {
+    work: &mut Transaction<N, A>,
+) -> Result<i64, Fault>
+    ensures own { work.new.front.party ≡ work.old.front.party }
+{
     let unbounded = None;
     let rows = work.scan(rt, bank, 0, unbounded.as_ref(), unbounded.as_ref())?;
     let mut sum = 0i64;
@@ -238,7 +242,8 @@ fn play<
     serve(rt, bank, &mut clients, &mut groups, &tally);
     let lanes = served(rt, alloc, bank, groups)?;
     let account = bank.end(rt, workers, lanes, clients)?;
-    let audited = audit_rows(alloc, &bank.book(rt)?.view())?;
+    let mut observer = bank.observer(rt);
+    let audited = audit_rows(alloc, &bank.book(rt, &mut observer)?.view())?;
     Ok((tally.right.load(Ordering::SeqCst), audited, account))
 }
 

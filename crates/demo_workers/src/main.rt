@@ -108,7 +108,8 @@ fn outcome_of<N: Name, A: Allocator + Copy, R: Wait>(
     bank: &Store<N, A>,
     stopped: u64,
 ) -> Result<Outcome, Fault> {
-    let book = bank.book(rt)?;
+    let mut observer = bank.observer(rt);
+    let book = bank.book(rt, &mut observer)?;
     let mut sum = 0i64;
     for account in 0..ACCOUNTS {
         let row = book.table.row(0, &account.into());

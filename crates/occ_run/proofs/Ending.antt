@@ -5,6 +5,7 @@ use Rattle.std.specs.Io.KnownBytes.{Appends, prepend_known}
 use Rattle.std.proofs.KnownBytes.{Appends-nil, prepend_known-nil}
 use Rattle.occ_types.specs.Schema.{Schema}
 use Rattle.occ_model.specs.World as model
+use Rattle.occ_store.specs.Names.{Named, unnamed}
 use Rattle.occ_text.specs.declared.headers.Limits.{Limits}
 use Rattle.occ_text.specs.declared.faults.ReadFault.{ReadFault}
 use Rattle.occ_text.specs.declared.faults.ReadFault.TheVariants as faults
@@ -23,7 +24,7 @@ use Rattle.occ_run.specs.Workloads.{Version, loads}
 use Rattle.occ_run.specs.Plans.{Planned, WorkloadTaken}
 use Rattle.occ_run.specs.Clients.{ClientView}
 use Rattle.occ_run.specs.Reports.{AppendsFront, ReportGives, book_at, report_lines}
-use Rattle.occ_run.specs.Runs.{IsWorkload, RunState, ReadGives, OrderGives, ReportedAs, RunEnds, RunGives, opened_by}
+use Rattle.occ_run.specs.Runs.{IsWorkload, RunState, ReadGives, OrderGives, ReportedAs, RunEnds, OpensAs, RunGives, opened_by}
 
 -- nothing was written
 pub nothing_written : (w : Option (List ℕ)) → AppendsFront w w []
@@ -75,31 +76,36 @@ module _ {Z : Type 0} (whole : Bool) where
 
   -- a workload was read, and run
   pub ran : (w v : Option (List ℕ)) (before after : Option (List ℕ)) (result : Result (code.Ran Z) Trouble) (settings : Settings) (schema : Schema) (plans : List Planned) → IsWorkload before settings schema plans
-      → RunEnds whole (Appends w v) (AppendsFront w v) (opened_by settings schema) settings.retries plans settings.limits result → RunGives whole (Appends w v) (AppendsFront w v) before result after
+      → OpensAs whole (Appends w v) (AppendsFront w v) (opened_by settings schema) settings.retries plans settings.limits result → RunGives whole (Appends w v) (AppendsFront w v) before result after
   ran w v before after (Ok (Audit holds)) settings schema plans read t = (settings, schema, plans, read, t)
   ran w v before after (Ok (GaveUp sessions)) settings schema plans read t = (settings, schema, plans, read, t)
   ran w v before after (Err troubles.Write) settings schema plans read t = (settings, schema, plans, read, t)
   ran w v before after (Err troubles.Memory) settings schema plans read t = inr (settings, schema, plans, read, t)
-  ran w v before after (Err troubles.Read) settings schema plans read t = absurd t
-  ran w v before after (Err (troubles.Malformed n)) settings schema plans read t = absurd t
+  ran w v before after (Err troubles.Read) settings schema plans read t = absurd t.2
+  ran w v before after (Err (troubles.Malformed n)) settings schema plans read t = absurd t.2
 
   -- memory was refused, and nothing was written
-  pub refused_ends : (w : Option (List ℕ)) (opened : model.Settings) (retries : ℕ) (plans : List Planned) (limits : Limits) (result : Result (code.Ran Z) Trouble) → IsErrAnd result (λ e. e ≡ troubles.Memory) → RunEnds whole (Appends w w) (AppendsFront w w) opened retries plans limits result
-  refused_ends w opened retries plans limits (Ok ran) is = absurd is
-  refused_ends w opened retries plans limits (Err e) is = subst (λ (trouble : Trouble). RunEnds whole (Appends w w) (AppendsFront w w) opened retries plans limits (stops trouble)) (sym is) (inl (nothing_written w))
+  pub refused_ends : (w : Option (List ℕ)) (named : Named) (retries : ℕ) (plans : List Planned) (limits : Limits) (result : Result (code.Ran Z) Trouble) → IsErrAnd result (λ e. e ≡ troubles.Memory) → RunEnds whole (Appends w w) (AppendsFront w w) named retries plans limits result
+  refused_ends w named retries plans limits (Ok ran) is = absurd is
+  refused_ends w named retries plans limits (Err e) is = subst (λ (trouble : Trouble). RunEnds whole (Appends w w) (AppendsFront w w) named retries plans limits (stops trouble)) (sym is) (inl (nothing_written w))
 
   -- the store was opened so
-  pub opened_so : (w v : Option (List ℕ)) (opened other : model.Settings) (retries : ℕ) (plans : List Planned) (limits : Limits) (result : Result (code.Ran Z) Trouble) → opened ≡ other → RunEnds whole (Appends w v) (AppendsFront w v) opened retries plans limits result
-      → RunEnds whole (Appends w v) (AppendsFront w v) other retries plans limits result
-  opened_so w v opened other retries plans limits result is t = subst (λ (o : model.Settings). RunEnds whole (Appends w v) (AppendsFront w v) o retries plans limits result) is t
+  pub opened_so : (w v : Option (List ℕ)) (named : Named) (opened : model.Settings) (retries : ℕ) (plans : List Planned) (limits : Limits) (result : Result (code.Ran Z) Trouble) → named.settings ≡ opened → RunEnds whole (Appends w v) (AppendsFront w v) named retries plans limits result
+      → OpensAs whole (Appends w v) (AppendsFront w v) opened retries plans limits result
+  opened_so w v named opened retries plans limits result is t = (named, is, t)
+
+  -- memory was refused before there was a store
+  pub unopened : (w : Option (List ℕ)) (opened : model.Settings) (retries : ℕ) (plans : List Planned) (limits : Limits) (result : Result (code.Ran Z) Trouble) → IsErrAnd result (λ e. e ≡ troubles.Memory)
+      → OpensAs whole (Appends w w) (AppendsFront w w) opened retries plans limits result
+  unopened w opened retries plans limits result is = (record unnamed { settings = opened }, refl, refused_ends w (record unnamed { settings = opened }) retries plans limits result is)
 
   -- it wasn't all written
-  pub cut_ends : (w v : Option (List ℕ)) (opened : model.Settings) (retries : ℕ) (plans : List Planned) (limits : Limits) (fault : WriteFault) (result : Result (code.Ran Z) Trouble) → IsErrAnd result (λ e. e ≡ write_trouble fault)
-      → ReportedAs whole (Appends w v) (AppendsFront w v) opened retries plans limits (Err fault) → RunEnds whole (Appends w v) (AppendsFront w v) opened retries plans limits result
-  cut_ends w v opened retries plans limits fault (Ok ran) is t = absurd is
-  cut_ends w v opened retries plans limits fault (Err e) is t = subst (λ (trouble : Trouble). RunEnds whole (Appends w v) (AppendsFront w v) opened retries plans limits (stops trouble)) (sym is) (by fault t)
+  pub cut_ends : (w v : Option (List ℕ)) (named : Named) (retries : ℕ) (plans : List Planned) (limits : Limits) (fault : WriteFault) (result : Result (code.Ran Z) Trouble) → IsErrAnd result (λ e. e ≡ write_trouble fault)
+      → ReportedAs whole (Appends w v) (AppendsFront w v) named retries plans limits (Err fault) → RunEnds whole (Appends w v) (AppendsFront w v) named retries plans limits result
+  cut_ends w v named retries plans limits fault (Ok ran) is t = absurd is
+  cut_ends w v named retries plans limits fault (Err e) is t = subst (λ (trouble : Trouble). RunEnds whole (Appends w v) (AppendsFront w v) named retries plans limits (stops trouble)) (sym is) (by fault t)
     where
-      by : (fault : WriteFault) → ReportedAs whole (Appends w v) (AppendsFront w v) opened retries plans limits (Err fault) → RunEnds whole (Appends w v) (AppendsFront w v) opened retries plans limits (stops (write_trouble fault))
+      by : (fault : WriteFault) → ReportedAs whole (Appends w v) (AppendsFront w v) named retries plans limits (Err fault) → RunEnds whole (Appends w v) (AppendsFront w v) named retries plans limits (stops (write_trouble fault))
       by write_faults.Write t = t
       by write_faults.Memory t = t
 
@@ -110,13 +116,13 @@ names_nobody Q clients (Err e) is = tt
 
 module _ (whole : Bool) where
   -- what was written of a state of the store
-  pub reported : (w v : Option (List ℕ)) (opened : model.Settings) (retries : ℕ) (plans : List Planned) (limits : Limits) (result : Result Bool WriteFault) (state : RunState opened retries plans)
-      → ReportGives (Appends w v) (AppendsFront w v) result (report_lines whole (book_at limits state.world) state.refused) → ReportedAs whole (Appends w v) (AppendsFront w v) opened retries plans limits result
-  reported w v opened retries plans limits (Ok holds) state t = (state, t.0, t.1)
-  reported w v opened retries plans limits (Err write_faults.Write) state t = (state, t)
-  reported w v opened retries plans limits (Err write_faults.Memory) state t = inr (state, t)
+  pub reported : (w v : Option (List ℕ)) (named : Named) (retries : ℕ) (plans : List Planned) (limits : Limits) (result : Result Bool WriteFault) (state : RunState named retries plans)
+      → ReportGives (Appends w v) (AppendsFront w v) result (report_lines whole (book_at limits state.world) state.refused) → ReportedAs whole (Appends w v) (AppendsFront w v) named retries plans limits result
+  reported w v named retries plans limits (Ok holds) state t = (state, t.0, t.1)
+  reported w v named retries plans limits (Err write_faults.Write) state t = (state, t)
+  reported w v named retries plans limits (Err write_faults.Memory) state t = inr (state, t)
 
   -- memory was refused before anything was written
-  pub unreported : (w : Option (List ℕ)) (opened : model.Settings) (retries : ℕ) (plans : List Planned) (limits : Limits) (result : Result Bool WriteFault) → IsErrAnd result (λ e. e ≡ write_faults.Memory) → ReportedAs whole (Appends w w) (AppendsFront w w) opened retries plans limits result
-  unreported w opened retries plans limits (Ok holds) is = absurd is
-  unreported w opened retries plans limits (Err e) is = subst (λ (fault : WriteFault). ReportedAs whole (Appends w w) (AppendsFront w w) opened retries plans limits (Err fault)) (sym is) (inl (nothing_written w))
+  pub unreported : (w : Option (List ℕ)) (named : Named) (retries : ℕ) (plans : List Planned) (limits : Limits) (result : Result Bool WriteFault) → IsErrAnd result (λ e. e ≡ write_faults.Memory) → ReportedAs whole (Appends w w) (AppendsFront w w) named retries plans limits result
+  unreported w named retries plans limits (Ok holds) is = absurd is
+  unreported w named retries plans limits (Err e) is = subst (λ (fault : WriteFault). ReportedAs whole (Appends w w) (AppendsFront w w) named retries plans limits (Err fault)) (sym is) (inl (nothing_written w))

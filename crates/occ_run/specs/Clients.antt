@@ -5,11 +5,14 @@ use Rattle.occ_types.specs.declared.fault.Fault.{Fault}
 use Rattle.occ_types.specs.declared.fault.Fault.TheVariants as faults
 use Rattle.occ_model.specs.Event.{Item, Alone, Close}
 use Rattle.occ_model.specs.Operations.{Operation}
-use Rattle.occ_model.specs.World.{Settings}
 use Rattle.occ_model.specs.declared.verdict.Verdict.{Verdict}
 use Rattle.occ_model.specs.declared.verdict.Verdict.TheVariants.{Commit, BackUp}
 use Rattle.occ_model.specs.declared.verdict.Cause.{Cause}
 use Rattle.occ_open.specs.Transactions.{begun}
+use Rattle.occ_history.specs.History.{FrontView, Client}
+use Rattle.occ_store.specs.Names.{Named}
+use Rattle.occ_store.specs.Standing.{GoesOnTo}
+use Rattle.occ_store.specs.Frames.{unseeing}
 use Rattle.occ_store.specs.Sessions.{SessionView, last_number}
 use Rattle.occ_store.specs.Transactions.{TransactionView}
 use Rattle.occ_store.specs.Bodies.{Making, Becoming, Performing}
@@ -47,19 +50,19 @@ IsUnmade fault (failures.Refused told) = (told ≡ fault) × (fault ≡ faults.M
 IsUnmade fault (failures.Stopped stop) = (stop ≡ stops.Memory) × (fault ≡ faults.Memory)
 
 -- a run of the operations performs them, or ends at the first that is refused
-abbrev pub Attempting : Settings → List Operation → Making (Unit {0}) Failure
-Attempting settings operations before (Ok none) after = Performing settings operations before (Ok none) after
-Attempting settings operations before (Err failure) after = (fault : Fault) × IsUnmade fault failure × Performing settings operations before (Err fault) after
+abbrev pub Attempting : Named → List Operation → Making (Unit {0}) Failure
+Attempting named operations before (Ok none) after = Performing named operations before (Ok none) after
+Attempting named operations before (Err failure) after = (fault : Fault) × IsUnmade fault failure × Performing named operations before (Err fault) after
 
--- so many requests of a session, and nothing else, each of which was made by a run that performed the operations
-pub record Requests (settings : Settings) (session : ℕ) (operations : List Operation) (count : ℕ) (items : List Item) : Type 0 where
+-- So many requests of a session, and nothing else, each of which was made by a run that performed the operations. What the runs were answered stands in the history, one after another, from what was seen before to what was seen then.
+pub record Requests (named : Named) (session : ℕ) (operations : List Operation) (count : ℕ) (items : List Item) (from to : FrontView) : Type 0 where
   pub many : length items ≡ count
-  pub made : AllMade (Performing settings operations) session items
+  pub made : AllMade (Performing named operations) session items from to
 
--- an operation was refused, by another fault than for want of memory, in a run of the operations in a transaction that the session began
-abbrev pub HasRefused : Settings → ℕ → List Operation → Type 0
-HasRefused settings session operations = (fault : Fault) × (fault ≡ faults.Memory → ⊥) × (number : ℕ) × (start : ℕ) × (after : TransactionView)
-    × Performing settings operations (record { session = session; draft = Some (begun number start) }) (Err fault) after
+-- An operation was refused, by another fault than for want of memory, in a run of the operations in a transaction that the session began, which had seen this before. What is seen then goes on from what the run saw.
+abbrev pub HasRefused : Named → ℕ → List Operation → FrontView → FrontView → Type 0
+HasRefused named session operations from to = (fault : Fault) × (fault ≡ faults.Memory → ⊥) × (number : ℕ) × (start : ℕ) × (after : TransactionView)
+    × Performing named operations (record { session = session; draft = Some (begun number start); front = from }) (Err fault) after × GoesOnTo after.front to
 
 -- these items were handed in, behind those of before
 pub record Pushes (items : List Item) (old new : SessionView) : Type 0 where
@@ -72,11 +75,11 @@ pub record Told (verdict : Verdict) (session : SessionView) : Type 0 where
   pub number : session.seat.last.number ≡ last_number session
   pub status : session.seat.last.status ≡ Some verdict
 
--- what a try came to; where one of its operations was refused, nothing was handed in
-abbrev pub CameTo : Settings → List Operation → Try → SessionView → Type 0
-CameTo settings operations Refused session = HasRefused settings session.session operations
-CameTo settings operations Committed session = Told Commit session
-CameTo settings operations BackedUp session = (cause : Cause) × Told (BackUp cause) session
+-- What a try came to, behind what was asked for the requests until then. Where one of its operations was refused, nothing was handed in.
+abbrev pub CameTo : Named → List Operation → FrontView → Try → SessionView → Type 0
+CameTo named operations asked Refused session = HasRefused named session.session operations asked session.front
+CameTo named operations asked Committed session = (session.front ≡ asked) × Told Commit session
+CameTo named operations asked BackedUp session = (session.front ≡ asked) × ((cause : Cause) × Told (BackUp cause) session)
 
 -- how many requests a try hands in
 abbrev pub handed_by : Try → ℕ
@@ -104,37 +107,40 @@ ComesTo old (awaited.Settled was) how new = (how ≡ was) × (new ≡ old)
 ComesTo old (awaited.Pending pending) how new = IsTold new.seat.last pending.number pending.value how
 
 -- a try, behind so many that were backed up
-pub record Tries (settings : Settings) (operations : List Operation) (count : ℕ) (tried : Try) (old new : SessionView) : Type 0 where
+pub record Tries (named : Named) (operations : List Operation) (count : ℕ) (tried : Try) (old new : SessionView) : Type 0 where
   pub items : List Item
+  pub asked : FrontView
   pub pushes : Pushes items old new
-  pub requests : Requests settings old.session operations (count + handed_by tried) items
-  pub came : CameTo settings operations tried new
+  pub requests : Requests named old.session operations (count + handed_by tried) items old.front asked
+  pub came : CameTo named operations asked tried new
 
 -- the last of at most `retries + 1` tries, which is backed up only where all were
-pub record LastTry (settings : Settings) (operations : List Operation) (retries : ℕ) (tried : Try) (old new : SessionView) : Type 0 where
+pub record LastTry (named : Named) (operations : List Operation) (retries : ℕ) (tried : Try) (old new : SessionView) : Type 0 where
   pub count : ℕ
   pub within : count ≤ retries
-  pub tries : Tries settings operations count tried old new
+  pub tries : Tries named operations count tried old new
   pub all : tried ≡ BackedUp → count ≡ retries
 
--- operations were handed in to run alone, and committed
+-- operations were handed in to run alone, and committed; the session saw nothing of the history by that
 pub record RunsAlone (operations : List Operation) (old new : SessionView) : Type 0 where
   pub number : ℕ
   pub pushes : Pushes (Alone number operations ∷ []) old new
   pub told : Told Commit new
+  pub same : new.front ≡ old.front
 
--- What is handed in for a transaction, by whether one of its operations was refused: a request for each try before that one; or for each up to the one that committed; or for each that there may be, and then the operations to run alone. Each request was made by a run that performed the operations.
-abbrev pub HandsIn : Settings → ℕ → ℕ → List Operation → Bool → List Item → Type 0
-HandsIn settings retries session operations true items = (count : ℕ) × (count ≤ retries) × Requests settings session operations count items × HasRefused settings session operations
-HandsIn settings retries session operations false items =
-    ((count : ℕ) × (count ≤ retries) × Requests settings session operations (count + 1) items)
-    ⊎ ((tries : List Item) × (number : ℕ) × Requests settings session operations (retries + 1) tries × (items ≡ tries ++ Alone number operations ∷ []))
+-- What is handed in for a transaction, by whether one of its operations was refused: a request for each try before that one; or for each up to the one that committed; or for each that there may be, and then the operations to run alone. Each request was made by a run that performed the operations, in the history that goes on from what was seen before to what was seen then.
+abbrev pub HandsIn : Named → ℕ → ℕ → List Operation → Bool → List Item → FrontView → FrontView → Type 0
+HandsIn named retries session operations true items from to = (count : ℕ) × (asked : FrontView) × (count ≤ retries)
+    × Requests named session operations count items from asked × HasRefused named session operations asked to
+HandsIn named retries session operations false items from to =
+    ((count : ℕ) × (count ≤ retries) × Requests named session operations (count + 1) items from to)
+    ⊎ ((tries : List Item) × (number : ℕ) × Requests named session operations (retries + 1) tries from to × (items ≡ tries ++ Alone number operations ∷ []))
 
 -- a transaction is over: one of its operations was refused, or it committed
-pub record PlanGives (settings : Settings) (retries : ℕ) (operations : List Operation) (refused : Bool) (old new : SessionView) : Type 0 where
+pub record PlanGives (named : Named) (retries : ℕ) (operations : List Operation) (refused : Bool) (old new : SessionView) : Type 0 where
   pub items : List Item
   pub pushes : Pushes items old new
-  pub hands_in : HandsIn settings retries old.session operations refused items
+  pub hands_in : HandsIn named retries old.session operations refused items old.front new.front
   pub told : refused ≡ false → Told Commit new
 
 -- ---- all transactions of a session
@@ -151,23 +157,27 @@ abbrev pub one_if : Bool → ℕ
 one_if true = 1
 one_if false = 0
 
--- what is handed in for one transaction after another, and how many of them were refused
-abbrev pub Plays : Settings → ℕ → ℕ → List (List Operation) → ℕ → List Item → Type 0
-Plays settings retries session [] refused items = (refused ≡ 0) × (items ≡ [])
-Plays settings retries session (operations ∷ more) refused items =
-    (was : Bool) × (first : List Item) × (others : ℕ) × (rest : List Item)
-    × HandsIn settings retries session operations was first × Plays settings retries session more others rest × (refused ≡ one_if was + others) × (items ≡ first ++ rest)
+-- What is handed in for one transaction after another, and how many of them were refused. Each goes on from what was seen when the one before it was over.
+abbrev pub Plays : Named → ℕ → ℕ → List (List Operation) → ℕ → List Item → FrontView → FrontView → Type 0
+Plays named retries session [] refused items from to = (refused ≡ 0) × (items ≡ []) × (to ≡ from)
+Plays named retries session (operations ∷ more) refused items from to =
+    (was : Bool) × (first : List Item) × (others : ℕ) × (rest : List Item) × (between : FrontView)
+    × HandsIn named retries session operations was first from between × Plays named retries session more others rest between to × (refused ≡ one_if was + others) × (items ≡ first ++ rest)
 
-pub record Played (settings : Settings) (retries : ℕ) (transactions : List (List Operation)) (refused : ℕ) (old new : SessionView) : Type 0 where
+pub record Played (named : Named) (retries : ℕ) (transactions : List (List Operation)) (refused : ℕ) (old new : SessionView) : Type 0 where
   pub items : List Item
   pub pushes : Pushes items old new
-  pub plays : Plays settings retries old.session transactions refused items
+  pub plays : Plays named retries old.session transactions refused items old.front new.front
 
--- All that a session handed in by its end: what its transactions ask for, so many of which were refused, and the closing mark.
-pub record HasPlayed (settings : Settings) (retries : ℕ) (plans : List Planned) (session refused : ℕ) (pushed : List Item) : Type 0 where
+-- it handed in nothing yet, and has seen nothing of the history
+abbrev pub IsFresh : SessionView → Type 0
+IsFresh session = (session.sender.pushed ≡ []) × (session.front ≡ unseeing (Client session.session))
+
+-- All that a session handed in by its end: what its transactions ask for, so many of which were refused, and the closing mark. What it was answered stands in the history, from its beginning to what the session has seen.
+pub record HasPlayed (named : Named) (retries : ℕ) (plans : List Planned) (session refused : ℕ) (pushed : List Item) (seen : FrontView) : Type 0 where
   pub items : List Item
   pub number : ℕ
-  pub plays : Plays settings retries session (own session plans) refused items
+  pub plays : Plays named retries session (own session plans) refused items (unseeing (Client session)) seen
   pub closed : pushed ≡ items ++ Close number ∷ []
 
 -- what clauses see of a client: its session, how many of its transactions had an operation that was refused, and how it ended
@@ -177,11 +187,11 @@ pub record ClientView : Type 0 where
   pub end : End
 
 -- how a client ended, as its session and its count have it
-abbrev pub EndsAs : Settings → ℕ → List Planned → End → ℕ → SessionView → Type 0
-EndsAs settings retries plans Unstarted refused session = session.sender.pushed ≡ []
-EndsAs settings retries plans Closed refused session = HasPlayed settings retries plans session.session refused session.sender.pushed
-EndsAs settings retries plans GaveUp refused session = Unit {0}
-EndsAs settings retries plans Starved refused session = Unit {0}
+abbrev pub EndsAs : Named → ℕ → List Planned → End → ℕ → SessionView → Type 0
+EndsAs named retries plans Unstarted refused session = IsFresh session
+EndsAs named retries plans Closed refused session = HasPlayed named retries plans session.session refused session.sender.pushed session.front
+EndsAs named retries plans GaveUp refused session = Unit {0}
+EndsAs named retries plans Starved refused session = Unit {0}
 
 -- how it ends, and its count, by what stopped it: for want of memory it is starved, and for no other reason
 abbrev pub ended_by : Result ℕ Stop → End × ℕ
@@ -192,9 +202,9 @@ ended_by (Err stops.Memory) = (Starved, 0)
 -- ---- the clients of a run
 
 -- of the sessions from a number on, what each handed in, and how many of its transactions had an operation that was refused
-abbrev pub AllPlayed : Settings → ℕ → List Planned → ℕ → List ℕ → Type 0
-AllPlayed settings retries plans session [] = Unit {0}
-AllPlayed settings retries plans session (refused ∷ more) = ((pushed : List Item) × HasPlayed settings retries plans session refused pushed) × AllPlayed settings retries plans (suc session) more
+abbrev pub AllPlayed : Named → ℕ → List Planned → ℕ → List ℕ → Type 0
+AllPlayed named retries plans session [] = Unit {0}
+AllPlayed named retries plans session (refused ∷ more) = ((pushed : List Item) × (seen : FrontView) × HasPlayed named retries plans session refused pushed seen) × AllPlayed named retries plans (suc session) more
 
 -- whether a client wanted memory, or its thread never began
 abbrev pub starved : End → Bool

@@ -4,8 +4,11 @@ use Rattle.std.specs.List.{list_any, flat_map}
 use Rattle.std.specs.Io.KnownBytes.{IsAtEnd}
 use Rattle.occ_types.specs.Schema.{Schema}
 use Rattle.occ_model.specs.Invariant.{Invariant}
+use Rattle.occ_model.specs.Step.{Run}
 use Rattle.occ_model.specs.World as model
 use Rattle.occ_model.specs.World.{World}
+use Rattle.occ_history.specs.History.{Happened}
+use Rattle.occ_store.specs.Names.{Named, opened_as}
 use Rattle.occ_text.specs.declared.headers.Limits.{Limits}
 use Rattle.occ_text.specs.declared.trouble.Trouble.{Trouble}
 use Rattle.occ_text.specs.declared.trouble.Trouble.TheVariants.{Read, Write, Memory, Malformed}
@@ -24,17 +27,19 @@ use Rattle.occ_run.specs.Plans.{Planned, planned, plan_of}
 use Rattle.occ_run.specs.Clients.{ClientView, AllPlayed, is_starved, gave_up}
 use Rattle.occ_run.specs.Reports.{book_at, report_lines}
 
--- The store of a run at its end, as the lock shows it: it has the law, and the tables, sessions and window with which it was opened. Each session has closed, and handed in what its transactions ask for; of each is told how many of these had an operation that was refused.
-pub record RunState (opened : model.Settings) (retries : ℕ) (plans : List Planned) : Type 0 where
+-- The store of a run at its end, as the lock shows it: all that happened since it was opened is a history of the model, and led to it. It has the law, and the tables, sessions and window with which it was opened. Each session has closed, and handed in what its transactions ask for; of each is told how many of these had an operation that was refused.
+pub record RunState (named : Named) (retries : ℕ) (plans : List Planned) : Type 0 where
   pub world : World
+  pub seen : List Happened
+  pub ran : Run (opened_as named) seen world
   pub law : Invariant world
-  pub opened_so : world.settings ≡ opened
+  pub opened_so : world.settings ≡ named.settings
   pub refused : List ℕ
-  pub each : length refused ≡ opened.sessions
-  pub played : AllPlayed opened retries plans 1 refused
+  pub each : length refused ≡ named.settings.sessions
+  pub played : AllPlayed named retries plans 1 refused
 
 -- what is written of it
-abbrev pub report_of : {opened : model.Settings} {retries : ℕ} {plans : List Planned} → Bool → Limits → RunState opened retries plans → List ℕ
+abbrev pub report_of : {named : Named} {retries : ℕ} {plans : List Planned} → Bool → Limits → RunState named retries plans → List ℕ
 report_of whole limits state = lines_text (report_lines whole (book_at limits state.world) state.refused)
 
 -- the text of a workload, and the transactions that it has
@@ -57,10 +62,10 @@ opened_by settings schema = record { schema = schema; sessions = settings.limits
 
 module _ (whole : Bool) (Wrote WroteFront : List ℕ → Type 0) where
   -- what writing it all leaves, by its outcome
-  abbrev pub ReportedAs : model.Settings → ℕ → List Planned → Limits → Result Bool WriteFault → Type 0
-  ReportedAs opened retries plans limits (Ok holds) = (state : RunState opened retries plans) × (holds ≡ true) × Wrote (report_of whole limits state)
-  ReportedAs opened retries plans limits (Err write_faults.Write) = (state : RunState opened retries plans) × WroteFront (report_of whole limits state)
-  ReportedAs opened retries plans limits (Err write_faults.Memory) = WroteFront [] ⊎ ((state : RunState opened retries plans) × WroteFront (report_of whole limits state))
+  abbrev pub ReportedAs : Named → ℕ → List Planned → Limits → Result Bool WriteFault → Type 0
+  ReportedAs named retries plans limits (Ok holds) = (state : RunState named retries plans) × (holds ≡ true) × Wrote (report_of whole limits state)
+  ReportedAs named retries plans limits (Err write_faults.Write) = (state : RunState named retries plans) × WroteFront (report_of whole limits state)
+  ReportedAs named retries plans limits (Err write_faults.Memory) = WroteFront [] ⊎ ((state : RunState named retries plans) × WroteFront (report_of whole limits state))
 
 module _ {Z : Type 0} where
   -- No client gave up where a run audits, and those gave up whom it names. Where one wanted memory, it does neither.
@@ -71,17 +76,22 @@ module _ {Z : Type 0} where
 
 module _ {Z : Type 0} (whole : Bool) (Wrote WroteFront : List ℕ → Type 0) where
   -- what running a workload in a store leaves, by its outcome
-  abbrev pub RunEnds : model.Settings → ℕ → List Planned → Limits → Result (code.Ran Z) Trouble → Type 0
-  RunEnds opened retries plans limits (Ok (Audit holds)) = ReportedAs whole Wrote WroteFront opened retries plans limits (Ok holds)
-  RunEnds opened retries plans limits (Ok (GaveUp sessions)) = (0 < length sessions.items) × Wrote []
-  RunEnds opened retries plans limits (Err Write) = ReportedAs whole Wrote WroteFront opened retries plans limits (Err write_faults.Write)
-  RunEnds opened retries plans limits (Err Memory) = ReportedAs whole Wrote WroteFront opened retries plans limits (Err write_faults.Memory)
-  RunEnds opened retries plans limits (Err Read) = ⊥
-  RunEnds opened retries plans limits (Err (Malformed number)) = ⊥
+  abbrev pub RunEnds : Named → ℕ → List Planned → Limits → Result (code.Ran Z) Trouble → Type 0
+  RunEnds named retries plans limits (Ok (Audit holds)) = ReportedAs whole Wrote WroteFront named retries plans limits (Ok holds)
+  RunEnds named retries plans limits (Ok (GaveUp sessions)) = (0 < length sessions.items) × Wrote []
+  RunEnds named retries plans limits (Err Write) = ReportedAs whole Wrote WroteFront named retries plans limits (Err write_faults.Write)
+  RunEnds named retries plans limits (Err Memory) = ReportedAs whole Wrote WroteFront named retries plans limits (Err write_faults.Memory)
+  RunEnds named retries plans limits (Err Read) = ⊥
+  RunEnds named retries plans limits (Err (Malformed number)) = ⊥
 
-  -- what running the workload of a text leaves
+  -- the same of some store that was opened so
+  abbrev pub OpensAs : model.Settings → ℕ → List Planned → Limits → Result (code.Ran Z) Trouble → Type 0
+  OpensAs opened retries plans limits result = (named : Named) × (named.settings ≡ opened) × RunEnds named retries plans limits result
+
+  -- what running the workload of a text leaves, in a store that was opened with its settings
   abbrev pub LoadEnds : Option (List ℕ) → Result (code.Ran Z) Trouble → Type 0
-  LoadEnds before result = (settings : Settings) × (schema : Schema) × (plans : List Planned) × IsWorkload before settings schema plans × RunEnds (opened_by settings schema) settings.retries plans settings.limits result
+  LoadEnds before result = (settings : Settings) × (schema : Schema) × (plans : List Planned) × IsWorkload before settings schema plans
+      × OpensAs (opened_by settings schema) settings.retries plans settings.limits result
 
   -- what a whole run leaves: it read a workload and ran it; or the text is none, or couldn't be read, and nothing was written; or memory was refused while it was read
   abbrev pub RunGives : Option (List ℕ) → Result (code.Ran Z) Trouble → Option (List ℕ) → Type 0

@@ -1,11 +1,12 @@
 //! The clients of a run, one for each session.
 
-ghost use Rattle.std.specs.Prelude.{◌≡◌, ◌==◌, ◌+◌, ◌<◌, ◌^◌, List, [], map, IfOk, IfSome, OnOk};
+ghost use Rattle.std.specs.Prelude.{◌≡◌, ◌==◌, ◌+◌, ◌<◌, ◌^◌, List, map, IfOk, IfSome, OnOk};
 ghost use Rattle.std.specs.Option.{option_to_list};
 ghost use Rattle.occ_model.specs.Event.{Item, Close};
+ghost use Rattle.occ_history.specs.History.{FrontView};
 ghost use Rattle.occ_store.specs.Sessions.{due, handed_in};
 ghost use Rattle.occ_run.specs.Plans.{plan_of};
-ghost use Rattle.occ_run.specs.Clients.{own, own_plan, one_if, Played, HasPlayed, is_starved, gave_up, ended_by};
+ghost use Rattle.occ_run.specs.Clients.{own, own_plan, one_if, IsFresh, Played, HasPlayed, is_starved, gave_up, ended_by};
 
 use crate::ends::{End, Stop};
 use crate::loads::{Job, Load};
@@ -34,13 +35,13 @@ impl<N: Name, L: Load, A: Allocator + Copy> Model for Client<N, L, A> {
 
     ghost view = { λ c. record { session = c.session; refused = c.refused; end = c.end } };
 
-    ghost invariant = { λ c. EndsAs N.named.settings L.retries L.plans c.end c.refused c.session };
+    ghost invariant = { λ c. EndsAs N.named L.retries L.plans c.end c.refused c.session };
 }
 
 impl<N: Name, L: Load, A: Allocator + Copy> Client<N, L, A> {
     /// The client of a session that handed in nothing yet.
     pub(crate) fn new(session: Session<N, A>) -> Client<N, L, A>
-        requires { session.sender.pushed ≡ [] }
+        requires { IsFresh session }
     {
         Client {
             session,
@@ -52,7 +53,7 @@ impl<N: Name, L: Load, A: Allocator + Copy> Client<N, L, A> {
 
     /// How many of its transactions had an operation that was refused. None where it is another session's, or did not close it.
     pub(crate) fn refused(&self, session: usize) -> Option<u64>
-        ensures { IfSome result (λ refused. (pushed : List Item) × HasPlayed N.named.settings L.retries L.plans session refused pushed) }
+        ensures { IfSome result (λ refused. (pushed : List Item) × (seen : FrontView) × HasPlayed N.named L.retries L.plans session refused pushed seen) }
     {
         let End::Closed = self.end else {
             return None;
@@ -121,8 +122,8 @@ fn play<N: Name, L: Load, A: Allocator + Copy, R: Wait + Clock>(
     waiting: &mut Waiting<'_, N, A>,
     job: &Job<N, L, A>,
 ) -> Result<u64, Stop>
-    requires { session.old.sender.pushed ≡ [] }
-    ensures { IfOk result (λ refused. HasPlayed N.named.settings L.retries L.plans session.new.session refused session.new.sender.pushed) }
+    requires { IsFresh session.old }
+    ensures { IfOk result (λ refused. HasPlayed N.named L.retries L.plans session.new.session refused session.new.sender.pushed session.new.front) }
 {
     let ran = run_plans(rt, session, waiting, job);
     if ran == Err(Stop::Memory) {
@@ -142,7 +143,7 @@ fn run_plans<N: Name, L: Load, A: Allocator + Copy, R: Wait + Clock>(
     waiting: &mut Waiting<'_, N, A>,
     job: &Job<N, L, A>,
 ) -> Result<u64, Stop>
-    ensures { IfOk result (λ refused. Played N.named.settings L.retries (own session.old.session L.plans) refused session.old session.new) }
+    ensures { IfOk result (λ refused. Played N.named L.retries (own session.old.session L.plans) refused session.old session.new) }
 {
     run_each(rt, session, waiting, job, job.plans.as_slice())
 }
@@ -155,7 +156,7 @@ fn run_each<N: Name, L: Load, A: Allocator + Copy, R: Wait + Clock>(
     job: &Job<N, L, A>,
     plans: &[Plan<A>],
 ) -> Result<u64, Stop>
-    ensures { IfOk result (λ refused. Played N.named.settings L.retries (own session.old.session (map plan_of plans.now)) refused session.old session.new) }
+    ensures { IfOk result (λ refused. Played N.named L.retries (own session.old.session (map plan_of plans.now)) refused session.old session.new) }
 {
     let number = session.session();
     let mut refused = 0;
@@ -183,7 +184,7 @@ fn run_own<N: Name, L: Load, A: Allocator + Copy, R: Wait + Clock>(
     number: usize,
     plan: &Plan<A>,
 ) -> Result<bool, Stop>
-    ensures { IfOk result (λ refused. Played N.named.settings L.retries (own_plan number (plan_of plan.now)) (one_if refused) session.old session.new) }
+    ensures { IfOk result (λ refused. Played N.named L.retries (own_plan number (plan_of plan.now)) (one_if refused) session.old session.new) }
 {
     if !is_own(plan, number) {
         return Ok(false);

@@ -5,6 +5,7 @@ ghost use Rattle.std.specs.Option.{option_to_list};
 ghost use Rattle.std.specs.List.{list_any, flat_map};
 ghost use Rattle.std.specs.Io.KnownBytes.{Appends};
 ghost use Rattle.occ_model.specs.Event.{Item};
+ghost use Rattle.occ_history.specs.History.{FrontView};
 ghost use Rattle.occ_run.specs.Clients.{HasPlayed, AllPlayed, is_starved, gave_up};
 ghost use Rattle.occ_run.specs.Reports.{AppendsFront, ReportGives, book_at, report_lines};
 ghost use Rattle.occ_run.specs.Runs.{ReportedAs};
@@ -79,7 +80,7 @@ fn refused<N: Name, L: Load, A: Allocator + Copy>(
     sessions: usize,
 ) -> Result<Vec<u64, A>, AllocError>
     ensures many { IfOk result (λ counts. length counts.items ≡ sessions) }
-    ensures played { IfOk result (λ counts. AllPlayed N.named.settings L.retries L.plans 1 counts.items) }
+    ensures played { IfOk result (λ counts. AllPlayed N.named L.retries L.plans 1 counts.items) }
 {
     let mut counts = Vec::with_capacity(alloc, sessions)?;
     for place in 0..sessions {
@@ -97,7 +98,7 @@ fn refused_at<N: Name, L: Load, A: Allocator + Copy>(
     place: usize,
 ) -> Option<u64>
     requires { place + 1 < 2 ^ 64 }
-    ensures { IfSome result (λ refused. (pushed : List Item) × HasPlayed N.named.settings L.retries L.plans (place + 1) refused pushed) }
+    ensures { IfSome result (λ refused. (pushed : List Item) × (seen : FrontView) × HasPlayed N.named L.retries L.plans (place + 1) refused pushed seen) }
 {
     match clients.get(place) {
         Some(client) => client.refused(place + 1),
@@ -116,7 +117,7 @@ pub(crate) fn report<N: Name, L: Load, W: Write, H: Wait, A: Allocator + Copy>(
 ) -> Result<bool, WriteFault>
     requires { N.named.settings.sessions ≡ limits.sessions }
     ensures { ReportedAs book (Appends (W.contents writer.old) (W.contents writer.new)) (AppendsFront (W.contents writer.old) (W.contents writer.new))
-        N.named.settings L.retries L.plans limits result }
+        N.named L.retries L.plans limits result }
 {
     let refused = refused(job.alloc, clients, limits.sessions)?;
     report_state::<N, L, W, H, A>(rt, job.alloc, writer, &job.store, limits, &refused, book)
@@ -133,9 +134,9 @@ fn report_state<N: Name, L: Load, W: Write, H: Wait, A: Allocator + Copy>(
     book: bool,
 ) -> Result<bool, WriteFault>
     requires many { length refused.now ≡ N.named.settings.sessions }
-    requires played { AllPlayed N.named.settings L.retries L.plans 1 refused.now }
+    requires played { AllPlayed N.named L.retries L.plans 1 refused.now }
     ensures { ReportedAs book (Appends (W.contents writer.old) (W.contents writer.new)) (AppendsFront (W.contents writer.old) (W.contents writer.new))
-        N.named.settings L.retries L.plans limits result }
+        N.named L.retries L.plans limits result }
 {
     let shared = store.lock(rt);
     write_state::<N, L, W, A>(alloc, writer, &shared, limits, refused, book)
@@ -151,9 +152,9 @@ fn write_state<N: Name, L: Load, W: Write, A: Allocator + Copy>(
     book: bool,
 ) -> Result<bool, WriteFault>
     requires many { length refused.now ≡ N.named.settings.sessions }
-    requires played { AllPlayed N.named.settings L.retries L.plans 1 refused.now }
+    requires played { AllPlayed N.named L.retries L.plans 1 refused.now }
     ensures { ReportedAs book (Appends (W.contents writer.old) (W.contents writer.new)) (AppendsFront (W.contents writer.old) (W.contents writer.new))
-        N.named.settings L.retries L.plans limits result }
+        N.named L.retries L.plans limits result }
 {
     shared.law();
     write_whole(alloc, writer, shared.core(), limits, refused, book)

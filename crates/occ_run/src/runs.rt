@@ -1,11 +1,11 @@
 //! A run of a workload: a text in, threads, and a text out.
 
-ghost use Rattle.std.specs.Prelude.{◌≡◌, [], All, map};
+ghost use Rattle.std.specs.Prelude.{◌≡◌, All, map};
 ghost use Rattle.std.specs.Io.KnownBytes.{Appends};
-ghost use Rattle.occ_store.specs.Sessions.{SessionView};
 ghost use Rattle.occ_run.specs.Plans.{plan_of};
+ghost use Rattle.occ_run.specs.Clients.{IsFresh};
 ghost use Rattle.occ_run.specs.Reports.{AppendsFront};
-ghost use Rattle.occ_run.specs.Runs.{opened_by, ReadGives, OrderGives, RunEnds, RunGives};
+ghost use Rattle.occ_run.specs.Runs.{opened_by, ReadGives, OrderGives, RunEnds, OpensAs, RunGives};
 
 use crate::clients::Client;
 use crate::groups::{Group, dealt};
@@ -132,7 +132,7 @@ fn run_workload<
     patience: u64,
     observer: &O,
 ) -> Result<Ran<A>, Trouble>
-    ensures { RunEnds book (Appends (W.contents writer.old) (W.contents writer.new)) (AppendsFront (W.contents writer.old) (W.contents writer.new))
+    ensures { OpensAs book (Appends (W.contents writer.old) (W.contents writer.new)) (AppendsFront (W.contents writer.old) (W.contents writer.new))
         (opened_by workload.settings workload.schema) workload.settings.retries (map plan_of workload.plans.items) workload.settings.limits result }
 {
     let Workload {
@@ -170,7 +170,7 @@ pub fn run_in<
 ) -> Result<Ran<A>, Trouble>
     requires sessions { frame.named.settings.sessions ≡ settings.limits.sessions }
     ensures { RunEnds book (Appends (W.contents writer.old) (W.contents writer.new)) (AppendsFront (W.contents writer.old) (W.contents writer.new))
-        frame.named.settings settings.retries (map plan_of plans.items) settings.limits result }
+        frame.named settings.retries (map plan_of plans.items) settings.limits result }
 {
     run_named::<Brand, Brand, W, H, A, O>(
         rt, alloc, writer, frame, settings, plans, way, patience, book, observer,
@@ -203,7 +203,7 @@ fn run_named<
     requires retries { settings.retries ≡ L.retries }
     requires plans { map plan_of plans.items ≡ L.plans }
     ensures { RunEnds book (Appends (W.contents writer.old) (W.contents writer.new)) (AppendsFront (W.contents writer.old) (W.contents writer.new))
-        N.named.settings L.retries L.plans settings.limits result }
+        N.named L.retries L.plans settings.limits result }
 {
     let Ok((store, _workers, sessions, lanes)) = Store::<N, A>::open(frame) else {
         return Err(Trouble::Memory);
@@ -235,9 +235,9 @@ fn run_opened<
     observer: &O,
 ) -> Result<Ran<A>, Trouble>
     requires sessions { N.named.settings.sessions ≡ settings.limits.sessions }
-    requires fresh { All (λ (session : SessionView). session.sender.pushed ≡ []) sessions.items }
+    requires fresh { All IsFresh sessions.items }
     ensures { RunEnds book (Appends (W.contents writer.old) (W.contents writer.new)) (AppendsFront (W.contents writer.old) (W.contents writer.new))
-        N.named.settings L.retries L.plans settings.limits result }
+        N.named L.retries L.plans settings.limits result }
 {
     match way {
         Way::Validators => by_validators::<N, L, W, H, A, O>(
@@ -268,9 +268,9 @@ fn by_validators<
     observer: &O,
 ) -> Result<Ran<A>, Trouble>
     requires sessions { N.named.settings.sessions ≡ settings.limits.sessions }
-    requires fresh { All (λ (session : SessionView). session.sender.pushed ≡ []) sessions.items }
+    requires fresh { All IsFresh sessions.items }
     ensures { RunEnds book (Appends (W.contents writer.old) (W.contents writer.new)) (AppendsFront (W.contents writer.old) (W.contents writer.new))
-        N.named.settings L.retries L.plans settings.limits result }
+        N.named L.retries L.plans settings.limits result }
 {
     let mut clients = clients_of::<N, L, A>(job.alloc, sessions)?;
     let mut groups = dealt(job.alloc, lanes, settings.validators)?;
@@ -305,9 +305,9 @@ fn by_workers<
     observer: &O,
 ) -> Result<Ran<A>, Trouble>
     requires sessions { N.named.settings.sessions ≡ settings.limits.sessions }
-    requires fresh { All (λ (session : SessionView). session.sender.pushed ≡ []) sessions.items }
+    requires fresh { All IsFresh sessions.items }
     ensures { RunEnds book (Appends (W.contents writer.old) (W.contents writer.new)) (AppendsFront (W.contents writer.old) (W.contents writer.new))
-        N.named.settings L.retries L.plans settings.limits result }
+        N.named L.retries L.plans settings.limits result }
 {
     let clients = clients_of::<N, L, A>(job.alloc, sessions)?;
     let mut workers = workers_of(job.alloc, clients, lanes)?;
@@ -336,7 +336,7 @@ fn run_clients<
 ) -> Result<Ran<A>, Trouble>
     requires sessions { N.named.settings.sessions ≡ limits.sessions }
     ensures ends { RunEnds book (Appends (W.contents writer.old) (W.contents writer.new)) (AppendsFront (W.contents writer.old) (W.contents writer.new))
-        N.named.settings L.retries L.plans limits result }
+        N.named L.retries L.plans limits result }
     ensures order { OrderGives clients.new result }
 {
     run_threads(rt, job, clients, groups, observer);
@@ -357,7 +357,7 @@ fn tell<N: Name, L: Load, W: Write, H: Wait, A: Allocator + Copy>(
 ) -> Result<Ran<A>, Trouble>
     requires sessions { N.named.settings.sessions ≡ limits.sessions }
     ensures ends { RunEnds book (Appends (W.contents writer.old) (W.contents writer.new)) (AppendsFront (W.contents writer.old) (W.contents writer.new))
-        N.named.settings L.retries L.plans limits result }
+        N.named L.retries L.plans limits result }
     ensures order { OrderGives clients.now result }
 {
     if are_starved(clients) {
@@ -376,7 +376,7 @@ fn clients_of<N: Name, L: Load, A: Allocator + Copy>(
     alloc: A,
     sessions: Vec<Session<N, A>, A>,
 ) -> Result<Vec<Client<N, L, A>, A>, AllocError>
-    requires { All (λ (session : SessionView). session.sender.pushed ≡ []) sessions.items }
+    requires { All IsFresh sessions.items }
 {
     let mut clients = Vec::with_capacity(alloc, sessions.len())?;
     for session in sessions {

@@ -27,7 +27,7 @@ impl<N: Name, A: Allocator + Copy, R: Wait> Body<N, A, R> for Attempt<'_, A> {
 
     type Error = Failure;
 
-    ghost makes = { λ body. Attempting N.named.settings (ops_of body.operations.list.now) };
+    ghost makes = { λ body. Attempting N.named (ops_of body.operations.list.now) };
 
     fn run(
         &mut self,
@@ -52,7 +52,7 @@ pub(crate) fn run_plan<N: Name, A: Allocator + Copy, R: Wait + Clock>(
     retries: u64,
     operations: &[Op<A>],
 ) -> Result<bool, Stop>
-    ensures { IfOk result (λ refused. PlanGives N.named.settings retries (ops_of operations.now) refused session.old session.new) }
+    ensures { IfOk result (λ refused. PlanGives N.named retries (ops_of operations.now) refused session.old session.new) }
 {
     match try_up_to(rt, session, waiting, retries, operations)? {
         Try::Refused => return Ok(true),
@@ -71,7 +71,7 @@ fn try_up_to<N: Name, A: Allocator + Copy, R: Wait + Clock>(
     retries: u64,
     operations: &[Op<A>],
 ) -> Result<Try, Stop>
-    ensures { IfOk result (λ tried. LastTry N.named.settings (ops_of operations.now) retries tried session.old session.new) }
+    ensures { IfOk result (λ tried. LastTry N.named (ops_of operations.now) retries tried session.old session.new) }
 {
     let mut last = try_once(rt, session, waiting, operations)?;
     for count in 0..retries {
@@ -101,7 +101,7 @@ fn try_once<N: Name, A: Allocator + Copy, R: Wait + Clock>(
     waiting: &mut Waiting<'_, N, A>,
     operations: &[Op<A>],
 ) -> Result<Try, Stop>
-    ensures { IfOk result (λ tried. Tries N.named.settings (ops_of operations.now) 0 tried session.old session.new) }
+    ensures { IfOk result (λ tried. Tries N.named (ops_of operations.now) 0 tried session.old session.new) }
 {
     let mut body = Attempt {
         operations: Operations { list: operations },

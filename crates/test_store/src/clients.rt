@@ -146,7 +146,7 @@ pub(crate) fn begin<N: Name, A: Allocator + Copy>(
 pub(crate) fn number<N: Name, A: Allocator + Copy, R: Wait>(
     rt: &R,
     store: &Store<N, A>,
-    session: &Session<N, A>,
+    session: &mut Session<N, A>,
     key: u64,
 ) -> Result<Option<i64>, Fault> {
     let row = session.get(rt, store, 0, &Key::Num(key))?;
@@ -219,7 +219,8 @@ pub(crate) fn checkpoint<N: Name, A: Allocator + Copy, R: Wait>(
     rt: &R,
     store: &Store<N, A>,
 ) -> Result<usize, Fault> {
-    store.checkpoint(rt)
+    let mut observer = store.observer(rt);
+    store.checkpoint(rt, &mut observer)
 }
 
 // Folds what can be folded, unless a row is open.

@@ -336,7 +336,8 @@ impl<N: Name, A: Allocator + Copy> Desk<N, A> {
 
     /// Whether serial replay explains the book of the store.
     pub(crate) fn is_right<R: Wait>(&self, rt: &R) -> Result<bool, Fault> {
-        let book = self.store.book(rt)?;
+        let mut observer = self.store.observer(rt);
+        let book = self.store.book(rt, &mut observer)?;
         audit_rows(self.alloc, &book.view())
     }
 }

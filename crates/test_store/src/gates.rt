@@ -100,7 +100,8 @@ impl<'a, N: Name, A: Allocator + Copy, R: Wait> Looks<'a, N, A, R> {
 impl<N: Name, A: Allocator + Copy, R: Wait> Gate for Looks<'_, N, A, R> {
     fn pass(&self, _point: Point, session: usize, number: u64) -> Pace {
         let _before = self.passed.fetch_add(1, Ordering::SeqCst);
-        let _standing = self.store.row(self.rt, session, number);
+        let mut observer = self.store.observer(self.rt);
+        let _standing = self.store.row(self.rt, &mut observer, session, number);
         Pace::Go
     }
 }

@@ -119,9 +119,10 @@ fn play_late<N: Name, A: Allocator + Copy, R: Wait + Clock>(
     session.submit(rt)?;
     session.begin()?;
     let _row = session.get(rt, store, 0, &Key::Num(ACCOUNT))?;
-    let reading = store.counts(rt).reading;
+    let mut observer = store.observer(rt);
+    let reading = store.counts(rt, &mut observer).reading;
     let refused = session.give_up(rt, store, 3);
-    let left = store.counts(rt).reading;
+    let left = store.counts(rt, &mut observer).reading;
     lane.serve_one(rt, store, &AlwaysGo)?;
     let closed = session.give_up(rt, store, 3);
     let closed_again = session.give_up(rt, store, 3);

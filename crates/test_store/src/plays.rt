@@ -102,7 +102,7 @@ fn take<N: Name + Send + Sync, A: Allocator + Copy + Send + Sync, R: Threads + W
         Step::ServeAllBut(session, point) => serve_all_but(rt, desk, texts, session, point),
         Step::ServeTogether(point) => serve_together(rt, desk, texts, point),
         Step::Load(seed) => right_text(texts, play_load(rt, desk, seed)),
-        Step::Row(session, number) => row_text(texts, desk.store.row(rt, session, number)),
+        Step::Row(session, number) => row(rt, desk, texts, session, number),
         Step::Lane(session) => lane(desk, texts, session),
         Step::Judged(session) => judged(desk, texts, session),
         Step::Poll(session) => last(desk, texts, session),
@@ -188,6 +188,19 @@ fn over_text(texts: Global, fault: Option<Fault>) -> Result<String, Fault> {
     }
 }
 
+// How the row of a session's transaction stands, as one sees it who comes to look.
+fn row<N: Name, A: Allocator + Copy, R: Wait>(
+    rt: &R,
+    desk: &Desk<N, A>,
+    texts: Global,
+    session: usize,
+    number: u64,
+) -> Result<String, Fault> {
+    let mut observer = desk.store.observer(rt);
+    let standing = desk.store.row(rt, &mut observer, session, number);
+    row_text(texts, standing)
+}
+
 fn lane<N: Name, A: Allocator + Copy>(
     desk: &mut Desk<N, A>,
     texts: Global,
@@ -224,7 +237,8 @@ fn read<N: Name, A: Allocator + Copy, R: Wait>(
     key: u64,
 ) -> Result<String, Fault> {
     let begun = begin(desk.session(session)?)?;
-    let number = match desk.sessions.get(session.wrapping_sub(1)) {
+    let sessions = desk.sessions.as_mut_slice();
+    let number = match sessions.get_mut(session.wrapping_sub(1)) {
         Some(session) => number(rt, &desk.store, session, key)?,
         None => None,
     };

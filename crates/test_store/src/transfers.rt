@@ -59,9 +59,11 @@ fn pay<N: Name, A: Allocator + Copy, R: Wait>(
 fn balance<N: Name, A: Allocator + Copy, R: Wait>(
     rt: &R,
     store: &Store<N, A>,
-    work: &Transaction<N, A>,
+    work: &mut Transaction<N, A>,
     account: u64,
-) -> Result<i64, Fault> {
+) -> Result<i64, Fault>
+    ensures own { work.new.front.party ≡ work.old.front.party }
+{
     let row = work.get(rt, store, ACCOUNTS, &Key::Num(account))?;
     Ok(row.as_ref().and_then(|row| row.int(0)).unwrap_or(0))
 }
@@ -116,9 +118,10 @@ fn told_of<N: Name, A: Allocator + Copy, R: Wait>(
         amount,
     };
     let ended = worker.transact(rt, store, 3, &mut body);
+    let mut observer = store.observer(rt);
     Told {
         ended,
-        counts: store.counts(rt),
+        counts: store.counts(rt, &mut observer),
     }
 }
 

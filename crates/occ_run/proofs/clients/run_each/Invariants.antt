@@ -7,5 +7,5 @@ use Rattle.occ_run.proofs.clients.run_each.Given as goal
 abbrev pub invariant-loop-plan : goal.invariant-loop-plan
 invariant-loop-plan g l = record {
   few : l.refused ≤ l.plan-index;
-  played : Played g.N.Name.named.settings g.L.Load.retries (own l.fn.session.session (map plan_of (take l.plan-index l.plans))) l.refused l.fn.session l.session;
+  played : Played g.N.Name.named g.L.Load.retries (own l.fn.session.session (map plan_of (take l.plan-index l.plans))) l.refused l.fn.session l.session;
 }

@@ -6,5 +6,5 @@ use Rattle.occ_run.proofs.outcomes.refused.Given as goal
 abbrev pub invariant-loop-place : goal.invariant-loop-place
 invariant-loop-place g l = record {
   many : length l.counts.items ≡ l.place;
-  played : AllPlayed g.N.Name.named.settings g.L.Load.retries g.L.Load.plans 1 l.counts.items;
+  played : AllPlayed g.N.Name.named g.L.Load.retries g.L.Load.plans 1 l.counts.items;
 }

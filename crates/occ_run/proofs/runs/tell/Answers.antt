@@ -8,13 +8,13 @@ pub returns-then-are_starved-clause-ends : goal.returns-then-are_starved-clause-
 returns-then-are_starved-clause-ends g c = inl (nothing_written _)
 
 pub returns-in_err-given_up-clause-ends : goal.returns-in_err-given_up-clause-ends
-returns-in_err-given_up-clause-ends g c = refused_ends c.args.book _ _ _ _ _ c.from_residual.result c.from_residual.ensures.1
+returns-in_err-given_up-clause-ends g c = refused_ends c.args.book _ g.N.Name.named _ _ _ c.from_residual.result c.from_residual.ensures.1
 
 pub returns-in_err-given_up-clause-order : goal.returns-in_err-given_up-clause-order
 returns-in_err-given_up-clause-order g c = names_nobody _ c.args.clients.now c.from_residual.result c.from_residual.ensures.1
 
 pub returns-in_err-holds-clause-ends : goal.returns-in_err-holds-clause-ends
-returns-in_err-holds-clause-ends g c = cut_ends c.args.book (g.W.Write.contents c.args.writer.now) (g.W.Write.contents c.report.new.writer) g.N.Name.named.settings g.L.Load.retries g.L.Load.plans c.args.limits c.in_err-holds.field-0.0 c.from_residual-in_err-holds.result c.from_residual-in_err-holds.ensures.1 c.in_err-holds.ensures
+returns-in_err-holds-clause-ends g c = cut_ends c.args.book (g.W.Write.contents c.args.writer.now) (g.W.Write.contents c.report.new.writer) g.N.Name.named g.L.Load.retries g.L.Load.plans c.args.limits c.in_err-holds.field-0.0 c.from_residual-in_err-holds.result c.from_residual-in_err-holds.ensures.1 c.in_err-holds.ensures
 
 pub returns-in_err-holds-clause-order : goal.returns-in_err-holds-clause-order
 returns-in_err-holds-clause-order g c = names_nobody _ c.args.clients.now c.from_residual-in_err-holds.result c.from_residual-in_err-holds.ensures.1

@@ -4,4 +4,4 @@ use Rattle.occ_run.proofs.trying.try_up_to.Given as goal
 
 -- the last try came behind so many that were backed up
 abbrev pub invariant-loop-count : goal.invariant-loop-count
-invariant-loop-count g l = Tries g.N.Name.named.settings (ops_of l.operations) l.count l.last l.fn.session l.session
+invariant-loop-count g l = Tries g.N.Name.named (ops_of l.operations) l.count l.last l.fn.session l.session
