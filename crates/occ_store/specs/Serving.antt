@@ -1,5 +1,5 @@
 -- What serving a lane does (our own choice).
-use Rattle.std.specs.Prelude.{◌≡◌, ◌<◌, ◌⊎◌, ℕ, Bool, true, false, List, length, Option, None, Some, Result, Ok, Err, get_or}
+use Rattle.std.specs.Prelude.{◌≡◌, ◌<◌, ◌⊎◌, ℕ, Bool, true, false, List, [], ◌∷◌, length, Option, None, Some, Result, Ok, Err, get_or}
 use Rattle.std.specs.List.{list_any}
 use mathlib.Core.List.{IsPrefix}
 use Rattle.boxcar.specs.Table.{Where}
@@ -17,6 +17,7 @@ use Rattle.occ_store.specs.declared.serving.Point.{Point}
 use Rattle.occ_store.specs.declared.serving.Point.TheVariants as points
 use Rattle.occ_store.specs.declared.serving.Served.{Served}
 use Rattle.occ_store.specs.declared.serving.Served.TheVariants as served
+use Rattle.occ_store.specs.declared.validators.Group as code_group
 use Rattle.occ_store.specs.Names.{Named, opened_as}
 use Rattle.occ_store.specs.Standing.{GoesOnTo}
 use Rattle.occ_store.specs.Locked.{Locked, world_of}
@@ -203,3 +204,17 @@ Ends named stops old fault stopped new = ((stopped ≡ false → AllHaveEnded na
 -- What a turn of a lane tells of faults: none that is new; or the first one, which the lane met in this turn.
 abbrev pub TellsFault : Named → Stops → LaneView → Option Fault → Option Fault → LaneView → Type 0
 TellsFault named stops old before after new = (after ≡ before) ⊎ ((before ≡ None) × ((fault : Fault) × (after ≡ Some fault) × Serves named stops old (Err fault) new))
+
+module _ {N Z : Type 0} where
+  -- What running a group makes of it: each lane was served, until it had ended; or the store was stopped, which may be; or there was no memory for it.
+  pub record IsRun (named : Named) (stops : Stops) (MayStop : Type 0) (old new : code_group.Group N Z) : Type 0 where
+    pub served : AreServed old.lanes.items new.lanes.items
+    pub over : new.fault ≡ None → new.stopped ≡ false → AllAreOver stops new.lanes.items
+    pub ended : Ends named stops old.lanes.items new.fault new.stopped new.lanes.items
+    pub stopped : new.stopped ≡ true → MayStop
+
+  -- so is each of these
+  abbrev pub AreRun : Named → Stops → Type 0 → List (code_group.Group N Z) → List (code_group.Group N Z) → Type 0
+  AreRun named stops MayStop [] news = news ≡ []
+  AreRun named stops MayStop (old ∷ olds) news = (new : code_group.Group N Z) × (others : List (code_group.Group N Z))
+      × (news ≡ new ∷ others) × IsRun named stops MayStop old new × AreRun named stops MayStop olds others

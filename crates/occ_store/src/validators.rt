@@ -1,6 +1,5 @@
-//! Threads that serve lanes, each a group of them.
-ghost use Rattle.std.specs.Prelude.{◌≡◌, ◌<◌, ◌⊎◌, None, Some, Ok, length, IfOk, ℕ, map, true, false, get_or};
-ghost use Rattle.occ_types.specs.Schema.{first_fault};
+//! Groups of lanes, each served by one thread.
+ghost use Rattle.std.specs.Prelude.{◌≡◌, ◌<◌, ◌⊎◌, None, Some, Ok, length, IfOk, ℕ, true, false, get_or};
 ghost use Rattle.occ_store.specs.Serving.{Serves, IsServed, IsOver, AreServed, AreOver, AllAreOver, HasEnded, HaveEnded, AllHaveEnded, IsMetMarked, IsMet, Ends, TellsFault};
 ghost use Rattle.occ_store.specs.declared.validators.Turn.TheVariants.{Over};
 
@@ -12,7 +11,6 @@ use occ_types::Fault;
 use std::alloc::{AllocError, Allocator};
 use std::sync::Wait;
 use std::thread;
-use std::thread::Threads;
 use std::time::{Clock, Duration};
 
 /// After so many rounds without work a group sleeps between two rounds.
@@ -239,38 +237,4 @@ pub(crate) fn rest<R: Clock>(rt: &R, idle: u64) {
     } else if idle > 0 {
         thread::yield_now();
     }
-}
-
-/// Serves each group in a thread of its own, as `Group::serve` does, until all lanes are closed, were stopped or met a fault, or the store
-/// is stopped. The lanes stay where they are. A thread that can't be started counts as a want of memory of its group, whose lanes are not
-/// served. The answer is the fault of the first group, in order, that met one; each group tells its own, and whether it was stopped.
-pub fn run_validators<
-    N: Name + Send + Sync,
-    A: Allocator + Copy + Send + Sync,
-    G: Gate + Sync,
-    R: Threads + Wait + Clock + Sync,
->(rt: &R, store: &Store<N, A>, groups: &mut [Group<N, A>], gate: &G) -> Option<Fault>
-    ensures { result ≡ first_fault (map (λ group. group.fault) groups.new) }
-{
-    thread::scope(thread::scope_env(), rt, |scope| {
-        for group in groups.iter_mut() {
-            // What the thread finds is written over this.
-            group.fault = Some(Fault::Memory);
-            group.stopped = false;
-            let _ = scope.spawn(move || group.serve(rt, store, gate));
-        }
-    });
-    first_met(groups)
-}
-
-// The fault of the first group that met one.
-fn first_met<N: Name, A: Allocator + Copy>(groups: &[Group<N, A>]) -> Option<Fault>
-    ensures { result ≡ first_fault (map (λ group. group.fault) groups.now) }
-{
-    for group in groups {
-        if group.fault.is_some() {
-            return group.fault;
-        }
-    }
-    None
 }

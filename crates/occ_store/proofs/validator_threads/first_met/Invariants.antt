@@ -1,6 +1,6 @@
 use Rattle.std.proofs.Common.{◌≡◌, map, drop}
 use Rattle.occ_types.specs.Schema.{first_fault}
-use Rattle.occ_store.proofs.validators.first_met.Given as goal
+use Rattle.occ_store.proofs.validator_threads.first_met.Given as goal
 
 -- what is left gives what all of them give
 abbrev pub invariant-loop-group : goal.invariant-loop-group
