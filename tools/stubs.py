@@ -11,6 +11,7 @@ from typing import NamedTuple
 from repository import CRATES, TOP, below, kit, read
 
 FN = re.compile(r"(    )?(?:pub(?:\([a-z]+\))? )?(?:unsafe )?(?:const )?fn (\w+)")
+CYCLE = re.compile(r"#\[cycle\((\w+)\)\]$")
 TYPE = re.compile(r"^(?:pub(?:\([a-z]+\))? )?(?:struct|enum|trait) (\w+)", re.M)
 
 
@@ -106,6 +107,11 @@ def copy(crate, base, keep=(), changes={}):
         for it in functions:
             if it.file == file and it.end > it.body:
                 lines[it.body + 1:it.end] = ["unreachable!()", *[""] * (it.end - it.body - 2)]
+        # A cycle of calls is none any more where one of its functions has no body.
+        heads = {lines[it.head - 1] for it in functions if it.file == file}
+        for cycle in filter(None, map(CYCLE.match, heads)):
+            lines = ["" if line == cycle[0] else line for line in lines]
+            shutil.rmtree(f"{base}/proofs/{file.removesuffix('.rt')}/+{cycle[1]}", ignore_errors=True)
         for (_, number), line in ((at, line) for at, line in changes.items() if at[0] == file):
             lines[number] = line
         with open(f"{base}/src/{file}", "w") as text:

@@ -8,7 +8,9 @@ use Rattle.std.proofs.lemmas.List.Elements.{All-same, All-map}
 use Rattle.occ_model.specs.Event.{Item, Close}
 use Rattle.occ_model.specs.Log.{last_folded}
 use Rattle.occ_model.specs.Operations.{Operation}
-use Rattle.occ_history.specs.History.{FrontView, Client}
+use Rattle.occ_history.specs.History.{Happened, Party, FrontView, Client, Begins, mine}
+use Rattle.occ_history.proofs.Beginnings.{prefix_self, prefix_trans}
+use Rattle.occ_store.specs.Accounts.{HasSeen}
 use Rattle.occ_store.specs.Sessions.{SessionView, due, handed_in}
 use Rattle.occ_store.specs.Names.{Named}
 use Rattle.occ_store.specs.Frames.{unseeing, fresh_session, sessions_from}
@@ -17,7 +19,7 @@ use Rattle.occ_run.specs.declared.ends.Stop.{Stop}
 use Rattle.occ_run.specs.declared.ends.Stop.TheVariants as stops
 use Rattle.occ_run.specs.declared.ends.End.{End}
 use Rattle.occ_run.specs.declared.ends.End.TheVariants as ends
-use Rattle.occ_run.specs.Clients.{PlanGives, own_plan, own, one_if, Plays, Played, IsFresh, HasPlayed, EndsAs, ended_by, AllPlayed}
+use Rattle.occ_run.specs.Clients.{PlanGives, own_plan, own, one_if, Plays, Played, IsFresh, HasPlayed, EndsAs, ended_by, PlayedIn, AllPlayed}
 use Rattle.occ_run.proofs.Tries.{pushes_then}
 
 -- ---- one transaction after another
@@ -113,39 +115,69 @@ has_played named retries plans refused old mid new fresh h closed =
       closed = ap (λ (v : SessionView). v.sender.pushed) closed ∙ ap (λ (l : List Item). l ++ Close (due mid) ∷ []) (h.pushes.pushed ∙ ap (λ (l : List Item). l ++ h.items) fresh.0);
     }
 
+begins_self : (front : FrontView) → Begins front front
+begins_self front = (prefix_self front.seen, refl)
+
+begins_on : (one two three : FrontView) → two.party ≡ one.party → Begins one two → Begins two three → Begins one three
+begins_on one two three same first second =
+    (prefix_trans one.seen two.seen three.seen first.0 second.0, first.1 ∙ subst (λ (p : Party). mine p two.seen ≡ mine p three.seen) same second.1)
+
 -- how it ended, by what stopped it
 pub ends_as : (named : Named) (retries : ℕ) (plans : List Planned) (played : Result ℕ Stop) (both : End × ℕ) (v : SessionView) → both ≡ ended_by played → IfOk played (λ refused. HasPlayed named retries plans v.session refused v.sender.pushed v.front)
     → EndsAs named retries plans both.0 both.1 v
 ends_as named retries plans played both v is h = subst (λ (p : End × ℕ). EndsAs named retries plans p.0 p.1 v) (sym is) (by played h)
   where
     by : (played : Result ℕ Stop) → IfOk played (λ refused. HasPlayed named retries plans v.session refused v.sender.pushed v.front) → EndsAs named retries plans (ended_by played).0 (ended_by played).1 v
-    by (Ok refused) h = h
+    by (Ok refused) h = (v.front, refl, begins_self v.front, h)
     by (Err stops.Patience) h = tt
     by (Err stops.Memory) h = tt
 
 pub unstarted_is_fresh : (named : Named) (retries : ℕ) (plans : List Planned) (end : End) (refused : ℕ) (v : SessionView) → EndsAs named retries plans end refused v → end ≡ ends.Unstarted → IsFresh v
 unstarted_is_fresh named retries plans end refused v h is = subst (λ (e : End). EndsAs named retries plans e refused v) is h
 
-pub closed_has_played : (named : Named) (retries : ℕ) (plans : List Planned) (end : End) (refused session : ℕ) (v : SessionView) → EndsAs named retries plans end refused v → end ≡ ends.Closed → v.session ≡ session → (pushed : List Item) × (seen : FrontView) × HasPlayed named retries plans session refused pushed seen
-closed_has_played named retries plans end refused session v h is same =
-    (v.sender.pushed, v.front, subst (λ (n : ℕ). HasPlayed named retries plans n refused v.sender.pushed v.front) same (subst (λ (e : End). EndsAs named retries plans e refused v) is h))
+abbrev caught_up : SessionView → List Happened → SessionView
+caught_up v story = record v { front = record v.front { seen = story } }
+
+-- it ended so also where its session has seen more since
+pub ended_still : (named : Named) (retries : ℕ) (plans : List Planned) (end : End) (refused : ℕ) (story : List Happened) (old new : SessionView) → EndsAs named retries plans end refused old → end ≡ ends.Closed → new ≡ caught_up old story → Begins old.front new.front
+    → EndsAs named retries plans end refused new
+ended_still named retries plans end refused story old new h is same begins =
+    let closed = subst (λ (e : End). EndsAs named retries plans e refused old) is h in
+    subst (λ (e : End). EndsAs named retries plans e refused new) (sym is) (
+      closed.0,
+      ap (λ (v : SessionView). v.front.party) same ∙ closed.1,
+      begins_on closed.0 old.front new.front closed.1 closed.2 begins,
+      subst (λ (v : SessionView). HasPlayed named retries plans v.session refused v.sender.pushed closed.0) (sym same) closed.3,
+    )
+
+-- what it has seen then is the history in which it played
+pub closed_has_played : (named : Named) (retries : ℕ) (plans : List Planned) (end : End) (refused session : ℕ) (story : List Happened) (old new : SessionView) → EndsAs named retries plans end refused old → end ≡ ends.Closed → old.session ≡ session → new ≡ caught_up old story → Begins old.front new.front
+    → PlayedIn named retries plans story session refused
+closed_has_played named retries plans end refused session story old new h is own same begins =
+    let closed = subst (λ (e : End). EndsAs named retries plans e refused old) is h in (
+      old.sender.pushed,
+      closed.0,
+      subst (λ (s : List Happened). HasSeen s closed.0) (ap (λ (v : SessionView). v.front.seen) same) (begins_on closed.0 old.front new.front closed.1 closed.2 begins),
+      subst (λ (n : ℕ). HasPlayed named retries plans n refused old.sender.pushed closed.0) own closed.3,
+    )
 
 -- ---- of all sessions
 
-played_by : (named : Named) (retries : ℕ) (plans : List Planned) (session other x : ℕ) → session ≡ other → (pushed : List Item) × (seen : FrontView) × HasPlayed named retries plans session x pushed seen → (pushed : List Item) × (seen : FrontView) × HasPlayed named retries plans other x pushed seen
-played_by named retries plans session other x same h = subst (λ (n : ℕ). (pushed : List Item) × (seen : FrontView) × HasPlayed named retries plans n x pushed seen) same h
+played_by : (named : Named) (retries : ℕ) (plans : List Planned) (story : List Happened) (session other x : ℕ) → session ≡ other → PlayedIn named retries plans story session x → PlayedIn named retries plans story other x
+played_by named retries plans story session other x same h = subst (λ (n : ℕ). PlayedIn named retries plans story n x) same h
 
 -- one session more
-all_more : (named : Named) (retries : ℕ) (plans : List Planned) (from : ℕ) (xs : List ℕ) (x : ℕ) → AllPlayed named retries plans from xs → (pushed : List Item) × (seen : FrontView) × HasPlayed named retries plans (from + length xs) x pushed seen → AllPlayed named retries plans from (xs ++ x ∷ [])
-all_more named retries plans from [] x all h = (played_by named retries plans _ from x (omega arith) h, tt)
-all_more named retries plans from (y ∷ ys) x all h = (all.0, all_more named retries plans (suc from) ys x all.1 (played_by named retries plans _ (suc from + length ys) x (omega arith) h))
+all_more : (named : Named) (retries : ℕ) (plans : List Planned) (story : List Happened) (from : ℕ) (xs : List ℕ) (x : ℕ) → AllPlayed named retries plans story from xs → PlayedIn named retries plans story (from + length xs) x → AllPlayed named retries plans story from (xs ++ x ∷ [])
+all_more named retries plans story from [] x all h = (played_by named retries plans story _ from x (omega arith) h, tt)
+all_more named retries plans story from (y ∷ ys) x all h = (all.0, all_more named retries plans story (suc from) ys x all.1 (played_by named retries plans story _ (suc from + length ys) x (omega arith) h))
 
-pub all_so_far : (named : Named) (retries : ℕ) (plans : List Planned) (xs now : List ℕ) (x place : ℕ) → now ≡ xs ++ x ∷ [] → length xs ≡ place → AllPlayed named retries plans 1 xs → (pushed : List Item) × (seen : FrontView) × HasPlayed named retries plans (place + 1) x pushed seen → AllPlayed named retries plans 1 now
-all_so_far named retries plans xs now x place is count all h =
-    subst (λ (l : List ℕ). AllPlayed named retries plans 1 l) (sym is) (all_more named retries plans 1 xs x all (played_by named retries plans (place + 1) (1 + length xs) x (omega arith) h))
+pub all_so_far : (named : Named) (retries : ℕ) (plans : List Planned) (story : List Happened) (xs now : List ℕ) (x place : ℕ) → now ≡ xs ++ x ∷ [] → length xs ≡ place → AllPlayed named retries plans story 1 xs → PlayedIn named retries plans story (place + 1) x
+    → AllPlayed named retries plans story 1 now
+all_so_far named retries plans story xs now x place is count all h =
+    subst (λ (l : List ℕ). AllPlayed named retries plans story 1 l) (sym is) (all_more named retries plans story 1 xs x all (played_by named retries plans story (place + 1) (1 + length xs) x (omega arith) h))
 
-pub none_yet : (named : Named) (retries : ℕ) (plans : List Planned) (xs : List ℕ) → xs ≡ [] → AllPlayed named retries plans 1 xs
-none_yet named retries plans xs is = subst (λ (l : List ℕ). AllPlayed named retries plans 1 l) (sym is) tt
+pub none_yet : (named : Named) (retries : ℕ) (plans : List Planned) (story : List Happened) (xs : List ℕ) → xs ≡ [] → AllPlayed named retries plans story 1 xs
+none_yet named retries plans story xs is = subst (λ (l : List ℕ). AllPlayed named retries plans story 1 l) (sym is) tt
 
 -- what one value more gives
 pub gathered_more : {X Y : Type 0} (f : X → List Y) (xs : List X) (i : ℕ) (x : X) (before now : List Y) (given : List Y) → i < length xs → x ≡ get_or xs i x → before ≡ flat_map f (take i xs) → now ≡ before ++ given → given ≡ f x → now ≡ flat_map f (take (i + 1) xs)

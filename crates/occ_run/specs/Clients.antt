@@ -9,7 +9,8 @@ use Rattle.occ_model.specs.declared.verdict.Verdict.{Verdict}
 use Rattle.occ_model.specs.declared.verdict.Verdict.TheVariants.{Commit, BackUp}
 use Rattle.occ_model.specs.declared.verdict.Cause.{Cause}
 use Rattle.occ_open.specs.Transactions.{begun}
-use Rattle.occ_history.specs.History.{FrontView, Client}
+use Rattle.occ_history.specs.History.{Happened, FrontView, Client, Begins}
+use Rattle.occ_store.specs.Accounts.{HasSeen}
 use Rattle.occ_store.specs.Names.{Named}
 use Rattle.occ_store.specs.Standing.{GoesOnTo}
 use Rattle.occ_store.specs.Frames.{unseeing}
@@ -186,10 +187,10 @@ pub record ClientView : Type 0 where
   pub refused : ℕ
   pub end : End
 
--- how a client ended, as its session and its count have it
+-- How a client ended, as its session and its count have it. A session may have seen more since it closed.
 abbrev pub EndsAs : Named → ℕ → List Planned → End → ℕ → SessionView → Type 0
 EndsAs named retries plans Unstarted refused session = IsFresh session
-EndsAs named retries plans Closed refused session = HasPlayed named retries plans session.session refused session.sender.pushed session.front
+EndsAs named retries plans Closed refused session = (seen : FrontView) × (session.front.party ≡ seen.party) × Begins seen session.front × HasPlayed named retries plans session.session refused session.sender.pushed seen
 EndsAs named retries plans GaveUp refused session = Unit {0}
 EndsAs named retries plans Starved refused session = Unit {0}
 
@@ -201,10 +202,14 @@ ended_by (Err stops.Memory) = (Starved, 0)
 
 -- ---- the clients of a run
 
--- of the sessions from a number on, what each handed in, and how many of its transactions had an operation that was refused
-abbrev pub AllPlayed : Named → ℕ → List Planned → ℕ → List ℕ → Type 0
-AllPlayed named retries plans session [] = Unit {0}
-AllPlayed named retries plans session (refused ∷ more) = ((pushed : List Item) × (seen : FrontView) × HasPlayed named retries plans session refused pushed seen) × AllPlayed named retries plans (suc session) more
+-- a session has played in this history: what it had seen by its end is a beginning of it, with all of its client's own events
+abbrev pub PlayedIn : Named → ℕ → List Planned → List Happened → ℕ → ℕ → Type 0
+PlayedIn named retries plans story session refused = (pushed : List Item) × (seen : FrontView) × HasSeen story seen × HasPlayed named retries plans session refused pushed seen
+
+-- so have the sessions from a number on, of each of which is told how many of its transactions had an operation that was refused
+abbrev pub AllPlayed : Named → ℕ → List Planned → List Happened → ℕ → List ℕ → Type 0
+AllPlayed named retries plans story session [] = Unit {0}
+AllPlayed named retries plans story session (refused ∷ more) = PlayedIn named retries plans story session refused × AllPlayed named retries plans story (suc session) more
 
 -- whether a client wanted memory, or its thread never began
 abbrev pub starved : End → Bool

@@ -27,16 +27,16 @@ use Rattle.occ_run.specs.Plans.{Planned, planned, plan_of}
 use Rattle.occ_run.specs.Clients.{ClientView, AllPlayed, is_starved, gave_up}
 use Rattle.occ_run.specs.Reports.{book_at, report_lines}
 
--- The store of a run at its end, as the lock shows it: all that happened since it was opened is a history of the model, and led to it. It has the law, and the tables, sessions and window with which it was opened. Each session has closed, and handed in what its transactions ask for; of each is told how many of these had an operation that was refused.
+-- The store of a run at its end, as the lock shows it: all that happened since it was opened is a history of the model, and led to it. It has the law, and the tables, sessions and window with which it was opened. In that history each session handed in what its transactions ask for, and closed; of each is told how many of these had an operation that was refused.
 pub record RunState (named : Named) (retries : ℕ) (plans : List Planned) : Type 0 where
   pub world : World
-  pub seen : List Happened
-  pub ran : Run (opened_as named) seen world
+  pub story : List Happened
+  pub ran : Run (opened_as named) story world
   pub law : Invariant world
   pub opened_so : world.settings ≡ named.settings
   pub refused : List ℕ
   pub each : length refused ≡ named.settings.sessions
-  pub played : AllPlayed named retries plans 1 refused
+  pub played : AllPlayed named retries plans story 1 refused
 
 -- what is written of it
 abbrev pub report_of : {named : Named} {retries : ℕ} {plans : List Planned} → Bool → Limits → RunState named retries plans → List ℕ

@@ -1,19 +1,18 @@
 //! The clients of a run, one for each session.
 
-ghost use Rattle.std.specs.Prelude.{◌≡◌, ◌==◌, ◌+◌, ◌<◌, ◌^◌, List, map, IfOk, IfSome, OnOk};
+ghost use Rattle.std.specs.Prelude.{◌≡◌, ◌==◌, ◌+◌, ◌<◌, ◌^◌, map, IfOk, IfSome, OnOk};
 ghost use Rattle.std.specs.Option.{option_to_list};
-ghost use Rattle.occ_model.specs.Event.{Item, Close};
-ghost use Rattle.occ_history.specs.History.{FrontView};
+ghost use Rattle.occ_model.specs.Event.{Close};
 ghost use Rattle.occ_store.specs.Sessions.{due, handed_in};
 ghost use Rattle.occ_run.specs.Plans.{plan_of};
-ghost use Rattle.occ_run.specs.Clients.{own, own_plan, one_if, IsFresh, Played, HasPlayed, is_starved, gave_up, ended_by};
+ghost use Rattle.occ_run.specs.Clients.{own, own_plan, one_if, IsFresh, Played, HasPlayed, PlayedIn, is_starved, gave_up, ended_by};
 
 use crate::ends::{End, Stop};
 use crate::loads::{Job, Load};
 use crate::trying::run_plan;
 use crate::waiting::Waiting;
 use crate::workloads::Plan;
-use occ_store::{Lane, Name, Session};
+use occ_store::{Lane, Name, Session, Shared};
 use std::alloc::Allocator;
 use std::marker::{Model, PhantomData};
 use std::sync::Wait;
@@ -51,9 +50,11 @@ impl<N: Name, L: Load, A: Allocator + Copy> Client<N, L, A> {
         }
     }
 
-    /// How many of its transactions had an operation that was refused. None where it is another session's, or did not close it.
-    pub(crate) fn refused(&self, session: usize) -> Option<u64>
-        ensures { IfSome result (λ refused. (pushed : List Item) × (seen : FrontView) × HasPlayed N.named L.retries L.plans session refused pushed seen) }
+    /// How many of its transactions had an operation that was refused, in the history that stands behind the lock. None where it is
+    /// another session's, or did not close it.
+    pub(crate) fn refused(&mut self, shared: &mut Shared<N, A>, session: usize) -> Option<u64>
+        ensures played { IfSome result (PlayedIn N.named L.retries L.plans shared.old.story.log session) }
+        ensures same { shared.new ≡ shared.old }
     {
         let End::Closed = self.end else {
             return None;
@@ -62,6 +63,7 @@ impl<N: Name, L: Load, A: Allocator + Copy> Client<N, L, A> {
         if own != session {
             return None;
         }
+        self.session.catch_up(shared);
         Some(self.refused)
     }
 

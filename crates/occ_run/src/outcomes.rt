@@ -1,12 +1,10 @@
 //! What came of a run, once all its threads have ended.
 
-ghost use Rattle.std.specs.Prelude.{◌≡◌, ◌+◌, ◌<◌, ◌^◌, List, ◌++◌, length, IfOk, IfSome, OnOk};
+ghost use Rattle.std.specs.Prelude.{◌≡◌, ◌+◌, ◌<◌, ◌^◌, ◌++◌, length, IfOk, IfSome, OnOk};
 ghost use Rattle.std.specs.Option.{option_to_list};
 ghost use Rattle.std.specs.List.{list_any, flat_map};
 ghost use Rattle.std.specs.Io.KnownBytes.{Appends};
-ghost use Rattle.occ_model.specs.Event.{Item};
-ghost use Rattle.occ_history.specs.History.{FrontView};
-ghost use Rattle.occ_run.specs.Clients.{HasPlayed, AllPlayed, is_starved, gave_up};
+ghost use Rattle.occ_run.specs.Clients.{AllPlayed, PlayedIn, is_starved, gave_up};
 ghost use Rattle.occ_run.specs.Reports.{AppendsFront, ReportGives, book_at, report_lines};
 ghost use Rattle.occ_run.specs.Runs.{ReportedAs};
 
@@ -15,7 +13,7 @@ use crate::groups::Group;
 use crate::loads::{Job, Load};
 use crate::reports::write_report;
 use occ_core::Core;
-use occ_store::{Name, Shared, Store};
+use occ_store::{Name, Shared};
 use occ_text::faults::WriteFault;
 use occ_text::headers::Limits;
 use occ_text::output::Output;
@@ -76,15 +74,17 @@ fn push_some<A: Allocator>(
 // the clients in their places, so where one isn't in its own, which doesn't happen, that counts as a want of memory.
 fn refused<N: Name, L: Load, A: Allocator + Copy>(
     alloc: A,
-    clients: &[Client<N, L, A>],
+    shared: &mut Shared<N, A>,
+    clients: &mut [Client<N, L, A>],
     sessions: usize,
 ) -> Result<Vec<u64, A>, AllocError>
     ensures many { IfOk result (λ counts. length counts.items ≡ sessions) }
-    ensures played { IfOk result (λ counts. AllPlayed N.named L.retries L.plans 1 counts.items) }
+    ensures played { IfOk result (λ counts. AllPlayed N.named L.retries L.plans shared.old.story.log 1 counts.items) }
+    ensures same { shared.new ≡ shared.old }
 {
     let mut counts = Vec::with_capacity(alloc, sessions)?;
     for place in 0..sessions {
-        let Some(count) = refused_at(clients, place) else {
+        let Some(count) = refused_at(shared, clients, place) else {
             return Err(AllocError);
         };
         counts.push(count)?;
@@ -94,14 +94,16 @@ fn refused<N: Name, L: Load, A: Allocator + Copy>(
 
 // The same of the session whose client is at a place.
 fn refused_at<N: Name, L: Load, A: Allocator + Copy>(
-    clients: &[Client<N, L, A>],
+    shared: &mut Shared<N, A>,
+    clients: &mut [Client<N, L, A>],
     place: usize,
 ) -> Option<u64>
     requires { place + 1 < 2 ^ 64 }
-    ensures { IfSome result (λ refused. (pushed : List Item) × (seen : FrontView) × HasPlayed N.named L.retries L.plans (place + 1) refused pushed seen) }
+    ensures played { IfSome result (PlayedIn N.named L.retries L.plans shared.old.story.log (place + 1)) }
+    ensures same { shared.new ≡ shared.old }
 {
-    match clients.get(place) {
-        Some(client) => client.refused(place + 1),
+    match clients.get_mut(place) {
+        Some(client) => client.refused(shared, place + 1),
         None => None,
     }
 }
@@ -111,7 +113,7 @@ pub(crate) fn report<N: Name, L: Load, W: Write, H: Wait, A: Allocator + Copy>(
     rt: &H,
     writer: &mut W,
     job: &Job<N, L, A>,
-    clients: &[Client<N, L, A>],
+    clients: &mut [Client<N, L, A>],
     limits: Limits,
     book: bool,
 ) -> Result<bool, WriteFault>
@@ -119,27 +121,26 @@ pub(crate) fn report<N: Name, L: Load, W: Write, H: Wait, A: Allocator + Copy>(
     ensures { ReportedAs book (Appends (W.contents writer.old) (W.contents writer.new)) (AppendsFront (W.contents writer.old) (W.contents writer.new))
         N.named L.retries L.plans limits result }
 {
-    let refused = refused(job.alloc, clients, limits.sessions)?;
-    report_state::<N, L, W, H, A>(rt, job.alloc, writer, &job.store, limits, &refused, book)
+    let mut shared = job.store.lock(rt);
+    report_state(job.alloc, writer, &mut shared, clients, limits, book)
 }
 
-// Writes the state of a store, with how many transactions of each session had an operation that was refused. Whether the audit holds.
-fn report_state<N: Name, L: Load, W: Write, H: Wait, A: Allocator + Copy>(
-    rt: &H,
+// Writes the state that stands behind the lock of a store, and what became of its sessions in the history that led to it. Whether the
+// audit holds.
+fn report_state<N: Name, L: Load, W: Write, A: Allocator + Copy>(
     alloc: A,
     writer: &mut W,
-    store: &Store<N, A>,
+    shared: &mut Shared<N, A>,
+    clients: &mut [Client<N, L, A>],
     limits: Limits,
-    refused: &[u64],
     book: bool,
 ) -> Result<bool, WriteFault>
-    requires many { length refused.now ≡ N.named.settings.sessions }
-    requires played { AllPlayed N.named L.retries L.plans 1 refused.now }
+    requires { N.named.settings.sessions ≡ limits.sessions }
     ensures { ReportedAs book (Appends (W.contents writer.old) (W.contents writer.new)) (AppendsFront (W.contents writer.old) (W.contents writer.new))
         N.named L.retries L.plans limits result }
 {
-    let shared = store.lock(rt);
-    write_state::<N, L, W, A>(alloc, writer, &shared, limits, refused, book)
+    let refused = refused(alloc, shared, clients, limits.sessions)?;
+    write_state::<N, L, W, A>(alloc, writer, shared, limits, &refused, book)
 }
 
 // Writes the state that stands behind the lock of a store.
@@ -152,7 +153,7 @@ fn write_state<N: Name, L: Load, W: Write, A: Allocator + Copy>(
     book: bool,
 ) -> Result<bool, WriteFault>
     requires many { length refused.now ≡ N.named.settings.sessions }
-    requires played { AllPlayed N.named L.retries L.plans 1 refused.now }
+    requires played { AllPlayed N.named L.retries L.plans shared.now.story.log 1 refused.now }
     ensures { ReportedAs book (Appends (W.contents writer.old) (W.contents writer.new)) (AppendsFront (W.contents writer.old) (W.contents writer.new))
         N.named L.retries L.plans limits result }
 {

@@ -274,16 +274,11 @@ fn by_validators<
 {
     let mut clients = clients_of::<N, L, A>(job.alloc, sessions)?;
     let mut groups = dealt(job.alloc, lanes, settings.validators)?;
-    run_clients(
-        rt,
-        writer,
-        job,
-        &mut clients,
-        &mut groups,
-        settings.limits,
-        book,
-        observer,
-    )
+    run_threads(rt, job, &mut clients, &mut groups, observer);
+    if has_starved(&groups) {
+        return Err(Trouble::Memory);
+    }
+    tell(rt, writer, job, &mut clients, settings.limits, book)
 }
 
 // Runs it with a thread for each session, which serves its lane too.
@@ -312,38 +307,8 @@ fn by_workers<
     let clients = clients_of::<N, L, A>(job.alloc, sessions)?;
     let mut workers = workers_of(job.alloc, clients, lanes)?;
     run_workers(rt, job, &mut workers, observer);
-    let clients = into_clients(job.alloc, workers)?;
-    tell(rt, writer, job, &clients, settings.limits, book)
-}
-
-// Runs clients and groups to their end, and writes what became of them.
-fn run_clients<
-    N: Name + Send + Sync,
-    L: Load + Send + Sync,
-    W: Write,
-    H: Threads + Wait + Clock + Sync,
-    A: Allocator + Copy + Send + Sync,
-    O: Observer,
->(
-    rt: &H,
-    writer: &mut W,
-    job: &Job<N, L, A>,
-    clients: &mut [Client<N, L, A>],
-    groups: &mut [Group<N, A>],
-    limits: Limits,
-    book: bool,
-    observer: &O,
-) -> Result<Ran<A>, Trouble>
-    requires sessions { N.named.settings.sessions ≡ limits.sessions }
-    ensures ends { RunEnds book (Appends (W.contents writer.old) (W.contents writer.new)) (AppendsFront (W.contents writer.old) (W.contents writer.new))
-        N.named L.retries L.plans limits result }
-    ensures order { OrderGives clients.new result }
-{
-    run_threads(rt, job, clients, groups, observer);
-    if has_starved(groups) {
-        return Err(Trouble::Memory);
-    }
-    tell(rt, writer, job, clients, limits, book)
+    let mut clients = into_clients(job.alloc, workers)?;
+    tell(rt, writer, job, &mut clients, settings.limits, book)
 }
 
 // Writes what became of clients that ran to their end.
@@ -351,14 +316,14 @@ fn tell<N: Name, L: Load, W: Write, H: Wait, A: Allocator + Copy>(
     rt: &H,
     writer: &mut W,
     job: &Job<N, L, A>,
-    clients: &[Client<N, L, A>],
+    clients: &mut [Client<N, L, A>],
     limits: Limits,
     book: bool,
 ) -> Result<Ran<A>, Trouble>
     requires sessions { N.named.settings.sessions ≡ limits.sessions }
     ensures ends { RunEnds book (Appends (W.contents writer.old) (W.contents writer.new)) (AppendsFront (W.contents writer.old) (W.contents writer.new))
         N.named L.retries L.plans limits result }
-    ensures order { OrderGives clients.now result }
+    ensures order { OrderGives clients.old result }
 {
     if are_starved(clients) {
         return Err(Trouble::Memory);

@@ -20,6 +20,16 @@ impl<N: Name, A: Allocator + Copy> Session<N, A> {
     {
         self.transaction.compare(rt, store, &mut other.transaction);
     }
+
+    /// The session sees all that happened in its store until now: what stands behind the lock, and what it was answered, stand in one
+    /// history then. `Store::lock` lends that.
+    pub fn catch_up(&mut self, shared: &mut Shared<N, A>)
+        ensures seen { self.new ≡ record self.old { front = record self.old.front { seen = shared.old.story.log } } }
+        ensures before { Begins self.old.front self.new.front }
+        ensures same { shared.new ≡ shared.old }
+    {
+        self.transaction.catch_up(shared);
+    }
 }
 
 impl<N: Name, A: Allocator + Copy> Worker<N, A> {
@@ -40,6 +50,15 @@ impl<N: Name, A: Allocator + Copy> Transaction<N, A> {
         ensures same { (self.new ≡ self.old) × (other.new ≡ other.old) }
     {
         store.lock(rt).compare(&mut self.front, &mut other.front);
+    }
+
+    // It sees the whole history.
+    fn catch_up(&mut self, shared: &mut Shared<N, A>)
+        ensures seen { self.new ≡ record self.old { front = record self.old.front { seen = shared.old.story.log } } }
+        ensures before { Begins self.old.front self.new.front }
+        ensures same { shared.new ≡ shared.old }
+    {
+        shared.show_to(&mut self.front);
     }
 }
 

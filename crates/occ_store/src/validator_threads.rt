@@ -91,12 +91,16 @@ fn run_lent<
     ensures first { IsRun N.named (G.may_stop gate.now) N.may_be_stopped first.entry.now result.0.now }
     ensures others { AreRun N.named (G.may_stop gate.now) N.may_be_stopped others.entry.now result.1.now }
 {
-    thread::scope(thread::scope_env(), rt, |scope|
-        ensures same_first { result.0.ghost_name ≡ first.entry.ghost_name }
-        ensures same_others { result.1.ghost_name ≡ others.entry.ghost_name }
-        ensures first { IsRun N.named (G.may_stop gate.entry.now) N.may_be_stopped first.entry.now result.0.now }
-        ensures others { AreRun N.named (G.may_stop gate.entry.now) N.may_be_stopped others.entry.now result.1.now }
-    { run_in(scope, rt, store, gate, refused, first, others) })
+    thread::scope(
+        thread::scope_env(),
+        rt,
+        |scope|
+            ensures same_first { result.0.ghost_name ≡ first.entry.ghost_name }
+            ensures same_others { result.1.ghost_name ≡ others.entry.ghost_name }
+            ensures first { IsRun N.named (G.may_stop gate.entry.now) N.may_be_stopped first.entry.now result.0.now }
+            ensures others { AreRun N.named (G.may_stop gate.entry.now) N.may_be_stopped others.entry.now result.1.now }
+        { run_in(scope, rt, store, gate, refused, first, others) },
+    )
 }
 
 // The same in a scope: the first group in a thread of its own, and the others meanwhile. Where no thread can be started, the first one's
@@ -156,8 +160,7 @@ struct Serving<'e, N: Name, A: Allocator + Copy, G: Gate> {
 }
 
 impl<'e, N: Name, A: Allocator + Copy, G: Gate> Promise<&'e mut Group<N, A>>
-    for Serving<'e, N, A, G>
-{
+    for Serving<'e, N, A, G> {
     ghost use Rattle.std.specs.Prelude.{◌≡◌};
     ghost use Rattle.occ_store.specs.Serving.{IsRun};
 

@@ -6,5 +6,6 @@ use Rattle.occ_run.proofs.outcomes.refused.Given as goal
 abbrev pub invariant-loop-place : goal.invariant-loop-place
 invariant-loop-place g l = record {
   many : length l.counts.items ≡ l.place;
-  played : AllPlayed g.N.Name.named g.L.Load.retries g.L.Load.plans 1 l.counts.items;
+  played : AllPlayed g.N.Name.named g.L.Load.retries g.L.Load.plans l.fn.shared.story.log 1 l.counts.items;
+  same : l.shared ≡ l.fn.shared;
 }

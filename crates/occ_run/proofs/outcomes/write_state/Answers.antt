@@ -11,7 +11,7 @@ returns g c =
     let is = c.core.ensures.world in
     reported c.args.book (g.W.Write.contents c.args.writer.now) (g.W.Write.contents c.write_whole.new.writer) g.N.Name.named g.L.Load.retries g.L.Load.plans c.args.limits c.write_whole.result (record {
       world = c.core.result.now.world;
-      seen = c.args.shared.now.story.log;
+      story = c.args.shared.now.story.log;
       ran = subst (Run (opened_as g.N.Name.named) c.args.shared.now.story.log) (sym is) c.law.ensures.ran;
       law = subst Invariant (sym is) c.law.ensures.invariant;
       opened_so = ap (λ (w : World). w.settings) is ∙ c.law.ensures.settings;
