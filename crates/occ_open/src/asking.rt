@@ -27,11 +27,10 @@ pub(crate) fn get<A: Allocator + Copy, S: Readable<A>>(
     table: usize,
     key: &Key<A>,
 ) -> Result<Option<Row<A>>, Fault>
-    requires served { S.serves store.old session }
     ensures step { OrStarves (CopyWantsOwn (S.world store.old).settings.schema (table, key_of key.now) copy.now) (S.world store.old) (reading result) (S.world store.new)
-        (CopyGets (S.world store.old) session (table, key_of key.now) copy.now (reading result) (S.world store.new)) }
+        (CopyGets (S.world store.old) (S.reader store.old session) (table, key_of key.now) copy.now (reading result) (S.world store.new)) }
     ensures moves { OrStarvesBy (CopyWantsOwn (S.world store.old).settings.schema (table, key_of key.now) copy.now) (store.new ≡ store.old) (reading result)
-        (CopyGetsBy (S.world store.old).settings.schema (store.new ≡ store.old) (λ event reply. S.moves store.old event reply store.new) session (table, key_of key.now) copy.now (reading result)) }
+        (CopyGetsBy (S.world store.old).settings.schema (store.new ≡ store.old) (λ event reply. S.moves store.old event reply store.new) (S.reader store.old session) (table, key_of key.now) copy.now (reading result)) }
 {
     store.schema().check_key(table, key)?;
     match own_under(copy, table, key) {
@@ -120,9 +119,8 @@ fn read<A: Allocator + Copy, S: Readable<A>>(
     table: usize,
     key: &Key<A>,
 ) -> Result<Option<Row<A>>, Fault>
-    requires served { S.serves store.old session }
-    ensures step { Step (S.world store.old) (Read session copy.now.number copy.now.start (One table (key_of key.now))) (reading result) (S.world store.new) }
-    ensures moves { S.moves store.old (Read session copy.now.number copy.now.start (One table (key_of key.now))) (reading result) store.new }
+    ensures step { Step (S.world store.old) (Read (S.reader store.old session) copy.now.number copy.now.start (One table (key_of key.now))) (reading result) (S.world store.new) }
+    ensures moves { S.moves store.old (Read (S.reader store.old session) copy.now.number copy.now.start (One table (key_of key.now))) (reading result) store.new }
 {
     store.read(session, copy.number(), copy.start(), table, key)
 }
@@ -136,13 +134,12 @@ pub(crate) fn scan<A: Allocator + Copy, S: Readable<A>>(
     lower: Option<&Key<A>>,
     upper: Option<&Key<A>>,
 ) -> Result<RangeRows<A>, Fault>
-    requires served { S.serves store.old session }
     ensures step { let question = Span table (end_of (option_copied lower.entry)) (end_of (option_copied upper.entry)) in
         OrStarves (CopyWantsRange (S.world store.old).settings.schema question) (S.world store.old) (scanning result) (S.world store.new)
-        (CopyScans (S.world store.old) session question copy.now (scanning result) (S.world store.new)) }
+        (CopyScans (S.world store.old) (S.reader store.old session) question copy.now (scanning result) (S.world store.new)) }
     ensures moves { let question = Span table (end_of (option_copied lower.entry)) (end_of (option_copied upper.entry)) in
         OrStarvesBy (CopyWantsRange (S.world store.old).settings.schema question) (store.new ≡ store.old) (scanning result)
-        (CopyScansBy (S.world store.old).settings.schema (store.new ≡ store.old) (λ event reply. S.moves store.old event reply store.new) session question copy.now (scanning result)) }
+        (CopyScansBy (S.world store.old).settings.schema (store.new ≡ store.old) (λ event reply. S.moves store.old event reply store.new) (S.reader store.old session) question copy.now (scanning result)) }
 {
     store.schema().check_range(table, lower, upper)?;
     let question = span(table, lower, upper)?;
@@ -172,13 +169,12 @@ fn scan_asked<A: Allocator + Copy, S: Readable<A>>(
     session: usize,
     question: &Question<A>,
 ) -> Result<RangeRows<A>, Fault>
-    requires served { S.serves store.old session }
     requires range { IsSpan (question_of question.now) }
     requires fits { check_question (S.world store.old).settings.schema (question_of question.now) ≡ None }
     ensures step { OrStarves (CopyWantsRange (S.world store.old).settings.schema (question_of question.now)) (S.world store.old) (scanning result) (S.world store.new)
-        (CopyScans (S.world store.old) session (question_of question.now) copy.now (scanning result) (S.world store.new)) }
+        (CopyScans (S.world store.old) (S.reader store.old session) (question_of question.now) copy.now (scanning result) (S.world store.new)) }
     ensures moves { OrStarvesBy (CopyWantsRange (S.world store.old).settings.schema (question_of question.now)) (store.new ≡ store.old) (scanning result)
-        (CopyScansBy (S.world store.old).settings.schema (store.new ≡ store.old) (λ event reply. S.moves store.old event reply store.new) session (question_of question.now) copy.now (scanning result)) }
+        (CopyScansBy (S.world store.old).settings.schema (store.new ≡ store.old) (λ event reply. S.moves store.old event reply store.new) (S.reader store.old session) (question_of question.now) copy.now (scanning result)) }
 {
     if copy.meets(question) {
         return scan_over(copy, store, session, question);
@@ -194,13 +190,12 @@ fn scan_over<A: Allocator + Copy, S: Readable<A>>(
     session: usize,
     question: &Question<A>,
 ) -> Result<RangeRows<A>, Fault>
-    requires served { S.serves store.old session }
     requires range { IsSpan (question_of question.now) }
     requires fits { check_question (S.world store.old).settings.schema (question_of question.now) ≡ None }
     ensures step { OrStarves (CopyWantsRange (S.world store.old).settings.schema (question_of question.now)) (S.world store.old) (scanning result) (S.world store.new)
-        (CopyScans (S.world store.old) session (question_of question.now) copy.now (scanning result) (S.world store.new)) }
+        (CopyScans (S.world store.old) (S.reader store.old session) (question_of question.now) copy.now (scanning result) (S.world store.new)) }
     ensures moves { OrStarvesBy (CopyWantsRange (S.world store.old).settings.schema (question_of question.now)) (store.new ≡ store.old) (scanning result)
-        (CopyScansBy (S.world store.old).settings.schema (store.new ≡ store.old) (λ event reply. S.moves store.old event reply store.new) session (question_of question.now) copy.now (scanning result)) }
+        (CopyScansBy (S.world store.old).settings.schema (store.new ≡ store.old) (λ event reply. S.moves store.old event reply store.new) (S.reader store.old session) (question_of question.now) copy.now (scanning result)) }
 {
     let prepared = copy.prepare(question)?;
     let rows = ask_apart(copy, store, session, question)?;
@@ -214,10 +209,9 @@ fn ask<A: Allocator + Copy, S: Readable<A>>(
     session: usize,
     question: &Question<A>,
 ) -> Result<RangeRows<A>, Fault>
-    requires served { S.serves store.old session }
     requires range { IsSpan (question_of question.now) }
-    ensures step { Step (S.world store.old) (Read session copy.now.number copy.now.start (question_of question.now)) (scanning result) (S.world store.new) }
-    ensures moves { S.moves store.old (Read session copy.now.number copy.now.start (question_of question.now)) (scanning result) store.new }
+    ensures step { Step (S.world store.old) (Read (S.reader store.old session) copy.now.number copy.now.start (question_of question.now)) (scanning result) (S.world store.new) }
+    ensures moves { S.moves store.old (Read (S.reader store.old session) copy.now.number copy.now.start (question_of question.now)) (scanning result) store.new }
 {
     match question {
         Question::One(_) => unreachable!(),
@@ -243,10 +237,9 @@ fn ask_apart<A: Allocator + Copy, S: Readable<A>>(
     session: usize,
     question: &Question<A>,
 ) -> Result<Vec<(Key<A>, Row<A>), A>, Fault>
-    requires served { S.serves store.old session }
     requires range { IsSpan (question_of question.now) }
-    ensures step { Step (S.world store.old) (Read session copy.now.number copy.now.start (question_of question.now)) (copying result) (S.world store.new) }
-    ensures moves { S.moves store.old (Read session copy.now.number copy.now.start (question_of question.now)) (copying result) store.new }
+    ensures step { Step (S.world store.old) (Read (S.reader store.old session) copy.now.number copy.now.start (question_of question.now)) (copying result) (S.world store.new) }
+    ensures moves { S.moves store.old (Read (S.reader store.old session) copy.now.number copy.now.start (question_of question.now)) (copying result) store.new }
 {
     match question {
         Question::One(_) => unreachable!(),

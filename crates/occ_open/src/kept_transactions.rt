@@ -191,10 +191,9 @@ impl<A: Allocator + Copy> KeptTransaction<A> {
         table: usize,
         key: &Key<A>,
     ) -> Result<Option<Row<A>>, Fault>
-        requires served { S.serves store.old session }
         ensures current { self.new.current ≡ self.old.current }
         ensures read { OrStarves (IsShared self.old ⊎ WantsOwn (S.world store.old).settings.schema (table, key_of key.now) self.old.current) (S.world store.old) (reading result) (S.world store.new)
-            (Gets (S.world store.old) session (table, key_of key.now) self.old.current (reading result) (S.world store.new)) }
+            (Gets (S.world store.old) (S.reader store.old session) (table, key_of key.now) self.old.current (reading result) (S.world store.new)) }
     {
         self.restore();
         match &self.content {
@@ -213,10 +212,9 @@ impl<A: Allocator + Copy> KeptTransaction<A> {
         lower: Option<&Key<A>>,
         upper: Option<&Key<A>>,
     ) -> Result<RangeRows<A>, Fault>
-        requires served { S.serves store.old session }
         ensures current { self.new.current ≡ self.old.current }
         ensures read { OrStarves (IsShared self.old ⊎ WantsRange (S.world store.old).settings.schema (Span table (end_of (option_copied lower.entry)) (end_of (option_copied upper.entry))) self.old.current) (S.world store.old) (scanning result) (S.world store.new)
-            (Scans (S.world store.old) session (Span table (end_of (option_copied lower.entry)) (end_of (option_copied upper.entry))) self.old.current (scanning result) (S.world store.new)) }
+            (Scans (S.world store.old) (S.reader store.old session) (Span table (end_of (option_copied lower.entry)) (end_of (option_copied upper.entry))) self.old.current (scanning result) (S.world store.new)) }
     {
         self.restore();
         match &self.content {
@@ -235,11 +233,10 @@ impl<A: Allocator + Copy> KeptTransaction<A> {
         upper: Option<&Key<A>>,
         most: usize,
     ) -> Result<Page<A>, Fault>
-        requires served { S.serves store.old session }
         ensures current { self.new.current ≡ self.old.current }
         ensures read { let rest = first_rest_of (S.world store.old) table (end_of (option_copied lower.entry)) (end_of (option_copied upper.entry)) most in
             OrStarves (IsShared self.old ⊎ WantsPage (S.world store.old).settings.schema (first_page table (end_of (option_copied lower.entry)) (end_of (option_copied upper.entry)) rest) rest self.old.current) (S.world store.old) (paging result) (S.world store.new)
-            (Scans (S.world store.old) session (first_page table (end_of (option_copied lower.entry)) (end_of (option_copied upper.entry)) rest) self.old.current (paging result) (S.world store.new)) }
+            (Scans (S.world store.old) (S.reader store.old session) (first_page table (end_of (option_copied lower.entry)) (end_of (option_copied upper.entry)) rest) self.old.current (paging result) (S.world store.new)) }
         ensures rest { IfOk result (λ page. end_of page.rest ≡ first_rest_of (S.world store.old) table (end_of (option_copied lower.entry)) (end_of (option_copied upper.entry)) most) }
     {
         self.restore();
@@ -261,11 +258,10 @@ impl<A: Allocator + Copy> KeptTransaction<A> {
         upper: Option<&Key<A>>,
         most: usize,
     ) -> Result<Page<A>, Fault>
-        requires served { S.serves store.old session }
         ensures current { self.new.current ≡ self.old.current }
         ensures read { let rest = last_rest_of (S.world store.old) table (end_of (option_copied lower.entry)) (end_of (option_copied upper.entry)) most in
             OrStarves (IsShared self.old ⊎ WantsPage (S.world store.old).settings.schema (last_page table (end_of (option_copied lower.entry)) (end_of (option_copied upper.entry)) rest) rest self.old.current) (S.world store.old) (paging result) (S.world store.new)
-            (Scans (S.world store.old) session (last_page table (end_of (option_copied lower.entry)) (end_of (option_copied upper.entry)) rest) self.old.current (paging result) (S.world store.new)) }
+            (Scans (S.world store.old) (S.reader store.old session) (last_page table (end_of (option_copied lower.entry)) (end_of (option_copied upper.entry)) rest) self.old.current (paging result) (S.world store.new)) }
         ensures rest { IfOk result (λ page. end_of page.rest ≡ last_rest_of (S.world store.old) table (end_of (option_copied lower.entry)) (end_of (option_copied upper.entry)) most) }
     {
         self.restore();
@@ -284,8 +280,7 @@ impl<A: Allocator + Copy> KeptTransaction<A> {
         store: &mut S,
         session: usize,
     ) -> Result<bool, Fault>
-        requires served { S.serves store.old session }
-        ensures step { Abandons (S.world store.old) session self.old.current (forgetting result) (S.world store.new) }
+        ensures step { Abandons (S.world store.old) (S.reader store.old session) self.old.current (forgetting result) (S.world store.new) }
         ensures left { self.new.current ≡ open_after self.old.current (forgetting result) }
     {
         match &mut self.content {

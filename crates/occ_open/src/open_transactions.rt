@@ -186,11 +186,10 @@ impl<A: Allocator + Copy> OpenTransaction<A> {
         table: usize,
         key: &Key<A>,
     ) -> Result<Option<Row<A>>, Fault>
-        requires served { S.serves store.old session }
         ensures step { OrStarves (WantsOwn (S.world store.old).settings.schema (table, key_of key.now) self.now) (S.world store.old) (reading result) (S.world store.new)
-            (Gets (S.world store.old) session (table, key_of key.now) self.now (reading result) (S.world store.new)) }
+            (Gets (S.world store.old) (S.reader store.old session) (table, key_of key.now) self.now (reading result) (S.world store.new)) }
         ensures moves { OrStarvesBy (WantsOwn (S.world store.old).settings.schema (table, key_of key.now) self.now) (store.new ≡ store.old) (reading result)
-            (GetsBy (S.world store.old).settings.schema (store.new ≡ store.old) (λ event reply. S.moves store.old event reply store.new) session (table, key_of key.now) self.now (reading result)) }
+            (GetsBy (S.world store.old).settings.schema (store.new ≡ store.old) (λ event reply. S.moves store.old event reply store.new) (S.reader store.old session) (table, key_of key.now) self.now (reading result)) }
     {
         match &self.copy {
             None => Err(Fault::NoReadOpen),
@@ -210,11 +209,10 @@ impl<A: Allocator + Copy> OpenTransaction<A> {
         lower: Option<&Key<A>>,
         upper: Option<&Key<A>>,
     ) -> Result<RangeRows<A>, Fault>
-        requires served { S.serves store.old session }
         ensures step { OrStarves (WantsRange (S.world store.old).settings.schema (Span table (end_of (option_copied lower.entry)) (end_of (option_copied upper.entry))) self.now) (S.world store.old) (scanning result) (S.world store.new)
-            (Scans (S.world store.old) session (Span table (end_of (option_copied lower.entry)) (end_of (option_copied upper.entry))) self.now (scanning result) (S.world store.new)) }
+            (Scans (S.world store.old) (S.reader store.old session) (Span table (end_of (option_copied lower.entry)) (end_of (option_copied upper.entry))) self.now (scanning result) (S.world store.new)) }
         ensures moves { OrStarvesBy (WantsRange (S.world store.old).settings.schema (Span table (end_of (option_copied lower.entry)) (end_of (option_copied upper.entry))) self.now) (store.new ≡ store.old) (scanning result)
-            (ScansBy (S.world store.old).settings.schema (store.new ≡ store.old) (λ event reply. S.moves store.old event reply store.new) session (Span table (end_of (option_copied lower.entry)) (end_of (option_copied upper.entry))) self.now (scanning result)) }
+            (ScansBy (S.world store.old).settings.schema (store.new ≡ store.old) (λ event reply. S.moves store.old event reply store.new) (S.reader store.old session) (Span table (end_of (option_copied lower.entry)) (end_of (option_copied upper.entry))) self.now (scanning result)) }
     {
         match &self.copy {
             None => Err(Fault::NoReadOpen),
@@ -236,14 +234,13 @@ impl<A: Allocator + Copy> OpenTransaction<A> {
         upper: Option<&Key<A>>,
         most: usize,
     ) -> Result<Page<A>, Fault>
-        requires served { S.serves store.old session }
         ensures step { let rest = first_rest_of (S.world store.old) table (end_of (option_copied lower.entry)) (end_of (option_copied upper.entry)) most in
             OrStarves (WantsPage (S.world store.old).settings.schema (pages.first_page table (end_of (option_copied lower.entry)) (end_of (option_copied upper.entry)) rest) rest self.now) (S.world store.old) (paging result) (S.world store.new)
-            (Scans (S.world store.old) session (pages.first_page table (end_of (option_copied lower.entry)) (end_of (option_copied upper.entry)) rest) self.now (paging result) (S.world store.new)) }
+            (Scans (S.world store.old) (S.reader store.old session) (pages.first_page table (end_of (option_copied lower.entry)) (end_of (option_copied upper.entry)) rest) self.now (paging result) (S.world store.new)) }
         ensures rest { IfOk result (λ page. end_of page.rest ≡ first_rest_of (S.world store.old) table (end_of (option_copied lower.entry)) (end_of (option_copied upper.entry)) most) }
         ensures moves { let rest = first_rest_of (S.world store.old) table (end_of (option_copied lower.entry)) (end_of (option_copied upper.entry)) most in
             OrStarvesBy (WantsPage (S.world store.old).settings.schema (pages.first_page table (end_of (option_copied lower.entry)) (end_of (option_copied upper.entry)) rest) rest self.now) (store.new ≡ store.old) (paging result)
-            (ScansBy (S.world store.old).settings.schema (store.new ≡ store.old) (λ event reply. S.moves store.old event reply store.new) session (pages.first_page table (end_of (option_copied lower.entry)) (end_of (option_copied upper.entry)) rest) self.now (paging result)) }
+            (ScansBy (S.world store.old).settings.schema (store.new ≡ store.old) (λ event reply. S.moves store.old event reply store.new) (S.reader store.old session) (pages.first_page table (end_of (option_copied lower.entry)) (end_of (option_copied upper.entry)) rest) self.now (paging result)) }
     {
         match &self.copy {
             None => Err(Fault::NoReadOpen),
@@ -262,14 +259,13 @@ impl<A: Allocator + Copy> OpenTransaction<A> {
         upper: Option<&Key<A>>,
         most: usize,
     ) -> Result<Page<A>, Fault>
-        requires served { S.serves store.old session }
         ensures step { let rest = last_rest_of (S.world store.old) table (end_of (option_copied lower.entry)) (end_of (option_copied upper.entry)) most in
             OrStarves (WantsPage (S.world store.old).settings.schema (pages.last_page table (end_of (option_copied lower.entry)) (end_of (option_copied upper.entry)) rest) rest self.now) (S.world store.old) (paging result) (S.world store.new)
-            (Scans (S.world store.old) session (pages.last_page table (end_of (option_copied lower.entry)) (end_of (option_copied upper.entry)) rest) self.now (paging result) (S.world store.new)) }
+            (Scans (S.world store.old) (S.reader store.old session) (pages.last_page table (end_of (option_copied lower.entry)) (end_of (option_copied upper.entry)) rest) self.now (paging result) (S.world store.new)) }
         ensures rest { IfOk result (λ page. end_of page.rest ≡ last_rest_of (S.world store.old) table (end_of (option_copied lower.entry)) (end_of (option_copied upper.entry)) most) }
         ensures moves { let rest = last_rest_of (S.world store.old) table (end_of (option_copied lower.entry)) (end_of (option_copied upper.entry)) most in
             OrStarvesBy (WantsPage (S.world store.old).settings.schema (pages.last_page table (end_of (option_copied lower.entry)) (end_of (option_copied upper.entry)) rest) rest self.now) (store.new ≡ store.old) (paging result)
-            (ScansBy (S.world store.old).settings.schema (store.new ≡ store.old) (λ event reply. S.moves store.old event reply store.new) session (pages.last_page table (end_of (option_copied lower.entry)) (end_of (option_copied upper.entry)) rest) self.now (paging result)) }
+            (ScansBy (S.world store.old).settings.schema (store.new ≡ store.old) (λ event reply. S.moves store.old event reply store.new) (S.reader store.old session) (pages.last_page table (end_of (option_copied lower.entry)) (end_of (option_copied upper.entry)) rest) self.now (paging result)) }
     {
         match &self.copy {
             None => Err(Fault::NoReadOpen),
@@ -284,10 +280,9 @@ impl<A: Allocator + Copy> OpenTransaction<A> {
         store: &mut S,
         session: usize,
     ) -> Result<bool, Fault>
-        requires served { S.serves store.old session }
-        ensures step { Abandons (S.world store.old) session self.old (forgetting result) (S.world store.new) }
+        ensures step { Abandons (S.world store.old) (S.reader store.old session) self.old (forgetting result) (S.world store.new) }
         ensures left { self.new ≡ open_after self.old (forgetting result) }
-        ensures moves { AbandonsBy (store.new ≡ store.old) (λ event reply. S.moves store.old event reply store.new) session self.old (forgetting result) }
+        ensures moves { AbandonsBy (store.new ≡ store.old) (λ event reply. S.moves store.old event reply store.new) (S.reader store.old session) self.old (forgetting result) }
     {
         let Some(copy) = &self.copy else {
             return Err(Fault::NoReadOpen);

@@ -23,14 +23,13 @@ pub(crate) fn first_page<A: Allocator + Copy, S: Readable<A>>(
     upper: Option<&Key<A>>,
     most: usize,
 ) -> Result<Page<A>, Fault>
-    requires served { S.serves store.old session }
     ensures step { let rest = first_rest_of (S.world store.old) table (end_of (option_copied lower.entry)) (end_of (option_copied upper.entry)) most in
         OrStarves (CopyWantsPage (S.world store.old).settings.schema (pages.first_page table (end_of (option_copied lower.entry)) (end_of (option_copied upper.entry)) rest) rest) (S.world store.old) (paging result) (S.world store.new)
-        (CopyScans (S.world store.old) session (pages.first_page table (end_of (option_copied lower.entry)) (end_of (option_copied upper.entry)) rest) copy.now (paging result) (S.world store.new)) }
+        (CopyScans (S.world store.old) (S.reader store.old session) (pages.first_page table (end_of (option_copied lower.entry)) (end_of (option_copied upper.entry)) rest) copy.now (paging result) (S.world store.new)) }
     ensures rest { IfOk result (λ page. end_of page.rest ≡ first_rest_of (S.world store.old) table (end_of (option_copied lower.entry)) (end_of (option_copied upper.entry)) most) }
     ensures moves { let rest = first_rest_of (S.world store.old) table (end_of (option_copied lower.entry)) (end_of (option_copied upper.entry)) most in
         OrStarvesBy (CopyWantsPage (S.world store.old).settings.schema (pages.first_page table (end_of (option_copied lower.entry)) (end_of (option_copied upper.entry)) rest) rest) (store.new ≡ store.old) (paging result)
-        (CopyScansBy (S.world store.old).settings.schema (store.new ≡ store.old) (λ event reply. S.moves store.old event reply store.new) session (pages.first_page table (end_of (option_copied lower.entry)) (end_of (option_copied upper.entry)) rest) copy.now (paging result)) }
+        (CopyScansBy (S.world store.old).settings.schema (store.new ≡ store.old) (λ event reply. S.moves store.old event reply store.new) (S.reader store.old session) (pages.first_page table (end_of (option_copied lower.entry)) (end_of (option_copied upper.entry)) rest) copy.now (paging result)) }
 {
     let rest = store.first_rest(table, lower, upper, most)?;
     let upper = rest.as_ref().or(upper);
@@ -48,14 +47,13 @@ pub(crate) fn last_page<A: Allocator + Copy, S: Readable<A>>(
     upper: Option<&Key<A>>,
     most: usize,
 ) -> Result<Page<A>, Fault>
-    requires served { S.serves store.old session }
     ensures step { let rest = last_rest_of (S.world store.old) table (end_of (option_copied lower.entry)) (end_of (option_copied upper.entry)) most in
         OrStarves (CopyWantsPage (S.world store.old).settings.schema (pages.last_page table (end_of (option_copied lower.entry)) (end_of (option_copied upper.entry)) rest) rest) (S.world store.old) (paging result) (S.world store.new)
-        (CopyScans (S.world store.old) session (pages.last_page table (end_of (option_copied lower.entry)) (end_of (option_copied upper.entry)) rest) copy.now (paging result) (S.world store.new)) }
+        (CopyScans (S.world store.old) (S.reader store.old session) (pages.last_page table (end_of (option_copied lower.entry)) (end_of (option_copied upper.entry)) rest) copy.now (paging result) (S.world store.new)) }
     ensures rest { IfOk result (λ page. end_of page.rest ≡ last_rest_of (S.world store.old) table (end_of (option_copied lower.entry)) (end_of (option_copied upper.entry)) most) }
     ensures moves { let rest = last_rest_of (S.world store.old) table (end_of (option_copied lower.entry)) (end_of (option_copied upper.entry)) most in
         OrStarvesBy (CopyWantsPage (S.world store.old).settings.schema (pages.last_page table (end_of (option_copied lower.entry)) (end_of (option_copied upper.entry)) rest) rest) (store.new ≡ store.old) (paging result)
-        (CopyScansBy (S.world store.old).settings.schema (store.new ≡ store.old) (λ event reply. S.moves store.old event reply store.new) session (pages.last_page table (end_of (option_copied lower.entry)) (end_of (option_copied upper.entry)) rest) copy.now (paging result)) }
+        (CopyScansBy (S.world store.old).settings.schema (store.new ≡ store.old) (λ event reply. S.moves store.old event reply store.new) (S.reader store.old session) (pages.last_page table (end_of (option_copied lower.entry)) (end_of (option_copied upper.entry)) rest) copy.now (paging result)) }
 {
     let rest = store.last_rest(table, lower, upper, most)?;
     let lower = rest.as_ref().or(lower);

@@ -21,8 +21,8 @@ pub trait Readable<A: Allocator> {
     /// How an event moves it beside its world, with what it is replied: nothing that clauses know, where an `impl` doesn't say.
     ghost moves: { Self → Event → Reply → Self → Type 0 } = { λ old event reply new. Unit {0} };
 
-    /// For which sessions it may be asked, as far as clauses are to know: for each, where an `impl` doesn't say.
-    ghost serves: { Self → ℕ → Type 0 } = { λ store session. Unit {0} };
+    /// The session for which it reads where a call names this one: the same, where an `impl` doesn't say.
+    ghost reader: { Self → ℕ → ℕ } = { λ store session. session };
 
     /// The tables of the store, and what fits them.
     fn schema(&self) -> &Schema<A>
@@ -38,9 +38,8 @@ pub trait Readable<A: Allocator> {
         table: usize,
         key: &Key<A>,
     ) -> Result<Option<Row<A>>, Fault>
-        requires served { serves self.old session }
-        ensures step { Step (world self.old) (Read session number start (One table (key_of key.now))) (reading result) (world self.new) }
-        ensures moves { moves self.old (Read session number start (One table (key_of key.now))) (reading result) self.new };
+        ensures step { Step (world self.old) (Read (reader self.old session) number start (One table (key_of key.now))) (reading result) (world self.new) }
+        ensures moves { moves self.old (Read (reader self.old session) number start (One table (key_of key.now))) (reading result) self.new };
 
     /// The rows of a table from the lower end on and below the upper one, with their keys and in the order of the keys. The question is
     /// noted with its answer as by `read`, which may share the rows.
@@ -53,9 +52,8 @@ pub trait Readable<A: Allocator> {
         lower: Option<&Key<A>>,
         upper: Option<&Key<A>>,
     ) -> Result<RangeRows<A>, Fault>
-        requires served { serves self.old session }
-        ensures step { Step (world self.old) (Read session number start (Span table (end_of (option_copied lower.entry)) (end_of (option_copied upper.entry)))) (scanning result) (world self.new) }
-        ensures moves { moves self.old (Read session number start (Span table (end_of (option_copied lower.entry)) (end_of (option_copied upper.entry)))) (scanning result) self.new };
+        ensures step { Step (world self.old) (Read (reader self.old session) number start (Span table (end_of (option_copied lower.entry)) (end_of (option_copied upper.entry)))) (scanning result) (world self.new) }
+        ensures moves { moves self.old (Read (reader self.old session) number start (Span table (end_of (option_copied lower.entry)) (end_of (option_copied upper.entry)))) (scanning result) self.new };
 
     /// The same, as copies of the rows that the caller alone owns.
     fn scan_apart(
@@ -67,9 +65,8 @@ pub trait Readable<A: Allocator> {
         lower: Option<&Key<A>>,
         upper: Option<&Key<A>>,
     ) -> Result<Vec<(Key<A>, Row<A>), A>, Fault>
-        requires served { serves self.old session }
-        ensures step { Step (world self.old) (Read session number start (Span table (end_of (option_copied lower.entry)) (end_of (option_copied upper.entry)))) (copying result) (world self.new) }
-        ensures moves { moves self.old (Read session number start (Span table (end_of (option_copied lower.entry)) (end_of (option_copied upper.entry)))) (copying result) self.new };
+        ensures step { Step (world self.old) (Read (reader self.old session) number start (Span table (end_of (option_copied lower.entry)) (end_of (option_copied upper.entry)))) (copying result) (world self.new) }
+        ensures moves { moves self.old (Read (reader self.old session) number start (Span table (end_of (option_copied lower.entry)) (end_of (option_copied upper.entry)))) (copying result) self.new };
 
     /// Where the rows behind the first page of a range begin, of at most `most` rows, or one where `most` is 0; none where no row is
     /// left, or the range doesn't fit the schema. It notes nothing. Refused with `Memory` where rows are left and there is none for the
@@ -97,7 +94,6 @@ pub trait Readable<A: Allocator> {
 
     /// Forgets what a session has read under a number, and answers whether it has read anything. It takes no memory.
     fn forget(&mut self, session: usize, number: u64) -> Result<bool, Fault>
-        requires served { serves self.old session }
-        ensures step { Step (world self.old) (Forget session number) (forgetting result) (world self.new) }
-        ensures moves { moves self.old (Forget session number) (forgetting result) self.new };
+        ensures step { Step (world self.old) (Forget (reader self.old session) number) (forgetting result) (world self.new) }
+        ensures moves { moves self.old (Forget (reader self.old session) number) (forgetting result) self.new };
 }

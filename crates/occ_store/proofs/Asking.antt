@@ -15,13 +15,13 @@ use Rattle.occ_open.specs.Pages.{paging, WantsPage}
 use Rattle.occ_open.specs.declared.pages.Page as code_page
 use Rattle.occ_open.proofs.Moving.{starves_so, gets_so, scans_so, abandons_so}
 use Rattle.occ_history.specs.History.{FrontView}
-use Rattle.occ_store.specs.Locked.{Locked, world_of, visited, ReadsSo, Tells}
+use Rattle.occ_store.specs.Locked.{Locked, world_of, visited, reader_of, ReadsSo, Tells}
 use Rattle.occ_model.specs.World.{World, Settings}
 use Rattle.occ_model.specs.Step.{Run}
 use Rattle.occ_store.specs.Names.{Named, opened_as}
 use Rattle.occ_store.specs.Standing.{StandsIn, StandsInWhere}
-use Rattle.occ_store.specs.Transactions.{TransactionView, AsksOrStarvesBy, WantsMemory, StaysOn, ReadsOn, AsksOn, AsksOrStarves, AbandonsOn, AbandonsIn, AsksPageOn, AsksPage}
-use Rattle.occ_store.proofs.Histories.{tells_party, tells_stands, tells_stands_where}
+use Rattle.occ_store.specs.Transactions.{TransactionView, IsReader, AsksOrStarvesBy, WantsMemory, StaysOn, ReadsOn, AsksOn, AsksOrStarves, AbandonsOn, AbandonsIn, AsksPageOn, AsksPage}
+use Rattle.occ_store.proofs.Histories.{reads_for, tells_party, tells_stands, tells_stands_where}
 
 module _ {Stays : Type 0} {Moves : Event → Reply → Type 0} (Comes : Type 0) (remains : Stays → Comes) (goes : (event : Event) (reply : Reply) → Moves event reply → Comes) where
   unless_to : (known : Option Fault) (reply : Reply) (Goes : Type 0) → (Goes → Comes) → UnlessBy known Stays reply Goes → Comes
@@ -68,7 +68,11 @@ module _ {Stays Remains : Type 0} (remains : Stays → Remains) {Moves Goes : Ev
 
 -- A question on the locked state, of who visits it, as one of whose front that is: it was lent before, and is back after.
 module _ (before : TransactionView) (shared lent came back : Locked) (reply : Reply) (front again : FrontView)
-    (lends : lent ≡ visited shared before.front) (gives : back ≡ visited came again) (own : front ≡ came.visitor) (other : again ≡ shared.visitor) where
+    (lends : lent ≡ visited shared before.front) (gives : back ≡ visited came again) (own : front ≡ came.visitor) (other : again ≡ shared.visitor) (reader : IsReader before.front.party before.session) where
+  -- the locked state reads for the transaction's session meanwhile
+  own_session : reader_of lent.visitor.party ≡ before.session
+  own_session = ap (λ (l : Locked). reader_of l.visitor.party) lends ∙ reads_for before.front.party before.session reader
+
   -- where nothing moved, all is as it was
   visit_stays : came ≡ lent → StaysOn before.front shared front back
   visit_stays same =
@@ -86,24 +90,28 @@ module _ (before : TransactionView) (shared lent came back : Locked) (reply : Re
   pub read_on : (event : Event) (given : Reply) → ReadsSo lent event given came → ReadsOn before.front shared front back event given
   read_on = visit_reads
 
-  pub asked_on : (question : Question) → AsksOrStarvesBy (world_of lent).settings.schema (came ≡ lent) (λ event given. ReadsSo lent event given came) before question reply
+  pub asked_on : (question : Question) → AsksOrStarvesBy (world_of lent).settings.schema (came ≡ lent) (λ event given. ReadsSo lent event given came) (record before { session = reader_of lent.visitor.party }) question reply
       → AsksOrStarvesBy (world_of shared).settings.schema (StaysOn before.front shared front back) (ReadsOn before.front shared front back) before question reply
   asked_on question asks = asks_so visit_stays visit_reads (world_of shared).settings.schema before question reply
-      (subst (λ (l : Locked). AsksOrStarvesBy (world_of l).settings.schema (came ≡ lent) (λ event given. ReadsSo lent event given came) before question reply) lends asks)
+      (subst (λ (l : Locked). AsksOrStarvesBy (world_of l).settings.schema (came ≡ lent) (λ event given. ReadsSo lent event given came) before question reply) lends
+      (subst (λ (n : ℕ). AsksOrStarvesBy (world_of lent).settings.schema (came ≡ lent) (λ event given. ReadsSo lent event given came) (record before { session = n }) question reply) own_session asks))
 
-  pub abandoned_on : AbandonsBy (came ≡ lent) (λ event given. ReadsSo lent event given came) before.session before.draft reply
+  pub abandoned_on : AbandonsBy (came ≡ lent) (λ event given. ReadsSo lent event given came) (reader_of lent.visitor.party) before.draft reply
       → AbandonsOn before shared reply front back
-  abandoned_on asks = abandons_so visit_stays visit_reads before.session before.draft reply asks
+  abandoned_on asks = abandons_so visit_stays visit_reads before.session before.draft reply
+      (subst (λ (n : ℕ). AbandonsBy (came ≡ lent) (λ event given. ReadsSo lent event given came) n before.draft reply) own_session asks)
 
   -- the page of a range, with the question that its rest makes
   pub paged_on : (rest : Option Key) (asks : Question) → OrStarvesBy (WantsPage (world_of lent).settings.schema asks rest before.draft) (came ≡ lent) reply
-      (ScansBy (world_of lent).settings.schema (came ≡ lent) (λ event given. ReadsSo lent event given came) before.session asks before.draft reply)
+      (ScansBy (world_of lent).settings.schema (came ≡ lent) (λ event given. ReadsSo lent event given came) (reader_of lent.visitor.party) asks before.draft reply)
       → OrStarvesBy (WantsPage (world_of shared).settings.schema asks rest before.draft) (StaysOn before.front shared front back) reply
       (ScansBy (world_of shared).settings.schema (StaysOn before.front shared front back) (ReadsOn before.front shared front back) before.session asks before.draft reply)
   paged_on rest asks page = starves_so visit_stays (WantsPage (world_of shared).settings.schema asks rest before.draft) reply _ _
       (scans_so visit_stays visit_reads (world_of shared).settings.schema before.session asks before.draft reply)
       (subst (λ (l : Locked). OrStarvesBy (WantsPage (world_of l).settings.schema asks rest before.draft) (came ≡ lent) reply
-      (ScansBy (world_of l).settings.schema (came ≡ lent) (λ event given. ReadsSo lent event given came) before.session asks before.draft reply)) lends page)
+      (ScansBy (world_of l).settings.schema (came ≡ lent) (λ event given. ReadsSo lent event given came) before.session asks before.draft reply)) lends
+      (subst (λ (n : ℕ). OrStarvesBy (WantsPage (world_of lent).settings.schema asks rest before.draft) (came ≡ lent) reply
+      (ScansBy (world_of lent).settings.schema (came ≡ lent) (λ event given. ReadsSo lent event given came) n asks before.draft reply)) own_session page))
 
 -- whose front it is stays
 pub asked_party : (before : TransactionView) (shared : Locked) (front : FrontView) (back : Locked) (question : Question) (reply : Reply)

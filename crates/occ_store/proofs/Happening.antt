@@ -17,12 +17,12 @@ use Rattle.occ_model.specs.declared.verdict.Verdict.{Verdict}
 use Rattle.occ_filed.specs.Filed.{Filed, Moves, Enters, DecidesBy}
 use Rattle.occ_store.specs.Lanes.{DecidesAs}
 use Rattle.occ_store.proofs.Keeping.{judged_step}
-use Rattle.occ_store.specs.Locked.{Locked, stored, Happens, Tells, ReadsSo, IsSameBeside, EntersAs, BacksUp}
+use Rattle.occ_store.specs.Locked.{Locked, IsVisitor, stored, Happens, Tells, ReadsSo, IsSameBeside, EntersAs, BacksUp}
 use Rattle.occ_store.specs.Locked.{told as words_told}
 use Rattle.occ_store.specs.Names.{Named, opened_as}
 use mathlib.Core.List.{IsPrefix}
 use Rattle.occ_model.specs.Step.{Step, Run}
-use Rattle.occ_history.specs.History.{Happened, FrontView, StoryView, IsHere, IsWhole, adding}
+use Rattle.occ_history.specs.History.{Happened, FrontView, StoryView, IsWhole, adding}
 use Rattle.occ_history.proofs.Standing.{run-more}
 
 -- what is replied by a value is stored as the value says
@@ -66,8 +66,8 @@ pub ran_on_so : (named : Named) (story after : StoryView) (old new : World) (eve
 ran_on_so named story after old new event other reply same ran step = ran_on named story after old new event reply ran (subst (λ e. Step old e reply new) (sym same) step)
 
 -- who has added an event was not lent out
-pub still_here : (me now : FrontView) (log : List Happened) (happened : Happened) → IsHere me.party → now ≡ adding me log happened → IsHere now.party
-still_here me now log happened here seen = subst (λ (f : FrontView). IsHere f.party) (sym seen) here
+pub still_here : (me now : FrontView) (log : List Happened) (happened : Happened) (reading : ℕ) → IsVisitor me.party reading → now ≡ adding me log happened → IsVisitor now.party reading
+still_here me now log happened reading here seen = subst (λ (f : FrontView). IsVisitor f.party reading) (sym seen) here
 
 module _ (filed : Filed) (words : Words) (story : StoryView) (visitor : FrontView) (old : Locked)
     (is : ◌≡◌ {A = Locked} (record { filed = filed; words = words; story = story; visitor = visitor }) old)

@@ -11,9 +11,9 @@ use Rattle.occ_history.specs.Clauses as history
 use Rattle.occ_history.proofs.Beginnings.{prefix_self, prefix_more, prefix_trans}
 use Rattle.occ_history.proofs.Standing.{what_happens_stands}
 use Rattle.occ_store.specs.Names.{Named, opened_as}
-use Rattle.occ_store.specs.Locked.{Locked, world_of, lent_to, Tells}
+use Rattle.occ_store.specs.Locked.{Locked, world_of, lent_to, reader_of, IsVisitor, Tells}
 use Rattle.occ_store.specs.Lanes.{IsDoer}
-use Rattle.occ_store.specs.Transactions.{IsReader}
+use Rattle.occ_store.specs.Transactions.{IsReader, MayRead}
 use Rattle.occ_store.specs.Standing.{StandsIn, StandsInWhere, GoesOnTo, StoodBetween}
 
 -- ---- parties
@@ -29,6 +29,24 @@ own_is_here (Lane session) event own = tt
 pub reader_is_here : (party : Party) (session : ℕ) → IsReader party session → IsHere party
 reader_is_here party session = ⊎_elim (λ is. subst IsHere (sym is) tt) (λ is. subst IsHere (sym is) tt)
 
+-- who reads for a session visits for it
+pub reads_for : (party : Party) (session : ℕ) → IsReader party session → reader_of party ≡ session
+reads_for party session = ⊎_elim (ap reader_of) (ap reader_of)
+
+pub reader_visits : (party : Party) (session : ℕ) → IsReader party session → IsVisitor party session
+reader_visits party session reader = (reader_is_here party session reader, sym (reads_for party session reader))
+
+-- and who visits may read for the session that is kept
+visits_own : (party : Party) → IsHere party → MayRead party (reader_of party)
+visits_own Absent here = absurd here
+visits_own Nobody here = inl refl
+visits_own (Session session) here = inr (inl refl)
+visits_own (Client session) here = inr (inr refl)
+visits_own (Lane session) here = inl refl
+
+pub visitor_may_read : (party : Party) (reading : ℕ) → IsVisitor party reading → MayRead party reading
+visitor_may_read party reading visits = subst (MayRead party) (sym visits.1) (visits_own party visits.0)
+
 pub doer_is_here : (party : Party) (session : ℕ) → IsDoer party session → IsHere party
 doer_is_here party session = ⊎_elim (λ is. subst IsHere (sym is) tt) (λ is. subst IsHere (sym is) tt)
 
@@ -36,13 +54,16 @@ same_number : (n : ℕ) → (n == n) ≡ true
 same_number n = eq-eqb n n refl
 
 -- what a session reads, and what ends its transactions
-pub may_read : (party : Party) (session : ℕ) (event : Event) (reply : Reply) → IsReader party session → is_clients event ≡ true → session_of event ≡ session → MayAdd (event, reply) party
-may_read party session event reply reader clients of = (
-  reader_is_here party session reader,
-  inr (⊎_elim
+pub may_read : (party : Party) (session : ℕ) (event : Event) (reply : Reply) → IsHere party → MayRead party session → is_clients event ≡ true → session_of event ≡ session → MayAdd (event, reply) party
+may_read party session event reply here reader clients of = (
+  here,
+  ⊎_elim
+      (λ none. inl (of ∙ none))
+      (λ own. inr (⊎_elim
       (λ is. ap (λ (p : Party). is_of p event) is ∙ (λ i. of i == session) ∙ same_number session)
       (λ is. ap (λ (p : Party). is_of p event) is ∙ (λ i. clients i && (of i == session)) ∙ same_number session)
-      reader),
+      own))
+      reader,
 )
 
 pub may_do : (party : Party) (session : ℕ) (event : Event) (reply : Reply) → IsDoer party session → is_clients event ≡ false → session_of event ≡ session → MayAdd (event, reply) party

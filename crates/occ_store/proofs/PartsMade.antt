@@ -16,10 +16,10 @@ use Rattle.occ_filed.specs.Filed.{Filed}
 use Rattle.occ_published.specs.Published.{Published}
 use Rattle.occ_published.proofs.Stored.{begun_is_published}
 use Rattle.occ_store.proofs.Begun.{begun_itself}
-use Rattle.occ_history.specs.History.{Session, Client, Lane, FrontView, StoryView, IsHere, clients, lanes, nowhere}
+use Rattle.occ_history.specs.History.{Session, Client, Lane, FrontView, StoryView, clients, lanes, nowhere}
 use Rattle.occ_history.specs.Rule.{next_front, one_more, visitor}
 use Rattle.occ_store.specs.Names.{Named, lane_of, opened_as}
-use Rattle.occ_store.specs.Locked.{IsShown, IsLocked}
+use Rattle.occ_store.specs.Locked.{IsShown, IsVisitor, IsLocked}
 use Rattle.occ_store.specs.Sessions.{SessionView}
 use Rattle.occ_store.specs.Lanes.{LaneView}
 use Rattle.occ_store.specs.Workers.{WorkerView}
@@ -217,11 +217,11 @@ module _ (named : Named) (filed : Filed) (handle : Shelves) (posted : Posted) (p
   frame_place = let same = ap (λ (w : World). w.base.place) frame_begun in omega arith
 
   pub frame_locked : (rows sessions : ℕ) (seated led : StoryView) (front : FrontView) → rows ≡ filed.world.base.place → seated ≡ seating sessions → led ≡ seated → front ≡ visitor seated
-      → IsLocked named filed posted rows led front
+      → IsLocked named filed posted rows led front 0
   frame_locked rows sessions seated led front before so same here = record {
     shown = frame_shown rows before;
     ran = subst (λ (s : StoryView). Run (opened_as named) s.log filed.world) (sym (same ∙ so)) frame_begun;
-    here = subst (λ (f : FrontView). IsHere f.party) (sym here) tt;
+    here = subst (λ (f : FrontView). IsVisitor f.party 0) (sym here) (tt, refl);
   }
 
   pub places_named : ArePlaces named.board named.settings.schema named.base 1 places

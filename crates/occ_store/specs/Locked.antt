@@ -17,7 +17,7 @@ use Rattle.occ_published.specs.Published.{Published, NumbersFit}
 use Rattle.occ_sets.specs.declared.log_rows.Standing as code_standing
 use Rattle.occ_sets.specs.declared.log_rows.Standing.TheVariants as standings
 use Rattle.occ_filed.specs.Filed.{Filed, Moves, Enters}
-use Rattle.occ_history.specs.History.{Happened, FrontView, StoryView, IsHere}
+use Rattle.occ_history.specs.History.{Happened, Party, Absent, Nobody, Session, Client, Lane, FrontView, StoryView, IsHere}
 use Rattle.occ_history.specs.Clauses.{Lent}
 use Rattle.occ_history.specs.Clauses as history
 use Rattle.occ_store.specs.Names.{Named, opened_as}
@@ -37,11 +37,23 @@ pub record IsShown (named : Named) (filed : Filed) (posted : Posted) (rows : ℕ
   pub board : posted.board ≡ named.board
   pub counted : rows ≡ next_place filed.world
 
--- What stands behind the lock of a named store. It shows the world, to which the story led from what the store was opened with; and who reads now was not lent out.
-pub record IsLocked (named : Named) (filed : Filed) (posted : Posted) (rows : ℕ) (story : StoryView) (visitor : FrontView) : Type 0 where
+-- the session for which a party reads, or 0 where that is none
+abbrev pub reader_of : Party → ℕ
+reader_of Absent = 0
+reader_of Nobody = 0
+reader_of (Session session) = session
+reader_of (Client session) = session
+reader_of (Lane session) = 0
+
+-- a party that was not lent out, and the session for which it reads
+abbrev pub IsVisitor : Party → ℕ → Type 0
+IsVisitor party session = IsHere party × (session ≡ reader_of party)
+
+-- What stands behind the lock of a named store. It shows the world, to which the story led from what the store was opened with; and it keeps for which session is read by who reads now.
+pub record IsLocked (named : Named) (filed : Filed) (posted : Posted) (rows : ℕ) (story : StoryView) (visitor : FrontView) (reading : ℕ) : Type 0 where
   pub shown : IsShown named filed posted rows
   pub ran : Run (opened_as named) story.log filed.world
-  pub here : IsHere visitor.party
+  pub here : IsVisitor visitor.party reading
 
 -- what the events rest on of every world of a core
 pub record IsLawful (world : World) : Type 0 where

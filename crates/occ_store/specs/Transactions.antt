@@ -27,6 +27,10 @@ pub record TransactionView : Type 0 where
 abbrev pub IsReader : Party → ℕ → Type 0
 IsReader party session = (party ≡ Session session) ⊎ (party ≡ Client session)
 
+-- a party may read for a session: for none, or its own
+abbrev pub MayRead : Party → ℕ → Type 0
+MayRead party session = (session ≡ 0) ⊎ IsReader party session
+
 -- nothing of it changes but what its session has seen
 abbrev pub IsSeeing : TransactionView → TransactionView → Type 0
 IsSeeing before after = after ≡ record before { front = after.front }

@@ -15,7 +15,7 @@ ghost use Rattle.occ_core.specs.Replies.{outcome_of, wrote, CanEnter, CanEnd};
 ghost use Rattle.occ_history.specs.History.{IsHere};
 ghost use Rattle.occ_store.specs.Locked.{world_of, Happens, EntersAs, BacksUp, rows_entered};
 ghost use Rattle.occ_store.specs.Lanes.{DecidesAs, IsDoer};
-ghost use Rattle.occ_store.specs.Transactions.{IsReader};
+ghost use Rattle.occ_store.specs.Transactions.{MayRead};
 
 use crate::names::{FrontOf, Name};
 use crate::publishing::{account, cause_told, law, store_commit};
@@ -34,7 +34,7 @@ use std::sync::ledger::Share;
 impl<N: Name, A: Allocator + Copy> Shared<N, A> {
     // Forgets a read phase.
     pub(crate) fn forget(&mut self, session: usize, number: u64) -> Result<bool, Fault>
-        requires own { IsReader self.old.visitor.party session }
+        requires own { MayRead self.old.visitor.party session }
         ensures { Happens self.old.visitor self.old session (Forget session number) (replied Forgotten result) self.new.visitor self.new }
     {
         law(&self.filed);
@@ -138,7 +138,7 @@ impl<N: Name, A: Allocator + Copy> Shared<N, A> {
         table: usize,
         key: &Key<A>,
     ) -> Result<Option<Row<A>>, Fault>
-        requires own { IsReader self.old.visitor.party session }
+        requires own { MayRead self.old.visitor.party session }
         ensures { Happens self.old.visitor self.old session (Read session number start (One table (key_of key.now))) (replied (λ row. Answered (Found row)) result) self.new.visitor self.new }
     {
         law(&self.filed);
@@ -158,7 +158,7 @@ impl<N: Name, A: Allocator + Copy> Shared<N, A> {
         lower: Option<&Key<A>>,
         upper: Option<&Key<A>>,
     ) -> Result<RangeRows<A>, Fault>
-        requires own { IsReader self.old.visitor.party session }
+        requires own { MayRead self.old.visitor.party session }
         ensures { Happens self.old.visitor self.old session (Read session number start (Span table (end_of (option_copied lower.entry)) (end_of (option_copied upper.entry)))) (replied (λ rows. Answered (Rows rows)) result) self.new.visitor self.new }
     {
         law(&self.filed);
@@ -178,7 +178,7 @@ impl<N: Name, A: Allocator + Copy> Shared<N, A> {
         lower: Option<&Key<A>>,
         upper: Option<&Key<A>>,
     ) -> Result<Vec<(Key<A>, Row<A>), A>, Fault>
-        requires own { IsReader self.old.visitor.party session }
+        requires own { MayRead self.old.visitor.party session }
         ensures { Happens self.old.visitor self.old session (Read session number start (Span table (end_of (option_copied lower.entry)) (end_of (option_copied upper.entry)))) (replied (λ rows. Answered (Rows (rows_of rows.items))) result) self.new.visitor self.new }
     {
         law(&self.filed);

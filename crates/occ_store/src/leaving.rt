@@ -59,6 +59,7 @@ impl<N: Name, A: Allocator + Copy> Shared<N, A> {
             rows,
             story,
             visitor,
+            reading,
             origin,
         } = self;
         match filed.into_base() {
@@ -70,6 +71,7 @@ impl<N: Name, A: Allocator + Copy> Shared<N, A> {
                     rows,
                     story,
                     visitor,
+                    reading,
                     origin,
                 },
                 fault,

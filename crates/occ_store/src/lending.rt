@@ -1,4 +1,4 @@
-//! The locked state is a store that an open transaction asks.
+//! The locked state is a store that an open transaction asks. It reads for the session of who visits it, whichever a call names.
 ghost use Rattle.std.specs.Prelude.{◌≡◌};
 
 use crate::names::Name;
@@ -9,14 +9,13 @@ use occ_types::{Fault, Key, Row, Schema};
 use std::alloc::Allocator;
 
 impl<N: Name, A: Allocator + Copy> Readable<A> for Shared<N, A> {
-    ghost use Rattle.occ_store.specs.Locked.{ReadsSo};
-    ghost use Rattle.occ_store.specs.Transactions.{IsReader};
+    ghost use Rattle.occ_store.specs.Locked.{ReadsSo, reader_of};
 
     ghost world = { λ shared. shared.filed.world };
 
     ghost moves = { ReadsSo };
 
-    ghost serves = { λ shared session. IsReader shared.visitor.party session };
+    ghost reader = { λ shared session. reader_of shared.visitor.party };
 
     fn schema(&self) -> &Schema<A> {
         self.core().schema()
@@ -24,37 +23,37 @@ impl<N: Name, A: Allocator + Copy> Readable<A> for Shared<N, A> {
 
     fn read(
         &mut self,
-        session: usize,
+        _session: usize,
         number: u64,
         start: u64,
         table: usize,
         key: &Key<A>,
     ) -> Result<Option<Row<A>>, Fault> {
-        self.read(session, number, start, table, key)
+        self.read(self.reading(), number, start, table, key)
     }
 
     fn scan(
         &mut self,
-        session: usize,
+        _session: usize,
         number: u64,
         start: u64,
         table: usize,
         lower: Option<&Key<A>>,
         upper: Option<&Key<A>>,
     ) -> Result<RangeRows<A>, Fault> {
-        self.scan(session, number, start, table, lower, upper)
+        self.scan(self.reading(), number, start, table, lower, upper)
     }
 
     fn scan_apart(
         &mut self,
-        session: usize,
+        _session: usize,
         number: u64,
         start: u64,
         table: usize,
         lower: Option<&Key<A>>,
         upper: Option<&Key<A>>,
     ) -> Result<Vec<(Key<A>, Row<A>), A>, Fault> {
-        self.scan_apart(session, number, start, table, lower, upper)
+        self.scan_apart(self.reading(), number, start, table, lower, upper)
     }
 
     fn first_rest(
@@ -77,7 +76,7 @@ impl<N: Name, A: Allocator + Copy> Readable<A> for Shared<N, A> {
         self.core().last_rest(table, lower, upper, most)
     }
 
-    fn forget(&mut self, session: usize, number: u64) -> Result<bool, Fault> {
-        self.forget(session, number)
+    fn forget(&mut self, _session: usize, number: u64) -> Result<bool, Fault> {
+        self.forget(self.reading(), number)
     }
 }

@@ -12,9 +12,8 @@ ghost use Rattle.occ_types.specs.declared.fault.Fault.TheVariants.{Memory};
 ghost use Rattle.occ_core.specs.Totals.{AddUp};
 ghost use Rattle.occ_filed.specs.Filed.{token_of};
 ghost use Rattle.occ_model.specs.Step.{Run};
-ghost use Rattle.occ_history.specs.History.{IsHere};
 ghost use Rattle.occ_store.specs.Names.{opened_as};
-ghost use Rattle.occ_store.specs.Locked.{world_of, told_standing, visited};
+ghost use Rattle.occ_store.specs.Locked.{world_of, told_standing, visited, reader_of, IsVisitor};
 ghost use Rattle.occ_store.specs.Books.{IsBookOf};
 
 use crate::names::{FrontOf, Name, OwnStory};
@@ -42,6 +41,8 @@ pub struct Shared<N: Name, A: Allocator + Copy> {
     pub(crate) story: Story<OwnStory<N>, A>,
     // What who reads now has seen. A session swaps its own in for the time of its call.
     pub(crate) visitor: FrontOf<N>,
+    // The session for which he reads, or 0.
+    pub(crate) reading: usize,
     pub(crate) origin: Origin<N>,
 }
 
@@ -87,7 +88,7 @@ impl<N: Name, A: Allocator + Copy> Model for Shared<N, A> {
 
     ghost view = { λ s. record { filed = s.filed; words = s.publisher.words; story = s.story; visitor = s.visitor } };
 
-    ghost invariant = { λ s. IsLocked N.named s.filed s.publisher (s.rows.total + s.origin.place) s.story s.visitor };
+    ghost invariant = { λ s. IsLocked N.named s.filed s.publisher (s.rows.total + s.origin.place) s.story s.visitor s.reading };
 }
 
 impl<N: Name, A: Allocator + Copy> Shared<N, A> {
@@ -109,14 +110,22 @@ impl<N: Name, A: Allocator + Copy> Shared<N, A> {
         self.filed.core().law();
     }
 
-    // Swaps what who reads now has seen with what another one has.
-    pub(crate) fn visit(&mut self, front: &mut FrontOf<N>)
-        requires { IsHere front.old.party }
+    // Swaps what who reads now has seen with what another one has, who reads for this session. It answers for which the first one reads.
+    pub(crate) fn visit(&mut self, front: &mut FrontOf<N>, session: usize) -> usize
+        requires { IsVisitor front.old.party session }
         ensures visits { self.new ≡ visited self.old front.old }
         ensures back { front.new ≡ self.old.visitor }
-        ensures here { IsHere self.old.visitor.party }
+        ensures here { IsVisitor self.old.visitor.party result }
     {
         mem::swap(&mut self.visitor, front);
+        mem::replace(&mut self.reading, session)
+    }
+
+    // The session for which who reads now does, or 0.
+    pub(crate) fn reading(&self) -> usize
+        ensures { result ≡ reader_of self.now.visitor.party }
+    {
+        self.reading
     }
 
     /// The core, for all that it shows.

@@ -2,7 +2,9 @@
 ghost use Rattle.std.specs.Prelude.{◌≡◌, ◌≤◌, ◌+◌, suc, [], map, length, vec_len, vec_capacity, IfOk, IfErr, IsOkUnless};
 ghost use Rattle.std.specs.Arc.{arc_value};
 ghost use Rattle.occ_types.specs.declared.fault.Fault.TheVariants.{Memory};
+ghost use Rattle.occ_history.specs.Rule.{visitor};
 ghost use Rattle.occ_store.specs.Names.{lane_of};
+ghost use Rattle.occ_store.specs.Locked.{IsLocked};
 ghost use Rattle.occ_store.specs.Frames.{IsPart, AreParts, IsPlace, ArePlaces, fresh_worker, fresh_session, fresh_lane, workers_from, sessions_from, lanes_from, fresh_workers, fresh_sessions, fresh_lanes, unseeing, seating};
 ghost use Rattle.occ_history.specs.History.{Session as SessionParty, Client as ClientParty, Lane as LaneParty};
 
@@ -15,12 +17,14 @@ use crate::sessions::Session;
 use crate::shared::{Origin, Shared};
 use crate::stopping::StopWord;
 use crate::workers::{Worker, unused_worker};
+use occ_board::Publisher;
 use occ_case::CaseFile;
+use occ_filed::FiledCore;
 use occ_history::Story;
 use occ_types::{Fault, Refused};
 use std::alloc::Allocator;
 use std::marker::PhantomData;
-use std::sync::ledger::Share;
+use std::sync::ledger::{Book, Share};
 use std::sync::{Arc, Mutex, MutexGuard, Wait};
 
 /// A store, which threads share: the locked state, the file of its cases, the turn of those who take leases, and whether it is stopped.
@@ -114,22 +118,41 @@ impl<N: Name, A: Allocator + Copy> Store<N, A> {
             &mut clients,
             &mut lanes,
         );
+        let origin = Origin::new(origin);
+        let store = Store::new(filed, file, publisher, rows, story, origin);
+        Ok((store, workers, clients, lanes))
+    }
+
+    // That of what a frame was made of, once its places are hired and its parts seated.
+    fn new(
+        filed: FiledCore<A>,
+        file: Arc<CaseFile<A>, A>,
+        publisher: Publisher<A>,
+        rows: Book<N>,
+        story: Story<OwnStory<N>, A>,
+        origin: Origin<N>,
+    ) -> Store<N, A>
+        requires locked { IsLocked N.named filed publisher (rows.total + origin.place) story (visitor story) 0 }
+        requires file { arc_value file ≡ N.named.file }
+        requires cut { N.parts ≡ N.named.settings.sessions }
+    {
+        let mut story = story;
         let visitor = story.visitor();
-        let store = Store {
+        Store {
             shared: Mutex::new(Shared {
                 filed,
                 publisher,
                 rows,
                 story,
                 visitor,
-                origin: Origin::new(origin),
+                reading: 0,
+                origin,
             }),
             lease: Mutex::new(Turns),
             file: OwnFile::new(file),
             cut: Cut::new(),
             stop_word: StopWord::new(),
-        };
-        Ok((store, workers, clients, lanes))
+        }
     }
 }
 

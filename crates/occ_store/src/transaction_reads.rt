@@ -34,9 +34,9 @@ impl<N: Name, A: Allocator + Copy> Transaction<N, A> {
         ensures asks { AsksOn self.old shared.old (One table (key_of key.now)) (reading result) self.new shared.new }
         ensures own { self.new.front.party ≡ self.old.front.party }
     {
-        shared.visit(&mut self.front);
+        let other = shared.visit(&mut self.front, self.session);
         let row = self.draft.get_in(shared, self.session, table, key);
-        shared.visit(&mut self.front);
+        shared.visit(&mut self.front, other);
         row
     }
 
@@ -50,11 +50,11 @@ impl<N: Name, A: Allocator + Copy> Transaction<N, A> {
         ensures asks { AsksOn self.old shared.old (Span table (end_of (option_copied lower.entry)) (end_of (option_copied upper.entry))) (scanning result) self.new shared.new }
         ensures own { self.new.front.party ≡ self.old.front.party }
     {
-        shared.visit(&mut self.front);
+        let other = shared.visit(&mut self.front, self.session);
         let rows = self
             .draft
             .scan_in(shared, self.session, table, lower, upper);
-        shared.visit(&mut self.front);
+        shared.visit(&mut self.front, other);
         rows
     }
 
@@ -69,11 +69,11 @@ impl<N: Name, A: Allocator + Copy> Transaction<N, A> {
         ensures asks { AsksPageOn self.old shared.old (first_page table (end_of (option_copied lower.entry)) (end_of (option_copied upper.entry))) (λ world. first_rest_of world table (end_of (option_copied lower.entry)) (end_of (option_copied upper.entry)) most) result self.new shared.new }
         ensures own { self.new.front.party ≡ self.old.front.party }
     {
-        shared.visit(&mut self.front);
+        let other = shared.visit(&mut self.front, self.session);
         let page = self
             .draft
             .scan_first_in(shared, self.session, table, lower, upper, most);
-        shared.visit(&mut self.front);
+        shared.visit(&mut self.front, other);
         page
     }
 
@@ -88,11 +88,11 @@ impl<N: Name, A: Allocator + Copy> Transaction<N, A> {
         ensures asks { AsksPageOn self.old shared.old (last_page table (end_of (option_copied lower.entry)) (end_of (option_copied upper.entry))) (λ world. last_rest_of world table (end_of (option_copied lower.entry)) (end_of (option_copied upper.entry)) most) result self.new shared.new }
         ensures own { self.new.front.party ≡ self.old.front.party }
     {
-        shared.visit(&mut self.front);
+        let other = shared.visit(&mut self.front, self.session);
         let page = self
             .draft
             .scan_last_in(shared, self.session, table, lower, upper, most);
-        shared.visit(&mut self.front);
+        shared.visit(&mut self.front, other);
         page
     }
 
@@ -101,9 +101,9 @@ impl<N: Name, A: Allocator + Copy> Transaction<N, A> {
         ensures left { self.new ≡ record self.old { draft = open_after self.old.draft (forgetting result); front = self.new.front } }
         ensures own { self.new.front.party ≡ self.old.front.party }
     {
-        shared.visit(&mut self.front);
+        let other = shared.visit(&mut self.front, self.session);
         let known = self.draft.abandon_in(shared, self.session);
-        shared.visit(&mut self.front);
+        shared.visit(&mut self.front, other);
         known
     }
 
@@ -113,9 +113,9 @@ impl<N: Name, A: Allocator + Copy> Transaction<N, A> {
         ensures same { self.new ≡ record self.old { front = self.new.front } }
         ensures own { self.new.front.party ≡ self.old.front.party }
     {
-        shared.visit(&mut self.front);
+        let other = shared.visit(&mut self.front, self.session);
         let known = shared.forget(self.session, number);
-        shared.visit(&mut self.front);
+        shared.visit(&mut self.front, other);
         known
     }
 }

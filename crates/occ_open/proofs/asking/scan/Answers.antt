@@ -23,7 +23,7 @@ returns-clause-step g c =
     let schema = (g.S.Readable.world c.args.store.now).settings.schema in
     let reply = scanning c.scan_asked.result in
     subst (λ (q : Question). OrStarvesBy (CopyWantsRange schema q) (g.S.Readable.world c.scan_asked.new.store ≡ g.S.Readable.world c.args.store.now) reply
-    (CopyScansBy schema (g.S.Readable.world c.scan_asked.new.store ≡ g.S.Readable.world c.args.store.now) (λ event reply. Step (g.S.Readable.world c.args.store.now) event reply (g.S.Readable.world c.scan_asked.new.store)) c.args.session q c.args.copy.now reply))
+    (CopyScansBy schema (g.S.Readable.world c.scan_asked.new.store ≡ g.S.Readable.world c.args.store.now) (λ event reply. Step (g.S.Readable.world c.args.store.now) event reply (g.S.Readable.world c.scan_asked.new.store)) (g.S.Readable.reader c.args.store.now c.args.session) q c.args.copy.now reply))
     c.in_ok-question.ensures.value c.scan_asked.ensures.step
 
 pub returns-clause-moves : goal.returns-clause-moves
@@ -31,5 +31,5 @@ returns-clause-moves g c =
     let schema = (g.S.Readable.world c.args.store.now).settings.schema in
     let reply = scanning c.scan_asked.result in
     subst (λ (q : Question). OrStarvesBy (CopyWantsRange schema q) (c.scan_asked.new.store ≡ c.args.store.now) reply
-    (CopyScansBy schema (c.scan_asked.new.store ≡ c.args.store.now) (λ event reply. g.S.Readable.moves c.args.store.now event reply c.scan_asked.new.store) c.args.session q c.args.copy.now reply))
+    (CopyScansBy schema (c.scan_asked.new.store ≡ c.args.store.now) (λ event reply. g.S.Readable.moves c.args.store.now event reply c.scan_asked.new.store) (g.S.Readable.reader c.args.store.now c.args.session) q c.args.copy.now reply))
     c.in_ok-question.ensures.value c.scan_asked.ensures.moves

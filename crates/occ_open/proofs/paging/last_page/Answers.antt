@@ -20,7 +20,7 @@ returns-in_err-rows-clause-step g c =
     let nearer = page_end c.as_ref.result c.args.lower c.or-lower.result _ rest c.or-lower.ensures c.as_ref.ensures.value c.in_ok-rest.ensures.rest in
     let p = err_from_is_err_and c.from_residual-in_err-rows.result c.from_residual-in_err-rows.ensures.1 in
     page_scanned (g.S.Readable.world c.args.store.now).settings.schema (g.S.Readable.world c.scan.new.store ≡ g.S.Readable.world c.args.store.now) (λ event reply. Step (g.S.Readable.world c.args.store.now) event reply (g.S.Readable.world c.scan.new.store))
-    c.args.session c.args.copy.now (Span c.args.table (end_of (option_copied c.or-lower.result)) b) (pages.last_page c.args.table a b rest) rest (Refused c.in_err-rows.field-0.0) _
+    (g.S.Readable.reader c.args.store.now c.args.session) c.args.copy.now (Span c.args.table (end_of (option_copied c.or-lower.result)) b) (pages.last_page c.args.table a b rest) rest (Refused c.in_err-rows.field-0.0) _
     (ap (λ e. Span c.args.table e b) nearer) (sym (ap paging (p.1 ∙ ap Err p.2))) c.in_err-rows.ensures.step
 
 pub returns-in_err-rows-clause-moves : goal.returns-in_err-rows-clause-moves
@@ -31,7 +31,7 @@ returns-in_err-rows-clause-moves g c =
     let nearer = page_end c.as_ref.result c.args.lower c.or-lower.result _ rest c.or-lower.ensures c.as_ref.ensures.value c.in_ok-rest.ensures.rest in
     let p = err_from_is_err_and c.from_residual-in_err-rows.result c.from_residual-in_err-rows.ensures.1 in
     page_scanned (g.S.Readable.world c.args.store.now).settings.schema (c.scan.new.store ≡ c.args.store.now) (λ event reply. g.S.Readable.moves c.args.store.now event reply c.scan.new.store)
-    c.args.session c.args.copy.now (Span c.args.table (end_of (option_copied c.or-lower.result)) b) (pages.last_page c.args.table a b rest) rest (Refused c.in_err-rows.field-0.0) _
+    (g.S.Readable.reader c.args.store.now c.args.session) c.args.copy.now (Span c.args.table (end_of (option_copied c.or-lower.result)) b) (pages.last_page c.args.table a b rest) rest (Refused c.in_err-rows.field-0.0) _
     (ap (λ e. Span c.args.table e b) nearer) (sym (ap paging (p.1 ∙ ap Err p.2))) c.in_err-rows.ensures.moves
 
 -- and it was answered
@@ -42,7 +42,7 @@ returns-clause-step g c =
     let rest = last_rest_of (g.S.Readable.world c.args.store.now) c.args.table a b c.args.most in
     let nearer = page_end c.as_ref.result c.args.lower c.or-lower.result _ rest c.or-lower.ensures c.as_ref.ensures.value c.in_ok-rest.ensures.rest in
     page_scanned (g.S.Readable.world c.args.store.now).settings.schema (g.S.Readable.world c.scan.new.store ≡ g.S.Readable.world c.args.store.now) (λ event reply. Step (g.S.Readable.world c.args.store.now) event reply (g.S.Readable.world c.scan.new.store))
-    c.args.session c.args.copy.now (Span c.args.table (end_of (option_copied c.or-lower.result)) b) (pages.last_page c.args.table a b rest) rest (Answered (Rows c.in_ok-rows.rows)) _
+    (g.S.Readable.reader c.args.store.now c.args.session) c.args.copy.now (Span c.args.table (end_of (option_copied c.or-lower.result)) b) (pages.last_page c.args.table a b rest) rest (Answered (Rows c.in_ok-rows.rows)) _
     (ap (λ e. Span c.args.table e b) nearer) refl c.in_ok-rows.ensures.step
 
 pub returns-clause-moves : goal.returns-clause-moves
@@ -52,5 +52,5 @@ returns-clause-moves g c =
     let rest = last_rest_of (g.S.Readable.world c.args.store.now) c.args.table a b c.args.most in
     let nearer = page_end c.as_ref.result c.args.lower c.or-lower.result _ rest c.or-lower.ensures c.as_ref.ensures.value c.in_ok-rest.ensures.rest in
     page_scanned (g.S.Readable.world c.args.store.now).settings.schema (c.scan.new.store ≡ c.args.store.now) (λ event reply. g.S.Readable.moves c.args.store.now event reply c.scan.new.store)
-    c.args.session c.args.copy.now (Span c.args.table (end_of (option_copied c.or-lower.result)) b) (pages.last_page c.args.table a b rest) rest (Answered (Rows c.in_ok-rows.rows)) _
+    (g.S.Readable.reader c.args.store.now c.args.session) c.args.copy.now (Span c.args.table (end_of (option_copied c.or-lower.result)) b) (pages.last_page c.args.table a b rest) rest (Answered (Rows c.in_ok-rows.rows)) _
     (ap (λ e. Span c.args.table e b) nearer) refl c.in_ok-rows.ensures.moves

@@ -7,7 +7,7 @@ pub invariant_of-self : goal.invariant_of-self
 invariant_of-self g c = record {
   shown = between _ _ _ _ _ _ _ c.law.ensures.invariant refl refl c.read-row.ensures.0 (ap (λ f. f.file) c.read-row.ensures.1) c.self.invariant.shown;
   ran = ran_on g.N.Name.named _ _ _ _ _ _ c.self.invariant.ran c.read-row.ensures.0 c.add.ensures.added;
-  here = still_here c.self.inside.visitor c.add.new.me _ _ c.self.invariant.here c.add.ensures.seen;
+  here = still_here c.self.inside.visitor c.add.new.me _ _ _ c.self.invariant.here c.add.ensures.seen;
 }
 
 pub returns : goal.returns

@@ -1,4 +1,4 @@
-use Rattle.std.proofs.Common.{◌≡◌, ◌+◌, ◌≤◌, ◌-◌, suc, length, sym, ap, subst, ◌∙◌, arith}
+use Rattle.std.proofs.Common.{◌≡◌, ◌+◌, ◌≤◌, ◌-◌, suc, length, refl, sym, ap, subst, ◌∙◌, arith}
 use Rattle.occ_store.specs.Frames.{workers_from, sessions_from, lanes_from, seating}
 use Rattle.occ_store.proofs.PartsMade.{places_named, parts_named, lanes_named, workers_named, count_named, others_named, cut_named, frame_place, frame_locked}
 use Rattle.occ_store.proofs.stores.Store.open.Goals as goal
@@ -70,16 +70,26 @@ seat-requires-clause-room g c =
     let second = c.in-Ok.ensures.room.2 in
     (omega arith, omega arith)
 
-pub new-requires : goal.new-requires
-new-requires g c =
+pub new-origin-requires : goal.new-origin-requires
+new-origin-requires g c =
     c.place-origin.ensures ∙ ap (λ b. b.place) c.base.ensures.base ∙ ap (λ w. w.base.place) c.core.ensures.world
     ∙ frame_place _ _ _ _ _ _ _ c.frame.invariant _ (ap (λ f. f.named) c.frame.view_is ∙ c.requires.named)
 
-pub invariant_of-new : goal.invariant_of-new
-invariant_of-new g c =
+pub new-store-requires-clause-locked : goal.new-store-requires-clause-locked
+new-store-requires-clause-locked g c =
     let none = c.open-rows.ensures.total in
+    let own = c.new-origin.ensures in
     let place = c.place-origin.ensures ∙ ap (λ b. b.place) c.base.ensures.base ∙ ap (λ w. w.base.place) c.core.ensures.world in
-    frame_locked _ _ _ _ _ _ _ c.frame.invariant _ (ap (λ f. f.named) c.frame.view_is ∙ c.requires.named) _ _ _ _ _ (omega arith) c.seat.ensures.story c.visitor-visitor.ensures.same c.visitor-visitor.ensures.front
+    frame_locked _ _ _ _ _ _ _ c.frame.invariant _ (ap (λ f. f.named) c.frame.view_is ∙ c.requires.named) _ _ _ _ _ (omega arith) c.seat.ensures.story refl refl
+
+pub new-store-requires-clause-file : goal.new-store-requires-clause-file
+new-store-requires-clause-file g c = c.frame.invariant.shared ∙ ap (λ n. n.file) (ap (λ f. f.named) c.frame.view_is ∙ c.requires.named)
+
+pub new-store-requires-clause-cut : goal.new-store-requires-clause-cut
+new-store-requires-clause-cut g c =
+    let cut = cut_named _ _ _ _ _ _ _ c.frame.invariant _ (ap (λ f. f.named) c.frame.view_is ∙ c.requires.named) in
+    let own = ap (λ f. f.parts) c.frame.view_is ∙ c.requires.ledger.1 in
+    omega arith
 
 pub returns-clause-workers : goal.returns-clause-workers
 returns-clause-workers g c =
@@ -95,6 +105,3 @@ pub returns-clause-lanes : goal.returns-clause-lanes
 returns-clause-lanes g c =
     let names = ap (λ f. f.named) c.frame.view_is ∙ c.requires.named in
     c.seat.ensures.lanes ∙ ap (lanes_from g.N.Name.named) (others_named _ _ _ _ _ _ _ c.frame.invariant _ names)
-
-pub new-requires-4 : goal.new-requires-4
-new-requires-4 g c = c.frame.invariant.shared ∙ ap (λ n. n.file) (ap (λ f. f.named) c.frame.view_is ∙ c.requires.named)

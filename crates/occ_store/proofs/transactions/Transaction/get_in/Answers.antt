@@ -10,20 +10,20 @@ use Rattle.occ_store.proofs.transactions.Transaction.get_in.Goals as goal
 pub invariant_of-self : goal.invariant_of-self
 invariant_of-self g c =
     let before : TransactionView = record { session = c.self.inside.session; draft = c.self.inside.draft; front = c.self.inside.front } in
-    let asks = asked_on before c.args.shared.now c.visit.new.self c.get_in-row.new.store c.visit-2.new.self (reading c.get_in-row.result) c.visit-2.new.front c.visit.new.front
-    c.visit.ensures.visits c.visit-2.ensures.visits c.visit-2.ensures.back c.visit.ensures.back (One c.args.table (key_of c.args.key.now)) c.get_in-row.ensures.moves in
-    (c.self.invariant.0, subst (λ (p : Party). IsReader p c.self.inside.session) (sym (asked_party before c.args.shared.now c.visit-2.new.front c.visit-2.new.self (One c.args.table (key_of c.args.key.now)) (reading c.get_in-row.result) asks)) c.self.invariant.1)
+    let asks = asked_on before c.args.shared.now c.visit-other.new.self c.get_in-row.new.store c.visit.new.self (reading c.get_in-row.result) c.visit.new.front c.visit-other.new.front
+    c.visit-other.ensures.visits c.visit.ensures.visits c.visit.ensures.back c.visit-other.ensures.back c.self.invariant.1 (One c.args.table (key_of c.args.key.now)) c.get_in-row.ensures.moves in
+    (c.self.invariant.0, subst (λ (p : Party). IsReader p c.self.inside.session) (sym (asked_party before c.args.shared.now c.visit.new.front c.visit.new.self (One c.args.table (key_of c.args.key.now)) (reading c.get_in-row.result) asks)) c.self.invariant.1)
 
 pub returns-clause-asks : goal.returns-clause-asks
 returns-clause-asks g c =
     let before : TransactionView = record { session = c.self.inside.session; draft = c.self.inside.draft; front = c.self.inside.front } in
-    let asks = asked_on before c.args.shared.now c.visit.new.self c.get_in-row.new.store c.visit-2.new.self (reading c.get_in-row.result) c.visit-2.new.front c.visit.new.front
-    c.visit.ensures.visits c.visit-2.ensures.visits c.visit-2.ensures.back c.visit.ensures.back (One c.args.table (key_of c.args.key.now)) c.get_in-row.ensures.moves in
-    subst (λ (t : TransactionView). AsksOn t c.args.shared.now (One c.args.table (key_of c.args.key.now)) (reading c.get_in-row.result) (record before { front = c.visit-2.new.front }) c.visit-2.new.self) c.self.view_is (refl, asks)
+    let asks = asked_on before c.args.shared.now c.visit-other.new.self c.get_in-row.new.store c.visit.new.self (reading c.get_in-row.result) c.visit.new.front c.visit-other.new.front
+    c.visit-other.ensures.visits c.visit.ensures.visits c.visit.ensures.back c.visit-other.ensures.back c.self.invariant.1 (One c.args.table (key_of c.args.key.now)) c.get_in-row.ensures.moves in
+    subst (λ (t : TransactionView). AsksOn t c.args.shared.now (One c.args.table (key_of c.args.key.now)) (reading c.get_in-row.result) (record before { front = c.visit.new.front }) c.visit.new.self) c.self.view_is (refl, asks)
 
 pub returns-clause-own : goal.returns-clause-own
 returns-clause-own g c =
     let before : TransactionView = record { session = c.self.inside.session; draft = c.self.inside.draft; front = c.self.inside.front } in
-    let asks = asked_on before c.args.shared.now c.visit.new.self c.get_in-row.new.store c.visit-2.new.self (reading c.get_in-row.result) c.visit-2.new.front c.visit.new.front
-    c.visit.ensures.visits c.visit-2.ensures.visits c.visit-2.ensures.back c.visit.ensures.back (One c.args.table (key_of c.args.key.now)) c.get_in-row.ensures.moves in
-    asked_party before c.args.shared.now c.visit-2.new.front c.visit-2.new.self (One c.args.table (key_of c.args.key.now)) (reading c.get_in-row.result) asks ∙ ap (λ (t : TransactionView). t.front.party) c.self.view_is
+    let asks = asked_on before c.args.shared.now c.visit-other.new.self c.get_in-row.new.store c.visit.new.self (reading c.get_in-row.result) c.visit.new.front c.visit-other.new.front
+    c.visit-other.ensures.visits c.visit.ensures.visits c.visit.ensures.back c.visit-other.ensures.back c.self.invariant.1 (One c.args.table (key_of c.args.key.now)) c.get_in-row.ensures.moves in
+    asked_party before c.args.shared.now c.visit.new.front c.visit.new.self (One c.args.table (key_of c.args.key.now)) (reading c.get_in-row.result) asks ∙ ap (λ (t : TransactionView). t.front.party) c.self.view_is
