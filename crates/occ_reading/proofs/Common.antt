@@ -43,7 +43,7 @@ pub use Rattle.occ_book.specs.Content.{Content}
 pub use Rattle.occ_book.specs.Marks.{Marked}
 pub use Rattle.occ_text.proofs.Causes.{caused}
 pub use Rattle.occ_text.proofs.Escapes.{bind_value, escape_spelling, map_value, plain_spelling, some_is}
-pub use Rattle.occ_text.proofs.Fields.{IsField, after_word, alone_spelled, alone_takes, behind_spelled, behind_takes, both_fields, decimal_width, field_is_line, field_reads, fitting_field, joined_width, line_of_words, next-takes, number_field, one_and_other, shaped_field, tested_field, token_field, width, within, words_field, words_have_no_feed}
+pub use Rattle.occ_text.proofs.Fields.{IsField, after_word, alone_spelled, alone_takes, behind_spelled, behind_takes, both_fields, decimal_width, field_is_line, field_reads, fitting_field, joined_width, lettered_field, line_of_words, next-takes, number_field, one_and_other, shaped_field, tested_field, token_field, width, within, words_field, words_have_no_feed}
 pub use Rattle.occ_text.proofs.HeaderLines.{count_field, count_reads, same_version, table_reads}
 pub use Rattle.occ_text.proofs.Numbers.{some_or_none}
 pub use Rattle.occ_text.proofs.Readers.{name_again, takes, word_is}
@@ -80,12 +80,12 @@ pub use Rattle.occ_print.specs.Books.{Book, audit_line, base_line, base_lines, b
 pub use Rattle.occ_print.specs.declared.sections.Section.{Section}
 pub use Rattle.occ_text.proofs.LinesTaken.{Gathered, Path, along, count_more, ended, failed, fails, gathered_all, gathered_fails, gathered_more, gathered_none, led_apart, line_refused, next_fails, next_taken, none, none_fails, on, part_failed, single_lines, spelled, stay, stopped_here, torn_here, uncounted_here, viewed_more, ◌and◌}
 pub use Rattle.occ_reading.specs.Cores.{HasWords, IsHeaderOf, IsToldBase, ReadHasWords, RowHasWords, WriteHasWords, book_in}
-pub use Rattle.occ_reading.specs.NumberLines.{BaseHeadFits, BeganFits, CountsFit, HeadFits, IsSession, MarkFits, Stand, StandFits, base_head_line, base_text, began_of_line, began_text, began_unless, counts_line, counts_text, head_from, head_line, head_parts, head_text, mark_line, mark_text, number64, session, stand, stand_tokens}
+pub use Rattle.occ_reading.specs.NumberLines.{BaseHeadFits, BeganFits, CountsFit, HeadFits, IsSession, MarkFits, Stand, StandFits, base_head_line, base_text, began_of_line, began_text, began_unless, counts_line, counts_text, head_from, head_line, head_parts, head_text, mark_line, mark_text, number64, number_as, session, stand, stand_tokens}
 unfoldable pub use Rattle.occ_reading.specs.NumberLines.{base_of_line, counts_of_line, head_of_line, mark_of_line, next_session, next_stand}
 pub use Rattle.occ_reading.specs.Places.{Audit, Counter, End, EntryOf, Frame, InRow, IsAbove, Keep, Log, Marks, MayEnd, NumberOf, PairOf, Place, Queue, ReadOf, Sessions, Tables, WriteOf, behind_began, behind_entries, behind_numbers, behind_read, books, entries_to_come, frame_of, framed, grammar, in_row, last_key, numbers_to_come, pairs_to_come, reads_to_come, rows_to_come, writes_to_come}
 pub use Rattle.occ_reading.specs.PlainRows.{log_of, log_row_of, without_case}
 pub use Rattle.occ_reading.specs.RowLines.{Asked, AskedFits, AskedOne, AskedSpan, AtFits, FoundFits, ObjectFits, PairFits, RowFitsIn, SpanFits, WriteFits, asked_line, asked_of, asked_text, asked_tokens, at_field, at_of, ends_field, found_field, found_text, key_field, object_field, pair_field, pair_of, row_field, table_field, write_field, write_of, write_tokens}
-unfoldable pub use Rattle.occ_reading.specs.RowLines.{asked_of_line, at_of_line, del_behind, found_in, next_asked, next_ends, next_found, next_write, one_behind, pair_of_line, put_behind, span_behind, write_of_line}
+unfoldable pub use Rattle.occ_reading.specs.RowLines.{asked_of_line, at_of_line, found_in, next_asked, next_ends, next_found, next_write, pair_of_line, write_of_line}
 pub use Rattle.occ_reading.specs.SchemaReaders.{unless_fault}
 unfoldable pub use Rattle.occ_reading.specs.SchemaReaders.{key_in, next_key, next_object, next_row, next_table, place_of, row_in}
 pub use Rattle.occ_reading.specs.Taking.{AllFit, IsBaseOf, IsRowOf, LogRowFits, ReadFits, RisesFrom, StandingFits, StandsSo, but_first, front_lines, is_behind}

@@ -1,6 +1,6 @@
 -- The lines of numbers are fields: what is read is spelled so, what is spelled so is read again, and they are lines.
 use Rattle.std.proofs.Common.{◌≡◌, ◌+◌, ℕ, zero, suc, ◌^◌, ◌-◌, ◌==◌, ◌<◌, ◌≤◌, not, true, List, ◌∷◌, length, Option, Some, None, lit<, refl, sym, ap, ◌∙◌, arith, []}
-use Rattle.occ_reading.proofs.Common.{BaseHead, BaseHeadFits, Began, BeganFits, Conflict, CountsFit, HeadFits, IfSome, IsField, IsLine, IsSession, IsToken, IsToken-from_test, MarkFits, Reads, Section, Stand, StandFits, TooOld, Within, after_word, alone_spelled, alone_takes, base_head_line, base_of_line, base_text, began_of_line, began_text, began_unless, behind_spelled, behind_takes, both_fields, codes, count_field, count_of_line, count_reads, count_text, counts_line, field_is_line, field_reads, fitting_field, head_from, head_line, head_parts, is_token, mark_line, ne_eqb, next_session, next_stand, number, number64, number_field, number_word, one_and_other, option_map, session, shaped_field, stand, stand_tokens, tested_field, within, words_field}
+use Rattle.occ_reading.proofs.Common.{BaseHead, BaseHeadFits, Began, BeganFits, Conflict, CountsFit, HeadFits, IfSome, IsField, IsLine, IsSession, IsToken, IsToken-from_test, MarkFits, Reads, Section, Stand, StandFits, TooOld, Within, after_word, alone_spelled, alone_takes, base_head_line, base_of_line, base_text, began_of_line, began_text, began_unless, behind_spelled, behind_takes, both_fields, codes, count_field, count_of_line, count_reads, count_text, counts_line, field_is_line, field_reads, fitting_field, head_from, head_line, head_parts, is_token, lettered_field, mark_line, ne_eqb, next_session, next_stand, number, number64, number_as, number_field, number_word, one_and_other, option_map, session, shaped_field, stand, stand_tokens, tested_field, within, words_field}
 use Rattle.occ_sets.specs.declared.log_rows.Standing.TheVariants.{Open, Writing, Done, Back}
 use Rattle.occ_text.proofs.Fields.{IsSpelled}
 use Rattle.occ_text.proofs.HeaderLines.{count_is_line}
@@ -14,6 +14,9 @@ wide = lit< tt
 pub number64_field : IsField number64 (λ n. 21)
 number64_field = number_field (2 ^ 64 - 1) wide
 
+pub number_as_field : (letters : List ℕ) → IsField (number_as letters) (λ n. 21)
+number_as_field letters = lettered_field letters number64_field
+
 from_1 : (n : ℕ) → not (n == 0) ≡ true → 1 ≤ n
 from_1 zero h = absurd cc
 from_1 (suc n) h = omega arith
@@ -21,8 +24,8 @@ from_1 (suc n) h = omega arith
 session_field : (sessions : ℕ) → sessions < 2 ^ 64 → IsField (session sessions) (λ n. 21)
 unfolding next_session
 session_field sessions small =
-    fitting_field (IsSession sessions) (tested_field (λ (n : ℕ). not (n == 0)) (number_field sessions small))
-    (λ n fits. record { first = from_1 n fits.1; last = fits.0 }) (λ n fits. (fits.last, ap not (ne_eqb n 0 (λ e. omega (arith, fits.first, e)))))
+    lettered_field (codes "S") (fitting_field (IsSession sessions) (tested_field (λ (n : ℕ). not (n == 0)) (number_field sessions small))
+    (λ n fits. record { first = from_1 n fits.1; last = fits.0 }) (λ n fits. (fits.last, ap not (ne_eqb n 0 (λ e. omega (arith, fits.first, e))))))
 
 stand_field : (writes : ℕ) → writes ≤ 2 ^ 64 - 1 → IsField (stand writes) (λ s. 40)
 unfolding next_stand is_token
@@ -62,8 +65,8 @@ unfolding is_token
 head_field sessions small =
     after_word (IsToken-from_test (codes "row") refl)
     (shaped_field head_from head_parts (HeadFits sessions) (λ p. refl) (λ head. refl)
-    (one_and_other number64_field (one_and_other (session_field sessions small) (one_and_other number64_field (one_and_other number64_field
-    (one_and_other number64_field (one_and_other number64_field (both_fields number64_field stand_field)))))))
+    (one_and_other (number_as_field _) (one_and_other (session_field sessions small) (one_and_other (number_as_field _) (one_and_other (number_as_field _)
+    (one_and_other (number_as_field _) (one_and_other (number_as_field _) (both_fields _ (number_as_field _) stand_field)))))))
     (λ p f. record { place = f.0; session = f.1.0; number = f.1.1.0; start = f.1.1.1.0; finish = f.1.1.1.1.0; reads = f.1.1.1.1.1.0; writes = f.1.1.1.1.1.1.0; stand = f.1.1.1.1.1.1.1 })
     (λ head f. (f.place, (f.session, (f.number, (f.start, (f.finish, (f.reads, (f.writes, f.stand)))))))))
 
@@ -80,7 +83,7 @@ pub mark_field : (section : Section) (sessions : ℕ) → sessions < 2 ^ 64 → 
 mark_field section sessions small =
     after_word (number_word-IsToken section)
     (shaped_field (λ p. record { session = p.0; number = p.1 }) (λ mark. (mark.session, mark.number)) (MarkFits sessions) (λ p. refl) (λ mark. refl)
-    (one_and_other (session_field sessions small) number64_field)
+    (one_and_other (session_field sessions small) (number_as_field _))
     (λ p f. record { session = f.0; number = f.1 }) (λ mark f. (f.session, f.number)))
 
 pub base_field : IsField base_head_line (λ head. 68)
@@ -88,7 +91,7 @@ unfolding is_token
 base_field =
     after_word (IsToken-from_test (codes "base") refl)
     (shaped_field (λ p. record { place = p.0; numbers = p.1.0; rows = p.1.1 }) (λ head. (head.place, (head.numbers, head.rows))) BaseHeadFits (λ p. refl) (λ head. refl)
-    (one_and_other (session_field (2 ^ 64 - 1) wide) (one_and_other number64_field number64_field))
+    (one_and_other (lettered_field _ (session_field (2 ^ 64 - 1) wide)) (one_and_other (number_as_field _) (number_as_field _)))
     (λ p f. record { place = f.0; numbers = f.1.0; rows = f.1.1 }) (λ head f. (f.place, (f.numbers, f.rows))))
 
 pub counts_field : IsField counts_line (λ counts. 54)
@@ -96,7 +99,7 @@ unfolding is_token
 counts_field =
     after_word (IsToken-from_test (codes "counter") refl)
     (shaped_field (λ p. record { counter = p.0; low = p.1 }) (λ counts. (counts.counter, counts.low)) CountsFit (λ p. refl) (λ counts. refl)
-    (one_and_other number64_field (after_word (IsToken-from_test (codes "low") refl) number64_field))
+    (one_and_other (number_as_field _) (after_word (IsToken-from_test (codes "low") refl) (number_as_field _)))
     (λ p f. record { counter = f.0; low = f.1 }) (λ counts f. (f.counter, f.low)))
 
 -- ---- the readers are right

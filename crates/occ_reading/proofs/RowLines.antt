@@ -1,27 +1,29 @@
 -- The lines of keys and rows are fields: what is read is spelled so, what is spelled so is read again, and they are lines.
 use Rattle.std.proofs.Common.{◌≡◌, ℕ, ◌+◌, ◌≤◌, List, ◌∷◌, ◌++◌, length, Option, Some, None, refl, sym, ap, subst, ◌∙◌, arith, append_assoc, []}
-use Rattle.occ_reading.proofs.Common.{Asked, AskedFits, AskedOne, AskedSpan, AtFits, IsField, IsLine, IsToken, IsToken-from_test, One, PairFits, Reads, Schema, Section, Span, Version, Write, WriteFits, after_word, asked_line, asked_of_line, asked_text, asked_tokens, at_field, at_of_line, behind_spelled, behind_takes, both, both_fields, check_tables, codes, decimal, del_behind, end_text, ends_field, entry_line, entry_word, field_is_line, field_reads, found_field, found_text, is_token, key_text, line_text, next_asked, next_write, number64, object_field, one_and_other, one_behind, pair_field, pair_line, pair_of_line, put_behind, row_field, some_or_none, span_behind, table_field, table_name, takes, within, words_field, write_field, write_line, write_of_line, write_tokens, ◌⊗◌}
+use Rattle.occ_reading.proofs.Common.{Asked, AskedFits, AskedOne, AskedSpan, AtFits, IsField, IsLine, IsToken, IsToken-from_test, One, PairFits, Reads, Schema, Section, Span, Version, Write, WriteFits, after_word, asked_line, asked_of_line, asked_text, asked_tokens, at_field, at_of_line, behind_spelled, behind_takes, both, both_fields, check_tables, codes, decimal, end_text, ends_field, entry_line, entry_word, field_is_line, field_reads, found_field, found_text, is_token, key_text, line_text, next_asked, next_write, object_field, one_and_other, pair_field, pair_line, pair_of_line, row_field, some_or_none, table_field, table_name, takes, within, words_field, write_field, write_line, write_of_line, write_tokens, ◌⊗◌}
+use Rattle.occ_text.specs.Fields.{read_form, readers}
 use Rattle.occ_text.proofs.Fields.{IsSpelled}
+use Rattle.occ_reading.specs.RowLines.{one_form, span_form, asked_forms, write_forms, row_at}
 use Rattle.occ_print.specs.declared.sections.Section.TheVariants as sections
 use Rattle.occ_reading.proofs.TableNames.{checked_place}
-use Rattle.occ_reading.proofs.NumberLines.{number64_field}
+use Rattle.occ_reading.proofs.NumberLines.{number_as_field}
 use Rattle.occ_reading.proofs.SchemaFields.{table_is_field, key_is_field, object_is_field, row_is_field, found_is_field, ends_is_field}
 
 -- ---- reads
 
 pub asked_is_field : (version : Version) (schema : Schema) → check_tables schema ≡ None → IsField (asked_line version schema) (λ asked. 6600)
-unfolding next_asked one_behind span_behind is_token
+unfolding next_asked read_form is_token
 asked_is_field version schema good =
-    words_field (asked_line version schema) ((codes "one", one_behind version schema) ∷ (codes "span", span_behind version schema) ∷ []) (λ y. 6600) (λ tokens. refl) (
+    words_field (asked_line version schema) (readers (asked_forms version schema)) (λ y. 6600) (λ tokens. refl) (
       behind_takes (asked_tokens schema) (AskedFits version schema) (codes "one") (λ p. AskedOne p.0 p.1) one (λ p. refl) (λ p fits. (fits.0, fits.1)),
       (behind_takes (asked_tokens schema) (AskedFits version schema) (codes "span") (λ p. AskedSpan (Span p.0 p.1.0.0 p.1.0.1) p.1.1) span (λ p. refl) (λ p fits. (fits.1.0, fits.1.1)), tt),
     ) spelled
   where
-    one : IsField (both (object_field version schema) (λ object. found_field schema object.0)) (λ p. 6566)
-    one = both_fields (object_is_field version schema good) (λ object fits. found_is_field schema object.0 good)
+    one : IsField (one_form version schema).behind (λ p. 6566)
+    one = both_fields _ (object_is_field version schema good) (λ object fits. found_is_field schema object.0 good)
 
-    span : IsField (both (table_field schema) (λ table. ends_field version schema table ⊗ number64)) (λ p. 814)
-    span = both_fields (table_is_field schema good) (λ table there. one_and_other (ends_is_field version schema table) number64_field)
+    span : IsField (span_form version schema).behind (λ p. 814)
+    span = both_fields _ (table_is_field schema good) (λ table there. one_and_other (ends_is_field version schema table) (number_as_field (codes "K")))
 
     spelled : (asked : Asked) → AskedFits version schema asked → IsSpelled (next_asked version schema) (asked_tokens schema asked) asked 6600
     spelled (AskedOne object row) fits = within (behind_spelled (λ p. AskedOne p.0 p.1) (object, row) one (IsToken-from_test _ refl) (λ rest. refl) (fits.0, fits.1)) (omega arith)
@@ -71,15 +73,15 @@ pair_reads version schema table line good = field_reads (pair_is_field version s
 -- ---- writes
 
 pub write_is_field : (version : Version) (schema : Schema) → check_tables schema ≡ None → IsField (write_field version schema) (λ write. 6600)
-unfolding next_write put_behind del_behind is_token
+unfolding next_write read_form is_token
 write_is_field version schema good =
-    words_field (write_field version schema) ((codes "put", put_behind version schema) ∷ (codes "del", del_behind version schema) ∷ []) (λ y. 6600) (λ tokens. refl) (
+    words_field (write_field version schema) (readers (write_forms version schema)) (λ y. 6600) (λ tokens. refl) (
       behind_takes (write_tokens schema) (WriteFits version schema) (codes "put") (λ p. (p.0, Some p.1)) put (λ p. refl) (λ p fits. (fits.0, fits.1)),
       (behind_takes (write_tokens schema) (WriteFits version schema) (codes "del") (λ object. (object, None)) (object_is_field version schema good) (λ object. refl) (λ object fits. (fits, tt)), tt),
     ) spelled
   where
-    put : IsField (both (object_field version schema) (λ object. row_field schema object.0)) (λ p. 6566)
-    put = both_fields (object_is_field version schema good) (λ object fits. row_is_field schema object.0 good)
+    put : IsField (row_at version schema) (λ p. 6566)
+    put = both_fields _ (object_is_field version schema good) (λ object fits. row_is_field schema object.0 good)
 
     spelled : (write : Write) → WriteFits version schema write → IsSpelled (next_write version schema) (write_tokens schema write) write 6600
     spelled (object, Some row) fits = within (behind_spelled (λ p. (p.0, Some p.1)) (object, row) put (IsToken-from_test _ refl) (λ rest. refl) (fits.0, fits.1)) (omega arith)
@@ -112,7 +114,7 @@ entry_word_width sections.Store = omega arith
 
 pub at_is_field : (version : Version) (section : Section) (schema : Schema) → check_tables schema ≡ None → IsField (at_field version section schema) (λ entry. length (entry_word section) + 1 + 6566)
 at_is_field version section schema good =
-    after_word (entry_word-IsToken section) (both_fields (object_is_field version schema good) (λ object fits. row_is_field schema object.0 good))
+    after_word (entry_word-IsToken section) (both_fields _ (object_is_field version schema good) (λ object fits. row_is_field schema object.0 good))
 
 pub at_reads : (version : Version) (section : Section) (schema : Schema) (line : List ℕ) → check_tables schema ≡ None → Reads (entry_line section schema) (AtFits version schema) line (at_of_line version section schema line)
 unfolding at_of_line

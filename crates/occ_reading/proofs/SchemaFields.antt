@@ -36,7 +36,7 @@ pub key_is_field : (version : Version) (schema : Schema) (table : ℕ) → IsFie
 unfolding next_key key_in
 key_is_field version schema table =
     fitting_field (λ key. ObjectFits version schema (table, key))
-    (token_field (record { read = next_key version schema table; spell = λ key. key_text key ∷ []; fits = λ key. KeyFits version key × (check_key schema table key ≡ None) }) (key_in version schema table) key_text (λ x. 388)
+    (token_field (record { read = next_key version schema table; spell = λ key. key_text key ∷ []; fits = λ key. KeyFits version key × (check_key schema table key ≡ None); letters = codes "KEY" ∷ [] }) (key_in version schema table) key_text (λ x. 388)
     (λ tokens. refl) (λ key. refl) (λ token. checked_reads (check_key schema table) (key_reads version token)) (λ key fits. IsToken-key version key fits.0)
     (λ key fits. let w = object_key_width version schema table key (record { key = fits.0; checked = fits.1 }) in omega (arith, w)))
     (λ key fits. record { key = fits.0; checked = fits.1 }) (λ key fits. (fits.key, fits.checked))
@@ -49,7 +49,7 @@ pub row_is_field : (schema : Schema) (table : ℕ) → check_tables schema ≡ N
 unfolding next_row
 row_is_field schema table good =
     fitting_field (RowFitsIn schema table)
-    (token_field (record { read = next_row schema table; spell = λ row. row_text row ∷ []; fits = λ row. RowFits row × (check_row schema table row ≡ None) }) (row_in schema table) row_text (λ x. 6161)
+    (token_field (record { read = next_row schema table; spell = λ row. row_text row ∷ []; fits = λ row. RowFits row × (check_row schema table row ≡ None); letters = codes "ROW" ∷ [] }) (row_in schema table) row_text (λ x. 6161)
     (λ tokens. refl) (λ row. refl) (row_in_reads schema table) (λ row fits. IsToken-row row fits.0)
     (λ row fits. let w = row_in_width schema table row good (record { cells = fits.0; checked = fits.1 }) in omega (arith, w)))
     (λ row fits. record { cells = fits.0; checked = fits.1 }) (λ row fits. (fits.cells, fits.checked))
@@ -57,7 +57,7 @@ row_is_field schema table good =
 pub object_is_field : (version : Version) (schema : Schema) → check_tables schema ≡ None → IsField (object_field version schema) (λ x. 405)
 unfolding next_object
 object_is_field version schema good =
-    fitting_field (ObjectFits version schema) (both_fields (table_is_field schema good) (λ table there. key_is_field version schema table))
+    fitting_field (ObjectFits version schema) (both_fields (codes "KEY" ∷ []) (table_is_field schema good) (λ table there. key_is_field version schema table))
     (λ object fits. fits.1) (λ object fits. (checked_place schema object.0 _ fits.checked, fits))
 
 -- no row is spelled as where there is none

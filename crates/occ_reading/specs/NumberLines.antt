@@ -15,7 +15,7 @@ use Rattle.occ_reading.specs.declared.number_lines.Counts.{Counts}
 use Rattle.occ_reading.specs.declared.number_lines.BaseHead.{BaseHead}
 use Rattle.occ_reading.specs.declared.number_lines.Began.{Began}
 use Rattle.occ_reading.specs.declared.number_lines.Began.TheVariants as begun
-use Rattle.occ_text.specs.Fields.{Tokens, Field, next_token, number, after, both, ◌⊗◌, tested, shaped, behind, alone, by_word, of_line}
+use Rattle.occ_text.specs.Fields.{Tokens, Field, next_token, number, lettered, after, both, ◌⊗◌, tested, shaped, behind, alone, by_word, of_line}
 
 -- how far a row has come, as its first line says it: of an open one it tells nothing
 abbrev pub Stand : Type 0
@@ -98,12 +98,16 @@ pub record CountsFit (counts : Counts) : Type 0 where
 abbrev pub number64 : Field ℕ
 number64 = number (2 ^ 64 - 1)
 
+-- the same by these letters
+abbrev pub number_as : List ℕ → Field ℕ
+number_as letters = lettered letters number64
+
 -- a session from 1 on
 unfoldable pub next_session : ℕ → Tokens → Option (ℕ × Tokens)
 next_session sessions tokens = (tested (λ n. not (n == 0)) (number sessions)).read tokens
 
 abbrev pub session : ℕ → Field ℕ
-session sessions = record { read = next_session sessions; spell = λ n. decimal n ∷ []; fits = IsSession sessions }
+session sessions = record { read = next_session sessions; spell = λ n. decimal n ∷ []; fits = IsSession sessions; letters = codes "S" ∷ [] }
 
 unfoldable pub next_stand : ℕ → Tokens → Option (Stand × Tokens)
 next_stand writes tokens = option_and_then (by_word (
@@ -115,7 +119,7 @@ next_stand writes tokens = option_and_then (by_word (
     ∷ [])) (next_token tokens)
 
 abbrev pub stand : ℕ → Field Stand
-stand writes = record { read = next_stand writes; spell = stand_tokens; fits = StandFits writes }
+stand writes = record { read = next_stand writes; spell = stand_tokens; fits = StandFits writes; letters = codes "STANDING" ∷ codes ".." ∷ [] }
 
 abbrev HeadParts : Type 0
 HeadParts = ℕ × (ℕ × (ℕ × (ℕ × (ℕ × (ℕ × (ℕ × Stand))))))
@@ -129,26 +133,28 @@ head_parts h = (h.place, (h.session, (h.number, (h.start, (h.finish, (h.reads, (
 
 abbrev pub head_line : ℕ → Field Head
 head_line sessions = after (codes "row") (shaped head_from head_parts (HeadFits sessions)
-    (number64 ⊗ session sessions ⊗ number64 ⊗ number64 ⊗ number64 ⊗ number64 ⊗ both number64 stand))
+    (number_as (codes "PLACE") ⊗ session sessions ⊗ number_as (codes "N") ⊗ number_as (codes "START") ⊗ number_as (codes "FINISH") ⊗ number_as (codes "R")
+    ⊗ both (number_as (codes "W")) (codes "STANDING" ∷ codes ".." ∷ []) stand))
 
 unfoldable pub head_of_line : ℕ → List ℕ → Option Head
 head_of_line sessions line = of_line (head_line sessions) line
 
 abbrev pub mark_line : Section → ℕ → Field Mark
-mark_line section sessions = after (number_word section) (shaped (λ p. record { session = p.0; number = p.1 }) (λ m. (m.session, m.number)) (MarkFits sessions) (session sessions ⊗ number64))
+mark_line section sessions = after (number_word section) (shaped (λ p. record { session = p.0; number = p.1 }) (λ m. (m.session, m.number)) (MarkFits sessions) (session sessions ⊗ number_as (codes "N")))
 
 unfoldable pub mark_of_line : Section → ℕ → List ℕ → Option Mark
 mark_of_line section sessions line = of_line (mark_line section sessions) line
 
 -- a base has a place behind it that is not 0
 abbrev pub base_head_line : Field BaseHead
-base_head_line = after (codes "base") (shaped (λ p. record { place = p.0; numbers = p.1.0; rows = p.1.1 }) (λ h. (h.place, (h.numbers, h.rows))) BaseHeadFits (session (2 ^ 64 - 1) ⊗ number64 ⊗ number64))
+base_head_line = after (codes "base") (shaped (λ p. record { place = p.0; numbers = p.1.0; rows = p.1.1 }) (λ h. (h.place, (h.numbers, h.rows))) BaseHeadFits
+    (lettered (codes "P") (session (2 ^ 64 - 1)) ⊗ number_as (codes "L") ⊗ number_as (codes "R")))
 
 unfoldable pub base_of_line : List ℕ → Option BaseHead
 base_of_line line = of_line base_head_line line
 
 abbrev pub counts_line : Field Counts
-counts_line = after (codes "counter") (shaped (λ p. record { counter = p.0; low = p.1 }) (λ c. (c.counter, c.low)) CountsFit (number64 ⊗ after (codes "low") number64))
+counts_line = after (codes "counter") (shaped (λ p. record { counter = p.0; low = p.1 }) (λ c. (c.counter, c.low)) CountsFit (number_as (codes "T") ⊗ after (codes "low") (number_as (codes "L"))))
 
 unfoldable pub counts_of_line : List ℕ → Option Counts
 counts_of_line line = of_line counts_line line

@@ -20,11 +20,11 @@ use Rattle.occ_print.specs.Books.{table_name, question_text, answer_text, read_l
 use Rattle.occ_print.specs.declared.sections.Section.{Section}
 use Rattle.occ_reading.specs.declared.row_lines.Asked as code_asked
 use Rattle.occ_reading.specs.declared.row_lines.Asked.TheVariants as asked
-use Rattle.occ_text.specs.Fields.{Tokens, Field, before, next_token, next_word, after, both, ◌⊗◌, behind, by_word, of_line}
+use Rattle.occ_text.specs.Fields.{Tokens, Field, Form, before, next_token, next_word, after, both, ◌⊗◌, readers, by_word, of_line}
 use Rattle.occ_text.specs.ValueFields.{next_takes}
 use Rattle.occ_text.specs.Reading.{tokens_of}
 use Rattle.occ_reading.specs.SchemaReaders.{unless_fault, row_in, next_table, next_key, next_row, next_object}
-use Rattle.occ_reading.specs.NumberLines.{number64}
+use Rattle.occ_reading.specs.NumberLines.{number_as}
 
 -- the line of a read: a key and the row that it had, or a range and how many rows answered it
 pub data Asked : Type 0 where
@@ -103,16 +103,16 @@ AtFits version schema entry = ObjectFits version schema entry.0 × RowFitsIn sch
 -- ---- fields
 
 abbrev pub table_field : Schema → Field ℕ
-table_field schema = record { read = next_table schema; spell = λ table. table_name schema table ∷ []; fits = λ table. table < length schema }
+table_field schema = record { read = next_table schema; spell = λ table. table_name schema table ∷ []; fits = λ table. table < length schema; letters = codes "NAME" ∷ [] }
 
 abbrev pub key_field : Version → Schema → ℕ → Field Key
-key_field version schema table = record { read = next_key version schema table; spell = λ key. key_text key ∷ []; fits = λ key. ObjectFits version schema (table, key) }
+key_field version schema table = record { read = next_key version schema table; spell = λ key. key_text key ∷ []; fits = λ key. ObjectFits version schema (table, key); letters = codes "KEY" ∷ [] }
 
 abbrev pub object_field : Version → Schema → Field Object
-object_field version schema = record { read = next_object version schema; spell = λ object. table_name schema object.0 ∷ key_text object.1 ∷ []; fits = ObjectFits version schema }
+object_field version schema = record { read = next_object version schema; spell = λ object. table_name schema object.0 ∷ key_text object.1 ∷ []; fits = ObjectFits version schema; letters = codes "NAME" ∷ codes "KEY" ∷ [] }
 
 abbrev pub row_field : Schema → ℕ → Field Row
-row_field schema table = record { read = next_row schema table; spell = λ row. row_text row ∷ []; fits = RowFitsIn schema table }
+row_field schema table = record { read = next_row schema table; spell = λ row. row_text row ∷ []; fits = RowFitsIn schema table; letters = codes "ROW" ∷ [] }
 
 unfoldable pub found_in : Schema → ℕ → List ℕ → Option (Option Row)
 found_in schema table token = if bytes_eq token (codes "none") then Some None else option_map (λ row. Some row) (row_in schema table token)
@@ -121,7 +121,7 @@ unfoldable pub next_found : Schema → ℕ → Tokens → Option (Option Row × 
 next_found schema table tokens = option_and_then (λ t. before t.1 (found_in schema table t.0)) (next_token tokens)
 
 abbrev pub found_field : Schema → ℕ → Field (Option Row)
-found_field schema table = record { read = next_found schema table; spell = λ row. found_text row ∷ []; fits = FoundFits schema table }
+found_field schema table = record { read = next_found schema table; spell = λ row. found_text row ∷ []; fits = FoundFits schema table; letters = codes "ROW|none" ∷ [] }
 
 -- a range of a table, of which an end may be missing where the version has a word for that
 unfoldable pub next_ends : Version → Schema → ℕ → Tokens → Option ((Option Key × Option Key) × Tokens)
@@ -136,23 +136,39 @@ ends_field version schema table = record {
   read = next_ends version schema table;
   spell = λ ends. end_text ends.0 ∷ end_text ends.1 ∷ [];
   fits = λ ends. SpanFits version schema (Span table ends.0 ends.1);
+  letters = codes "END" ∷ codes "END" ∷ [];
 }
+
+-- a key of a table, and a row of it
+abbrev pub row_at : Version → Schema → Field (Object × Row)
+row_at version schema = both (object_field version schema) (codes "ROW" ∷ []) (λ object. row_field schema object.0)
 
 -- ---- reading
 
--- one NAME KEY none, one NAME KEY ROW
-unfoldable pub one_behind : Version → Schema → Tokens → Option (Asked × Tokens)
-one_behind version schema tokens = behind (λ p. AskedOne p.0 p.1) (both (object_field version schema) (λ object. found_field schema object.0)) tokens
+abbrev pub one_form : Version → Schema → Form Asked
+one_form version schema = record {
+  word = codes "one";
+  Told = Object × Option Row;
+  behind = both (object_field version schema) (codes "ROW|none" ∷ []) (λ object. found_field schema object.0);
+  to = λ p. AskedOne p.0 p.1;
+}
 
--- span NAME KEY KEY K, where `*` stands for a missing end
-unfoldable pub span_behind : Version → Schema → Tokens → Option (Asked × Tokens)
-span_behind version schema tokens = behind (λ p. AskedSpan (Span p.0 p.1.0.0 p.1.0.1) p.1.1) (both (table_field schema) (λ table. ends_field version schema table ⊗ number64)) tokens
+abbrev pub span_form : Version → Schema → Form Asked
+span_form version schema = record {
+  word = codes "span";
+  Told = ℕ × ((Option Key × Option Key) × ℕ);
+  behind = both (table_field schema) (codes "END" ∷ codes "END" ∷ codes "K" ∷ []) (λ table. ends_field version schema table ⊗ number_as (codes "K"));
+  to = λ p. AskedSpan (Span p.0 p.1.0.0 p.1.0.1) p.1.1;
+}
+
+abbrev pub asked_forms : Version → Schema → List (Form Asked)
+asked_forms version schema = one_form version schema ∷ span_form version schema ∷ []
 
 unfoldable pub next_asked : Version → Schema → Tokens → Option (Asked × Tokens)
-next_asked version schema tokens = option_and_then (by_word ((codes "one", one_behind version schema) ∷ (codes "span", span_behind version schema) ∷ [])) (next_token tokens)
+next_asked version schema tokens = option_and_then (by_word (readers (asked_forms version schema))) (next_token tokens)
 
 abbrev pub asked_line : Version → Schema → Field Asked
-asked_line version schema = record { read = next_asked version schema; spell = asked_tokens schema; fits = AskedFits version schema }
+asked_line version schema = record { read = next_asked version schema; spell = asked_tokens schema; fits = AskedFits version schema; letters = [] }
 
 unfoldable pub asked_of_line : Version → Schema → List ℕ → Option Asked
 asked_of_line version schema line = of_line (asked_line version schema) line
@@ -164,26 +180,27 @@ pair_field version schema table = after (codes "pair") (key_field version schema
 unfoldable pub pair_of_line : Version → Schema → ℕ → List ℕ → Option (Key × Row)
 pair_of_line version schema table line = of_line (pair_field version schema table) line
 
--- put NAME KEY ROW
-unfoldable pub put_behind : Version → Schema → Tokens → Option (Write × Tokens)
-put_behind version schema tokens = behind (λ p. (p.0, Some p.1)) (both (object_field version schema) (λ object. row_field schema object.0)) tokens
+abbrev pub put_form : Version → Schema → Form Write
+put_form version schema = record { word = codes "put"; Told = Object × Row; behind = row_at version schema; to = λ p. (p.0, Some p.1) }
 
--- del NAME KEY
-unfoldable pub del_behind : Version → Schema → Tokens → Option (Write × Tokens)
-del_behind version schema tokens = behind (λ object. (object, None)) (object_field version schema) tokens
+abbrev pub del_form : Version → Schema → Form Write
+del_form version schema = record { word = codes "del"; Told = Object; behind = object_field version schema; to = λ object. (object, None) }
+
+abbrev pub write_forms : Version → Schema → List (Form Write)
+write_forms version schema = put_form version schema ∷ del_form version schema ∷ []
 
 unfoldable pub next_write : Version → Schema → Tokens → Option (Write × Tokens)
-next_write version schema tokens = option_and_then (by_word ((codes "put", put_behind version schema) ∷ (codes "del", del_behind version schema) ∷ [])) (next_token tokens)
+next_write version schema tokens = option_and_then (by_word (readers (write_forms version schema))) (next_token tokens)
 
 abbrev pub write_field : Version → Schema → Field Write
-write_field version schema = record { read = next_write version schema; spell = write_tokens schema; fits = WriteFits version schema }
+write_field version schema = record { read = next_write version schema; spell = write_tokens schema; fits = WriteFits version schema; letters = [] }
 
 unfoldable pub write_of_line : Version → Schema → List ℕ → Option Write
 write_of_line version schema line = of_line (write_field version schema) line
 
 -- at NAME KEY ROW, from NAME KEY ROW
 abbrev pub at_field : Version → Section → Schema → Field (Object × Row)
-at_field version section schema = after (entry_word section) (both (object_field version schema) (λ object. row_field schema object.0))
+at_field version section schema = after (entry_word section) (row_at version schema)
 
 unfoldable pub at_of_line : Version → Section → Schema → List ℕ → Option (Object × Row)
 at_of_line version section schema line = of_line (at_field version section schema) line

@@ -8,9 +8,9 @@ ghost use Rattle.occ_model.specs.State.{Write as PlainWrite};
 ghost use Rattle.occ_text.specs.Escapes.{Gives};
 ghost use Rattle.occ_print.specs.Books.{pair_line, write_line, entry_line};
 ghost use Rattle.occ_text.specs.Reading.{tokens_of};
-ghost use Rattle.occ_text.specs.Fields.{GivesNext};
+ghost use Rattle.occ_text.specs.Fields.{GivesNext, read_form};
 ghost use Rattle.occ_types.specs.Schema.{check_tables};
-ghost use Rattle.occ_reading.specs.RowLines.{Asked as PlainAsked, asked_text, AskedFits, PairFits, WriteFits, AtFits, asked_of, pair_of, write_of, at_of, found_in, next_found, one_behind, span_behind, next_asked, asked_of_line, pair_field, at_field, pair_of_line, put_behind, del_behind, next_write, write_of_line, at_of_line, line_takes, pair_takes, at_takes, write_takes, asked_takes};
+ghost use Rattle.occ_reading.specs.RowLines.{Asked as PlainAsked, asked_text, AskedFits, PairFits, WriteFits, AtFits, asked_of, pair_of, write_of, at_of, found_in, next_found, one_form, span_form, next_asked, asked_of_line, pair_field, at_field, pair_of_line, put_form, del_form, next_write, write_of_line, at_of_line, line_takes, pair_takes, at_takes, write_takes, asked_takes};
 
 use crate::schema_readers::{next_key, next_object, next_row, next_table, row_in, unless_fault};
 use occ_print::sections::{Section, entry_word};
@@ -83,14 +83,14 @@ fn next_found<A: Allocator + Clone>(
 }
 
 /// What stands behind `one`.
-#[tactic(auto, unfolding(crate::specs::RowLines::one_behind))]
+#[tactic(auto, unfolding(occ_text::specs::Fields::read_form))]
 fn one_behind<A: Allocator + Copy>(
     alloc: A,
     version: Version,
     schema: &Schema<A>,
     parts: &mut Parts<'_>,
 ) -> Result<Asked<A>, Unread>
-    ensures { GivesNext asked_of result (one_behind version schema.now parts.old) parts.new }
+    ensures { GivesNext asked_of result (read_form (one_form version schema.now) parts.old) parts.new }
 {
     let object = next_object(alloc, version, schema, parts)?;
     let row = next_found(alloc, schema, object.table, parts)?;
@@ -98,14 +98,14 @@ fn one_behind<A: Allocator + Copy>(
 }
 
 /// What stands behind `span`.
-#[tactic(auto, unfolding(crate::specs::RowLines::span_behind, crate::specs::RowLines::next_ends))]
+#[tactic(auto, unfolding(occ_text::specs::Fields::read_form, crate::specs::RowLines::next_ends))]
 fn span_behind<A: Allocator + Copy>(
     alloc: A,
     version: Version,
     schema: &Schema<A>,
     parts: &mut Parts<'_>,
 ) -> Result<Asked<A>, Unread>
-    ensures { GivesNext asked_of result (span_behind version schema.now parts.old) parts.new }
+    ensures { GivesNext asked_of result (read_form (span_form version schema.now) parts.old) parts.new }
 {
     let table = next_table(schema, parts).ok_or(Unread::Malformed)?;
     let lower = next_end(alloc, version, parts)?;
@@ -236,14 +236,14 @@ pub fn read_pair<A: Allocator + Copy>(
 }
 
 /// What stands behind `put`.
-#[tactic(auto, unfolding(crate::specs::RowLines::put_behind))]
+#[tactic(auto, unfolding(occ_text::specs::Fields::read_form))]
 fn put_behind<A: Allocator + Copy>(
     alloc: A,
     version: Version,
     schema: &Schema<A>,
     parts: &mut Parts<'_>,
 ) -> Result<(Object<A>, Option<Row<A>>), Unread>
-    ensures { GivesNext write_of result (put_behind version schema.now parts.old) parts.new }
+    ensures { GivesNext write_of result (read_form (put_form version schema.now) parts.old) parts.new }
 {
     let object = next_object(alloc, version, schema, parts)?;
     let row = next_row(alloc, schema, object.table, parts)?;
@@ -251,14 +251,14 @@ fn put_behind<A: Allocator + Copy>(
 }
 
 /// What stands behind `del`.
-#[tactic(auto, unfolding(crate::specs::RowLines::del_behind))]
+#[tactic(auto, unfolding(occ_text::specs::Fields::read_form))]
 fn del_behind<A: Allocator + Copy>(
     alloc: A,
     version: Version,
     schema: &Schema<A>,
     parts: &mut Parts<'_>,
 ) -> Result<(Object<A>, Option<Row<A>>), Unread>
-    ensures { GivesNext write_of result (del_behind version schema.now parts.old) parts.new }
+    ensures { GivesNext write_of result (read_form (del_form version schema.now) parts.old) parts.new }
 {
     let object = next_object(alloc, version, schema, parts)?;
     Ok((object, None))

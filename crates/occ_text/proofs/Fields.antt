@@ -12,7 +12,7 @@ use Rattle.std.proofs.lemmas.Slice.Eq.{bytes_eq-Decides}
 use Rattle.occ_text.specs.Line.{IsLine, HasNoFeed}
 use Rattle.occ_text.specs.Spelling.{line_text, IsToken, AreTokens}
 use Rattle.occ_text.specs.Reading.{Reads, tokens_of, number_of}
-use Rattle.occ_text.specs.Fields.{Tokens, Field, before, next_token, the_word, next_word, next_number, at_end, number, after, both, ◌⊗◌, tested, fitting, shaped, behind, alone, by_word, whole, of_line, line_of}
+use Rattle.occ_text.specs.Fields.{Tokens, Field, before, next_token, the_word, next_word, next_number, at_end, number, lettered, after, both, ◌⊗◌, tested, fitting, shaped, behind, alone, by_word, whole, of_line, line_of}
 use Rattle.occ_text.proofs.Numbers.{some_or_none, number_reads}
 use Rattle.occ_text.proofs.Escapes.{some_is, bind_value, map_value}
 use Rattle.occ_text.proofs.Readers.{takes, word_is}
@@ -131,8 +131,9 @@ after_word {word = word} {field = field} {most = most} token f = record {
 joined_tokens : (a b : Tokens) → AreTokens a → AreTokens b → AreTokens (a ++ b)
 joined_tokens a b are more = record { some = omega (arith, length-append a b, are.some); each = All-append IsToken a b are.each more.each }
 
-pub both_fields : {X Y : Type 0} {first : Field X} {second : X → Field Y} {m : X → ℕ} {n : Y → ℕ} → IsField first m → ((x : X) → first.fits x → IsField (second x) n) → IsField (both first second) (λ p. m p.0 + n p.1)
-both_fields {X = X} {Y = Y} {first = first} {second = second} {m = m} {n = n} f g = record {
+pub both_fields : (letters : Tokens) {X Y : Type 0} {first : Field X} {second : X → Field Y} {m : X → ℕ} {n : Y → ℕ} → IsField first m → ((x : X) → first.fits x → IsField (second x) n)
+    → IsField (both first letters second) (λ p. m p.0 + n p.1)
+both_fields letters {X = X} {Y = Y} {first = first} {second = second} {m = m} {n = n} f g = record {
   takes = λ tokens p h.
       let a = bind_value (first.read tokens) _ p h in
       let b = map_value ((second a.0.0).read a.0.1) (λ y. ((a.0.0, y.0), y.1)) p a.2 in
@@ -141,7 +142,7 @@ both_fields {X = X} {Y = Y} {first = first} {second = second} {m = m} {n = n} f 
       subst (λ (q : (X × Y) × Tokens). (tokens ≡ (first.spell q.0.0 ++ (second q.0.0).spell q.0.1) ++ q.1) × (first.fits q.0.0 × (second q.0.0).fits q.0.1)) b.2
       (s.0 ∙ ap (λ (l : Tokens). first.spell a.0.0 ++ l) t.0 ∙ sym (append_assoc (first.spell a.0.0) ((second a.0.0).spell b.0.0) b.0.1), (s.1, t.1));
   again = λ p rest fits.
-      ap (both first second).read (append_assoc (first.spell p.0) ((second p.0).spell p.1) rest)
+      ap (both first letters second).read (append_assoc (first.spell p.0) ((second p.0).spell p.1) rest)
       ∙ ap (option_and_then (λ (x : X × Tokens). option_map (λ (y : Y × Tokens). ((x.0, y.0), y.1)) ((second x.0).read x.1))) (f.again p.0 ((second p.0).spell p.1 ++ rest) fits.0)
       ∙ ap (option_map (λ (y : Y × Tokens). ((p.0, y.0), y.1))) ((g p.0 fits.0).again p.1 rest fits.1);
   words = λ p fits. joined_tokens (first.spell p.0) ((second p.0).spell p.1) (f.words p.0 fits.0) ((g p.0 fits.0).words p.1 fits.1);
@@ -152,7 +153,11 @@ both_fields {X = X} {Y = Y} {first = first} {second = second} {m = m} {n = n} f 
 }
 
 pub one_and_other : {X Y : Type 0} {first : Field X} {second : Field Y} {m : X → ℕ} {n : Y → ℕ} → IsField first m → IsField second n → IsField (first ⊗ second) (λ p. m p.0 + n p.1)
-one_and_other {X = X} {second = second} f g = both_fields {second = λ (x : X). second} f (λ x fits. g)
+one_and_other {X = X} {second = second} f g = both_fields second.letters {second = λ (x : X). second} f (λ x fits. g)
+
+-- the same field by other letters
+pub lettered_field : {X : Type 0} (letters : List ℕ) {field : Field X} {most : X → ℕ} → IsField field most → IsField (lettered letters field) most
+lettered_field letters f = record { takes = f.takes; again = f.again; words = f.words; short = f.short }
 
 kept : {X : Type 0} (b : Bool) (x p : X) → cond b (Some x) None ≡ Some p → (b ≡ true) × (x ≡ p)
 kept true x p h = (refl, some_is x p h)

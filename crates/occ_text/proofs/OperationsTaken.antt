@@ -9,8 +9,8 @@ use Rattle.occ_types.specs.Spelling.{key_text, row_text}
 use Rattle.occ_text.specs.Spelling.{end_text}
 use Rattle.occ_text.specs.Reading.{is_token}
 use Rattle.occ_text.specs.Operations.{Operation, Get, Scan, Put, Delete, Add, operation_parts, operation_text, OperationFits}
-use Rattle.occ_text.specs.OperationReading.{get_of, delete_of, scan_of, put_of, add_of, forms, operation_field, operation_of_parts, read_operation}
-use Rattle.occ_text.specs.Fields.{Tokens, ◌⊗◌}
+use Rattle.occ_text.specs.OperationReading.{forms, operation_field, operation_of_parts, read_operation}
+use Rattle.occ_text.specs.Fields.{Tokens, ◌⊗◌, read_form, readers}
 use Rattle.occ_text.specs.ValueFields as fields
 use Rattle.occ_text.proofs.Words.{IsToken-from_test}
 use Rattle.occ_text.proofs.Fields.{IsField, IsSpelled, width, one_and_other, behind_takes, behind_spelled, words_field, whole_takes, whole_again}
@@ -32,9 +32,9 @@ itself : {read : Tokens → Option (Operation × Tokens)} {parts : Tokens} {oper
 itself s = record { again = s.again; words = s.words; short = omega arith }
 
 operation_is_field : (version : Version) → IsField (operation_field version) (λ operation. width (operation_parts operation))
-unfolding get_of delete_of scan_of put_of add_of is_token
+unfolding read_form is_token
 operation_is_field version =
-    words_field (operation_field version) (forms version) (λ operation. width (operation_parts operation)) (λ parts. refl) (
+    words_field (operation_field version) (readers (forms version)) (λ operation. width (operation_parts operation)) (λ parts. refl) (
       behind_takes operation_parts (OperationFits version) (codes "get") (λ p. Get p.0 p.1) (of_key version) (λ p. refl) (λ p f. (f.0, f.1)),
       (
         behind_takes operation_parts (OperationFits version) (codes "put") (λ p. Put p.0 p.1.0 p.1.1) (of_row version) (λ p. refl) (λ p f. (f.0, f.1.0, f.1.1)),

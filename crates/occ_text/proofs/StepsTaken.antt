@@ -12,10 +12,10 @@ use Rattle.occ_text.specs.Spelling.{end_text, IsToken, AreTokens}
 use Rattle.occ_text.specs.Reading.{is_token, number_of}
 use Rattle.occ_text.specs.Operations.{operation_text}
 use Rattle.occ_text.specs.OperationReading.{operations_of}
-use Rattle.occ_text.specs.Fields.{Tokens, next_token, at_end, ◌⊗◌}
+use Rattle.occ_text.specs.Fields.{Tokens, next_token, at_end, read_form, readers, by_word, ◌⊗◌}
 use Rattle.occ_text.specs.Steps.{Step, Does, Get, Scan, Put, Delete, Forge, RawRead, Alone, Show, Checkpoint, act_word, step_tokens, StepFits}
 use Rattle.occ_text.specs.StepReading as reading
-use Rattle.occ_text.specs.StepReading.{act_of, likely_act, get_step, delete_step, forge_step, scan_step, put_step, raw_step, forms, act_step, act_or, next_step, alone_step, alone_of_tokens, step_of_tokens}
+use Rattle.occ_text.specs.StepReading.{act_form, other_forms, forms, next_step, alone_step, alone_of_tokens, step_of_tokens}
 use Rattle.occ_text.proofs.Numbers.{number_takes, number_again}
 use Rattle.occ_text.proofs.Escapes.{some_is, bind_value, map_value}
 use Rattle.occ_text.proofs.Words.{IsToken-from_test}
@@ -25,32 +25,37 @@ use Rattle.occ_text.proofs.Readers.{word_is, this_word}
 use Rattle.occ_text.proofs.TokenLists.{more_tokens}
 use Rattle.occ_text.specs.ValueFields as fields
 use Rattle.occ_text.proofs.ValueFields.{name_field, key_field, end_field, row_field}
-use Rattle.occ_text.proofs.Fields.{IsField, IsSpelled, EachTakes, number_field, one_and_other, alone_takes, behind_takes, by_word-takes, alone_spelled, behind_spelled, end-takes, append_nil}
+use Rattle.occ_text.proofs.Fields.{IsField, IsSpelled, EachTakes, number_field, lettered_field, one_and_other, alone_takes, behind_takes, by_word-takes, alone_spelled, behind_spelled, end-takes, append_nil}
 
 -- ---- acts
 
-if_act : (word : List ℕ) (likely act : Act) (p : Bool) → bytes_eq word (act_word likely) ≡ p → cond p (Some likely) None ≡ Some act → word ≡ act_word act
-if_act word likely act true is h = word_is word (act_word likely) is ∙ ap act_word (some_is likely act h)
-if_act word likely act false other h = absurd cc
+differs : (word other : List ℕ) (b : Bool) → bytes_eq word other ≡ b → (word ≡ other → ⊥) → bytes_eq word other ≡ false
+differs word other true is none = absurd (none (word_is word other is))
+differs word other false is none = is
 
-act_takes : (word : List ℕ) (act : Act) → act_of word ≡ Some act → word ≡ act_word act
-unfolding act_of
-act_takes [] act h = absurd cc
-act_takes (a ∷ []) act h = absurd cc
-act_takes (a ∷ b ∷ cs) act h = if_act (a ∷ b ∷ cs) (likely_act a b) act _ refl h
+passed_by : (version : Version) (word : List ℕ) (tokens : Tokens) (some : List Act) → ((act : Act) → word ≡ act_word act → ⊥)
+    → by_word (readers (map act_form some ++ other_forms version)) (word, tokens) ≡ by_word (readers (other_forms version)) (word, tokens)
+passed_by version word tokens [] none = refl
+passed_by version word tokens (act ∷ some) none = rw (differs word (act_word act) (bytes_eq word (act_word act)) refl (none act)) (passed_by version word tokens some none)
 
-act_again : (act : Act) → act_of (act_word act) ≡ Some act
-unfolding act_of likely_act
-act_again acts.Begin = refl
-act_again acts.Abandon = refl
-act_again acts.Submit = refl
-act_again acts.Close = refl
-act_again acts.Enter = refl
-act_again acts.Serial = refl
-act_again acts.Decide = refl
-act_again acts.Write = refl
-act_again acts.Finish = refl
-act_again acts.BackUp = refl
+-- the word of no act is that of another form, if it is one
+pub other_read : (version : Version) (word : List ℕ) (tokens : Tokens) → ((act : Act) → word ≡ act_word act → ⊥) → next_step version (word, tokens) ≡ by_word (readers (other_forms version)) (word, tokens)
+unfolding next_step
+other_read version word tokens none = passed_by version word tokens reading.acts none
+
+-- the word of an act is that of its own form
+pub act_read : (version : Version) (act : Act) (tokens : Tokens) → next_step version (act_word act, tokens) ≡ read_form (act_form act) tokens
+unfolding next_step
+act_read version acts.Begin tokens = refl
+act_read version acts.Abandon tokens = refl
+act_read version acts.Submit tokens = refl
+act_read version acts.Close tokens = refl
+act_read version acts.Enter tokens = refl
+act_read version acts.Serial tokens = refl
+act_read version acts.Decide tokens = refl
+act_read version acts.Write tokens = refl
+act_read version acts.Finish tokens = refl
+act_read version acts.BackUp tokens = refl
 
 act_alone : (act : Act) → bytes_eq (act_word act) (codes "alone") ≡ false
 act_alone acts.Begin = refl
@@ -80,7 +85,10 @@ IsToken-act acts.BackUp = IsToken-from_test _ refl
 -- ---- what stands behind a word
 
 session_field : IsField reading.session (λ n. 21)
-session_field = number_field 255 (lit< tt)
+session_field = lettered_field (codes "S") (number_field 255 (lit< tt))
+
+start_field : IsField reading.start (λ n. 21)
+start_field = lettered_field (codes "START") (number_field (2 ^ 64 - 1) (lit< tt))
 
 of_key : (version : Version) → IsField (reading.session ⊗ fields.name ⊗ fields.key version) (λ p. 21 + (17 + (length (key_text p.1.1) + 1)))
 of_key version = one_and_other session_field (one_and_other name_field (key_field version))
@@ -92,17 +100,17 @@ of_ends : (version : Version) → IsField (reading.session ⊗ fields.name ⊗ f
 of_ends version = one_and_other session_field (one_and_other name_field (one_and_other (end_field version) (end_field version)))
 
 of_numbers : IsField (reading.session ⊗ reading.transaction ⊗ reading.start) (λ p. 63)
-of_numbers = one_and_other session_field (one_and_other (number_field (2 ^ 32 - 1) (lit< tt)) (number_field (2 ^ 64 - 1) (lit< tt)))
+of_numbers = one_and_other session_field (one_and_other (number_field (2 ^ 32 - 1) (lit< tt)) start_field)
 
 of_raw : (version : Version) → IsField (reading.session ⊗ reading.transaction ⊗ reading.start ⊗ fields.name ⊗ fields.key version) (λ p. 21 + (21 + (21 + (17 + (length (key_text p.1.1.1.1) + 1)))))
 of_raw version =
-    one_and_other session_field (one_and_other (number_field (2 ^ 32 - 1) (lit< tt)) (one_and_other (number_field (2 ^ 64 - 1) (lit< tt)) (one_and_other name_field (key_field version))))
+    one_and_other session_field (one_and_other (number_field (2 ^ 32 - 1) (lit< tt)) (one_and_other start_field (one_and_other name_field (key_field version))))
 
 -- ---- what is read is spelled so
 
-forms_take : (version : Version) → EachTakes step_tokens (StepFits version) (forms version)
-unfolding get_step put_step scan_step delete_step forge_step raw_step
-forms_take version = (
+others_take : (version : Version) → EachTakes step_tokens (StepFits version) (readers (other_forms version))
+unfolding read_form
+others_take version = (
   behind_takes step_tokens (StepFits version) (codes "get") (λ p. Get p.0 p.1.0 p.1.1) (of_key version) (λ p. refl) (λ p f. (f.0, f.1.0, f.1.1)),
   (
     behind_takes step_tokens (StepFits version) (codes "put") (λ p. Put p.0 p.1.0 p.1.1.0 p.1.1.1) (of_row version) (λ p. refl) (λ p f. (f.0, f.1.0, f.1.1.0, f.1.1.1)),
@@ -125,15 +133,14 @@ forms_take version = (
   ),
 )
 
+acts_take : (version : Version) (some : List Act) → EachTakes step_tokens (StepFits version) (readers (map act_form some ++ other_forms version))
+unfolding read_form
+acts_take version [] = others_take version
+acts_take version (act ∷ some) = (behind_takes step_tokens (StepFits version) (act_word act) (Does act) session_field (λ n. refl) (λ n f. f), acts_take version some)
+
 step_takes : (version : Version) (word : List ℕ) (tokens : Tokens) (p : Step × Tokens) → next_step version (word, tokens) ≡ Some p → (word ∷ tokens ≡ step_tokens p.0 ++ p.1) × StepFits version p.0
-unfolding next_step act_step
-step_takes version word tokens p h = by (act_of word) refl h
-  where
-    by : (act : Option Act) → act_of word ≡ act → act_or version (word, tokens) act ≡ Some p → (word ∷ tokens ≡ step_tokens p.0 ++ p.1) × StepFits version p.0
-    by (Some act) is k =
-        let t = behind_takes step_tokens (StepFits version) (act_word act) (Does act) session_field (λ n. refl) (λ n f. f) tokens p k in
-        (ap (λ (w : List ℕ). w ∷ tokens) (act_takes word act is) ∙ t.0, t.1)
-    by None is k = by_word-takes step_tokens (StepFits version) (forms version) word tokens p (forms_take version) k
+unfolding next_step
+step_takes version word tokens p h = by_word-takes step_tokens (StepFits version) (readers (forms version)) word tokens p (acts_take version reading.acts) h
 
 -- what was read of some tokens
 pub record Read (version : Version) (tokens : List (List ℕ)) (step : Step) : Type 0 where
@@ -157,8 +164,8 @@ unfolding alone_of_tokens
 alone_tokens_take version [] step h = absurd cc
 alone_tokens_take version (session ∷ tokens) step h = run_takes version session tokens step h
 
-others_take : (version : Version) (word : List ℕ) (tokens : Tokens) (step : Step) → option_and_then (λ (s : Step × Tokens). option_map (λ end. s.0) (at_end s.1)) (next_step version (word, tokens)) ≡ Some step → Read version (word ∷ tokens) step
-others_take version word tokens step h =
+next_take : (version : Version) (word : List ℕ) (tokens : Tokens) (step : Step) → option_and_then (λ (s : Step × Tokens). option_map (λ end. s.0) (at_end s.1)) (next_step version (word, tokens)) ≡ Some step → Read version (word ∷ tokens) step
+next_take version word tokens step h =
     let s = bind_value (next_step version (word, tokens)) _ step h in
     let e = map_value (at_end s.0.1) (λ u. s.0.0) step s.2 in
     let t = step_takes version word tokens s.0 s.1 in
@@ -168,7 +175,7 @@ pub tokens_take : (version : Version) (tokens : List (List ℕ)) (step : Step) �
 unfolding step_of_tokens
 tokens_take version [] step h = absurd cc
 tokens_take version (word ∷ tokens) step h =
-    this_word (Read version) (codes "alone") word tokens (alone_of_tokens version tokens) _ step _ refl (alone_tokens_take version tokens step) (others_take version word tokens step) h
+    this_word (Read version) (codes "alone") word tokens (alone_of_tokens version tokens) _ step _ refl (alone_tokens_take version tokens step) (next_take version word tokens step) h
 
 -- ---- what is spelled so is read again
 
@@ -188,9 +195,9 @@ other_again version word rest step other is s =
     }
 
 pub step_again : (version : Version) (step : Step) → StepFits version step → Again version step
-unfolding step_of_tokens alone_of_tokens alone_step next_step act_step get_step delete_step forge_step scan_step put_step raw_step act_of likely_act is_token
+unfolding step_of_tokens alone_of_tokens alone_step next_step read_form is_token
 step_again version (Does act session) fits =
-    other_again version _ _ (Does act session) (act_alone act) refl (behind_spelled (Does act) session session_field (IsToken-act act) (λ rest. ap (act_or version (act_word act, rest)) (act_again act)) fits)
+    other_again version _ _ (Does act session) (act_alone act) refl (behind_spelled (Does act) session session_field (IsToken-act act) (λ rest. act_read version act rest) fits)
 step_again version (Get session table key) fits =
     other_again version _ _ (Get session table key) refl refl (behind_spelled (λ p. Get p.0 p.1.0 p.1.1) (session, (table, key)) (of_key version) (IsToken-from_test (codes "get") refl) (λ rest. refl) (fits.0, (fits.1, fits.2)))
 step_again version (Put session table key row) fits =

@@ -1,5 +1,5 @@
 -- Reading the lines of steps, by their words.
-use Rattle.std.specs.Prelude.{◌-◌, ◌^◌, ◌==◌, ℕ, List, [], ◌∷◌, Option, Some, None, if◌then◌else◌, option_map, option_and_then, codes}
+use Rattle.std.specs.Prelude.{◌-◌, ◌^◌, ℕ, List, [], ◌∷◌, ◌++◌, map, Option, Some, None, if◌then◌else◌, option_map, option_and_then, codes}
 use Rattle.std.specs.Str.{bytes_eq}
 use Rattle.occ_text.specs.declared.steps.Act.{Act}
 use Rattle.occ_text.specs.declared.steps.Act.TheVariants.{Begin, Abandon, Submit, Close, Enter, Serial, Decide, Write, Finish, BackUp}
@@ -7,93 +7,78 @@ pub use Rattle.occ_text.specs.Reading.{◌>>=◌}
 use Rattle.occ_text.specs.Reading.{tokens_of, number_of}
 pub use Rattle.occ_text.specs.ValueFields.{next_end}
 use Rattle.occ_text.specs.ValueFields.{name, key, end, row}
-use Rattle.occ_text.specs.Fields.{Tokens, Field, at_end, number, ◌⊗◌, behind, alone, by_word}
+use Rattle.occ_types.specs.Key.{Key}
+use Rattle.occ_types.specs.Row.{Row}
+use Rattle.occ_text.specs.Spelling.{line_text}
+use Rattle.occ_text.specs.declared.versions.Version.TheVariants.{Two}
+use Rattle.occ_text.specs.Fields.{Tokens, Field, Form, at_end, number, lettered, nothing, ◌⊗◌, readers, told_as, by_word}
 use Rattle.occ_text.specs.declared.versions.Version.{Version}
-use Rattle.occ_text.specs.OperationReading.{operations_of}
+use Rattle.occ_text.specs.OperationReading.{operations_letters, operations_of}
 use Rattle.occ_text.specs.Steps.{Step, Does, Get, Scan, Put, Delete, Forge, RawRead, Alone, Show, Checkpoint, act_word}
-
--- the one act whose word may begin with these two bytes
-unfoldable pub likely_act : ℕ → ℕ → Act
-likely_act first second = if first == 97 then Abandon
-    else (if first == 98 then (if second == 97 then BackUp else Begin)
-    else (if first == 99 then Close
-    else (if first == 100 then Decide
-    else (if first == 101 then Enter
-    else (if first == 102 then Finish
-    else (if first == 115 then (if second == 101 then Serial else Submit)
-    else Write))))))
-
--- an act, where this is its word
-abbrev pub act_if : List ℕ → Act → Option Act
-act_if word act = if bytes_eq word (act_word act) then Some act else None
-
--- the act of a word, which is compared with one word alone
-unfoldable pub act_of : List ℕ → Option Act
-act_of [] = None
-act_of (a ∷ []) = None
-act_of (a ∷ b ∷ cs) = act_if (a ∷ b ∷ cs) (likely_act a b)
 
 -- ---- what stands behind a word
 
 abbrev pub session : Field ℕ
-session = number 255
+session = lettered (codes "S") (number 255)
 
 -- the number of a transaction, and its start
 abbrev pub transaction : Field ℕ
 transaction = number (2 ^ 32 - 1)
 
 abbrev pub start : Field ℕ
-start = number (2 ^ 64 - 1)
+start = lettered (codes "START") (number (2 ^ 64 - 1))
 
 -- ---- the forms
 
--- get S NAME KEY
-unfoldable pub get_step : Version → Tokens → Option (Step × Tokens)
-get_step version = behind (λ p. Get p.0 p.1.0 p.1.1) (session ⊗ name ⊗ key version)
+abbrev pub act_form : Act → Form Step
+act_form act = record { word = act_word act; Told = ℕ; behind = session; to = Does act }
 
--- delete S NAME KEY
-unfoldable pub delete_step : Version → Tokens → Option (Step × Tokens)
-delete_step version = behind (λ p. Delete p.0 p.1.0 p.1.1) (session ⊗ name ⊗ key version)
+abbrev pub get_form : Version → Form Step
+get_form version = record { word = codes "get"; Told = ℕ × (List ℕ × Key); behind = session ⊗ name ⊗ key version; to = λ p. Get p.0 p.1.0 p.1.1 }
 
--- put S NAME KEY ROW
-unfoldable pub put_step : Version → Tokens → Option (Step × Tokens)
-put_step version = behind (λ p. Put p.0 p.1.0 p.1.1.0 p.1.1.1) (session ⊗ name ⊗ key version ⊗ row)
+abbrev pub delete_form : Version → Form Step
+delete_form version = record { word = codes "delete"; Told = ℕ × (List ℕ × Key); behind = session ⊗ name ⊗ key version; to = λ p. Delete p.0 p.1.0 p.1.1 }
 
--- scan S NAME KEY KEY
-unfoldable pub scan_step : Version → Tokens → Option (Step × Tokens)
-scan_step version = behind (λ p. Scan p.0 p.1.0 p.1.1.0 p.1.1.1) (session ⊗ name ⊗ end version ⊗ end version)
+abbrev pub put_form : Version → Form Step
+put_form version = record { word = codes "put"; Told = ℕ × (List ℕ × (Key × Row)); behind = session ⊗ name ⊗ key version ⊗ row; to = λ p. Put p.0 p.1.0 p.1.1.0 p.1.1.1 }
 
--- forge S N START
-unfoldable pub forge_step : Tokens → Option (Step × Tokens)
-forge_step = behind (λ p. Forge p.0 p.1.0 p.1.1) (session ⊗ transaction ⊗ start)
+abbrev pub scan_form : Version → Form Step
+scan_form version = record { word = codes "scan"; Told = ℕ × (List ℕ × (Option Key × Option Key)); behind = session ⊗ name ⊗ end version ⊗ end version; to = λ p. Scan p.0 p.1.0 p.1.1.0 p.1.1.1 }
 
--- rawread S N START NAME KEY
-unfoldable pub raw_step : Version → Tokens → Option (Step × Tokens)
-raw_step version = behind (λ p. RawRead p.0 p.1.0 p.1.1.0 p.1.1.1.0 p.1.1.1.1) (session ⊗ transaction ⊗ start ⊗ name ⊗ key version)
+abbrev pub forge_form : Form Step
+forge_form = record { word = codes "forge"; Told = ℕ × (ℕ × ℕ); behind = session ⊗ transaction ⊗ start; to = λ p. Forge p.0 p.1.0 p.1.1 }
 
-abbrev pub forms : Version → List (List ℕ × (Tokens → Option (Step × Tokens)))
-forms version =
-    (codes "get", get_step version)
-    ∷ (codes "put", put_step version)
-    ∷ (codes "scan", scan_step version)
-    ∷ (codes "delete", delete_step version)
-    ∷ (codes "forge", forge_step)
-    ∷ (codes "rawread", raw_step version)
-    ∷ (codes "show", alone Show)
-    ∷ (codes "checkpoint", alone Checkpoint)
-    ∷ []
+abbrev pub raw_form : Version → Form Step
+raw_form version = record {
+  word = codes "rawread";
+  Told = ℕ × (ℕ × (ℕ × (List ℕ × Key)));
+  behind = session ⊗ transaction ⊗ start ⊗ name ⊗ key version;
+  to = λ p. RawRead p.0 p.1.0 p.1.1.0 p.1.1.1.0 p.1.1.1.1;
+}
 
--- WORD S
-unfoldable pub act_step : Act → Tokens → Option (Step × Tokens)
-act_step act = behind (Does act) session
+abbrev pub show_form : Form Step
+show_form = record { word = codes "show"; Told = Unit {0}; behind = nothing; to = λ none. Show }
 
-abbrev pub act_or : Version → List ℕ × Tokens → Option Act → Option (Step × Tokens)
-act_or version token (Some act) = act_step act token.1
-act_or version token None = by_word (forms version) token
+abbrev pub checkpoint_form : Form Step
+checkpoint_form = record { word = codes "checkpoint"; Told = Unit {0}; behind = nothing; to = λ none. Checkpoint }
 
--- what a word and the tokens behind it say: an act, or a step of another form
+abbrev pub acts : List Act
+acts = Begin ∷ Abandon ∷ Submit ∷ Close ∷ Enter ∷ Serial ∷ Decide ∷ Write ∷ Finish ∷ BackUp ∷ []
+
+abbrev pub other_forms : Version → List (Form Step)
+other_forms version = get_form version ∷ put_form version ∷ scan_form version ∷ delete_form version ∷ forge_form ∷ raw_form version ∷ show_form ∷ checkpoint_form ∷ []
+
+-- all forms but that of a run alone, behind whose session stand operations up to the end of the line
+abbrev pub forms : Version → List (Form Step)
+forms version = map act_form acts ++ other_forms version
+
+-- all forms as the formats are told
+abbrev pub told_forms : List (List ℕ)
+told_forms = line_text (codes "alone" ∷ session.letters ++ operations_letters) ∷ map (λ form. line_text (told_as form)) (forms Two)
+
+-- what a word and the tokens behind it say
 unfoldable pub next_step : Version → List ℕ × Tokens → Option (Step × Tokens)
-next_step version token = act_or version token (act_of token.0)
+next_step version token = by_word (readers (forms version)) token
 
 -- alone S OP ..
 unfoldable pub alone_step : Version → List ℕ → List (List ℕ) → Option Step

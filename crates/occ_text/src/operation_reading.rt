@@ -2,10 +2,10 @@
 
 ghost use Rattle.std.specs.Prelude.{◌≡◌, Some, IfOk, map};
 ghost use Rattle.occ_text.specs.Escapes.{Gives};
-ghost use Rattle.occ_text.specs.Fields.{GivesNext, by_word};
+ghost use Rattle.occ_text.specs.Fields.{GivesNext, read_form, readers, by_word};
 ghost use Rattle.occ_text.specs.Operations as plain;
 ghost use Rattle.occ_text.specs.Operations.{operation_of, operation_text, OperationFits};
-ghost use Rattle.occ_text.specs.OperationReading.{get_of, delete_of, scan_of, put_of, add_of, forms, operation_of_parts, read_operation, operations_of};
+ghost use Rattle.occ_text.specs.OperationReading.{get_form, delete_form, scan_form, put_form, add_form, forms, operation_of_parts, read_operation, operations_of};
 
 use crate::cursors::{at_end, next_end, next_int, next_key, next_name, next_row, next_token};
 use crate::operations::Operation;
@@ -15,13 +15,13 @@ use crate::versions::Version;
 use std::alloc::Allocator;
 
 /// `get:NAME:KEY`.
-#[tactic(auto, unfolding(crate::specs::OperationReading::get_of))]
+#[tactic(auto, unfolding(crate::specs::Fields::read_form))]
 fn get_of<'a, A: Allocator + Copy>(
     alloc: A,
     version: Version,
     parts: &mut Parts<'a>,
 ) -> Result<Operation<'a, A>, Unread>
-    ensures { GivesNext operation_of result (get_of version parts.old) parts.new }
+    ensures { GivesNext operation_of result (read_form (get_form version) parts.old) parts.new }
 {
     let table = next_name(parts).ok_or(Unread::Malformed)?;
     let key = next_key(alloc, version, parts)?;
@@ -29,13 +29,13 @@ fn get_of<'a, A: Allocator + Copy>(
 }
 
 /// `delete:NAME:KEY`.
-#[tactic(auto, unfolding(crate::specs::OperationReading::delete_of))]
+#[tactic(auto, unfolding(crate::specs::Fields::read_form))]
 fn delete_of<'a, A: Allocator + Copy>(
     alloc: A,
     version: Version,
     parts: &mut Parts<'a>,
 ) -> Result<Operation<'a, A>, Unread>
-    ensures { GivesNext operation_of result (delete_of version parts.old) parts.new }
+    ensures { GivesNext operation_of result (read_form (delete_form version) parts.old) parts.new }
 {
     let table = next_name(parts).ok_or(Unread::Malformed)?;
     let key = next_key(alloc, version, parts)?;
@@ -43,13 +43,13 @@ fn delete_of<'a, A: Allocator + Copy>(
 }
 
 /// `scan:NAME:KEY:KEY`.
-#[tactic(auto, unfolding(crate::specs::OperationReading::scan_of))]
+#[tactic(auto, unfolding(crate::specs::Fields::read_form))]
 fn scan_of<'a, A: Allocator + Copy>(
     alloc: A,
     version: Version,
     parts: &mut Parts<'a>,
 ) -> Result<Operation<'a, A>, Unread>
-    ensures { GivesNext operation_of result (scan_of version parts.old) parts.new }
+    ensures { GivesNext operation_of result (read_form (scan_form version) parts.old) parts.new }
 {
     let table = next_name(parts).ok_or(Unread::Malformed)?;
     let lower = next_end(alloc, version, parts)?;
@@ -62,13 +62,13 @@ fn scan_of<'a, A: Allocator + Copy>(
 }
 
 /// `put:NAME:KEY:ROW`.
-#[tactic(auto, unfolding(crate::specs::OperationReading::put_of))]
+#[tactic(auto, unfolding(crate::specs::Fields::read_form))]
 fn put_of<'a, A: Allocator + Copy>(
     alloc: A,
     version: Version,
     parts: &mut Parts<'a>,
 ) -> Result<Operation<'a, A>, Unread>
-    ensures { GivesNext operation_of result (put_of version parts.old) parts.new }
+    ensures { GivesNext operation_of result (read_form (put_form version) parts.old) parts.new }
 {
     let table = next_name(parts).ok_or(Unread::Malformed)?;
     let key = next_key(alloc, version, parts)?;
@@ -77,13 +77,13 @@ fn put_of<'a, A: Allocator + Copy>(
 }
 
 /// `add:NAME:KEY:INT`.
-#[tactic(auto, unfolding(crate::specs::OperationReading::add_of))]
+#[tactic(auto, unfolding(crate::specs::Fields::read_form))]
 fn add_of<'a, A: Allocator + Copy>(
     alloc: A,
     version: Version,
     parts: &mut Parts<'a>,
 ) -> Result<Operation<'a, A>, Unread>
-    ensures { GivesNext operation_of result (add_of version parts.old) parts.new }
+    ensures { GivesNext operation_of result (read_form (add_form version) parts.old) parts.new }
 {
     let table = next_name(parts).ok_or(Unread::Malformed)?;
     let key = next_key(alloc, version, parts)?;
@@ -98,7 +98,7 @@ fn next_operation<'a, A: Allocator + Copy>(
     word: &[u8],
     parts: &mut Parts<'a>,
 ) -> Result<Operation<'a, A>, Unread>
-    ensures { GivesNext operation_of result (by_word (forms version) (word.now, parts.old)) parts.new }
+    ensures { GivesNext operation_of result (by_word (readers (forms version)) (word.now, parts.old)) parts.new }
 {
     if is_word(word, "get") {
         get_of(alloc, version, parts)

@@ -1,5 +1,9 @@
 //! The operations of a run alone, as a text names them.
 
+ghost use Rattle.std.specs.Prelude.{map};
+ghost use Rattle.occ_text.specs.Fields.{AreSame};
+ghost use Rattle.occ_text.specs.OperationReading.{told_operations};
+
 use occ_types::{Key, Row};
 use std::alloc::Allocator;
 
@@ -48,4 +52,20 @@ pub enum Operation<'a, A: Allocator> {
         /// What is added, which may be below 0.
         amount: i64,
     },
+}
+
+/// The forms of the operations, as the formats are told, with a space for each colon: a word, and letters for what stands behind it.
+pub const FORMS: &[&str] = &[
+    "get NAME KEY",
+    "scan NAME END END",
+    "put NAME KEY ROW",
+    "delete NAME KEY",
+    "add NAME KEY INT",
+];
+
+/// The forms, which are those that `read_operation` reads.
+pub fn forms() -> &'static [&'static str]
+    ensures { AreSame (map (λ form. form.now) result.now) told_operations }
+{
+    FORMS
 }

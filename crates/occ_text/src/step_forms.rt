@@ -1,28 +1,40 @@
-//! The steps with a table or with numbers, each by its form: what stands behind its word is read in order.
+//! The steps, each by its form: what stands behind its word is read in order.
 
 ghost use Rattle.std.specs.Prelude.{◌≡◌};
 ghost use Rattle.occ_text.specs.Escapes.{Gives};
-ghost use Rattle.occ_text.specs.Fields.{GivesNext};
-ghost use Rattle.occ_text.specs.StepReading.{get_step, delete_step, forge_step, scan_step, put_step, raw_step, alone_step};
+ghost use Rattle.occ_text.specs.Fields.{GivesNext, read_form};
+ghost use Rattle.occ_text.specs.StepReading.{act_form, get_form, delete_form, forge_form, scan_form, put_form, raw_form, alone_step};
 ghost use Rattle.occ_text.specs.Steps.{step_of};
 
 use crate::cursors::{next_end, next_key, next_name, next_row};
 use crate::operation_reading::operations;
 use crate::separated_parts::Parts;
 use crate::step_words::{self, next_session, next_start, next_transaction};
-use crate::steps::Step;
+use crate::steps::{Act, Step};
 use crate::tokens::Unread;
 use crate::versions::Version;
 use std::alloc::Allocator;
 
+/// `WORD S`.
+#[tactic(auto, unfolding(crate::specs::Fields::read_form))]
+pub(crate) fn act_step<'a, A: Allocator>(
+    act: Act,
+    parts: &mut Parts<'a>,
+) -> Result<Step<'a, A>, Unread>
+    ensures { GivesNext step_of result (read_form (act_form act) parts.old) parts.new }
+{
+    let session = next_session(parts).ok_or(Unread::Malformed)?;
+    Ok(Step::Does { act, session })
+}
+
 /// `get S NAME KEY`.
-#[tactic(auto, unfolding(crate::specs::StepReading::get_step))]
+#[tactic(auto, unfolding(crate::specs::Fields::read_form))]
 pub(crate) fn get_step<'a, A: Allocator + Copy>(
     alloc: A,
     version: Version,
     parts: &mut Parts<'a>,
 ) -> Result<Step<'a, A>, Unread>
-    ensures { GivesNext step_of result (get_step version parts.old) parts.new }
+    ensures { GivesNext step_of result (read_form (get_form version) parts.old) parts.new }
 {
     let session = next_session(parts).ok_or(Unread::Malformed)?;
     let table = next_name(parts).ok_or(Unread::Malformed)?;
@@ -35,13 +47,13 @@ pub(crate) fn get_step<'a, A: Allocator + Copy>(
 }
 
 /// `delete S NAME KEY`.
-#[tactic(auto, unfolding(crate::specs::StepReading::delete_step))]
+#[tactic(auto, unfolding(crate::specs::Fields::read_form))]
 pub(crate) fn delete_step<'a, A: Allocator + Copy>(
     alloc: A,
     version: Version,
     parts: &mut Parts<'a>,
 ) -> Result<Step<'a, A>, Unread>
-    ensures { GivesNext step_of result (delete_step version parts.old) parts.new }
+    ensures { GivesNext step_of result (read_form (delete_form version) parts.old) parts.new }
 {
     let session = next_session(parts).ok_or(Unread::Malformed)?;
     let table = next_name(parts).ok_or(Unread::Malformed)?;
@@ -54,9 +66,9 @@ pub(crate) fn delete_step<'a, A: Allocator + Copy>(
 }
 
 /// `forge S N START`.
-#[tactic(auto, unfolding(crate::specs::StepReading::forge_step))]
+#[tactic(auto, unfolding(crate::specs::Fields::read_form))]
 pub(crate) fn forge_step<'a, A: Allocator>(parts: &mut Parts<'a>) -> Result<Step<'a, A>, Unread>
-    ensures { GivesNext step_of result (forge_step parts.old) parts.new }
+    ensures { GivesNext step_of result (read_form forge_form parts.old) parts.new }
 {
     let session = next_session(parts).ok_or(Unread::Malformed)?;
     let number = next_transaction(parts).ok_or(Unread::Malformed)?;
@@ -69,13 +81,13 @@ pub(crate) fn forge_step<'a, A: Allocator>(parts: &mut Parts<'a>) -> Result<Step
 }
 
 /// `scan S NAME KEY KEY`.
-#[tactic(auto, unfolding(crate::specs::StepReading::scan_step))]
+#[tactic(auto, unfolding(crate::specs::Fields::read_form))]
 pub(crate) fn scan_step<'a, A: Allocator + Copy>(
     alloc: A,
     version: Version,
     parts: &mut Parts<'a>,
 ) -> Result<Step<'a, A>, Unread>
-    ensures { GivesNext step_of result (scan_step version parts.old) parts.new }
+    ensures { GivesNext step_of result (read_form (scan_form version) parts.old) parts.new }
 {
     let session = next_session(parts).ok_or(Unread::Malformed)?;
     let table = next_name(parts).ok_or(Unread::Malformed)?;
@@ -90,13 +102,13 @@ pub(crate) fn scan_step<'a, A: Allocator + Copy>(
 }
 
 /// `put S NAME KEY ROW`.
-#[tactic(auto, unfolding(crate::specs::StepReading::put_step))]
+#[tactic(auto, unfolding(crate::specs::Fields::read_form))]
 pub(crate) fn put_step<'a, A: Allocator + Copy>(
     alloc: A,
     version: Version,
     parts: &mut Parts<'a>,
 ) -> Result<Step<'a, A>, Unread>
-    ensures { GivesNext step_of result (put_step version parts.old) parts.new }
+    ensures { GivesNext step_of result (read_form (put_form version) parts.old) parts.new }
 {
     let session = next_session(parts).ok_or(Unread::Malformed)?;
     let table = next_name(parts).ok_or(Unread::Malformed)?;
@@ -111,13 +123,13 @@ pub(crate) fn put_step<'a, A: Allocator + Copy>(
 }
 
 /// `rawread S N START NAME KEY`.
-#[tactic(auto, unfolding(crate::specs::StepReading::raw_step))]
+#[tactic(auto, unfolding(crate::specs::Fields::read_form))]
 pub(crate) fn raw_step<'a, A: Allocator + Copy>(
     alloc: A,
     version: Version,
     parts: &mut Parts<'a>,
 ) -> Result<Step<'a, A>, Unread>
-    ensures { GivesNext step_of result (raw_step version parts.old) parts.new }
+    ensures { GivesNext step_of result (read_form (raw_form version) parts.old) parts.new }
 {
     let session = next_session(parts).ok_or(Unread::Malformed)?;
     let number = next_transaction(parts).ok_or(Unread::Malformed)?;

@@ -3,30 +3,31 @@
 ghost use Rattle.std.specs.Prelude.{◌≡◌, Some, IfOk, codes, option_map};
 ghost use Rattle.std.specs.Str.{bytes_eq};
 ghost use Rattle.occ_text.specs.Escapes.{Gives};
-ghost use Rattle.occ_text.specs.StepReading.{forms, next_step, alone_of_tokens, step_of_tokens, step_of_line};
-ghost use Rattle.occ_text.specs.Fields.{GivesNext, by_word};
+ghost use Rattle.occ_text.specs.StepReading.{other_forms, next_step, alone_of_tokens, step_of_tokens, step_of_line};
+ghost use Rattle.occ_text.specs.Fields.{GivesNext, readers, by_word};
 ghost use Rattle.occ_text.specs.Steps as plain;
 ghost use Rattle.occ_text.specs.Steps.{step_of, step_text, StepFits};
 
 use crate::cursors::{at_end, next_token};
 use crate::separated_parts::Parts;
 use crate::step_forms::{
-    alone_step, delete_step, forge_step, get_step, put_step, raw_step, scan_step,
+    act_step, alone_step, delete_step, forge_step, get_step, put_step, raw_step, scan_step,
 };
-use crate::step_words::{act_of, next_session};
+use crate::step_words::act_of;
 use crate::steps::Step;
 use crate::tokens::{Unread, begins_with, is_word};
 use crate::versions::Version;
 use std::alloc::Allocator;
 
 /// A step of a form of its own, behind its word.
+#[tactic(auto, unfolding(crate::specs::Fields::read_form))]
 fn form_step<'a, A: Allocator + Copy>(
     alloc: A,
     version: Version,
     word: &[u8],
     parts: &mut Parts<'a>,
 ) -> Result<Step<'a, A>, Unread>
-    ensures { GivesNext step_of result (by_word (forms version) (word.now, parts.old)) parts.new }
+    ensures { GivesNext step_of result (by_word (readers (other_forms version)) (word.now, parts.old)) parts.new }
 {
     if is_word(word, "get") {
         get_step(alloc, version, parts)
@@ -50,7 +51,6 @@ fn form_step<'a, A: Allocator + Copy>(
 }
 
 /// An act with its session, or a step of another form, behind its word.
-#[tactic(auto, unfolding(crate::specs::StepReading::next_step, crate::specs::StepReading::act_step))]
 fn next_step<'a, A: Allocator + Copy>(
     alloc: A,
     version: Version,
@@ -59,11 +59,10 @@ fn next_step<'a, A: Allocator + Copy>(
 ) -> Result<Step<'a, A>, Unread>
     ensures { GivesNext step_of result (next_step version (word.now, parts.old)) parts.new }
 {
-    let Some(act) = act_of(word) else {
-        return form_step(alloc, version, word, parts);
-    };
-    let session = next_session(parts).ok_or(Unread::Malformed)?;
-    Ok(Step::Does { act, session })
+    match act_of(word) {
+        Some(act) => act_step(act, parts),
+        None => form_step(alloc, version, word, parts),
+    }
 }
 
 /// The run alone of some tokens.
@@ -124,7 +123,6 @@ pub fn read_step<'a, A: Allocator + Copy>(
     version: Version,
     line: &'a [u8],
 ) -> Result<Step<'a, A>, Unread>
-    ensures exact { Gives step_of result (step_of_line version line.now) }
     ensures found { IfOk result (λ step. (line.now ≡ step_text (step_of step)) × StepFits version (step_of step)) }
     ensures again { (step : plain.Step) → StepFits version step → line.now ≡ step_text step → Gives step_of result (Some step) }
 {

@@ -1,10 +1,10 @@
 //! The words of steps, and the numbers that stand behind them.
 
-ghost use Rattle.std.specs.Prelude.{◌≡◌, ◌-◌, ◌^◌};
+ghost use Rattle.std.specs.Prelude.{◌≡◌, ◌-◌, ◌^◌, ℕ, List, ◌∷◌, None, IfSome};
 ghost use Rattle.occ_text.specs.Fields.{before, next_number};
 ghost use Rattle.occ_text.specs.Reading.{number_of};
-ghost use Rattle.occ_text.specs.StepReading.{act_of, likely_act};
 ghost use Rattle.occ_text.specs.Steps.{act_word};
+ghost use Rattle.occ_text.specs.declared.steps.Act.{Act};
 
 use crate::cursors::next_number;
 use crate::separated_parts::Parts;
@@ -30,9 +30,8 @@ fn act_word(act: Act) -> &'static str
 }
 
 /// The one act whose word may begin with these two bytes. Whether it is that word is still to be seen.
-#[tactic(auto, unfolding(crate::specs::StepReading::likely_act))]
 fn likely_act(first: u8, second: u8) -> Act
-    ensures { result ≡ likely_act first second }
+    ensures { (act : Act) (rest : List ℕ) → act_word act ≡ first ∷ second ∷ rest → result ≡ act }
 {
     match first {
         b'a' => Act::Abandon,
@@ -49,9 +48,9 @@ fn likely_act(first: u8, second: u8) -> Act
 }
 
 /// The act of a word. It is compared with one word alone, which its first two bytes tell.
-#[tactic(auto, unfolding(crate::specs::StepReading::act_of))]
 pub(crate) fn act_of(word: &[u8]) -> Option<Act>
-    ensures { result ≡ act_of word.now }
+    ensures act { IfSome result (λ act. word.now ≡ act_word act) }
+    ensures none { result ≡ None → (act : Act) → word.now ≡ act_word act → ⊥ }
 {
     let [first, second, ..] = word else {
         return None;

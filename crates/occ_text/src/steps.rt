@@ -1,5 +1,9 @@
 //! The steps of a schedule.
 
+ghost use Rattle.std.specs.Prelude.{map};
+ghost use Rattle.occ_text.specs.Fields.{AreSame};
+ghost use Rattle.occ_text.specs.StepReading.{told_forms};
+
 use crate::operations::Operation;
 use occ_types::{Key, Row};
 use std::alloc::Allocator;
@@ -113,4 +117,35 @@ pub enum Step<'a, A: Allocator> {
     Show,
     /// `checkpoint`: folds the settled beginning of the log.
     Checkpoint,
+}
+
+/// The forms of the steps, as the formats are told: a word, and letters for what stands behind it. What stands before `..` may stand
+/// again.
+pub const FORMS: &[&str] = &[
+    "begin S",
+    "get S NAME KEY",
+    "scan S NAME END END",
+    "put S NAME KEY ROW",
+    "delete S NAME KEY",
+    "abandon S",
+    "submit S",
+    "alone S OP ..",
+    "close S",
+    "enter S",
+    "serial S",
+    "decide S",
+    "write S",
+    "finish S",
+    "backup S",
+    "forge S N START",
+    "rawread S N START NAME KEY",
+    "checkpoint",
+    "show",
+];
+
+/// The forms, which are those that `read_step` reads.
+pub fn forms() -> &'static [&'static str]
+    ensures { AreSame (map (λ form. form.now) result.now) told_forms }
+{
+    FORMS
 }

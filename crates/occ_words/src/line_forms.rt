@@ -1,41 +1,13 @@
 //! The forms of the lines of a text, spelled as the description of the formats spells them: a word, and letters for what has to stand behind it. What stands before `..` may stand again.
 
+ghost use Rattle.std.specs.Prelude.{map};
+ghost use Rattle.occ_words.specs.Forms.{EachSame, brought};
+
+use occ_text::steps;
 use occ_text::tokens::is_word;
 
 /// The forms of the lines that may stand at one place.
 pub type Forms = &'static [&'static str];
-
-/// The steps of a schedule.
-pub const STEPS: Forms = &[
-    "begin S",
-    "get S NAME KEY",
-    "scan S NAME END END",
-    "put S NAME KEY ROW",
-    "delete S NAME KEY",
-    "abandon S",
-    "submit S",
-    "alone S OP ..",
-    "close S",
-    "enter S",
-    "serial S",
-    "decide S",
-    "write S",
-    "finish S",
-    "backup S",
-    "forge S N START",
-    "rawread S N START NAME KEY",
-    "checkpoint",
-    "show",
-];
-
-/// The operations of a run alone and of a workload, with a space for each colon.
-pub const OPERATIONS: Forms = &[
-    "get NAME KEY",
-    "scan NAME END END",
-    "put NAME KEY ROW",
-    "delete NAME KEY",
-    "add NAME KEY INT",
-];
 
 /// The first lines of a text: of a schedule or a book, and of a workload.
 pub const FIRST: Forms = &["occ 1|2", "load 1|2"];
@@ -69,8 +41,8 @@ pub const OF_WORKLOAD: &[(u64, Forms)] = &[
 ];
 
 /// The lines that others bring behind them: the word of such a line, the index of the token that counts them, or 0 where there is none, and their forms. Where one line brings several, the last ones stand first.
-pub const BROUGHT: &[(&str, usize, Forms)] = &[
-    ("steps", 0, STEPS),
+const BROUGHT: &[(&str, usize, Forms)] = &[
+    ("steps", 0, steps::FORMS),
     ("base", 0, &["log K"]),
     ("base", 3, &["from NAME KEY ROW"]),
     ("base", 2, &["last S N"]),
@@ -81,6 +53,13 @@ pub const BROUGHT: &[(&str, usize, Forms)] = &[
     ("marks", 1, &["mark S N"]),
     ("state", 1, &["at NAME KEY ROW"]),
 ];
+
+/// The same lines, whose forms are those of the grammar.
+pub fn brought() -> &'static [(&'static str, usize, Forms)]
+    ensures { EachSame (map (λ entry. map (λ form. form.now) entry.2.now) result.now) brought }
+{
+    BROUGHT
+}
 
 /// The words of all lines but the steps.
 pub const OTHERS: &[&str] = &[

@@ -1,7 +1,8 @@
 //! A walk over the well-formed lines of a text, which tells what lines may stand next.
 
-use crate::line_forms::{BROUGHT, FIRST, Forms, OF_SCHEDULE, OF_WORKLOAD, STEPS};
+use crate::line_forms::{FIRST, Forms, OF_SCHEDULE, OF_WORKLOAD, brought};
 use occ_text::separated_parts::Parts;
+use occ_text::steps;
 use occ_text::tokens::{is_word, number};
 use occ_text::versions::Version;
 use std::alloc::{AllocError, Global};
@@ -38,7 +39,7 @@ impl Walk {
     /// A walk before a step of a text of this version.
     pub fn in_steps(alloc: Global, version: Version) -> Result<Walk, AllocError> {
         let mut to_come = Vec::new(alloc);
-        to_come.push((u64::MAX, STEPS))?;
+        to_come.push((u64::MAX, steps::forms()))?;
         Ok(Walk { version, to_come })
     }
 
@@ -70,7 +71,7 @@ impl Walk {
         } else if is_word(word, "load") {
             self.to_come.extend_from_slice(OF_WORKLOAD)?;
         }
-        for (head, index, forms) in BROUGHT {
+        for (head, index, forms) in brought() {
             if is_word(word, *head) {
                 let count = number(token_at(line, *index), u64::MAX);
                 self.expect(count.unwrap_or(u64::MAX), *forms)?;

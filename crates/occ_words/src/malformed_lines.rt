@@ -1,6 +1,6 @@
 //! Malformed lines in words: what is wrong with one, and what can stand there.
 
-use crate::line_forms::{ANSWERS, COUNTED, Forms, OPERATIONS, OTHERS, STEPS, UNFIT, field_of};
+use crate::line_forms::{ANSWERS, COUNTED, Forms, OTHERS, UNFIT, field_of};
 use crate::line_walk::{Walk, token_at};
 use crate::phrases::{push_all, shown};
 use crate::sayings::{Saying, Subject};
@@ -9,6 +9,7 @@ use crate::token_readers::reads;
 use occ_text::separated_parts::Parts;
 use occ_text::tokens::is_word;
 use occ_text::versions::Version;
+use occ_text::{operations, steps};
 use std::alloc::{AllocError, Global};
 use strsim::generic_levenshtein;
 
@@ -171,7 +172,7 @@ fn write_likely(line: &mut String, word: &str, form: &str) -> Result<(), AllocEr
 
 // The line that is missing before one whose word heads a line elsewhere.
 fn missing(due: Forms, word: &[u8]) -> Option<&'static str> {
-    let is_step = form_of(STEPS, word).is_some();
+    let is_step = form_of(steps::forms(), word).is_some();
     if !is_step && form_of(OTHERS, word).is_none() {
         return None;
     }
@@ -251,7 +252,7 @@ fn write_field_cause(
     let letters = letters_at(form, index);
     let token = token_at(line, index);
     if is_word(letters, "OP") {
-        if let Some(operation) = form_of(OPERATIONS, word_of(token)) {
+        if let Some(operation) = form_of(operations::forms(), word_of(token)) {
             return write_operation_cause(alloc, &mut saying.sentence, version, operation, token);
         }
     }
