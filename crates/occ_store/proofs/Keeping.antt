@@ -1,8 +1,9 @@
 -- Each event keeps what stands behind the lock, with what it stores and counts.
-use Rattle.std.proofs.Common.{◌≡◌, ◌⊎◌, ⊎_elim, inl, inr, ℕ, ◌+◌, Bool, true, false, ◌&&◌, map, Option, None, Some, Result, Err, refl, sym, ap, subst, ◌∙◌, arith}
+use Rattle.std.proofs.Common.{◌≡◌, ◌⊎◌, ⊎_elim, inl, inr, ℕ, ◌+◌, Bool, true, false, ◌&&◌, map, Option, None, Some, Result, Ok, Err, refl, sym, ap, subst, ◌∙◌, arith}
 use Rattle.occ_types.specs.declared.fault.Fault.{Fault}
 use Rattle.occ_types.specs.declared.fault.Fault.TheVariants.{WrongCase}
-use Rattle.occ_model.specs.Event.{Event, Decide, Finish, BackUp, Reply, Entered, Closed, Decided, Finished, BackedUp, RanAlone}
+use Rattle.occ_types.specs.declared.fault.Refused as refusals
+use Rattle.occ_model.specs.Event.{Event, Decide, Finish, BackUp, Reply, Entered, Closed, Decided, Finished, BackedUp, RanAlone, Refused}
 use Rattle.occ_model.specs.World.{World, next_place}
 use Rattle.occ_model.specs.Refusal.{refusal}
 use Rattle.occ_model.specs.Step.{Step, refused}
@@ -15,7 +16,7 @@ use Rattle.occ_model.proofs.InSchema.{same_settings}
 use Rattle.occ_board.specs.declared.words.Words.{Words}
 use Rattle.occ_board.specs.Rule.{Posted}
 use Rattle.occ_sets.specs.PlainSets.{answer_of}
-use Rattle.occ_model.specs.Replies.{replied}
+use Rattle.occ_model.specs.Replies.{replied, replied_back}
 use Rattle.occ_core.specs.Replies.{outcome_of}
 use Rattle.occ_core.specs.declared.outcomes.Outcome as code_outcome
 use Rattle.occ_core.specs.declared.outcomes.Outcome.TheVariants as outcomes
@@ -135,6 +136,15 @@ module _ {Z : Type 0} where
       (may_commit words session tn new may, may.published)
   outcome_stored old new words event session outcomes.MarkedClosed inv step of room was =
       (tt, stays_published old new words event Closed inv step (and_false (may_end event)) was)
+
+-- what an entry or a serial end came to is stored; a refusal stores nothing
+module _ {Z Y : Type 0} where
+  pub came_stored : (old new : World) (words : Words) (event : Event) (session : ℕ) (came : Result (code_outcome.Outcome Z) (refusals.Refused Y)) → Invariant old
+      → Step old event (replied_back outcome_of came) new → session_of event ≡ Some session → NumbersFit new → Published old words
+      → MayStore words session (replied_back outcome_of came) × Published new (stored words session (replied_back outcome_of came))
+  came_stored old new words event session (Ok outcome) inv step of room was = outcome_stored old new words event session outcome inv step of room was
+  came_stored old new words event session (Err refusal) inv step of room was =
+      (tt, stays_published old new words event (Refused refusal.fault) inv step (and_false (may_end event)) was)
 
 -- a finish is stored
 pub finish_stored : (old new : World) (words : Words) (session tn : ℕ) → Invariant old → Step old (Finish session) (Finished tn) new → NumbersFit new → Published old words

@@ -228,17 +228,16 @@ impl<N: Name, A: Allocator + Copy> Shared<N, A> {
         let about = Snapshot::of(&item);
         match self.filed.enter(rt, session, item) {
             Ok(filed) => {
-                let outcome = filed.outcome;
+                let came = Ok(filed.outcome);
                 law(&self.filed);
                 account(
                     &self.filed,
                     &mut self.publisher,
                     &mut self.rows,
                     session,
-                    &outcome,
+                    &came,
                     share,
                 );
-                let came = Ok(outcome);
                 self.story.add::<Brand, _>(me, &(session, &about, &came));
                 came
             }
@@ -269,27 +268,18 @@ impl<N: Name, A: Allocator + Copy> Shared<N, A> {
     {
         law(&self.filed);
         let about = Snapshot::of(&item);
-        match self.filed.enter_unfiled(session, item) {
-            Ok(outcome) => {
-                law(&self.filed);
-                account(
-                    &self.filed,
-                    &mut self.publisher,
-                    &mut self.rows,
-                    session,
-                    &outcome,
-                    share,
-                );
-                let came = Ok(outcome);
-                self.story.add::<Brand, _>(me, &(session, &about, &came));
-                came
-            }
-            Err(refused) => {
-                let refused = Err(refused);
-                self.story.add::<Brand, _>(me, &(session, &about, &refused));
-                refused
-            }
-        }
+        let came = self.filed.enter_unfiled(session, item);
+        law(&self.filed);
+        account(
+            &self.filed,
+            &mut self.publisher,
+            &mut self.rows,
+            session,
+            &came,
+            share,
+        );
+        self.story.add::<Brand, _>(me, &(session, &about, &came));
+        came
     }
 
     // Ends an item serially.
@@ -311,27 +301,18 @@ impl<N: Name, A: Allocator + Copy> Shared<N, A> {
     {
         law(&self.filed);
         let about = Snapshot::of(&item);
-        match self.filed.serial_end(session, item) {
-            Ok(outcome) => {
-                law(&self.filed);
-                account(
-                    &self.filed,
-                    &mut self.publisher,
-                    &mut self.rows,
-                    session,
-                    &outcome,
-                    share,
-                );
-                let came = Ok(outcome);
-                self.story.add::<Brand, _>(me, &(session, &about, &came));
-                came
-            }
-            Err(refused) => {
-                let refused = Err(refused);
-                self.story.add::<Brand, _>(me, &(session, &about, &refused));
-                refused
-            }
-        }
+        let came = self.filed.serial_end(session, item);
+        law(&self.filed);
+        account(
+            &self.filed,
+            &mut self.publisher,
+            &mut self.rows,
+            session,
+            &came,
+            share,
+        );
+        self.story.add::<Brand, _>(me, &(session, &about, &came));
+        came
     }
 
     /// Folds the settled beginning of the log into the base, and answers how many rows it folded, as `Core::checkpoint` does.

@@ -1,7 +1,8 @@
 //! What the events rest on, and what they store and count.
-ghost use Rattle.std.specs.Prelude.{◌≤◌, ◌≡◌, ◌+◌, ◌^◌, ◌<◌};
+ghost use Rattle.std.specs.Prelude.{◌≤◌, ◌≡◌, ◌+◌, ◌^◌, ◌<◌, OnOk};
 ghost use Rattle.occ_model.specs.World.{next_place};
 ghost use Rattle.occ_model.specs.Poll.{row_numbered};
+ghost use Rattle.occ_model.specs.Replies.{replied_back};
 ghost use Rattle.occ_log.specs.Rows.{standing_of};
 ghost use Rattle.occ_core.specs.Replies.{outcome_of};
 ghost use Rattle.occ_store.specs.Locked.{cause_told, cause_of, rows_entered, stored, committed, IsLawful, MayCommit, MayStore};
@@ -12,6 +13,8 @@ use occ_book::Standing;
 use occ_case::{Cause, OpenCase, Verdict};
 use occ_core::{Core, Outcome};
 use occ_filed::FiledCore;
+use occ_queue::Item;
+use occ_types::Refused;
 use std::alloc::Allocator;
 use std::sync::ledger::{Book, Share};
 
@@ -22,24 +25,27 @@ pub(crate) fn law<A: Allocator + Copy>(filed: &FiledCore<A>)
     filed.core().law();
 }
 
-// Stores what came of what was handed in, and counts its row in the ledger.
+// Stores what came of what was handed in, and counts its row in the ledger. A refusal stores and counts nothing.
 pub(crate) fn account<N: Name, A: Allocator + Copy>(
     filed: &FiledCore<A>,
     publisher: &mut Publisher<A>,
     rows: &mut Book<N>,
     session: usize,
-    outcome: &Outcome<A>,
+    came: &Result<Outcome<A>, Refused<Item<A>>>,
     share: &mut Share<N>,
 )
     requires part { 0 < share.old.parts }
-    requires may { MayStore publisher.old.words session (outcome_of outcome.now) }
-    requires rows { rows.old.total + rows_entered (outcome_of outcome.now) ≤ next_place filed.now.world }
-    ensures words { publisher.new ≡ record publisher.old { words = stored publisher.old.words session (outcome_of outcome.now) } }
-    ensures total { rows.new.total ≡ rows.old.total + rows_entered (outcome_of outcome.now) }
-    ensures amount { share.new.amount ≡ share.old.amount + rows_entered (outcome_of outcome.now) }
+    requires may { MayStore publisher.old.words session (replied_back outcome_of came.now) }
+    requires rows { rows.old.total + rows_entered (replied_back outcome_of came.now) ≤ next_place filed.now.world }
+    ensures words { publisher.new ≡ record publisher.old { words = stored publisher.old.words session (replied_back outcome_of came.now) } }
+    ensures total { rows.new.total ≡ rows.old.total + rows_entered (replied_back outcome_of came.now) }
+    ensures amount { share.new.amount ≡ share.old.amount + rows_entered (replied_back outcome_of came.now) }
     ensures parts { share.new.parts ≡ share.old.parts }
-    ensures bound { share.new.amount < 2 ^ 64 }
+    ensures bound { OnOk came.now (share.new.amount < 2 ^ 64) }
 {
+    let Ok(outcome) = came else {
+        return;
+    };
     law(filed);
     store_outcome(publisher, session, outcome);
     rows.add(share, rows_in(outcome));

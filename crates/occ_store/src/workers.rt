@@ -2,13 +2,13 @@
 ghost use Rattle.std.specs.Prelude.{◌≡◌, ◌<◌, ◌≤◌, true, ⊤, if◌then◌else◌, ◌==◌, is_some, IfErr, IfOk, OnOk, OnErr, IsTrue, MatchOption};
 ghost use Rattle.std.specs.Arc.{arc_value};
 ghost use Rattle.std.specs.Result.{result_err};
-ghost use Rattle.occ_core.specs.AutoCheckpoints.{due_each, is_due, checked_point, counted};
+ghost use Rattle.occ_core.specs.AutoCheckpoints.{due_each, counted};
 ghost use Rattle.occ_sets.specs.Operations.{ops_of};
 ghost use Rattle.occ_types.specs.declared.limits.TheConstants.{MAX_NUMBER};
 ghost use Rattle.occ_store.specs.Bodies.{stays_fault, Performing};
 ghost use Rattle.occ_store.specs.Lanes.{Nothing, number_left};
 ghost use Rattle.occ_store.specs.Tries.{most_tries};
-ghost use Rattle.occ_store.specs.Workers.{unused_worker, alone_fault, Ends, HandsInUpTo, HandsInFewer, TriesList, Runs, RunsOut, RunStops, RunsAlone, HandsInAlone, AloneStops, IsKept, Counts, count_ended, count_tried, count_listed, count_run, AfterPoint, PointStands};
+ghost use Rattle.occ_store.specs.Workers.{unused_worker, alone_fault, Ends, HandsInUpTo, HandsInFewer, TriesList, Runs, RunsOut, RunStops, RunsAlone, HandsInAlone, AloneStops, IsKept, Counts, count_ended, count_tried, count_listed, count_run, AfterPoint, ChecksPoint};
 ghost use Rattle.occ_history.specs.History.{Session as SessionParty};
 
 use crate::leases::Lease;
@@ -131,21 +131,14 @@ impl<N: Name, A: Allocator + Copy> Worker<N, A> {
 
 impl<N: Name, A: Allocator + Copy> Worker<N, A> {
     // Makes a checkpoint of the store where one is due.
-    fn checkpoint_if_due<R: Wait>(
-        &mut self,
-        rt: &R,
-        store: &Store<N, A>,
-    ) -> Option<Result<usize, Fault>>
-        ensures due { is_some result ≡ is_due self.old.checkpoints }
-        ensures stands { PointStands N.named result self.old.front self.new.front }
-        ensures left { self.new ≡ record self.old { checkpoints = checked_point result self.old.checkpoints; front = self.new.front } }
+    fn checkpoint_if_due<R: Wait>(&mut self, rt: &R, store: &Store<N, A>)
+        ensures { ChecksPoint N.named self.old self.new }
     {
         if !self.checkpoints.is_due() {
-            return None;
+            return;
         }
         let folded = Some(self.transaction.checkpoint(rt, store));
         self.checkpoints.note(&folded);
-        folded
     }
 
     // Counts how a transaction ended, where it committed.
@@ -187,7 +180,7 @@ impl<N: Name, A: Allocator + Copy> Worker<N, A> {
         ensures fewer { IfErr result (λ error. self.new.left ≡ Nothing → AfterPoint N.named self.old (λ begun. HandsInFewer N.named (B.makes body.old) B.Error.from_gives (most_tries tries) begun error self.new)) }
         ensures counts { Counts (count_tried result) self.old.checkpoints self.new.checkpoints }
     {
-        let _made = self.checkpoint_if_due(rt, store);
+        self.checkpoint_if_due(rt, store);
         self.try_and_count(rt, store, false, at_least_one(tries), body)
     }
 
@@ -205,7 +198,7 @@ impl<N: Name, A: Allocator + Copy> Worker<N, A> {
         ensures fewer { IfErr result (λ error. self.new.left ≡ Nothing → AfterPoint N.named self.old (λ begun. HandsInFewer N.named (B.makes body.old) B.Error.from_gives (most_tries tries) begun error self.new)) }
         ensures counts { Counts (count_tried result) self.old.checkpoints self.new.checkpoints }
     {
-        let _made = self.checkpoint_if_due(rt, store);
+        self.checkpoint_if_due(rt, store);
         self.try_and_count(rt, store, true, at_least_one(tries), body)
     }
 
@@ -251,7 +244,7 @@ impl<N: Name, A: Allocator + Copy> Worker<N, A> {
         ensures counts { MatchOption (alone_fault self.old (ops_of operations.now)) (Counts (count_run result) self.old.checkpoints self.new.checkpoints) (λ _. ⊤) }
     {
         self.check_alone(operations)?;
-        let _made = self.checkpoint_if_due(rt, store);
+        self.checkpoint_if_due(rt, store);
         self.run_checked(rt, store, tries, operations)
     }
 

@@ -2,36 +2,26 @@ use Rattle.std.proofs.Common.{refl, ap, arith}
 use Rattle.occ_model.specs.Event.{SerialEnd}
 use Rattle.occ_queue.specs.Items.{item_of}
 use Rattle.occ_queue.specs.declared.items.Item as code_item
-use Rattle.occ_store.proofs.Keeping.{between, over_step, shown_after, outcome_stored, entered_counts}
+use Rattle.occ_store.proofs.Keeping.{over_step, shown_after, came_stored, entered_counts}
 use Rattle.occ_store.proofs.Happening.{happens_so, ran_on_so}
 use Rattle.occ_store.proofs.shared.Shared.serial_end.Goals as goal
 
 pub account-requires-clause-may : goal.account-requires-clause-may
 account-requires-clause-may g c =
-    (outcome_stored _ _ _ _ _ _ c.law.ensures.invariant c.in-Ok.ensures.step.0 refl c.law-in-Ok.ensures.fits c.self.invariant.shown.published).0
+    (came_stored _ _ _ _ _ c.serial_end-came.result c.law.ensures.invariant c.serial_end-came.ensures.step.0 refl c.law-2.ensures.fits c.self.invariant.shown.published).0
 
 pub account-requires-clause-rows : goal.account-requires-clause-rows
-account-requires-clause-rows g c = (let all = entered_counts _ _ _ _ _ c.self.invariant.shown.counted c.in-Ok.ensures.step.0 in omega arith)
+account-requires-clause-rows g c = (let all = entered_counts _ _ _ _ _ c.self.invariant.shown.counted c.serial_end-came.ensures.step.0 in omega arith)
 
 pub invariant_of-self : goal.invariant_of-self
 invariant_of-self g c =
-    let stored = outcome_stored _ _ _ _ _ _ c.law.ensures.invariant c.in-Ok.ensures.step.0 refl c.law-in-Ok.ensures.fits c.self.invariant.shown.published in record {
-      shown = over_step _ _ _ c.self.inside.publisher _ _ _ _ _ c.in-Ok.ensures.step.0 (ap (λ f. f.file) c.in-Ok.ensures.step.1) (ap (λ p. p.board) c.account.ensures.words)
+    let stored = came_stored _ _ _ _ _ c.serial_end-came.result c.law.ensures.invariant c.serial_end-came.ensures.step.0 refl c.law-2.ensures.fits c.self.invariant.shown.published in record {
+      shown = over_step _ _ _ c.self.inside.publisher _ _ _ _ _ c.serial_end-came.ensures.step.0 (ap (λ f. f.file) c.serial_end-came.ensures.step.1) (ap (λ p. p.board) c.account.ensures.words)
           (shown_after _ c.self.inside.publisher _ _ c.account.ensures.words stored.1)
           (let total = c.account.ensures.total in omega arith) c.self.invariant.shown;
-      ran = ran_on_so g.N.Name.named _ _ _ _ _ (SerialEnd c.args.session (item_of c.args.item)) _ (ap (λ (i : code_item.Item g.row.A.Denot). SerialEnd c.args.session (item_of i)) c.of-about.ensures) c.self.invariant.ran c.in-Ok.ensures.step.0 c.add.ensures.added;
+      ran = ran_on_so g.N.Name.named _ _ _ _ _ (SerialEnd c.args.session (item_of c.args.item)) _ (ap (λ (i : code_item.Item g.row.A.Denot). SerialEnd c.args.session (item_of i)) c.of-about.ensures) c.self.invariant.ran c.serial_end-came.ensures.step.0 c.add.ensures.added;
       here = c.self.invariant.here;
     }
 
-pub invariant_of-self-in-Err : goal.invariant_of-self-in-Err
-invariant_of-self-in-Err g c = record {
-  shown = between _ _ _ _ _ _ _ c.law.ensures.invariant refl refl c.in-Err.ensures.step.0 (ap (λ f. f.file) c.in-Err.ensures.step.1) c.self.invariant.shown;
-  ran = ran_on_so g.N.Name.named _ _ _ _ _ (SerialEnd c.args.session (item_of c.args.item)) _ (ap (λ (i : code_item.Item g.row.A.Denot). SerialEnd c.args.session (item_of i)) c.of-about.ensures) c.self.invariant.ran c.in-Err.ensures.step.0 c.add-in-Err.ensures.added;
-  here = c.self.invariant.here;
-}
-
-pub returns-in-Ok-clause-step : goal.returns-in-Ok-clause-step
-returns-in-Ok-clause-step g c = happens_so _ _ _ _ _ c.self.view_is c.args.me.now c.add.new.me _ _ _ c.self.inside.visitor _ _ c.add.ensures.added c.add.ensures.before c.add.ensures.whole c.add.ensures.seen (SerialEnd c.args.session (item_of c.args.item)) (ap (λ (i : code_item.Item g.row.A.Denot). SerialEnd c.args.session (item_of i)) c.of-about.ensures) c.args.session (ap (λ p. p.words) c.account.ensures.words) c.in-Ok.ensures.step
-
 pub returns-clause-step : goal.returns-clause-step
-returns-clause-step g c = happens_so _ _ _ _ _ c.self.view_is c.args.me.now c.add-in-Err.new.me _ _ _ c.self.inside.visitor _ _ c.add-in-Err.ensures.added c.add-in-Err.ensures.before c.add-in-Err.ensures.whole c.add-in-Err.ensures.seen (SerialEnd c.args.session (item_of c.args.item)) (ap (λ (i : code_item.Item g.row.A.Denot). SerialEnd c.args.session (item_of i)) c.of-about.ensures) c.args.session refl c.in-Err.ensures.step
+returns-clause-step g c = happens_so _ _ _ _ _ c.self.view_is c.args.me.now c.add.new.me _ _ _ c.self.inside.visitor _ _ c.add.ensures.added c.add.ensures.before c.add.ensures.whole c.add.ensures.seen (SerialEnd c.args.session (item_of c.args.item)) (ap (λ (i : code_item.Item g.row.A.Denot). SerialEnd c.args.session (item_of i)) c.of-about.ensures) c.args.session (ap (λ p. p.words) c.account.ensures.words) c.serial_end-came.ensures.step
