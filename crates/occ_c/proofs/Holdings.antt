@@ -1,5 +1,5 @@
 -- What a desk makes of what its worker did in one holding.
-use Rattle.std.proofs.Common.{◌≡◌, ℕ, ◌+◌, ℤ, Bool, List, [], length, Option, None, Some, Result, Ok, Err, Vec, map, refl, sym, ap, subst, ◌∙◌, IfErr, OnOk, OnErr}
+use Rattle.std.proofs.Common.{◌≡◌, ◌⊎◌, inr, ℕ, ◌+◌, ℤ, Bool, false, List, [], length, Option, None, Some, Result, Ok, Err, Vec, map, refl, sym, ap, subst, ◌∙◌, IfErr, OnOk, OnErr}
 use Rattle.std.specs.Prelude.{⊤, IsErrAnd, MatchResult}
 use Rattle.std.specs.Global.{Global}
 use Rattle.std.specs.Io.KnownBytes.{Appends, Consumes, prepend_known}
@@ -22,9 +22,14 @@ use Rattle.occ_sets.specs.declared.reads.Answer as code_answer
 use Rattle.occ_core.specs.Replies.{ran}
 use Rattle.occ_client.specs.Clients.{after_alone}
 use Rattle.occ_text.specs.declared.headers.Limits.{Limits}
+use Rattle.occ_text.specs.declared.faults.ReadFault.{ReadFault}
 use Rattle.occ_text.specs.declared.trouble.Trouble.{Trouble}
-use Rattle.occ_text.specs.Headers.{HeaderFits, header_text}
-use Rattle.occ_text.specs.Line.{lines_text}
+use Rattle.occ_text.specs.declared.trouble.Trouble.TheVariants.{Memory}
+use Rattle.occ_text.specs.Faults.{read_trouble}
+use Rattle.occ_text.specs.Headers.{Header, HeaderFits, header_text}
+use Rattle.occ_text.specs.Languages.{Position, position_of}
+use Rattle.occ_text.specs.Line.{Source, lines_text}
+use Rattle.occ_text.specs.ScheduleLines.{HeaderTaken}
 use Rattle.occ_print.specs.Books.{header_of}
 use Rattle.occ_cli.specs.Schedules.{ReplayGives, AppendsFront}
 use Rattle.occ_sharing.specs.declared.places.Missed.{Missed}
@@ -33,7 +38,7 @@ use Rattle.occ_c.specs.declared.desks.Desk.{Desk}
 use Rattle.occ_c.specs.Codes.{answered, counted, fault_code}
 use Rattle.occ_c.specs.Desks.{Scanned}
 use Rattle.occ_c.specs.Kept.{RunCame, RunsAt}
-use Rattle.occ_c.specs.Texts.{BeginsSo}
+use Rattle.occ_c.specs.Texts.{BeginsSo, NoHeader}
 
 pub weaker : (old new : Worker) (P Q : World → World → Type 0) → ((before after : World) → P before after → Q before after) → InOneHolding old new P → InOneHolding old new Q
 weaker old new P Q f h = record {
@@ -145,6 +150,13 @@ header_begins text unread limits schema rest none taken fits = record {
   fits = fits;
   taken = subst (λ (l : List ℕ). Consumes (prepend_known l (Some text)) rest (lines_text (header_text (header_of limits schema)))) none taken;
 }
+
+-- a text is none of a header, where a new input of it isn't
+pub no_header : {X : Type 0} (text : List ℕ) (input : Source) (fault : ReadFault) (result : Result X Trouble) (after : Position) → input ≡ record { unread = []; line = []; number = 0; failed = false } → IsErrAnd result (λ e. e ≡ read_trouble fault)
+    → HeaderTaken {X = Header} (λ header. header) (Err fault) (position_of input (Some text)) after → IfErr result (λ trouble. (trouble ≡ Memory) ⊎ NoHeader text trouble)
+no_header text input fault (Ok x) after new is taken = absurd is
+no_header text input fault (Err e) after new is taken =
+    inr (record { fault = fault; after = after; told = is; taken = subst (λ (i : Source). HeaderTaken {X = Header} (λ header. header) (Err fault) (position_of i (Some text)) after) new taken })
 
 abbrev pub done_is : ⊤ → Result ⊤ Trouble
 done_is done = Ok done

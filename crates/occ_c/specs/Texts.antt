@@ -10,8 +10,9 @@ use Rattle.occ_text.specs.declared.trouble.Trouble.{Trouble}
 use Rattle.occ_text.specs.declared.trouble.Trouble.TheVariants.{Memory}
 use Rattle.occ_text.specs.Faults.{read_trouble}
 use Rattle.occ_text.specs.Headers.{Header, HeaderFits, header_text}
-use Rattle.occ_text.specs.HeaderTaking.{HeaderTaken}
+use Rattle.occ_text.specs.Languages.{Position, start}
 use Rattle.occ_text.specs.Line.{lines_text}
+use Rattle.occ_text.specs.ScheduleLines.{HeaderTaken}
 use Rattle.occ_print.specs.Books.{header_of}
 use Rattle.occ_reading.specs.WholeBooks.{AuditGives}
 use Rattle.occ_cli.specs.Schedules.{ReplayGives, AppendsFront}
@@ -25,13 +26,12 @@ use Rattle.occ_c.specs.Desks.{IsFresh}
 abbrev pub part_from : List ℕ → ℕ → ℕ → List ℕ
 part_from text from room = take room (drop from text)
 
--- a text is none of a header: what ended the reading of it, and from which line on
+-- a text is none of a header: what ended the reading of it, and where
 pub record NoHeader (text : List ℕ) (trouble : Trouble) : Type 0 where
   pub fault : ReadFault
-  pub after : Option (List ℕ)
-  pub last : ℕ
+  pub after : Position
   pub told : trouble ≡ read_trouble fault
-  pub taken : HeaderTaken {X = Header} (λ header. header) (Err fault) (Some text) after last
+  pub taken : HeaderTaken {X = Header} (λ header. header) (Err fault) (start (Some text)) after
 
 -- the text begins with a header, up to its line `steps`
 pub record BeginsSo (text : List ℕ) (limits : Limits) (schema : Schema) : Type 0 where

@@ -36,5 +36,5 @@ pub use Rattle.occ_print.proofs.Printing.{Pushed-nothing, Pushed-then, front_bef
 pub use Rattle.occ_cli.specs.Answers.{answer_text, answer_token, pair_text}
 pub use Rattle.occ_cli.specs.Replaying.{Abandons, AtMostOneStep, Begins, ByAsking, ByBoth, ByClient, ByStore, Client, Closes, CopyWantsGet, Enters, Gets, Given, HandsIn, IsUnlisted, Played, PlayedIn, Plays, PutOff, Replayed, Scans, Starved, StarvesItem, Submits, Tells, Told, Wants, WantsGet, WantsList, WantsScan, WantsWrite, Writes, and_then, client_of, copy_of, fresh, handed_in, kept_after, mark_of, next_item, next_number, object_named, operation_named, operations_named, place_named, played, span_named, still_waiting, submitted, unfit, unless}
 pub use Rattle.occ_open.specs.Transactions.{IsRefusedBy, OrStarves, WantsOwn, WantsRange, WantsRoom, begin_fault, check_written, copy_fault, open_after, overlaid, write_fault, written}
-pub use Rattle.occ_cli.specs.Schedules.{AppendsFront, CutAmid, CutAtEnd, CutBefore, IsAudited, IsCutShort, IsMalformedAt, IsNoTurn, IsReplayed, IsUncounted, IsUnreadable, LineOfNoStep, MalformedHeader, MalformedStep, MalformedUncounted, NoLineThere, PlaysAll, ReplayGives, Schedule, Turn, UnreadHeader, UnreadStep, answer_lines, book_after, book_at, closing_lines, opened_by, replay_lines, schedule_lines, step_lines}
-pub use Rattle.occ_cli.specs.Turns.{AnswerGives, AreHalfSaid, AreTurns, AuditGives, ClosingGives, IsHalfTurn, IsTurn, TurnGives, TurnsGive, is_cut_short}
+pub use Rattle.occ_cli.specs.Schedules.{Answers, AppendsFront, CutAmid, CutAtEnd, IsAudited, IsCutShort, IsMalformedAt, IsReplayed, IsUnreadable, PlaysAll, ReplayGives, Schedule, Turn, answer_lines, book_after, book_at, closing_lines, opened_by, place_behind, replay_lines, schedule_lines, step_lines}
+pub use Rattle.occ_cli.specs.Turns.{AnswerGives, AreHalfSaid, AreTurns, AuditGives, ClosingGives, IsHalfTurn, IsNoStep, IsNoTurn, IsTurn, LineOfNoStep, NoLineThere, TurnGives, TurnsGive, is_cut_short}

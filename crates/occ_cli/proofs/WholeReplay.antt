@@ -1,6 +1,6 @@
 -- A whole replay, put together from its parts.
-use Rattle.std.proofs.Common.{◌≡◌, ℕ, ◌+◌, arith, refl, Bool, true, List, [], ◌∷◌, ◌++◌, length, Option, None, Some, Result, Ok, Err, sym, ap, subst, ◌∙◌, inl, inr, append_assoc, append-nil, length-append, IfErr, IsErrAnd}
-use Rattle.occ_cli.proofs.Common.{Consumes, Appends, Keeps, IsAtEnd, prepend_known, Consumes-trans, Appends-trans, prepend_known-nil, length-map, Schema, Settings, WriteFault, Source, HasFailed, NoneTaken, lines_text, Pushed, PushedFront, Replayed, Turn, Schedule, IsReplayed, opened_by, step_lines, schedule_lines, answer_lines, book_at, book_after, IsAudited, closing_lines, replay_lines, IsNoTurn, IsMalformedAt, MalformedHeader, MalformedStep, MalformedUncounted, IsUnreadable, UnreadHeader, UnreadStep, IsUncounted, IsCutShort, CutBefore, CutAmid, CutAtEnd, ReplayGives, AppendsFront, Sends, step_text, AreTurns, TurnsGive, ClosingGives, is_cut_short, Pushed-nothing, front_none, front_behind, lines_text-append, lines_then}
+use Rattle.std.proofs.Common.{◌≡◌, ℕ, ◌+◌, refl, Bool, true, List, [], ◌∷◌, ◌++◌, length, map, Option, None, Some, Result, Ok, Err, sym, ap, subst, ◌∙◌, inl, inr, append_assoc, append-nil, IfErr, IsErrAnd}
+use Rattle.occ_cli.proofs.Common.{Appends, Keeps, IsAtEnd, prepend_known, Appends-nil, Appends-trans, prepend_known-nil, length-map, Schema, Settings, WriteFault, Source, HasFailed, lines_text, Pushed, PushedFront, Replayed, Turn, Schedule, IsReplayed, opened_by, place_behind, step_lines, schedule_lines, answer_lines, Answers, book_at, book_after, IsAudited, closing_lines, replay_lines, IsNoStep, NoLineThere, LineOfNoStep, IsNoTurn, IsMalformedAt, IsUnreadable, IsCutShort, CutAmid, CutAtEnd, ReplayGives, AppendsFront, Sends, StepFits, step_text, AreTurns, TurnsGive, ClosingGives, is_cut_short, Pushed-nothing, front_none, front_behind, lines_then}
 use Rattle.occ_text.specs.declared.faults.ReadFault.{ReadFault}
 use Rattle.occ_text.specs.declared.faults.ReadFault.TheVariants as faults
 use Rattle.occ_text.specs.declared.faults.WriteFault.TheVariants as write_faults
@@ -8,7 +8,14 @@ use Rattle.occ_text.specs.Faults.{read_trouble, write_trouble}
 use Rattle.occ_text.specs.declared.trouble.Trouble.{Trouble}
 use Rattle.occ_text.specs.declared.trouble.Trouble.TheVariants as troubles
 use Rattle.occ_text.specs.Headers.{Header, HeaderFits, header_text}
-use Rattle.occ_text.specs.HeaderTaking.{BeginsHeader, HeaderTaken}
+use Rattle.std.specs.List.{All}
+use Rattle.std.proofs.lemmas.List.Elements.{All-head, All-tail}
+use Rattle.occ_text.specs.Languages.{Position, Took, Stopped, FailsAt, point, start}
+use Rattle.occ_text.specs.Line.{NoLine, OtherLine}
+use Rattle.occ_text.specs.ScheduleLines.{Place, Version, Sessions, Queue, Keep, Tables, Steps, IsOpening, HeaderTaken, schedules}
+use Rattle.occ_text.specs.Steps.{Step}
+use Rattle.occ_text.proofs.LinesTaken.{Path, on, ◌and◌, more_to_come, torn_or_long}
+use Rattle.occ_text.proofs.LinesTaken as lines
 use Rattle.occ_cli.proofs.Settings.{plays_all_keep}
 
 -- ---- a header and the steps behind it
@@ -19,61 +26,129 @@ of_turns header turns state = record { header = header; turns = turns; state = s
 is_replayed : (header : Header) (turns : List Turn) (state : Replayed) (a b : Option (List ℕ)) → HeaderFits header → AreTurns header.version a b (opened_by header) turns state → IsReplayed (of_turns header turns state)
 is_replayed header turns state a b fits are = record { header = fits; steps = are.steps; played = are.played }
 
-lines_taken : (a b c : Option (List ℕ)) (xs ys : List (List ℕ)) → Consumes a b (lines_text xs) → Consumes b c (lines_text ys) → Consumes a c (lines_text (xs ++ ys))
-lines_taken a b c xs ys h k = subst (Consumes a c) (sym (lines_text-append xs ys)) (Consumes-trans a b c (lines_text xs) (lines_text ys) h k)
+-- lines of steps lead on behind others
+steps_lead : (header : Header) (before : List Step) (turns : List Turn) → All (λ (turn : Turn). StepFits header.version turn.0) turns → Path schedules (Steps header before) (Steps header (before ++ map (λ (turn : Turn). turn.0) turns)) (step_lines turns)
+steps_lead header before [] each = record { leads = ap (Steps header) (append-nil before) }
+steps_lead header before (turn ∷ turns) each =
+    let more = steps_lead header (before ++ turn.0 ∷ []) turns (All-tail (λ (t : Turn). StepFits header.version t.0) turn turns each) in
+    on {q = Steps header (before ++ turn.0 ∷ [])} (turn.0, All-head (λ (t : Turn). StepFits header.version t.0) turn turns each, refl, refl)
+    (subst (λ (all : List Step). Path schedules (Steps header (before ++ turn.0 ∷ [])) (Steps header all) (step_lines turns)) (append_assoc before (turn.0 ∷ []) (map (λ (t : Turn). t.0) turns)) more)
 
-part_taken : (a b c d : Option (List ℕ)) (xs ys : List (List ℕ)) (part : List ℕ) → Consumes a b (lines_text xs) → Consumes b c (lines_text ys) → Consumes c d part → Consumes a d (lines_text (xs ++ ys) ++ part)
-part_taken a b c d xs ys part h k p = Consumes-trans a c d (lines_text (xs ++ ys)) part (lines_taken a b c xs ys h k) p
+-- a header was taken from the beginning of a text
+abbrev pub HeadTaken : Header → Option (List ℕ) → Option (List ℕ) → ℕ → Type 0
+HeadTaken header a b last = Took schedules Version (Steps header []) (start a) (point b last) (header_text header)
+
+pub head_taken : {fits : Type 0} (header : Header) (a b : Option (List ℕ)) (first last : ℕ) → first ≡ 0 → Took schedules Version (Steps header []) (point a first) (point b last) (header_text header) × fits → HeadTaken header a b last
+head_taken header a b first last none h = subst (λ (n : ℕ). Took schedules Version (Steps header []) (point a n) (point b last) (header_text header)) none h.0
+
+-- and steps behind it
+steps_taken : (header : Header) (turns : List Turn) (state : Replayed) (a b c : Option (List ℕ)) (first : ℕ) → HeadTaken header a b first → AreTurns header.version b c (opened_by header) turns state
+    → Took schedules Version (place_behind (of_turns header turns state)) (start a) (point c (first + length turns)) (schedule_lines (of_turns header turns state))
+steps_taken header turns state a b c first head are =
+    let path = steps_lead header [] turns are.steps in
+    let behind : Took schedules (Steps header []) (Steps header (map (λ (turn : Turn). turn.0) turns)) (point b first) (point c (first + length turns)) (step_lines turns) =
+    record { taken = are.taken; leads = path.leads; number = ap (λ (k : ℕ). first + k) (sym (length-map turns (λ (turn : Turn). step_text turn.0))) } in
+    head and behind
+
+-- ---- what was said
+
+-- before the steps nothing is
+opening_answers : (quiet : Bool) (Said : List ℕ → Type 0) (place : Place) → IsOpening place → Said [] → Answers quiet Said place
+opening_answers quiet Said Version opening said = said
+opening_answers quiet Said (Sessions version) opening said = said
+opening_answers quiet Said (Queue version sessions) opening said = said
+opening_answers quiet Said (Keep version sessions queue) opening said = said
+opening_answers quiet Said (Tables limits tables) opening said = said
+opening_answers quiet Said (Steps header before) opening said = absurd opening
+
+-- what was said, said otherwise
+answers_so : (quiet : Bool) (Said Says : List ℕ → Type 0) → ((text : List ℕ) → Said text → Says text) → (place : Place) → Answers quiet Said place → Answers quiet Says place
+answers_so quiet Said Says so Version said = so [] said
+answers_so quiet Said Says so (Sessions version) said = so [] said
+answers_so quiet Said Says so (Queue version sessions) said = so [] said
+answers_so quiet Said Says so (Keep version sessions queue) said = so [] said
+answers_so quiet Said Says so (Tables limits tables) said = so [] said
+answers_so quiet Said Says so (Steps header before) (s, is, there, said) = (s, is, there, so (lines_text (answer_lines quiet s.header.tables s.turns)) said)
 
 -- ---- the exits
 
 -- the text isn't that of a header, or it couldn't be read, or memory was refused for it
-pub header_stopped : {X T : Type 0} (view : X → Header) (fault : ReadFault) (result : Result T Trouble) (quiet : Bool) (a b : Option (List ℕ)) (w : Option (List ℕ)) (held : List ℕ) (last : ℕ) → IsErrAnd result (λ e. e ≡ read_trouble fault)
-    → HeaderTaken view (Err fault) a b last → ReplayGives quiet a (Pushed w w held held) (PushedFront w w held held) result b
-header_stopped view fault (Ok done) quiet a b w held last is h = absurd is
-header_stopped view fault (Err e) quiet a b w held last is h =
-    subst (λ (t : Trouble). ReplayGives quiet a (Pushed w w held held) (PushedFront w w held held) {T = Unit {0}} (Err t) b) (sym is) (by fault h.5)
+pub header_stopped : {X T : Type 0} (view : X → Header) (fault : ReadFault) (result : Result T Trouble) (quiet : Bool) (a b : Option (List ℕ)) (w : Option (List ℕ)) (held : List ℕ) (first last : ℕ) → IsErrAnd result (λ e. e ≡ read_trouble fault) → first ≡ 0
+    → HeaderTaken view (Err fault) (point a first) (point b last) → ReplayGives quiet a (Pushed w w held held) (PushedFront w w held held) result b
+header_stopped view fault (Ok done) quiet a b w held first last is none h = absurd is
+header_stopped view fault (Err e) quiet a b w held first last is none h =
+    subst (λ (t : Trouble). ReplayGives quiet a (Pushed w w held held) (PushedFront w w held held) {T = Unit {0}} (Err t) b) (sym is) (by fault (subst (λ (n : ℕ). FailsAt schedules IsOpening fault Version (point a n) b) none h))
   where
-    by : (fault : ReadFault) → NoneTaken (λ line. BeginsHeader (h.0 ++ line ∷ [])) fault h.1 b (length h.0) → ReplayGives quiet a (Pushed w w held held) (PushedFront w w held held) {T = Unit {0}} (Err (read_trouble fault)) b
-    by (faults.Malformed n) k = MalformedHeader h.0 h.1 h.2 h.3 k.0 k.1 (Pushed-nothing w held)
-    by faults.Read k = UnreadHeader h.0 k.0 (Consumes-trans a h.1 b (lines_text h.0) k.0 h.2 k.2) h.3 k.1 (Pushed-nothing w held)
-    by faults.TooManyLines k = let few = h.4 in absurd (omega arith)
-    by faults.Memory k = CutBefore (front_none w held [])
+    nothing : (place : Place) → IsOpening place → Answers quiet (Pushed w w held held) place
+    nothing place opening = opening_answers quiet (Pushed w w held held) place opening (Pushed-nothing w held)
+
+    by : (fault : ReadFault) → FailsAt schedules IsOpening fault Version (start a) b → ReplayGives quiet a (Pushed w w held held) (PushedFront w w held held) {T = Unit {0}} (Err (read_trouble fault)) b
+    by (faults.Malformed n) (stopped, opening) = inl (stopped, nothing stopped.place opening)
+    by faults.Read (torn, opening) = (torn, nothing torn.place opening)
+    by faults.TooManyLines (uncounted, opening) = inr (uncounted, refl, nothing uncounted.place opening)
+    by faults.Memory k = CutAmid Version (start a) [] lines.none (front_none w held [])
+
+-- nothing was taken or written
+pub cut_before : (quiet : Bool) (before : Option (List ℕ)) (Wrote WroteFront : List ℕ → Type 0) → WroteFront [] → IsCutShort quiet before Wrote WroteFront
+cut_before quiet before Wrote WroteFront said = CutAmid Version (start before) [] lines.none said
 
 abbrev stops : Trouble → Result (Unit {0}) Trouble
 stops trouble = Err trouble
 
-count : (front : List (List ℕ)) (turns : List Turn) → length (front ++ step_lines turns) ≡ length front + length turns
-count front turns = length-append front (step_lines turns) ∙ ap (λ (k : ℕ). length front + k) (length-map turns (λ (turn : Turn). step_text turn.0))
+-- no step stands behind some turns
+no_step : (header : Header) (before : List Step) (rest : Option (List ℕ)) (number : ℕ) {a : Position} {lines : List (List ℕ)} (n : ℕ) → Took schedules Version (Steps header before) a (point rest n) lines → IsNoStep header.version rest → number ≡ n + 1
+    → (stopped : Stopped schedules Version a number) × (stopped.place ≡ Steps header before)
+no_step header before rest number {lines = lines} n took (NoLineThere none) here =
+    (record { place = Steps header before; rest = point rest n; lines = lines; took = took; stuck = NoLine none; unended = torn_or_long schedules (Steps header before) rest none; here = here }, refl)
+no_step header before rest number {lines = lines} n took (LineOfNoStep line after taken is none) here = (
+  record {
+    place = Steps header before;
+    rest = point rest n;
+    lines = lines;
+    took = took;
+    stuck = OtherLine line after taken is (λ leads. none leads.1.0 leads.1.1 leads.1.2);
+    unended = more_to_come schedules (Steps header before) line rest after taken;
+    here = here;
+  },
+  refl,
+)
+
+-- the answers of a schedule, at a place that is the one behind it
+said_there : (quiet : Bool) (Said : List ℕ → Type 0) (s : Schedule) (place : Place) → place ≡ place_behind s → IsReplayed s → Said (lines_text (answer_lines quiet s.header.tables s.turns)) → Answers quiet Said place
+said_there quiet Said s place there is said = subst (Answers quiet Said) (sym there) (s, is, refl, said)
 
 -- the line behind some turns is malformed
-malformed_behind : (quiet : Bool) (a rest : Option (List ℕ)) (Wrote WroteFront : List ℕ → Type 0) (s : Schedule) (n : ℕ) → IsReplayed s → Consumes a rest (lines_text (schedule_lines s)) → IsNoTurn s.header.version rest (length (schedule_lines s)) n
+malformed_behind : (quiet : Bool) (a rest : Option (List ℕ)) (Wrote WroteFront : List ℕ → Type 0) (s : Schedule) (k n : ℕ) → IsReplayed s → Took schedules Version (place_behind s) (start a) (point rest k) (schedule_lines s) → IsNoTurn s.header.version rest k n
     → Wrote (lines_text (answer_lines quiet s.header.tables s.turns)) → IsMalformedAt quiet a Wrote WroteFront n
-malformed_behind quiet a rest Wrote WroteFront s n is taken (inl h) said = MalformedStep s rest is taken h.0 h.1 said
-malformed_behind quiet a rest Wrote WroteFront s n is taken (inr h) said = MalformedUncounted (record { schedule = s; rest = rest; replayed = is; taken = taken; number = h.0; wrote = said }) h.1
+malformed_behind quiet a rest Wrote WroteFront s k n is took (inl h) said =
+    let stopped = no_step s.header (map (λ (turn : Turn). turn.0) s.turns) rest n k took h.0 h.1 in
+    inl (stopped.0, said_there quiet Wrote s stopped.0.place stopped.1 is said)
+malformed_behind quiet a rest Wrote WroteFront s k n is took (inr h) said =
+    inr (record { place = place_behind s; rest = point rest k; lines = schedule_lines s; took = took; here = h.0 }, h.1, (s, is, refl, said))
 
 -- the steps ended with trouble
 stopped_with : {T : Type 0} (result : Result T Trouble) (trouble : Trouble) (quiet : Bool) (header : Header) (a b c : Option (List ℕ)) (w v : Option (List ℕ)) (held keeps : List ℕ) (first : ℕ) (new : Replayed) → result ≡ Err trouble
-    → Consumes a b (lines_text (header_text header)) → HeaderFits header → first ≡ length (header_text header)
+    → HeadTaken header a b first → HeaderFits header
     → TurnsGive quiet header.version header.tables (Pushed w v held keeps) (PushedFront w v held keeps) (stops trouble) b c first (opened_by header) new
     → ReplayGives quiet a (Pushed w v held keeps) (PushedFront w v held keeps) result c
-stopped_with result (troubles.Malformed n) quiet header a b c w v held keeps first new is taken fits number t =
+stopped_with result (troubles.Malformed n) quiet header a b c w v held keeps first new is head fits t =
     subst (λ (r : Result _ Trouble). ReplayGives quiet a (Pushed w v held keeps) (PushedFront w v held keeps) r c) (sym is)
-    (malformed_behind quiet a t.1 (Pushed w v held keeps) (PushedFront w v held keeps) (of_turns header t.0 t.2) n (is_replayed header t.0 t.2 b t.1 fits t.3) (lines_taken a b t.1 (header_text header) (step_lines t.0) taken t.3.taken)
-    (subst (λ (k : ℕ). IsNoTurn header.version t.1 k n) (ap (λ (k : ℕ). k + length t.0) number ∙ sym (count (header_text header) t.0)) t.4) t.5)
-stopped_with result troubles.Read quiet header a b c w v held keeps first new is taken fits number t =
+    (malformed_behind quiet a t.1 (Pushed w v held keeps) (PushedFront w v held keeps) (of_turns header t.0 t.2) (first + length t.0) n (is_replayed header t.0 t.2 b t.1 fits t.3) (steps_taken header t.0 t.2 a b t.1 first head t.3) t.4 t.5)
+stopped_with result troubles.Read quiet header a b c w v held keeps first new is head fits t =
+    let s = of_turns header t.0 t.3 in
     subst (λ (r : Result _ Trouble). ReplayGives quiet a (Pushed w v held keeps) (PushedFront w v held keeps) r c) (sym is)
-    (UnreadStep (of_turns header t.0 t.3) t.1 (is_replayed header t.0 t.3 b t.2 fits t.4) (part_taken a b t.2 c (header_text header) (step_lines t.0) t.1 taken t.4.taken t.6) t.5 t.7)
-stopped_with result trouble quiet header a b c w v held keeps first new is taken fits number t =
+    (record { place = place_behind s; rest = point t.2 (first + length t.0); lines = schedule_lines s; took = steps_taken header t.0 t.3 a b t.2 first head t.4; part = t.1; lost = t.6; torn = t.5 }, (s, is_replayed header t.0 t.3 b t.2 fits t.4, refl, t.7))
+stopped_with result trouble quiet header a b c w v held keeps first new is head fits t =
+    let s = of_turns header t.turns t.new in
     subst (λ (r : Result _ Trouble). ReplayGives quiet a (Pushed w v held keeps) (PushedFront w v held keeps) r c) (sym is)
-    (CutAmid (of_turns header t.turns t.new) t.rest (is_replayed header t.turns t.new b t.rest fits t.are) (lines_taken a b t.rest (header_text header) (step_lines t.turns) taken t.are.taken) t.wrote)
+    (CutAmid (place_behind s) (point t.rest (first + length t.turns)) (schedule_lines s) (steps_taken header t.turns t.new a b t.rest first head t.are) (s, is_replayed header t.turns t.new b t.rest fits t.are, refl, t.wrote))
 
 pub turns_stopped : {T : Type 0} (result : Result T Trouble) (trouble : Trouble) (quiet : Bool) (header : Header) (start : Replayed) (a b c : Option (List ℕ)) (w v : Option (List ℕ)) (held keeps : List ℕ) (first : ℕ) (new : Replayed) → start ≡ opened_by header
-    → result ≡ Err trouble → Consumes a b (lines_text (header_text header)) → HeaderFits header → first ≡ length (header_text header)
+    → result ≡ Err trouble → HeadTaken header a b first → HeaderFits header
     → TurnsGive quiet header.version start.world.settings.schema (Pushed w v held keeps) (PushedFront w v held keeps) (stops trouble) b c first start new
     → ReplayGives quiet a (Pushed w v held keeps) (PushedFront w v held keeps) result c
-turns_stopped result trouble quiet header start a b c w v held keeps first new began is taken fits number t =
-    stopped_with result trouble quiet header a b c w v held keeps first new is taken fits number
+turns_stopped result trouble quiet header start a b c w v held keeps first new began is head fits t =
+    stopped_with result trouble quiet header a b c w v held keeps first new is head fits
     (subst (λ (r : Replayed). TurnsGive quiet header.version r.world.settings.schema (Pushed w v held keeps) (PushedFront w v held keeps) (stops trouble) b c first r new) began t)
 
 -- what was pushed behind the answers
@@ -91,53 +166,55 @@ troubled (Ok done) = Ok done
 troubled (Err fault) = Err (write_trouble fault)
 
 -- the book behind the steps
-cut_in_closing : (quiet : Bool) (s : Schedule) (a rest : Option (List ℕ)) (w v u : Option (List ℕ)) (held mid keeps : List ℕ) → IsReplayed s → Consumes a rest (lines_text (schedule_lines s)) → IsAtEnd rest → Pushed w v held mid (lines_text (answer_lines quiet s.header.tables s.turns))
+cut_in_closing : (quiet : Bool) (s : Schedule) (a : Option (List ℕ)) (rest : Position) (w v u : Option (List ℕ)) (held mid keeps : List ℕ) → IsReplayed s → Took schedules Version (place_behind s) (start a) rest (schedule_lines s) → IsAtEnd rest.left
+    → Pushed w v held mid (lines_text (answer_lines quiet s.header.tables s.turns))
     → IsAudited (book_after s) × PushedFront v u mid keeps (lines_text (closing_lines (book_after s))) → IsCutShort quiet a (Pushed w u held keeps) (PushedFront w u held keeps)
-cut_in_closing quiet s a rest w v u held mid keeps is taken end said k =
-    CutAtEnd s rest is taken end k.0 (front_of_answers quiet s.header.tables w v u held mid keeps s.turns (closing_lines (book_after s)) said k.1)
+cut_in_closing quiet s a rest w v u held mid keeps is took end said k =
+    CutAtEnd s rest took is end k.0 (front_of_answers quiet s.header.tables w v u held mid keeps s.turns (closing_lines (book_after s)) said k.1)
 
-closed_with : {T : Type 0} (closing : Result T WriteFault) (quiet : Bool) (s : Schedule) (a rest after : Option (List ℕ)) (w v u : Option (List ℕ)) (held mid keeps : List ℕ) → IsReplayed s → Consumes a rest (lines_text (schedule_lines s)) → IsAtEnd rest → Keeps rest after
+closed_with : {T : Type 0} (closing : Result T WriteFault) (quiet : Bool) (s : Schedule) (a : Option (List ℕ)) (rest : Position) (after : Option (List ℕ)) (w v u : Option (List ℕ)) (held mid keeps : List ℕ) → IsReplayed s
+    → Took schedules Version (place_behind s) (start a) rest (schedule_lines s) → IsAtEnd rest.left → Keeps rest.left after
     → Pushed w v held mid (lines_text (answer_lines quiet s.header.tables s.turns)) → ClosingGives (Pushed v u mid keeps) (PushedFront v u mid keeps) closing (book_after s)
     → ReplayGives quiet a (Pushed w u held keeps) (PushedFront w u held keeps) (troubled closing) after
-closed_with (Ok done) quiet s a rest after w v u held mid keeps is taken end kept said k =
-    (s, rest, is, taken, end, kept, k.0, behind_answers quiet s.header.tables w v u held mid keeps s.turns (closing_lines (book_after s)) said k.1)
-closed_with (Err write_faults.Write) quiet s a rest after w v u held mid keeps is taken end kept said k = cut_in_closing quiet s a rest w v u held mid keeps is taken end said k
-closed_with (Err write_faults.Memory) quiet s a rest after w v u held mid keeps is taken end kept said k = cut_in_closing quiet s a rest w v u held mid keeps is taken end said k
+closed_with (Ok done) quiet s a rest after w v u held mid keeps is took end kept said k =
+    (s, rest, took, is, end, kept, k.0, behind_answers quiet s.header.tables w v u held mid keeps s.turns (closing_lines (book_after s)) said k.1)
+closed_with (Err write_faults.Write) quiet s a rest after w v u held mid keeps is took end kept said k = cut_in_closing quiet s a rest w v u held mid keeps is took end said k
+closed_with (Err write_faults.Memory) quiet s a rest after w v u held mid keeps is took end kept said k = cut_in_closing quiet s a rest w v u held mid keeps is took end said k
 
 abbrev with_schema : Header → Settings → Header
 with_schema header settings = record { version = header.version; sessions = header.sessions; queue = header.queue; keep = header.keep; tables = settings.schema }
 
-ended_with : {T : Type 0} (closing : Result T WriteFault) (quiet : Bool) (header : Header) (last : Replayed) (a b c : Option (List ℕ)) (w v u : Option (List ℕ)) (held mid keeps : List ℕ)
-    → Consumes a b (lines_text (header_text header)) → HeaderFits header
+ended_with : {T : Type 0} (closing : Result T WriteFault) (quiet : Bool) (header : Header) (last : Replayed) (a b c : Option (List ℕ)) (w v u : Option (List ℕ)) (held mid keeps : List ℕ) (first : ℕ)
+    → HeadTaken header a b first → HeaderFits header
     → (turns : List Turn) × (rest : Option (List ℕ)) × AreTurns header.version b rest (opened_by header) turns last × IsAtEnd rest × Keeps rest c × Pushed w v held mid (lines_text (answer_lines quiet header.tables turns))
     → ClosingGives (Pushed v u mid keeps) (PushedFront v u mid keeps) closing (book_at (with_schema header last.world.settings) last.world)
     → ReplayGives quiet a (Pushed w u held keeps) (PushedFront w u held keeps) (troubled closing) c
-ended_with closing quiet header last a b c w v u held mid keeps taken fits t k =
+ended_with closing quiet header last a b c w v u held mid keeps first head fits t k =
     let same = plays_all_keep (opened_by header) t.0 last t.2.played in
-    closed_with closing quiet (of_turns header t.0 last) a t.1 c w v u held mid keeps (is_replayed header t.0 last b t.1 fits t.2) (lines_taken a b t.1 (header_text header) (step_lines t.0) taken t.2.taken) t.3 t.4 t.5
+    closed_with closing quiet (of_turns header t.0 last) a (point t.1 (first + length t.0)) c w v u held mid keeps (is_replayed header t.0 last b t.1 fits t.2) (steps_taken header t.0 last a b t.1 first head t.2) t.3 t.4 t.5
     (subst (λ (s : Settings). ClosingGives (Pushed v u mid keeps) (PushedFront v u mid keeps) closing (book_at (with_schema header s) last.world)) same k)
 
-pub all_closed : {T : Type 0} (closing : Result T WriteFault) (quiet : Bool) (header : Header) (start last : Replayed) (a b c : Option (List ℕ)) (w v u : Option (List ℕ)) (held mid keeps : List ℕ)
-    → start ≡ opened_by header → Consumes a b (lines_text (header_text header)) → HeaderFits header
+pub all_closed : {T : Type 0} (closing : Result T WriteFault) (quiet : Bool) (header : Header) (start last : Replayed) (a b c : Option (List ℕ)) (w v u : Option (List ℕ)) (held mid keeps : List ℕ) (first : ℕ)
+    → start ≡ opened_by header → HeadTaken header a b first → HeaderFits header
     → (turns : List Turn) × (rest : Option (List ℕ)) × AreTurns header.version b rest start turns last × IsAtEnd rest × Keeps rest c × Pushed w v held mid (lines_text (answer_lines quiet start.world.settings.schema turns))
     → ClosingGives (Pushed v u mid keeps) (PushedFront v u mid keeps) closing (book_at (with_schema header last.world.settings) last.world)
     → ReplayGives quiet a (Pushed w u held keeps) (PushedFront w u held keeps) (troubled closing) c
-all_closed closing quiet header start last a b c w v u held mid keeps began taken fits t k =
-    ended_with closing quiet header last a b c w v u held mid keeps taken fits
+all_closed closing quiet header start last a b c w v u held mid keeps first began head fits t k =
+    ended_with closing quiet header last a b c w v u held mid keeps first head fits
     (subst
     (λ (r : Replayed). (turns : List Turn) × (rest : Option (List ℕ)) × AreTurns header.version b rest r turns last × IsAtEnd rest × Keeps rest c × Pushed w v held mid (lines_text (answer_lines quiet r.world.settings.schema turns)))
     began t) k
 
 -- the same, by the exit of a `?`
-pub all_cut : (fault : WriteFault) (result : Result (Unit {0}) Trouble) (quiet : Bool) (header : Header) (start last : Replayed) (a b c : Option (List ℕ)) (w v u : Option (List ℕ)) (held mid keeps : List ℕ) → IsErrAnd result (λ e. e ≡ write_trouble fault)
-    → start ≡ opened_by header → Consumes a b (lines_text (header_text header)) → HeaderFits header
+pub all_cut : (fault : WriteFault) (result : Result (Unit {0}) Trouble) (quiet : Bool) (header : Header) (start last : Replayed) (a b c : Option (List ℕ)) (w v u : Option (List ℕ)) (held mid keeps : List ℕ) (first : ℕ) → IsErrAnd result (λ e. e ≡ write_trouble fault)
+    → start ≡ opened_by header → HeadTaken header a b first → HeaderFits header
     → (turns : List Turn) × (rest : Option (List ℕ)) × AreTurns header.version b rest start turns last × IsAtEnd rest × Keeps rest c × Pushed w v held mid (lines_text (answer_lines quiet start.world.settings.schema turns))
     → ClosingGives (Pushed v u mid keeps) (PushedFront v u mid keeps) {T = Unit {0}} (Err fault) (book_at (with_schema header last.world.settings) last.world)
     → ReplayGives quiet a (Pushed w u held keeps) (PushedFront w u held keeps) result c
-all_cut fault (Ok done) quiet header start last a b c w v u held mid keeps is began taken fits t k = absurd is
-all_cut fault (Err e) quiet header start last a b c w v u held mid keeps is began taken fits t k =
+all_cut fault (Ok done) quiet header start last a b c w v u held mid keeps first is began head fits t k = absurd is
+all_cut fault (Err e) quiet header start last a b c w v u held mid keeps first is began head fits t k =
     subst (λ (r : Trouble). ReplayGives quiet a (Pushed w u held keeps) (PushedFront w u held keeps) {T = Unit {0}} (Err r) c) (sym is)
-    (all_closed {T = Unit {0}} (Err fault) quiet header start last a b c w v u held mid keeps began taken fits t k)
+    (all_closed {T = Unit {0}} (Err fault) quiet header start last a b c w v u held mid keeps first began head fits t k)
 
 -- a failed write and a want of memory are no failed read
 pub no_read : {T : Type 0} (P : Type 0) (fault : WriteFault) (result : Result T Trouble) → IsErrAnd result (λ e. e ≡ write_trouble fault) → IfErr result (λ e. e ≡ troubles.Read → P)
@@ -204,36 +281,21 @@ end_of_reader (Some x) (Some y) unread e k = last_nil unread y (k ∙ e) ∙ sym
 
 -- a beginning of a text, said otherwise
 cut_so : (quiet : Bool) (before : Option (List ℕ)) (Wrote WroteFront Writes WritesFront : List ℕ → Type 0) → ((text : List ℕ) → WroteFront text → WritesFront text) → IsCutShort quiet before Wrote WroteFront → IsCutShort quiet before Writes WritesFront
-cut_so quiet before Wrote WroteFront Writes WritesFront front (CutBefore said) = CutBefore (front [] said)
-cut_so quiet before Wrote WroteFront Writes WritesFront front (CutAmid s rest is taken said) = CutAmid s rest is taken (front (lines_text (answer_lines quiet s.header.tables s.turns)) said)
-cut_so quiet before Wrote WroteFront Writes WritesFront front (CutAtEnd s rest is taken end audited said) = CutAtEnd s rest is taken end audited (front (lines_text (replay_lines quiet s)) said)
+cut_so quiet before Wrote WroteFront Writes WritesFront front (CutAmid place rest lines took said) = CutAmid place rest lines took (answers_so quiet WroteFront WritesFront front place said)
+cut_so quiet before Wrote WroteFront Writes WritesFront front (CutAtEnd s rest took is end audited said) = CutAtEnd s rest took is end audited (front (lines_text (replay_lines quiet s)) said)
 
 module _ (quiet : Bool) (before : Option (List ℕ)) (Wrote WroteFront Writes WritesFront : List ℕ → Type 0) (whole : (text : List ℕ) → Wrote text → Writes text) (front : (text : List ℕ) → WroteFront text → WritesFront text) where
-  uncounted_so : IsUncounted quiet before Wrote WroteFront → IsUncounted quiet before Writes WritesFront
-  uncounted_so h = record {
-    schedule = h.schedule;
-    rest = h.rest;
-    replayed = h.replayed;
-    taken = h.taken;
-    number = h.number;
-    wrote = whole (lines_text (answer_lines quiet h.schedule.header.tables h.schedule.turns)) h.wrote;
-  }
-
   malformed_so : (n : ℕ) → IsMalformedAt quiet before Wrote WroteFront n → IsMalformedAt quiet before Writes WritesFront n
-  malformed_so n (MalformedHeader lines rest taken begins cannot number said) = MalformedHeader lines rest taken begins cannot number (whole [] said)
-  malformed_so n (MalformedStep s rest is taken cannot number said) = MalformedStep s rest is taken cannot number (whole (lines_text (answer_lines quiet s.header.tables s.turns)) said)
-  malformed_so n (MalformedUncounted h number) = MalformedUncounted (uncounted_so h) number
-
-  unreadable_so : (known : Option (List ℕ)) → IsUnreadable quiet before Wrote WroteFront known → IsUnreadable quiet before Writes WritesFront known
-  unreadable_so known (UnreadHeader lines part taken begins line said) = UnreadHeader lines part taken begins line (whole [] said)
-  unreadable_so known (UnreadStep s part is taken line said) = UnreadStep s part is taken line (whole (lines_text (answer_lines quiet s.header.tables s.turns)) said)
+  malformed_so n (inl (stopped, said)) = inl (stopped, answers_so quiet Wrote Writes whole stopped.place said)
+  malformed_so n (inr (uncounted, number, said)) = inr (uncounted, number, answers_so quiet Wrote Writes whole uncounted.place said)
 
   gives_so : {T : Type 0} (result : Result T Trouble) (known : Option (List ℕ)) (unread : List ℕ) → IfErr result (λ e. e ≡ troubles.Read → unread ≡ []) → ReplayGives quiet before Wrote WroteFront result (prepend_known unread known) → ReplayGives quiet before Writes WritesFront result known
-  gives_so (Ok done) known unread emptied h =
-      (h.0, h.1, h.2, h.3, h.4, end_of_reader h.1 known unread h.4 h.5, h.6, whole (lines_text (replay_lines quiet h.0)) h.7)
+  gives_so (Ok done) known unread emptied (s, rest, took, is, end, kept, audited, said) =
+      (s, rest, took, is, end, end_of_reader rest.left known unread end kept, audited, whole (lines_text (replay_lines quiet s)) said)
   gives_so (Err (troubles.Malformed n)) known unread emptied h = malformed_so n h
   gives_so (Err troubles.Read) known unread emptied h =
-      unreadable_so known (subst (IsUnreadable quiet before Wrote WroteFront) (ap (λ (u : List ℕ). prepend_known u known) (emptied refl) ∙ prepend_known-nil known) h)
+      let torn = subst (IsUnreadable quiet before Wrote WroteFront) (ap (λ (u : List ℕ). prepend_known u known) (emptied refl) ∙ prepend_known-nil known) h in
+      (torn.0, answers_so quiet Wrote Writes whole torn.0.place torn.1)
   gives_so (Err trouble) known unread emptied h = cut_so quiet before Wrote WroteFront Writes WritesFront front h
 
 -- all was flushed
@@ -246,28 +308,20 @@ flushed result quiet before known unread a b c held sent emptied h =
 left_unflushed : (quiet : Bool) (before : Option (List ℕ)) (a b : Option (List ℕ)) (held : List ℕ) → IsCutShort quiet before (Pushed a b [] held) (PushedFront a b [] held) → IsCutShort quiet before (Appends a b) (AppendsFront a b)
 left_unflushed quiet before a b held h = cut_so quiet before (Pushed a b [] held) (PushedFront a b [] held) (Appends a b) (AppendsFront a b) (λ text said. front_sent a b held text said) h
 
--- the lines before a part
-before_part : (a c : Option (List ℕ)) (xs ys : List ℕ) → Consumes a c (xs ++ ys) → (b : Option (List ℕ)) × Consumes a b xs
-before_part None c xs ys h = (None, tt)
-before_part (Some x) None xs ys h = absurd h
-before_part (Some x) (Some z) xs ys h = (Some (ys ++ z), h ∙ append_assoc xs ys z)
-
 -- the flush failed
 flush_failed : {T : Type 0} (result : Result T Trouble) (quiet : Bool) (before after : Option (List ℕ)) (a b c : Option (List ℕ)) (held holds : List ℕ) → Sends b c held holds
     → ReplayGives quiet before (Pushed a b [] held) (PushedFront a b [] held) result after → IsCutShort quiet before (Appends a c) (AppendsFront a c)
-flush_failed (Ok done) quiet before after a b c held holds sent h =
-    CutAtEnd h.0 h.1 h.2 h.3 h.4 h.6 (part_of_all a b c held holds (lines_text (replay_lines quiet h.0)) h.7 sent)
-flush_failed (Err (troubles.Malformed n)) quiet before after a b c held holds sent (MalformedHeader lines rest taken begins cannot number said) = CutBefore (part_of_all a b c held holds [] said sent)
-flush_failed (Err (troubles.Malformed n)) quiet before after a b c held holds sent (MalformedStep s rest is taken cannot number said) =
-    CutAmid s rest is taken (part_of_all a b c held holds (lines_text (answer_lines quiet s.header.tables s.turns)) said sent)
-flush_failed (Err (troubles.Malformed n)) quiet before after a b c held holds sent (MalformedUncounted h number) =
-    CutAmid h.schedule h.rest h.replayed h.taken (part_of_all a b c held holds (lines_text (answer_lines quiet h.schedule.header.tables h.schedule.turns)) h.wrote sent)
-flush_failed (Err troubles.Read) quiet before after a b c held holds sent (UnreadHeader lines part taken begins line said) = CutBefore (part_of_all a b c held holds [] said sent)
-flush_failed (Err troubles.Read) quiet before after a b c held holds sent (UnreadStep s part is taken line said) =
-    let front = before_part before after (lines_text (schedule_lines s)) part taken in
-    CutAmid s front.0 is front.1 (part_of_all a b c held holds (lines_text (answer_lines quiet s.header.tables s.turns)) said sent)
-flush_failed (Err trouble) quiet before after a b c held holds sent h =
-    cut_so quiet before (Pushed a b [] held) (PushedFront a b [] held) (Appends a c) (AppendsFront a c) (λ text said. part_written a b c held holds text said sent) h
+flush_failed {T} result quiet before after a b c held holds sent h = by result h
+  where
+    front : (text : List ℕ) → Pushed a b [] held text → AppendsFront a c text
+    front text said = part_of_all a b c held holds text said sent
+
+    by : (r : Result T Trouble) → ReplayGives quiet before (Pushed a b [] held) (PushedFront a b [] held) r after → IsCutShort quiet before (Appends a c) (AppendsFront a c)
+    by (Ok done) (s, rest, took, is, end, kept, audited, said) = CutAtEnd s rest took is end audited (front (lines_text (replay_lines quiet s)) said)
+    by (Err (troubles.Malformed n)) (inl (stopped, said)) = CutAmid stopped.place stopped.rest stopped.lines stopped.took (answers_so quiet (Pushed a b [] held) (AppendsFront a c) front stopped.place said)
+    by (Err (troubles.Malformed n)) (inr (uncounted, number, said)) = CutAmid uncounted.place uncounted.rest uncounted.lines uncounted.took (answers_so quiet (Pushed a b [] held) (AppendsFront a c) front uncounted.place said)
+    by (Err troubles.Read) (torn, said) = CutAmid torn.place torn.rest torn.lines torn.took (answers_so quiet (Pushed a b [] held) (AppendsFront a c) front torn.place said)
+    by (Err trouble) k = cut_so quiet before (Pushed a b [] held) (PushedFront a b [] held) (Appends a c) (AppendsFront a c) (λ text said. part_written a b c held holds text said sent) k
 
 -- ---- from an input and an output that are new
 
@@ -298,6 +352,13 @@ ended_amid_flush (Ok done) outcome quiet known mid after unread old a b c held h
 ended_amid_flush {T} (Err e) outcome quiet known mid after unread old a b c held holds is nothing none sent h =
     subst (λ (t : Trouble). ReplayGives quiet known (Appends a c) (AppendsFront a c) {T = T} (Err t) after) (sym is)
     (flush_failed outcome quiet known mid a b c held holds sent (from_new known unread old (λ o l. ReplayGives quiet o (Pushed a b l held) (PushedFront a b l held) outcome mid) nothing none h))
+
+-- memory was refused before anything was read
+pub ended_unread : {T : Type 0} (result : Result T Trouble) (quiet : Bool) (known after w : Option (List ℕ)) → IsErrAnd result (λ e. e ≡ troubles.Memory) → ReplayGives quiet known (Appends w w) (AppendsFront w w) result after
+ended_unread (Ok done) quiet known after w is = absurd is
+ended_unread {T} (Err e) quiet known after w is =
+    subst (λ (t : Trouble). ReplayGives quiet known (Appends w w) (AppendsFront w w) {T = T} (Err t) after) (sym is)
+    (cut_before quiet known (Appends w w) (AppendsFront w w) (record { front = []; rest = []; whole = refl; written = Appends-nil w }))
 
 -- an input whose reader failed has nothing unread
 pub emptied_at : {T : Type 0} (result : Result T Trouble) (input : Source) → IfErr result (λ e. e ≡ troubles.Read → HasFailed input) → IfErr result (λ e. e ≡ troubles.Read → input.unread ≡ [])

@@ -1,19 +1,19 @@
 -- A schedule from its first line to its last, and the text that its replay writes (our own choice).
-use Rattle.std.specs.Prelude.{◌≡◌, ◌≢◌, ◌+◌, ◌-◌, ◌^◌, ◌⊎◌, ℕ, Bool, true, false, List, [], ◌∷◌, ◌++◌, map, length, Option, Result, Ok, Err, IfSome, All}
-use Rattle.std.specs.Io.KnownBytes.{Consumes, Keeps, Appends, IsAtEnd}
+use Rattle.std.specs.Prelude.{◌≡◌, ◌≢◌, ◌-◌, ◌^◌, ◌⊎◌, ℕ, Bool, true, false, List, [], ◌∷◌, ◌++◌, map, Option, Result, Ok, Err, All}
+use Rattle.std.specs.Io.KnownBytes.{Keeps, Appends, IsAtEnd}
 use Rattle.occ_types.specs.Schema.{Schema}
 use Rattle.occ_types.specs.declared.fault.Fault.TheVariants as faults
 use Rattle.occ_model.specs.Log.{Audited}
 use Rattle.occ_model.specs.World.{World, low}
-use Rattle.occ_text.specs.declared.versions.Version.{Version}
 use Rattle.occ_text.specs.declared.trouble.Trouble.{Trouble}
 use Rattle.occ_text.specs.declared.trouble.Trouble.TheVariants.{Read, Write, Memory, Malformed}
 use Rattle.occ_cli.specs.Answers.{Answer, answer_text}
 use Rattle.occ_cli.specs.Answers as says
 use Rattle.occ_print.specs.Books.{Book, book_lines, audit_line}
 use Rattle.occ_text.specs.Headers.{Header, HeaderFits, header_text}
-use Rattle.occ_text.specs.HeaderTaking.{BeginsHeader}
-use Rattle.occ_text.specs.Line.{IsLine, BeginsNoLine, CannotStand, lines_text}
+use Rattle.occ_text.specs.Languages.{Position, Took, Stopped, Torn, Uncounted, start}
+use Rattle.occ_text.specs.Line.{lines_text}
+use Rattle.occ_text.specs.ScheduleLines.{Place, Version, Steps, schedules}
 use Rattle.occ_cli.specs.Replaying.{Replayed, Plays, started}
 use Rattle.occ_text.specs.Steps.{Step, StepFits, step_text}
 
@@ -80,50 +80,37 @@ closing_lines book = book_lines book ++ audit_line true ∷ []
 abbrev pub replay_lines : Bool → Schedule → List (List ℕ)
 replay_lines quiet schedule = answer_lines quiet schedule.header.tables schedule.turns ++ closing_lines (book_after schedule)
 
--- what stands next is no line of a step in a text of this version: no line stands there, or another one
-pub data IsNoStep (version : Version) (rest : Option (List ℕ)) : Type 0 where
-  NoLineThere : IfSome rest BeginsNoLine → IsNoStep version rest
-  LineOfNoStep : (line : List ℕ) (after : Option (List ℕ)) → Consumes rest after (line ++ 10 ∷ []) → IsLine line → ((step : Step) → StepFits version step → line ≢ step_text step) → IsNoStep version rest
+-- where a schedule stands behind its steps
+abbrev pub place_behind : Schedule → Place
+place_behind schedule = Steps schedule.header (map (λ turn. turn.0) schedule.turns)
 
--- the line of this number is malformed behind so many lines: the next one is no line of a step, or those are all that have a number of 64 bits, and it is the last of them
-abbrev pub IsNoTurn : Version → Option (List ℕ) → ℕ → ℕ → Type 0
-IsNoTurn version rest taken number = (IsNoStep version rest × (number ≡ taken + 1)) ⊎ ((taken ≡ 2 ^ 64 - 1) × (number ≡ 2 ^ 64 - 1))
+module _ (quiet : Bool) (Said : List ℕ → Type 0) where
+  -- the answers to the steps that stand before a place were said, and nothing else
+  abbrev pub Answers : Place → Type 0
+  Answers (Steps header before) = (schedule : Schedule) × IsReplayed schedule × (place_behind schedule ≡ Steps header before) × Said (lines_text (answer_lines quiet schedule.header.tables schedule.turns))
+  Answers place = Said []
 
 -- The text of a reader, by where its replay ended. `Wrote` tells what was written, `WroteFront` of what text a beginning was.
 module _ (quiet : Bool) (before : Option (List ℕ)) (Wrote WroteFront : List ℕ → Type 0) where
-  -- all lines that have a number of 64 bits were taken and answered
-  pub record IsUncounted : Type 0 where
-    pub schedule : Schedule
-    pub rest : Option (List ℕ)
-    pub replayed : IsReplayed schedule
-    pub taken : Consumes before rest (lines_text (schedule_lines schedule))
-    pub number : length (schedule_lines schedule) ≡ 2 ^ 64 - 1
-    pub wrote : Wrote (lines_text (answer_lines quiet schedule.header.tables schedule.turns))
-
-  -- The line of this number is malformed, and all before it were taken and answered. Where all lines that have a number were taken and answered, it is the last of them.
-  pub data IsMalformedAt (number : ℕ) : Type 0 where
-    MalformedHeader : (lines : List (List ℕ)) (rest : Option (List ℕ)) → Consumes before rest (lines_text lines) → BeginsHeader lines → CannotStand (λ line. BeginsHeader (lines ++ line ∷ [])) rest → number ≡ length lines + 1 → Wrote [] → IsMalformedAt number
-    MalformedStep : (schedule : Schedule) (rest : Option (List ℕ)) → IsReplayed schedule → Consumes before rest (lines_text (schedule_lines schedule)) → IsNoStep schedule.header.version rest → number ≡ length (schedule_lines schedule) + 1
-        → Wrote (lines_text (answer_lines quiet schedule.header.tables schedule.turns)) → IsMalformedAt number
-    MalformedUncounted : IsUncounted → number ≡ 2 ^ 64 - 1 → IsMalformedAt number
+  -- The line of this number is malformed, and all before it were taken and answered. Where all lines that have a number of 64 bits were taken and answered, it is the last of them.
+  abbrev pub IsMalformedAt : ℕ → Type 0
+  IsMalformedAt number = ((stopped : Stopped schedules Version (start before) number) × Answers quiet Wrote stopped.place)
+      ⊎ ((uncounted : Uncounted schedules Version (start before)) × (number ≡ 2 ^ 64 - 1) × Answers quiet Wrote uncounted.place)
 
   -- A read failed: all that the reader gave is the lines that were taken and answered, and a part of another. `after` is what it has left.
-  pub data IsUnreadable (after : Option (List ℕ)) : Type 0 where
-    UnreadHeader : (lines : List (List ℕ)) (part : List ℕ) → Consumes before after (lines_text lines ++ part) → BeginsHeader lines → IsLine part → Wrote [] → IsUnreadable after
-    UnreadStep : (schedule : Schedule) (part : List ℕ) → IsReplayed schedule → Consumes before after (lines_text (schedule_lines schedule) ++ part) → IsLine part
-        → Wrote (lines_text (answer_lines quiet schedule.header.tables schedule.turns)) → IsUnreadable after
+  abbrev pub IsUnreadable : Option (List ℕ) → Type 0
+  IsUnreadable after = (torn : Torn schedules Version (start before) after) × Answers quiet Wrote torn.place
 
-  -- a beginning of the text was written: of nothing yet, of the answers to the lines that were taken, or at their end of the whole
+  -- a beginning of the text was written: of the answers to the lines that were taken, or at their end of the whole
   pub data IsCutShort : Type 0 where
-    CutBefore : WroteFront [] → IsCutShort
-    CutAmid : (schedule : Schedule) (rest : Option (List ℕ)) → IsReplayed schedule → Consumes before rest (lines_text (schedule_lines schedule)) → WroteFront (lines_text (answer_lines quiet schedule.header.tables schedule.turns)) → IsCutShort
-    CutAtEnd : (schedule : Schedule) (rest : Option (List ℕ)) → IsReplayed schedule → Consumes before rest (lines_text (schedule_lines schedule)) → IsAtEnd rest → IsAudited (book_after schedule)
+    CutAmid : (place : Place) (rest : Position) (lines : List (List ℕ)) → Took schedules Version place (start before) rest lines → Answers quiet WroteFront place → IsCutShort
+    CutAtEnd : (schedule : Schedule) (rest : Position) → Took schedules Version (place_behind schedule) (start before) rest (schedule_lines schedule) → IsReplayed schedule → IsAtEnd rest.left → IsAudited (book_after schedule)
         → WroteFront (lines_text (replay_lines quiet schedule)) → IsCutShort
 
   -- what a replay leaves, by its outcome, where `after` is what the reader has left at the end
   abbrev pub ReplayGives : {T : Type 0} → Result T Trouble → Option (List ℕ) → Type 0
   ReplayGives (Ok done) after =
-      (schedule : Schedule) × (rest : Option (List ℕ)) × IsReplayed schedule × Consumes before rest (lines_text (schedule_lines schedule)) × IsAtEnd rest × Keeps rest after
+      (schedule : Schedule) × (rest : Position) × Took schedules Version (place_behind schedule) (start before) rest (schedule_lines schedule) × IsReplayed schedule × IsAtEnd rest.left × Keeps rest.left after
       × IsAudited (book_after schedule) × Wrote (lines_text (replay_lines quiet schedule))
   ReplayGives (Err (Malformed number)) after = IsMalformedAt number
   ReplayGives (Err Read) after = IsUnreadable after

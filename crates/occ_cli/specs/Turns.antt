@@ -1,5 +1,5 @@
 -- What the parts of a replay leave, by their outcomes.
-use Rattle.std.specs.Prelude.{◌≡◌, ◌≢◌, ◌+◌, ◌⊎◌, ℕ, Bool, true, false, List, [], ◌∷◌, ◌++◌, length, Option, Result, Ok, Err, All}
+use Rattle.std.specs.Prelude.{◌≡◌, ◌≢◌, ◌+◌, ◌-◌, ◌^◌, ◌⊎◌, ℕ, Bool, true, false, List, [], ◌∷◌, ◌++◌, length, Option, Result, Ok, Err, IfSome, All}
 use Rattle.std.specs.Bool.{Decides}
 use Rattle.std.specs.Io.KnownBytes.{Consumes, Keeps, IsAtEnd}
 use Rattle.occ_types.specs.Schema.{Schema}
@@ -12,9 +12,9 @@ use Rattle.occ_text.specs.declared.trouble.Trouble.TheVariants.{Read, Write, Mem
 use Rattle.occ_cli.specs.Answers.{Answer}
 use Rattle.occ_cli.specs.Answers as says
 use Rattle.occ_print.specs.Books.{Book, audit_line}
-use Rattle.occ_text.specs.Line.{IsLine, lines_text}
+use Rattle.occ_text.specs.Line.{IsLine, BeginsNoLine, lines_text}
 use Rattle.occ_cli.specs.Replaying.{Replayed, Plays}
-use Rattle.occ_cli.specs.Schedules.{Turn, PlaysAll, step_lines, answer_lines, IsAudited, closing_lines, IsNoTurn}
+use Rattle.occ_cli.specs.Schedules.{Turn, PlaysAll, step_lines, answer_lines, IsAudited, closing_lines}
 use Rattle.occ_text.specs.Steps.{Step, StepFits, step_text}
 
 -- whether no more is written: the writer failed, or memory was refused
@@ -24,6 +24,15 @@ is_cut_short (Err (Malformed number)) = false
 is_cut_short (Err Read) = false
 is_cut_short (Err Write) = true
 is_cut_short (Err Memory) = true
+
+-- what stands next is no line of a step in a text of this version: no line stands there, or another one
+pub data IsNoStep (version : Version) (rest : Option (List ℕ)) : Type 0 where
+  NoLineThere : IfSome rest BeginsNoLine → IsNoStep version rest
+  LineOfNoStep : (line : List ℕ) (after : Option (List ℕ)) → Consumes rest after (line ++ 10 ∷ []) → IsLine line → ((step : Step) → StepFits version step → line ≢ step_text step) → IsNoStep version rest
+
+-- the line of this number is malformed behind so many lines: the next one is no line of a step, or those are all that have a number of 64 bits, and it is the last of them
+abbrev pub IsNoTurn : Version → Option (List ℕ) → ℕ → ℕ → Type 0
+IsNoTurn version rest taken number = (IsNoStep version rest × (number ≡ taken + 1)) ⊎ ((taken ≡ 2 ^ 64 - 1) × (number ≡ 2 ^ 64 - 1))
 
 -- a step is done and answered
 pub record IsTurn (old : Replayed) (step : Step) (answer : Answer) (new : Replayed) : Type 0 where

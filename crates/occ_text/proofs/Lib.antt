@@ -21,6 +21,7 @@ pub mod TokenLists
 pub mod TokenBytes
 pub mod Values
 pub mod WholeHeader
+pub mod Openings
 pub mod Words
 pub mod Causes
 pub mod LinesTaken

@@ -11,7 +11,7 @@ use Rattle.occ_text.specs.declared.faults.LineFault.TheVariants as line_faults
 use Rattle.occ_text.specs.declared.faults.ReadFault.{ReadFault}
 use Rattle.occ_text.specs.declared.faults.ReadFault.TheVariants as faults
 use Rattle.occ_text.specs.Faults.{read_fault}
-use Rattle.occ_text.specs.Languages.{Language, LeadsOn, Leads, LeadOn, Unended, Position, point, Took, Stopped, Torn, Uncounted, FailsFrom, TakesFrom, Ended, EndsFrom}
+use Rattle.occ_text.specs.Languages.{Language, LeadsOn, Leads, LeadOn, Unended, Position, point, Took, Stopped, Torn, Uncounted, FailsFrom, FailsAt, TakesFrom, Ended, EndsFrom}
 use Rattle.occ_text.specs.Line.{Source, IsLine, BeginsNoLine, CannotStand, NoLine, OtherLine, NoneTaken, IsSpelled, LineGives, lines_text}
 use Rattle.occ_text.proofs.Taking.{NoneTaken-narrower}
 
@@ -88,6 +88,13 @@ module _ {language : Language} where
   fails faults.TooManyLines c l t = record { place = t.place; rest = t.rest; lines = _; took = l and t.took; here = t.here }
   fails faults.Memory c l t = tt
 
+  -- the same of places of a kind
+  pub fails_at : (IsKind : language.Place → Type 0) (fault : ReadFault) {p q : language.Place} {a b : Position} {xs : List (List ℕ)} (c : Option (List ℕ)) → Took language p q a b xs → FailsAt language IsKind fault q b c → FailsAt language IsKind fault p a c
+  fails_at IsKind (faults.Malformed number) c l (t, kind) = (record { place = t.place; rest = t.rest; lines = _; took = l and t.took; stuck = t.stuck; unended = t.unended; here = t.here }, kind)
+  fails_at IsKind faults.Read c l (t, kind) = (record { place = t.place; rest = t.rest; lines = _; took = l and t.took; part = t.part; lost = t.lost; torn = t.torn }, kind)
+  fails_at IsKind faults.TooManyLines c l (t, kind) = (record { place = t.place; rest = t.rest; lines = _; took = l and t.took; here = t.here }, kind)
+  fails_at IsKind faults.Memory c l t = tt
+
   -- ---- the whole text
 
   -- the lines of a whole text from a place on, behind lines that lead there
@@ -127,7 +134,7 @@ module _ (language : Language) where
   uncounted_here from a all = record { place = from; rest = a; lines = []; took = none; here = all }
 
   -- where a line stands, a text doesn't end
-  more_to_come : (place : language.Place) (bytes : List ℕ) (a b : Option (List ℕ)) → Consumes a b (bytes ++ 10 ∷ []) → Unended language a place
+  pub more_to_come : (place : language.Place) (bytes : List ℕ) (a b : Option (List ℕ)) → Consumes a b (bytes ++ 10 ∷ []) → Unended language a place
   more_to_come place bytes None b taken = tt
   more_to_come place bytes (Some x) None taken = absurd taken
   more_to_come place bytes (Some x) (Some y) taken = λ ended may.
@@ -149,6 +156,21 @@ module _ (language : Language) where
   none_fails IsKind faults.TooManyLines from a b first more only t = uncounted_here from (point a first) t
   none_fails IsKind faults.Memory from a b first more only t = tt
 
+  -- the same at a place of a kind
+  pub line_refused_at : (IsKind : language.Place → Type 0) (from : language.Place) (bytes : List ℕ) (a b : Option (List ℕ)) (first last number : ℕ) → Consumes a b (bytes ++ 10 ∷ []) × (last ≡ first + 1) × IsLine bytes → IsKind from
+      → (LeadsOn language from bytes → ⊥) → number ≡ last → FailsAt language IsKind (faults.Malformed number) from (point a first) b
+  line_refused_at IsKind from bytes a b first last number taken kind other here =
+      (record { place = from; rest = point a first; lines = []; took = none; stuck = OtherLine bytes b taken.0 taken.2 other; unended = more_to_come from bytes a b taken.0; here = here ∙ taken.1 }, kind)
+
+  pub none_fails_at : (IsKind : language.Place → Type 0) (IsOther : List ℕ → Type 0) (fault : ReadFault) (from : language.Place) (a b : Option (List ℕ)) (first : ℕ) → IsKind from → (language.MayEnd from → ⊥)
+      → ((bytes : List ℕ) → LeadsOn language from bytes → IsOther bytes) → NoneTaken IsOther fault a b first → FailsAt language IsKind fault from (point a first) b
+  none_fails_at IsKind IsOther (faults.Malformed number) from a b first kind more only t =
+      let other = NoneTaken-narrower IsOther (LeadsOn language from) (faults.Malformed number) a b first only t in
+      (record { place = from; rest = point a first; lines = []; took = none; stuck = other.0; unended = unended_by a from more; here = other.1 }, kind)
+  none_fails_at IsKind IsOther faults.Read from a b first kind more only t = (record { place = from; rest = point a first; lines = []; took = none; part = t.0; lost = t.2; torn = t.1 }, kind)
+  none_fails_at IsKind IsOther faults.TooManyLines from a b first kind more only t = (record { place = from; rest = point a first; lines = []; took = none; here = t }, kind)
+  none_fails_at IsKind IsOther faults.Memory from a b first kind more only t = tt
+
   -- ---- one line of the grammar of a place
 
   pub next_taken : {a b : Option (List ℕ)} {first last : ℕ} (from : language.Place) (told : (language.grammar from).Told) → Consumes a b ((language.grammar from).spell told ++ 10 ∷ []) × (language.grammar from).fits told × (last ≡ first + 1)
@@ -161,7 +183,7 @@ module _ (language : Language) where
   -- ---- no line at all
 
   -- where no line stands, a text doesn't end
-  torn_or_long : (place : language.Place) (a : Option (List ℕ)) → IfSome a BeginsNoLine → Unended language a place
+  pub torn_or_long : (place : language.Place) (a : Option (List ℕ)) → IfSome a BeginsNoLine → Unended language a place
   torn_or_long place None none = tt
   torn_or_long place (Some x) none = λ ended may.
       let n : length x ≡ 0 = ap length ended in

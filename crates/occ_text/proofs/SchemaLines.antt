@@ -1,6 +1,6 @@
 -- The lines of the tables of a schema: which line may stand behind those of some tables.
-use Rattle.std.proofs.Common.{◌≡◌, ℕ, ◌<◌, ◌≤◌, ◌&&◌, ◌||◌, not, ◌⊎◌, inl, inr, Bool, true, false, ltb, leb, List, [], ◌∷◌, ◌++◌, length, map, Some, None, refl, sym, ap, subst, ◌∙◌, arith, length-append}
-use Rattle.std.specs.Prelude.{option_and_then, codes, nat_eq}
+use Rattle.std.proofs.Common.{◌≡◌, ℕ, ◌<◌, ◌≤◌, ◌&&◌, ◌||◌, not, Bool, true, false, ltb, leb, List, [], ◌∷◌, ◌++◌, length, Some, None, refl, sym, ap, subst, ◌∙◌, arith, length-append}
+use Rattle.std.specs.Prelude.{option_and_then, nat_eq}
 use Rattle.std.specs.List.{All, list_all, list_any}
 use Rattle.std.specs.Char.{is_ascii_lowercase}
 use Rattle.std.specs.Cmp.Lexicographic.{pointwise}
@@ -13,14 +13,12 @@ use Rattle.occ_types.specs.declared.fault.Fault.TheVariants.{BadSchema}
 use Rattle.occ_types.specs.Schema.{Table, fault_if, is_name, are_tables, check_tables, has_name}
 use Rattle.occ_text.specs.declared.versions.Version.{Version}
 use Rattle.occ_text.specs.Spelling.{IsName}
-use Rattle.occ_text.specs.Reading.{is_token}
 use Rattle.occ_text.specs.Headers.{table_text, KindFits, KindsFit, TableFits, TableHasLine}
-use Rattle.occ_text.specs.HeaderReading.{table_of_tokens, table_of_line}
-use Rattle.occ_text.specs.HeaderTaking.{TablesSoFar, if_free, table_behind, GoesOn}
+use Rattle.occ_text.specs.HeaderReading.{table_of_line}
+use Rattle.occ_text.specs.HeaderTaking.{TablesSoFar, if_free, table_behind}
 use Rattle.occ_text.proofs.Escapes.{some_is, bind_value}
-use Rattle.occ_text.proofs.Words.{both, IsToken-from_test, tokens_again}
+use Rattle.occ_text.proofs.Words.{both}
 use Rattle.occ_text.proofs.Readers.{takes}
-use Rattle.occ_text.proofs.TokenLists.{one_token}
 use Rattle.occ_text.proofs.HeaderLines.{tested, table_reads}
 
 -- ---- what tables stand in a schema
@@ -106,14 +104,6 @@ each_fits (table ∷ tables) h =
     let s = first_table table tables h in
     All-cons TableFits table tables (fits_of table tables s) (each_fits tables s.rest)
 
--- and those of kinds that a version has have lines in its texts
-pub has_lines : (version : Version) (tables : List Table) → are_tables tables ≡ true → KindsFit version tables → All (TableHasLine version) tables
-has_lines version [] h k = All-nil (TableHasLine version)
-has_lines version (table ∷ tables) h k =
-    let s = first_table table tables h in
-    All-cons (TableHasLine version) table tables (record { fits = fits_of table tables s; key = All-head (λ t. KindFits version t.key) table tables k })
-    (has_lines version tables s.rest (All-tail (λ t. KindFits version t.key) table tables k))
-
 last_kind : (version : Version) (tables : List Table) (table : Table) (more : List Table) → KindsFit version (tables ++ table ∷ more) → KindFits version table.key
 last_kind version [] table more k = All-head (λ t. KindFits version t.key) table more k
 last_kind version (first ∷ tables) table more k = last_kind version tables table more (All-tail (λ t. KindFits version t.key) first (tables ++ table ∷ more) k)
@@ -169,13 +159,6 @@ table_again version table fits = (table_reads version (table_text table)).again 
 pub same_table : (version : Version) (a b : Table) → TableHasLine version a → TableHasLine version b → table_text a ≡ table_text b → a ≡ b
 same_table version a b p q e = some_is a b (sym (table_again version a p) ∙ ap (table_of_line version) e ∙ table_again version b q)
 
-steps_is_no_table : (version : Version) (table : Table) → TableHasLine version table → codes "steps" ≡ table_text table → ⊥
-unfolding is_token table_of_line table_of_tokens
-steps_is_no_table version table fits e =
-    let none : table_of_line version (codes "steps") ≡ None = ap (option_and_then (table_of_tokens version)) (tokens_again (codes "steps" ∷ []) (one_token (IsToken-from_test (codes "steps") refl))) in
-    let is : None ≡ Some table = sym none ∙ ap (table_of_line version) e ∙ table_again version table fits in
-    cc is
-
 abbrev pub first_line : List (List ℕ) → List ℕ
 first_line [] = []
 first_line (line ∷ lines) = line
@@ -183,43 +166,6 @@ first_line (line ∷ lines) = line
 abbrev pub later_lines : List (List ℕ) → List (List ℕ)
 later_lines [] = []
 later_lines (line ∷ lines) = lines
-
-abbrev Behind : List Table → List Table → List ℕ → Type 0
-Behind all tables line = ((all ≡ tables) × (line ≡ codes "steps")) ⊎ ((table : Table) × (rest : List Table) × (all ≡ tables ++ table ∷ rest) × (line ≡ table_text table))
-
-behind_more : (x y : Table) (xs ys : List Table) (line : List ℕ) → x ≡ y → Behind xs ys line → Behind (x ∷ xs) (y ∷ ys) line
-behind_more x y xs ys line same (inl p) = inl ((λ i. same i ∷ p.0 i), p.1)
-behind_more x y xs ys line same (inr p) = inr (p.0, p.1, (λ i. same i ∷ p.2 i), p.3)
-
--- it is `steps` behind all of them, or the line of the next table
-which_line : (version : Version) (all tables : List Table) (line : List ℕ) (more : List (List ℕ)) → All (TableHasLine version) all → All (TableHasLine version) tables
-    → map table_text all ++ codes "steps" ∷ [] ≡ map table_text tables ++ line ∷ more → Behind all tables line
-which_line version [] [] line more p q e = inl (refl, sym (ap first_line e))
-which_line version [] (y ∷ ys) line more p q e = absurd (steps_is_no_table version y (All-head (TableHasLine version) y ys q) (ap first_line e))
-which_line version (x ∷ xs) [] line more p q e = inr (x, xs, refl, sym (ap first_line e))
-which_line version (x ∷ xs) (y ∷ ys) line more p q e =
-    behind_more x y xs ys line (same_table version x y (All-head (TableHasLine version) x xs p) (All-head (TableHasLine version) y ys q) (ap first_line e))
-    (which_line version xs ys line more (All-tail (TableHasLine version) x xs p) (All-tail (TableHasLine version) y ys q) (ap later_lines e))
-
--- where a line goes on, it is `steps`, or it is read
-goes_on : (version : Version) (tables : List Table) (line : List ℕ) → TablesSoFar version tables → GoesOn version tables line
-    → ((check_tables tables ≡ None) × (line ≡ codes "steps")) ⊎ ((table : Table) × TableHasLine version table × (line ≡ table_text table) × (table_behind version tables line ≡ Some table))
-unfolding table_behind
-goes_on version tables line so_far g =
-    let s = IsSchema-from_check g.0 g.1 in
-    elim (which_line version g.0 tables line g.3 (has_lines version g.0 s.each g.2) (has_lines version tables so_far.each so_far.kinds) g.4) [
-      | inl p ↦ inl (subst (λ (l : List Table). check_tables l ≡ None) p.0 g.1, p.1)
-      | inr p ↦
-          let table = p.0 in
-          let all = p.2 in
-          let all_so_far : TablesSoFar version g.0 = record { few = s.few; each = s.each; kinds = g.2 } in
-          let whole : TablesSoFar version (tables ++ p.0 ∷ p.1) = subst (TablesSoFar version) p.2 all_so_far in
-          let free = name_is_free tables p.0 p.1 whole.each in
-          let few = whole.few in
-          let lt : length tables < 32 = omega (arith, length-append tables (p.0 ∷ p.1)) in
-          let fits : TableHasLine version p.0 = record { fits = last_fits tables p.0 p.1 whole.each; key = last_kind version tables p.0 p.1 whole.kinds } in
-          inr (p.0, fits, p.3, ap (option_and_then (if_free tables)) (ap (table_of_line version) p.3 ∙ table_again version p.0 fits) ∙ rw (lt-ltb (length tables) 32 lt, free) refl)
-    ]
 
 -- the last one of tables that may stand in a schema has a line
 pub last_table : (version : Version) (tables : List Table) (table : Table) → TablesSoFar version (tables ++ table ∷ []) → TableHasLine version table
@@ -232,22 +178,6 @@ table_found version tables table so_far =
     let few = so_far.few in
     let lt : length tables < 32 = omega (arith, length-append tables (table ∷ [])) in
     ap (option_and_then (if_free tables)) (table_again version table (last_table version tables table so_far)) ∙ rw (lt-ltb (length tables) 32 lt, name_is_free tables table [] so_far.each) refl
-
--- ---- the ends
-
--- a line that isn't `steps` and isn't read can't stand
-pub line_refused : (version : Version) (tables : List Table) (line : List ℕ) → TablesSoFar version tables → (line ≡ codes "steps" → ⊥) → table_behind version tables line ≡ None → GoesOn version tables line → ⊥
-line_refused version tables line so_far other none g = elim (goes_on version tables line so_far g) [
-  | inl p ↦ other p.1
-  | inr p ↦ let e : None ≡ Some p.0 = sym none ∙ p.3 in cc e
-]
-
--- `steps` can't stand where the tables make no schema
-pub steps_refused : (version : Version) (tables : List Table) (fault : Fault) → TablesSoFar version tables → check_tables tables ≡ Some fault → GoesOn version tables (codes "steps") → ⊥
-steps_refused version tables fault so_far bad g = elim (goes_on version tables (codes "steps") so_far g) [
-  | inl p ↦ let e : None ≡ Some fault = sym p.0 ∙ bad in cc e
-  | inr p ↦ steps_is_no_table version p.0 p.1 p.2
-]
 
 -- a table that was read behind others stands behind them
 pub record Next (version : Version) (tables : List Table) (line : List ℕ) (table : Table) : Type 0 where

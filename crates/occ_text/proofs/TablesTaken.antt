@@ -1,29 +1,27 @@
 -- Taking the lines of tables, and the line behind them.
-use Rattle.std.proofs.Common.{◌≡◌, ℕ, ◌+◌, Bool, true, false, List, [], ◌∷◌, ◌++◌, length, map, Option, Some, None, Result, Ok, Err, refl, sym, ap, subst, ◌∙◌, arith, length-append}
-use Rattle.std.specs.Prelude.{codes, IsTrue, ◌↔◌, is_some}
+use Rattle.std.proofs.Common.{◌≡◌, ℕ, ◌+◌, Bool, true, false, List, [], ◌∷◌, ◌++◌, map, Option, Some, None, Result, Ok, Err, refl, sym, ap, subst, ◌∙◌, arith, length-append}
+use Rattle.std.specs.Prelude.{is_some}
 use Rattle.std.specs.Result.{IsErrAnd}
 use Rattle.std.specs.Io.KnownBytes.{Consumes}
 use Rattle.std.proofs.KnownBytes.{Consumes-nil}
 use Rattle.std.proofs.lemmas.List.{map-append, length-map}
-use Rattle.occ_types.specs.declared.fault.Fault.{Fault}
-use Rattle.occ_types.specs.Schema.{Table, Schema, check_tables}
+use Rattle.occ_types.specs.Schema.{Table, check_tables}
 use Rattle.occ_text.specs.declared.tokens.Unread.{Unread}
 use Rattle.occ_text.specs.declared.tokens.Unread.TheVariants as unread
 use Rattle.occ_text.specs.declared.faults.ReadFault.{ReadFault}
 use Rattle.occ_text.specs.declared.faults.ReadFault.TheVariants as faults
 use Rattle.occ_text.specs.declared.versions.Version.{Version}
 use Rattle.occ_text.specs.Escapes.{Gives}
-use Rattle.occ_text.specs.Headers.{table_text, KindsFit}
+use Rattle.occ_text.specs.Headers.{table_text}
 use Rattle.occ_text.specs.HeaderReading.{UnlessMalformed, TakesTable}
-use Rattle.occ_text.specs.HeaderTaking.{TablesSoFar, table_behind, GoesOn, SchemaTaken}
-use Rattle.occ_text.specs.Languages.{Language, Leads, LeadsOn, point, Took, Stopped, FailsFrom}
-use Rattle.occ_text.specs.Line.{IsLine, OtherLine, NoneTaken, lines_text}
+use Rattle.occ_text.specs.HeaderTaking.{TablesSoFar, table_behind}
+use Rattle.occ_text.specs.Languages.{Language, Leads, LeadsOn, point, Took, Stopped, FailsFrom, FailsAt}
+use Rattle.occ_text.specs.Line.{IsLine, NoneTaken, lines_text}
 use Rattle.occ_text.specs.TableTaking.{Further, OneTable, Behind, further_text, MayFollow, if_read, OtherTaken, NextTaken, TablesRead, TablesTold, TablesCut, TablesTaken}
-use Rattle.occ_text.proofs.LinesTaken.{one_line, ◌and◌, fails, line_refused, none_fails}
-use Rattle.occ_text.proofs.SchemaLines as schema_lines
-use Rattle.occ_text.proofs.SchemaLines.{steps_refused, table_next, table_found}
+use Rattle.occ_text.proofs.LinesTaken.{one_line, ◌and◌, fails, fails_at, line_refused, line_refused_at, none_fails, none_fails_at}
+use Rattle.occ_text.proofs.SchemaLines.{table_next, table_found}
 use Rattle.occ_text.proofs.TableLines.{no_tables_yet, tables_lead}
-use Rattle.occ_text.proofs.Taking.{NoneTaken-narrower, taken_more}
+use Rattle.occ_text.proofs.Taking.{taken_more}
 
 -- ---- the line behind some tables
 
@@ -75,45 +73,6 @@ none_read version view fault (Ok x) tables line c last is read cut = absurd is
 none_read version view fault (Err e) tables line {a} {b} {first} {mid} c last is read cut =
     subst (λ (f : ReadFault). TablesCut version f a c first) (sym is) (record { tables = tables; rest = b; next = mid; read = read; cut = cut })
 
--- ---- tables of a schedule, with `steps` behind them
-
-pub schema_cut : (version : Version) (fault : ReadFault) (result : Result Schema ReadFault) (a c : Option (List ℕ)) (first last : ℕ) → IsErrAnd result (λ e. e ≡ fault) → TablesCut version fault a c first → SchemaTaken version result a c first last
-schema_cut version fault (Ok schema) a c first last is t = absurd is
-schema_cut version fault (Err e) a c first last is t = (
-  t.tables,
-  t.rest,
-  t.read.taken,
-  t.read.so_far,
-  subst (λ (f : ReadFault). NoneTaken (GoesOn version t.tables) f t.rest c (first + length t.tables)) (sym is)
-      (NoneTaken-narrower (λ line. Unit {0}) (GoesOn version t.tables) fault t.rest c (first + length t.tables) (λ line g. tt) (subst (NoneTaken (λ line. Unit {0}) fault t.rest c) t.read.number t.cut)),
-)
-
--- a line stands behind them that can't
-schema_stopped : (version : Version) (tables : List Table) (line : List ℕ) (a c : Option (List ℕ)) (first last n : ℕ) → TablesTold version tables line a c first last → (GoesOn version tables line → ⊥) → n ≡ last → SchemaTaken version (Err (faults.Malformed n)) a c first last
-schema_stopped version tables line a c first last n t never here =
-    let before = t.read.number in
-    let step = t.other.number in
-    (tables, t.rest, t.read.taken, t.read.so_far, (OtherLine line c t.other.taken t.other.alone never, omega arith))
-
-pub schema_refused : (version : Version) (tables : List Table) (shown line : List ℕ) (test : Bool) (a c : Option (List ℕ)) (first last n : ℕ) → TablesTold version tables line a c first last → shown ≡ line → (IsTrue test ↔ shown ≡ codes "steps") → test ≡ false → n ≡ last
-    → SchemaTaken version (Err (faults.Malformed n)) a c first last
-schema_refused version tables shown line test a c first last n t same is not_it here =
-    let other : line ≡ codes "steps" → ⊥ = λ e. let yes = is.1 (same ∙ e) in let f : false ≡ true = sym not_it ∙ yes in cc f in
-    schema_stopped version tables line a c first last n t (schema_lines.line_refused version tables line t.read.so_far other t.other.none) here
-
-pub schema_none : (version : Version) (tables : List Table) (fault : Fault) (line : List ℕ) (a c : Option (List ℕ)) (first last n : ℕ) → TablesTold version tables line a c first last → line ≡ codes "steps" → check_tables tables ≡ Some fault → n ≡ last
-    → SchemaTaken version (Err (faults.Malformed n)) a c first last
-schema_none version tables fault line a c first last n t steps bad here =
-    schema_stopped version tables line a c first last n t (λ g. steps_refused version tables fault t.read.so_far bad (subst (GoesOn version tables) steps g)) here
-
-pub schema_told : (version : Version) (tables schema : List Table) (line : List ℕ) (a c : Option (List ℕ)) (first last : ℕ) → TablesTold version tables line a c first last → line ≡ codes "steps" → (check_tables tables ≡ None) × (schema ≡ tables)
-    → Consumes a c (lines_text (map table_text schema ++ codes "steps" ∷ [])) × (check_tables schema ≡ None) × KindsFit version schema × (last ≡ first + length schema + 1)
-schema_told version tables schema line a c first last t steps good =
-    let before = t.read.number in
-    let step = t.other.number in
-    subst (λ (s : List Table). Consumes a c (lines_text (map table_text s ++ codes "steps" ∷ [])) × (check_tables s ≡ None) × KindsFit version s × (last ≡ first + length s + 1)) (sym good.1)
-    (taken_more (map table_text tables) (codes "steps") a t.rest c t.read.taken (subst (λ (l : List ℕ). Consumes t.rest c (l ++ 10 ∷ [])) steps t.other.taken), good.0, t.read.so_far.kinds, omega arith)
-
 -- ---- tables of a language
 
 -- a line that tells no table, and nothing that may stand behind all, goes no further
@@ -144,3 +103,14 @@ module _ (language : Language) {version : Version} (at : List Table → language
   pub tables_stop : {tables : List Table} {line : List ℕ} {a c : Option (List ℕ)} {first last : ℕ} (number : ℕ) → TablesTold version tables line a c first last → (LeadsOn language (at tables) line → ⊥) → number ≡ last → Stopped language (at []) (point a first) number
   tables_stop {tables} {line} {a} {c} {first} {last} number t other here =
       fails (faults.Malformed number) c (tables_took t.read) (line_refused language (at tables) line t.rest c t.next last number (t.other.taken, t.other.number, t.other.alone) other here)
+
+  -- the same of places of a kind
+  module _ (IsKind : language.Place → Type 0) (each : (tables : List Table) → IsKind (at tables)) where
+    pub tables_fail_at : (fault : ReadFault) {a c : Option (List ℕ)} {first : ℕ} → ((tables : List Table) → language.MayEnd (at tables) → ⊥) → TablesCut version fault a c first → FailsAt language IsKind fault (at []) (point a first) c
+    tables_fail_at fault {a} {c} unended t =
+        fails_at IsKind fault c (tables_took t.read) (none_fails_at language IsKind (λ line. Unit {0}) fault (at t.tables) t.rest c t.next (each t.tables) (unended t.tables) (λ line leads. tt) t.cut)
+
+    pub tables_stop_at : {tables : List Table} {line : List ℕ} {a c : Option (List ℕ)} {first last : ℕ} (number : ℕ) → TablesTold version tables line a c first last → (LeadsOn language (at tables) line → ⊥) → number ≡ last
+        → FailsAt language IsKind (faults.Malformed number) (at []) (point a first) c
+    tables_stop_at {tables} {line} {a} {c} {first} {last} number t other here =
+        fails_at IsKind (faults.Malformed number) c (tables_took t.read) (line_refused_at language IsKind (at tables) line t.rest c t.next last number (t.other.taken, t.other.number, t.other.alone) (each tables) other here)

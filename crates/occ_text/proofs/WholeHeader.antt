@@ -1,26 +1,18 @@
--- A whole header, line by line, and the line at which there is none.
-use Rattle.std.proofs.Common.{◌≡◌, ℕ, ◌+◌, ◌<◌, ◌≤◌, List, [], ◌∷◌, ◌++◌, length, map, Option, None, Result, Ok, Err, refl, sym, ap, subst, ◌∙◌, arith, append_assoc, length-append}
+-- The first lines of a schedule or a book, and the line at which there is none of them.
+use Rattle.std.proofs.Common.{◌≡◌, ℕ, ◌+◌, ◌<◌, ◌≤◌, List, [], ◌∷◌, ◌++◌, length, Option, Result, Ok, Err, refl, sym, ap, subst, arith, length-append}
 use Rattle.std.specs.Prelude.{codes}
 use Rattle.std.specs.Result.{IsErrAnd}
 use Rattle.std.specs.Io.KnownBytes.{Consumes}
-use Rattle.std.proofs.KnownBytes.{Consumes-nil, Consumes-trans}
-use Rattle.std.proofs.lemmas.List.{length-map}
-use Rattle.std.proofs.lemmas.List.Elements.{All-nil, All-cons}
-use Rattle.std.proofs.lemmas.Grind.{flat_map-append}
-use Rattle.occ_types.specs.declared.kind.Kind.TheVariants as cells
-use Rattle.occ_types.specs.declared.kind.KeyKind.TheVariants as keys
-use Rattle.occ_types.specs.Schema.{Table, Schema, check_tables}
+use Rattle.std.proofs.KnownBytes.{Consumes-nil}
 use Rattle.occ_text.specs.declared.headers.Limits.{Limits}
 use Rattle.occ_text.specs.declared.versions.Version.{Version}
 use Rattle.occ_text.specs.declared.versions.Version.TheVariants.{One}
 use Rattle.occ_text.specs.declared.faults.LineFault.{LineFault}
-use Rattle.occ_text.specs.declared.faults.ReadFault.{ReadFault}
 use Rattle.occ_text.specs.Faults.{read_fault}
-use Rattle.occ_text.specs.Headers.{Header, Within, LimitsFit, HeaderFits, KindFits, KindsFit, limits_of, limits_lines, header_text, version_text, table_text, count_text}
+use Rattle.occ_text.specs.Headers.{Within, LimitsFit, limits_lines, version_text, count_text}
 use Rattle.occ_text.specs.Line.{NoneTaken, IsSpelled, lines_text}
-use Rattle.occ_text.specs.HeaderTaking.{TablesSoFar, GoesOn, SchemaTaken, BeginsLimits, LimitsTaken, BeginsHeader, HeaderTaken}
-use Rattle.occ_text.proofs.HeaderLines.{same_version}
-use Rattle.occ_text.proofs.SchemaLines.{first_line, later_lines, check-from_IsSchema}
+use Rattle.occ_text.specs.HeaderTaking.{BeginsLimits, LimitsTaken}
+use Rattle.occ_text.proofs.SchemaLines.{first_line, later_lines}
 use Rattle.occ_text.proofs.Taking.{NoneTaken-narrower, taken_more}
 
 -- ---- limits that begin so
@@ -134,118 +126,3 @@ pub end_keep : (v : Version) (fault : LineFault) (result : Result Limits LineFau
 end_keep v fault result a b c d e s q n0 n1 n2 n3 n4 is vt st qt t =
     limits_stop (IsSpelled keep_line (Within 1 4096)) fault result (version_text v ∷ session_line s ∷ queue_line q ∷ []) a d e n0 n3 n4 is t (behind_3 v a b c d s q n0 n1 n2 n3 vt st qt) (begins_3 v s q st.1 qt.1) (omega arith)
     (λ line g. (g.0.keep, g.1.keep, sym (ap (λ (l : List (List ℕ)). first_line (later_lines (later_lines (later_lines l)))) g.3)))
-
--- ---- from limits to headers
-
-example : Schema
-example = record { name = 97 ∷ []; key = keys.Num; columns = cells.Int ∷ [] } ∷ []
-
-example_fits : check_tables example ≡ None
-unfolding example
-example_fits = refl
-
-example_kinds : (version : Version) → KindsFit version example
-unfolding example
-example_kinds version = All-cons (λ t. KindFits version t.key) _ [] tt (All-nil (λ t. KindFits version t.key))
-
-abbrev pub with_tables : Limits → Schema → Header
-with_tables limits tables = record { version = limits.version; sessions = limits.sessions; queue = limits.queue; keep = limits.keep; tables = tables }
-
-header_fits : (limits : Limits) (tables : Schema) → LimitsFit limits → check_tables tables ≡ None → KindsFit limits.version tables → HeaderFits (with_tables limits tables)
-header_fits limits tables lf tf kf = record { sessions = lf.sessions; queue = lf.queue; keep = lf.keep; tables = tf; kinds = kf }
-
-abbrev pub table_lines : Schema → List (List ℕ)
-table_lines tables = map table_text tables ++ codes "steps" ∷ []
-
--- what limits begin with a header begins with
-header_begins : (lines : List (List ℕ)) → BeginsLimits lines → BeginsHeader lines
-header_begins lines g = (
-  with_tables g.0 example,
-  header_fits g.0 example g.1 example_fits (example_kinds g.0.version),
-  g.2 ++ table_lines example,
-  ap (λ (l : List (List ℕ)). l ++ table_lines example) g.3 ∙ append_assoc lines g.2 (table_lines example),
-)
-
-front_of : {X : Type 0} (xs ys zs ws : List X) → length zs ≤ length xs → xs ++ ys ≡ zs ++ ws → (more : List X) × (xs ≡ zs ++ more)
-front_of xs ys [] ws le e = (xs, refl)
-front_of [] ys (z ∷ zs) ws le e = absurd (omega arith)
-front_of {X} (x ∷ xs) ys (z ∷ zs) ws le e =
-    let first : x ≡ z = cc e in
-    let later : xs ++ ys ≡ zs ++ ws = cc e in
-    let r = front_of xs ys zs ws (omega arith) later in
-    (r.0, λ i. first i ∷ r.1 i)
-
--- the first four lines that a header begins with limits begin with
-limits_begin : (lines : List (List ℕ)) → length lines ≤ 4 → BeginsHeader lines → BeginsLimits lines
-limits_begin lines few g =
-    let r = front_of (limits_lines (limits_of g.0)) (table_lines g.0.tables) lines g.2 (omega arith) g.3 in
-    (limits_of g.0, record { sessions = g.1.sessions; queue = g.1.queue; keep = g.1.keep }, r.0, r.1)
-
-begins_tables : (limits : Limits) (tables : List Table) → LimitsFit limits → TablesSoFar limits.version tables → BeginsHeader (limits_lines limits ++ map table_text tables)
-begins_tables limits [] lf so_far = (with_tables limits example, header_fits limits example lf example_fits (example_kinds limits.version), table_lines example, refl)
-begins_tables limits (table ∷ tables) lf so_far =
-    (with_tables limits (table ∷ tables), header_fits limits (table ∷ tables) lf (check-from_IsSchema limits.version (table ∷ tables) (omega arith) so_far) so_far.kinds, codes "steps" ∷ [], refl)
-
--- ---- the header's ends
-
-pub end_limits : {V : Type 0} (shown : V → Header) (fault : LineFault) (result : Result V ReadFault) (a b : Option (List ℕ)) (first last : ℕ) → IsErrAnd result (λ e. e ≡ read_fault fault) → first ≡ 0 → LimitsTaken (Err fault) a b first last
-    → HeaderTaken shown result a b last
-end_limits shown fault (Ok x) a b first last is start t = absurd is
-end_limits shown fault (Err e) a b first last is start t =
-    let lines = t.0 in
-    let few = t.4 in
-    let Next : List ℕ → Type 0 = λ line. BeginsHeader (lines ++ line ∷ []) in
-    let count : first + length lines ≡ length lines = ap (λ (k : ℕ). k + length lines) start ∙ omega arith in (
-      lines,
-      t.1,
-      t.2,
-      header_begins lines t.3,
-      omega arith,
-      subst (λ (f : ReadFault). NoneTaken Next f t.1 b (length lines)) (sym is) (subst (NoneTaken Next (read_fault fault) t.1 b) count
-          (NoneTaken-narrower (λ line. BeginsLimits (lines ++ line ∷ [])) Next (read_fault fault) t.1 b (first + length lines)
-          (λ line g. limits_begin (lines ++ line ∷ []) (omega (arith, length-append lines (line ∷ []))) g) t.5)),
-    )
-
-both_lines : (first later : List (List ℕ)) (a b c : Option (List ℕ)) → Consumes a b (lines_text first) → Consumes b c (lines_text later) → Consumes a c (lines_text (first ++ later))
-both_lines first later a b c p q =
-    subst (Consumes a c) (sym (flat_map-append (λ (l : List ℕ). l ++ 10 ∷ []) first later)) (Consumes-trans a b c (lines_text first) (lines_text later) p q)
-
--- a line behind the tables of a header goes on
-behind_tables : (limits : Limits) (tables : List Table) (line : List ℕ) → BeginsHeader ((limits_lines limits ++ map table_text tables) ++ line ∷ []) → GoesOn limits.version tables line
-behind_tables limits tables line g = (
-  g.0.tables,
-  g.1.tables,
-  subst (λ (v : Version). KindsFit v g.0.tables) (same_version g.0.version limits.version (ap first_line g.3)) g.1.kinds,
-  g.2,
-  ap (λ (l : List (List ℕ)). later_lines (later_lines (later_lines (later_lines l)))) g.3 ∙ append_assoc (map table_text tables) (line ∷ []) g.2,
-)
-
-abbrev LimitsBehind : Limits → Option (List ℕ) → Option (List ℕ) → ℕ → ℕ → Type 0
-LimitsBehind limits a b first last = Consumes a b (lines_text (limits_lines limits)) × LimitsFit limits × (last ≡ first + 4)
-
-pub end_tables : {V : Type 0} (shown : V → Header) (fault : ReadFault) (result : Result V ReadFault) (limits : Limits) (a b c : Option (List ℕ)) (first mid last : ℕ) → IsErrAnd result (λ e. e ≡ fault) → first ≡ 0 → LimitsBehind limits a b first mid
-    → SchemaTaken limits.version (Err fault) b c mid last → HeaderTaken shown result a c last
-end_tables shown fault (Ok x) limits a b c first mid last is start f t = absurd is
-end_tables shown fault (Err e) limits a b c first mid last is start f t =
-    let lines = limits_lines limits ++ map table_text t.0 in
-    let Next : List ℕ → Type 0 = λ line. BeginsHeader (lines ++ line ∷ []) in
-    let four = f.2 in
-    let all : length (limits_lines limits ++ map table_text t.0) ≡ 4 + length t.0 = omega (arith, length-append (limits_lines limits) (map table_text t.0), length-map t.0 table_text) in
-    let count : mid + length t.0 ≡ length (limits_lines limits ++ map table_text t.0) = omega arith in (
-      lines,
-      t.1,
-      both_lines (limits_lines limits) (map table_text t.0) a b t.1 f.0 t.2,
-      begins_tables limits t.0 f.1 t.3,
-      omega (arith, t.3.few),
-      subst (λ (f : ReadFault). NoneTaken Next f t.1 c (length lines)) (sym is) (subst (NoneTaken Next fault t.1 c) count
-          (NoneTaken-narrower (GoesOn limits.version t.0) Next fault t.1 c (mid + length t.0) (λ line g. behind_tables limits t.0 line g) t.4)),
-    )
-
-pub whole : (limits : Limits) (tables : Schema) (a b c : Option (List ℕ)) (first mid last : ℕ) → first ≡ 0 → LimitsBehind limits a b first mid
-    → Consumes b c (lines_text (table_lines tables)) × (check_tables tables ≡ None) × KindsFit limits.version tables × (last ≡ mid + length tables + 1)
-    → Consumes a c (lines_text (header_text (with_tables limits tables))) × HeaderFits (with_tables limits tables) × (last ≡ length (header_text (with_tables limits tables)))
-whole limits tables a b c first mid last start f t =
-    let four = f.2 in
-    let end = t.3 in
-    let count : length (table_lines tables) ≡ length tables + 1 = omega (arith, length-append (map table_text tables) (codes "steps" ∷ []), length-map tables table_text) in
-    (both_lines (limits_lines limits) (table_lines tables) a b c f.0 t.0, header_fits limits tables f.1 t.1 t.2, omega arith)

@@ -109,6 +109,13 @@ module _ (language : Language) where
   FailsFrom faults.TooManyLines from before after = Uncounted from before
   FailsFrom faults.Memory from before after = Unit {0}
 
+  -- the same where the lines before lead to a place of a kind
+  abbrev pub FailsAt : (language.Place → Type 0) → ReadFault → language.Place → Position → Option (List ℕ) → Type 0
+  FailsAt IsKind (faults.Malformed number) from before after = (stopped : Stopped from before number) × IsKind stopped.place
+  FailsAt IsKind faults.Read from before after = (torn : Torn from before after) × IsKind torn.place
+  FailsAt IsKind faults.TooManyLines from before after = (uncounted : Uncounted from before) × IsKind uncounted.place
+  FailsAt IsKind faults.Memory from before after = Unit {0}
+
   -- what taking lines from a place leaves, by its outcome: the lines of what was read, which fits
   abbrev pub TakesFrom : {X : Type 0} → Result X ReadFault → language.Place → (X → language.Place) → (X → List (List ℕ)) → (X → Type 0) → Position → Position → Type 0
   TakesFrom (Ok x) from to lines fits before after = Took from (to x) before after (lines x) × fits x

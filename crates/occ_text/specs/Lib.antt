@@ -9,6 +9,7 @@ pub mod Languages
 pub mod Line
 pub mod OperationReading
 pub mod Operations
+pub mod ScheduleLines
 pub mod SeparatedParts
 pub mod Printing
 pub mod Reading

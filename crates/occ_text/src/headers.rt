@@ -1,6 +1,6 @@
 //! The header of a schedule: the readers of its lines, and of the whole. A book begins with the same lines up to its tables.
 
-ghost use Rattle.std.specs.Prelude.{◌≡◌, ◌↔◌, true, is_some, Some, IfOk, IfErr, IsTrue, codes};
+ghost use Rattle.std.specs.Prelude.{◌≡◌, ◌↔◌, true, is_some, Some, None, [], ◌∷◌, ◌++◌, map, IfOk, IfErr, IsTrue, codes};
 ghost use Rattle.std.specs.List.{list_any};
 ghost use Rattle.std.specs.Io.KnownBytes.{prepend_known};
 ghost use Rattle.occ_types.specs.Schema as plain;
@@ -11,10 +11,12 @@ ghost use Rattle.occ_text.specs.Faults.{widened};
 ghost use Rattle.occ_text.specs.declared.faults.LineFault.TheVariants as line_faults;
 ghost use Rattle.occ_text.specs.declared.faults.ReadFault.TheVariants as read_faults;
 ghost use Rattle.occ_text.specs.HeaderReading.{version_of, count_of_line, table_of_parts, table_of_tokens, table_of_line, heads_table, tokens_head_table, line_heads_table, UnlessMalformed, TakesTable};
-ghost use Rattle.occ_text.specs.HeaderTaking.{TablesSoFar, table_behind, SchemaTaken, LimitsTaken, HeaderTaken, header_of};
-ghost use Rattle.occ_text.specs.Headers.{version_text, count_text, table_text, Within, TableHasLine};
+ghost use Rattle.occ_text.specs.HeaderTaking.{TablesSoFar, table_behind, LimitsTaken, header_of};
+ghost use Rattle.occ_text.specs.Headers.{version_text, count_text, table_text, Within, TableHasLine, KindsFit};
+ghost use Rattle.occ_text.specs.Languages.{position_of};
 ghost use Rattle.occ_text.specs.Line.{Taken, HasFailed};
 ghost use Rattle.occ_text.specs.Reading.{Reads};
+ghost use Rattle.occ_text.specs.ScheduleLines.{Tables as TablesAt, Steps as StepsAt, OpeningTaken, HeaderTaken, with_tables};
 ghost use Rattle.occ_text.specs.Spelling.{IsToken};
 ghost use Rattle.occ_text.specs.TableTaking.{if_read, NextTaken, TablesTaken};
 
@@ -317,16 +319,16 @@ pub fn take_tables<R: Read, A: Allocator + Copy>(
 /// Takes the lines of the tables, and `steps`.
 fn take_schema<R: Read, A: Allocator + Copy>(
     alloc: A,
-    version: Version,
+    limits: Limits,
     input: &mut Input<A>,
     reader: &mut R,
 ) -> Result<Schema<A>, ReadFault>
-    ensures gives { SchemaTaken version result (prepend_known input.old.unread (R.remaining reader.old))
-        (prepend_known input.new.unread (R.remaining reader.new)) input.old.number input.new.number }
-    ensures memory { IfErr result (λ fault. fault ≡ read_faults.Memory → line_heads_table version input.new.line ≡ true) }
+    ensures gives { OpeningTaken result (TablesAt limits []) (λ schema. StepsAt (with_tables limits schema) []) (λ schema. map table_text schema ++ codes "steps" ∷ []) (λ schema. (plain.check_tables schema ≡ None) × KindsFit limits.version schema)
+        (position_of input.old (R.remaining reader.old)) (position_of input.new (R.remaining reader.new)) }
+    ensures memory { IfErr result (λ fault. fault ≡ read_faults.Memory → line_heads_table limits.version input.new.line ≡ true) }
     ensures cause { IfErr result (λ fault. fault ≡ read_faults.Read → HasFailed input.new) }
 {
-    let tables = take_tables(alloc, version, input, reader)?;
+    let tables = take_tables(alloc, limits.version, input, reader)?;
     let number = input.number();
     if !is_steps(input.line()) {
         return Err(ReadFault::Malformed(number));
@@ -346,12 +348,10 @@ pub fn read_header<R: Read, A: Allocator + Copy>(
     input: &mut Input<A>,
     reader: &mut R,
 ) -> Result<Header<A>, ReadFault>
-    requires { input.old.number ≡ 0 }
-    ensures gives { HeaderTaken header_of result (prepend_known input.old.unread (R.remaining reader.old))
-        (prepend_known input.new.unread (R.remaining reader.new)) input.new.number }
+    ensures gives { HeaderTaken header_of result (position_of input.old (R.remaining reader.old)) (position_of input.new (R.remaining reader.new)) }
     ensures cause { IfErr result (λ fault. fault ≡ read_faults.Read → HasFailed input.new) }
 {
     let limits = take_limits(input, reader)?;
-    let schema = take_schema(alloc, limits.version, input, reader)?;
+    let schema = take_schema(alloc, limits, input, reader)?;
     Ok(Header { limits, schema })
 }
