@@ -1,5 +1,5 @@
 -- What a desk makes of what its worker did in one holding.
-use Rattle.std.proofs.Common.{◌≡◌, ◌⊎◌, inr, ℕ, ◌+◌, ℤ, Bool, false, List, [], length, Option, None, Some, Result, Ok, Err, Vec, map, refl, sym, ap, subst, ◌∙◌, IfErr, OnOk, OnErr}
+use Rattle.std.proofs.Common.{◌≡◌, ◌⊎◌, inr, ℕ, ℤ, Bool, false, List, [], length, Option, Some, Result, Ok, Err, Vec, map, refl, sym, ap, subst, ◌∙◌, IfErr, OnOk, OnErr}
 use Rattle.std.specs.Prelude.{⊤, IsErrAnd, MatchResult}
 use Rattle.std.specs.Global.{Global}
 use Rattle.std.specs.Io.KnownBytes.{Appends, Consumes, prepend_known}
@@ -10,7 +10,7 @@ use Rattle.occ_types.specs.Question.{Question}
 use Rattle.occ_types.specs.Schema.{Schema}
 use Rattle.occ_types.specs.declared.fault.Fault.{Fault}
 use Rattle.occ_types.specs.declared.fault.Refused.{Refused}
-use Rattle.occ_model.specs.Event.{Reply, RanAlone}
+use Rattle.occ_model.specs.Event.{RanAlone}
 use Rattle.occ_model.specs.Event as events
 use Rattle.occ_model.specs.Replies.{replied_back}
 use Rattle.occ_model.specs.State.{Answer}

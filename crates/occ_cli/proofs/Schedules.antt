@@ -1,5 +1,6 @@
 -- A schedule, turn by turn, and what was written of its text.
 use Rattle.std.proofs.Common.{◌≡◌, ◌≢◌, ℕ, ◌+◌, Bool, true, false, List, [], ◌∷◌, ◌++◌, length, Option, Some, Result, Ok, Err, refl, sym, ap, subst, ◌∙◌, inl, inr, arith, append-nil, length-append, IsErrAnd}
+use Rattle.occ_text.specs.ScheduleLines.{HasLine}
 use Rattle.occ_cli.proofs.Common.{Consumes, Keeps, IsAtEnd, Consumes-nil, Consumes-trans, map-append, Schema, WriteFault, answer_text, Source, IsLine, LineGives, lines_text, Pushed, PushedFront, PrintGives, Settings, Replayed, Plays, Turn, PlaysAll, step_lines, answer_lines, NoLineThere, LineOfNoStep, IsNoTurn, StepFits, step_text, IsTurn, IsHalfTurn, AreTurns, AreHalfSaid, AnswerGives, TurnGives, TurnsGive, Pushed-nothing, Pushed-then, front_none, front_then, front_behind, lines_text-append, lines_then}
 use Rattle.std.proofs.lemmas.List.Elements.{All-nil, All-cons, All-append}
 use Rattle.occ_types.specs.declared.fault.Fault.TheVariants as faults
@@ -40,12 +41,12 @@ steps_more turns turn =
     ∙ ap (λ (l : List ℕ). lines_text (step_lines turns) ++ l) (one_line (step_text turn.0))
 
 pub no_turns : (version : Version) (a : Option (List ℕ)) (old : Replayed) → AreTurns version a a old [] old
-no_turns version a old = record { steps = All-nil (λ (turn : Turn). StepFits version turn.0); played = refl; taken = Consumes-nil a }
+no_turns version a old = record { steps = All-nil (λ (turn : Turn). HasLine version turn.0); played = refl; taken = Consumes-nil a }
 
 pub turns_more : (version : Version) (a b c : Option (List ℕ)) (old : Replayed) (turns : List Turn) (mid : Replayed) (step : Step) (answer : Answer) (new : Replayed)
-    → AreTurns version a b old turns mid → StepFits version step → Consumes b c (step_text step ++ 10 ∷ []) → IsTurn mid step answer new → AreTurns version a c old (turns ++ (step, answer) ∷ []) new
+    → AreTurns version a b old turns mid → HasLine version step → Consumes b c (step_text step ++ 10 ∷ []) → IsTurn mid step answer new → AreTurns version a c old (turns ++ (step, answer) ∷ []) new
 turns_more version a b c old turns mid step answer new h fits takes t = record {
-  steps = All-append (λ (turn : Turn). StepFits version turn.0) turns ((step, answer) ∷ []) h.steps (All-cons (λ (turn : Turn). StepFits version turn.0) (step, answer) [] fits (All-nil (λ (turn : Turn). StepFits version turn.0)));
+  steps = All-append (λ (turn : Turn). HasLine version turn.0) turns ((step, answer) ∷ []) h.steps (All-cons (λ (turn : Turn). HasLine version turn.0) (step, answer) [] fits (All-nil (λ (turn : Turn). HasLine version turn.0)));
   played = plays_more old turns mid step answer new h.played t;
   taken = subst (Consumes a c) (sym (steps_more turns (step, answer))) (Consumes-trans a b c (lines_text (step_lines turns)) (step_text step ++ 10 ∷ []) h.taken takes);
 }

@@ -1,6 +1,6 @@
 -- A whole replay, put together from its parts.
 use Rattle.std.proofs.Common.{◌≡◌, ℕ, ◌+◌, refl, Bool, true, List, [], ◌∷◌, ◌++◌, length, map, Option, None, Some, Result, Ok, Err, sym, ap, subst, ◌∙◌, inl, inr, append_assoc, append-nil, IfErr, IsErrAnd}
-use Rattle.occ_cli.proofs.Common.{Appends, Keeps, IsAtEnd, prepend_known, Appends-nil, Appends-trans, prepend_known-nil, length-map, Schema, Settings, WriteFault, Source, HasFailed, lines_text, Pushed, PushedFront, Replayed, Turn, Schedule, IsReplayed, opened_by, place_behind, step_lines, schedule_lines, answer_lines, Answers, book_at, book_after, IsAudited, closing_lines, replay_lines, IsNoStep, NoLineThere, LineOfNoStep, IsNoTurn, IsMalformedAt, IsUnreadable, IsCutShort, CutAmid, CutAtEnd, ReplayGives, AppendsFront, Sends, StepFits, step_text, AreTurns, TurnsGive, ClosingGives, is_cut_short, Pushed-nothing, front_none, front_behind, lines_then}
+use Rattle.occ_cli.proofs.Common.{Appends, Keeps, IsAtEnd, prepend_known, Appends-nil, Appends-trans, prepend_known-nil, length-map, Schema, Settings, WriteFault, Source, HasFailed, lines_text, Pushed, PushedFront, Replayed, Turn, Schedule, IsReplayed, opened_by, place_behind, step_lines, schedule_lines, answer_lines, Answers, book_at, book_after, IsAudited, closing_lines, replay_lines, IsNoStep, NoLineThere, LineOfNoStep, IsNoTurn, IsMalformedAt, IsUnreadable, IsCutShort, CutAmid, CutAtEnd, ReplayGives, AppendsFront, Sends, step_text, AreTurns, TurnsGive, ClosingGives, is_cut_short, Pushed-nothing, front_none, front_behind, lines_then}
 use Rattle.occ_text.specs.declared.faults.ReadFault.{ReadFault}
 use Rattle.occ_text.specs.declared.faults.ReadFault.TheVariants as faults
 use Rattle.occ_text.specs.declared.faults.WriteFault.TheVariants as write_faults
@@ -12,7 +12,7 @@ use Rattle.std.specs.List.{All}
 use Rattle.std.proofs.lemmas.List.Elements.{All-head, All-tail}
 use Rattle.occ_text.specs.Languages.{Position, Took, Stopped, FailsAt, point, start}
 use Rattle.occ_text.specs.Line.{NoLine, OtherLine}
-use Rattle.occ_text.specs.ScheduleLines.{Place, Version, Sessions, Queue, Keep, Tables, Steps, IsOpening, HeaderTaken, schedules}
+use Rattle.occ_text.specs.ScheduleLines.{HasLine, Place, Version, Sessions, Queue, Keep, Tables, Steps, IsOpening, HeaderTaken, schedules}
 use Rattle.occ_text.specs.Steps.{Step}
 use Rattle.occ_text.proofs.LinesTaken.{Path, on, ◌and◌, more_to_come, torn_or_long}
 use Rattle.occ_text.proofs.LinesTaken as lines
@@ -27,11 +27,11 @@ is_replayed : (header : Header) (turns : List Turn) (state : Replayed) (a b : Op
 is_replayed header turns state a b fits are = record { header = fits; steps = are.steps; played = are.played }
 
 -- lines of steps lead on behind others
-steps_lead : (header : Header) (before : List Step) (turns : List Turn) → All (λ (turn : Turn). StepFits header.version turn.0) turns → Path schedules (Steps header before) (Steps header (before ++ map (λ (turn : Turn). turn.0) turns)) (step_lines turns)
+steps_lead : (header : Header) (before : List Step) (turns : List Turn) → All (λ (turn : Turn). HasLine header.version turn.0) turns → Path schedules (Steps header before) (Steps header (before ++ map (λ (turn : Turn). turn.0) turns)) (step_lines turns)
 steps_lead header before [] each = record { leads = ap (Steps header) (append-nil before) }
 steps_lead header before (turn ∷ turns) each =
-    let more = steps_lead header (before ++ turn.0 ∷ []) turns (All-tail (λ (t : Turn). StepFits header.version t.0) turn turns each) in
-    on {q = Steps header (before ++ turn.0 ∷ [])} (turn.0, All-head (λ (t : Turn). StepFits header.version t.0) turn turns each, refl, refl)
+    let more = steps_lead header (before ++ turn.0 ∷ []) turns (All-tail (λ (t : Turn). HasLine header.version t.0) turn turns each) in
+    on {q = Steps header (before ++ turn.0 ∷ [])} (turn.0, All-head (λ (t : Turn). HasLine header.version t.0) turn turns each, refl, refl)
     (subst (λ (all : List Step). Path schedules (Steps header (before ++ turn.0 ∷ [])) (Steps header all) (step_lines turns)) (append_assoc before (turn.0 ∷ []) (map (λ (t : Turn). t.0) turns)) more)
 
 -- a header was taken from the beginning of a text
@@ -106,7 +106,7 @@ no_step header before rest number {lines = lines} n took (LineOfNoStep line afte
     rest = point rest n;
     lines = lines;
     took = took;
-    stuck = OtherLine line after taken is (λ leads. none leads.1.0 leads.1.1 leads.1.2);
+    stuck = OtherLine line after taken is (λ leads. none leads.1.0 leads.1.1.fits leads.1.2);
     unended = more_to_come schedules (Steps header before) line rest after taken;
     here = here;
   },

@@ -13,9 +13,9 @@ use Rattle.occ_print.specs.Books.{Book, book_lines, audit_line}
 use Rattle.occ_text.specs.Headers.{Header, HeaderFits, header_text}
 use Rattle.occ_text.specs.Languages.{Position, Took, Stopped, Torn, Uncounted, start}
 use Rattle.occ_text.specs.Line.{lines_text}
-use Rattle.occ_text.specs.ScheduleLines.{Place, Version, Steps, schedules}
+use Rattle.occ_text.specs.ScheduleLines.{Place, Version, Steps, HasLine, schedules}
 use Rattle.occ_cli.specs.Replaying.{Replayed, Plays, started}
-use Rattle.occ_text.specs.Steps.{Step, StepFits, step_text}
+use Rattle.occ_text.specs.Steps.{Step, step_text}
 
 -- one step of a schedule, with its answer
 abbrev pub Turn : Type 0
@@ -38,7 +38,7 @@ opened_by header = started (record { schema = header.tables; sessions = header.s
 
 pub record IsReplayed (schedule : Schedule) : Type 0 where
   pub header : HeaderFits schedule.header
-  pub steps : All (λ turn. StepFits schedule.header.version turn.0) schedule.turns
+  pub steps : All (λ turn. HasLine schedule.header.version turn.0) schedule.turns
   pub played : PlaysAll (opened_by schedule.header) schedule.turns schedule.state
 
 abbrev pub step_lines : List Turn → List (List ℕ)

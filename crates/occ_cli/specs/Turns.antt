@@ -15,6 +15,7 @@ use Rattle.occ_print.specs.Books.{Book, audit_line}
 use Rattle.occ_text.specs.Line.{IsLine, BeginsNoLine, lines_text}
 use Rattle.occ_cli.specs.Replaying.{Replayed, Plays}
 use Rattle.occ_cli.specs.Schedules.{Turn, PlaysAll, step_lines, answer_lines, IsAudited, closing_lines}
+use Rattle.occ_text.specs.ScheduleLines.{HasLine}
 use Rattle.occ_text.specs.Steps.{Step, StepFits, step_text}
 
 -- whether no more is written: the writer failed, or memory was refused
@@ -56,14 +57,14 @@ module _ (quiet : Bool) (version : Version) (schema : Schema) (Wrote WroteFront 
   -- the line of a step was taken, and a beginning of its answer was written
   pub record IsHalfTurn (before rest : Option (List ℕ)) (old new : Replayed) : Type 0 where
     pub step : Step
-    pub fits : StepFits version step
+    pub fits : HasLine version step
     pub taken : Consumes before rest (step_text step ++ 10 ∷ [])
     pub said : IsHalfSaid quiet schema Wrote WroteFront step old new
 
   -- what one turn leaves, where first and last are how many lines were taken before and after
   abbrev pub TurnGives : Result Bool Trouble → Option (List ℕ) → Option (List ℕ) → ℕ → ℕ → Replayed → Replayed → Type 0
   TurnGives (Ok true) before after first last old new =
-      (turn : Turn) × StepFits version turn.0 × Consumes before after (step_text turn.0 ++ 10 ∷ []) × IsTurn old turn.0 turn.1 new × Wrote (lines_text (answer_lines quiet schema (turn ∷ []))) × (last ≡ first + 1)
+      (turn : Turn) × HasLine version turn.0 × Consumes before after (step_text turn.0 ++ 10 ∷ []) × IsTurn old turn.0 turn.1 new × Wrote (lines_text (answer_lines quiet schema (turn ∷ []))) × (last ≡ first + 1)
   TurnGives (Ok false) before after first last old new = IsAtEnd before × Keeps before after × (new ≡ old) × Wrote []
   TurnGives (Err (Malformed number)) before after first last old new = IsNoTurn version before first number × Wrote []
   TurnGives (Err Read) before after first last old new = (part : List ℕ) × IsLine part × Consumes before after part × Wrote []
@@ -72,7 +73,7 @@ module _ (quiet : Bool) (version : Version) (schema : Schema) (Wrote WroteFront 
 
 -- some steps were taken from a text, done and answered
 pub record AreTurns (version : Version) (before rest : Option (List ℕ)) (old : Replayed) (turns : List Turn) (new : Replayed) : Type 0 where
-  pub steps : All (λ turn. StepFits version turn.0) turns
+  pub steps : All (λ turn. HasLine version turn.0) turns
   pub played : PlaysAll old turns new
   pub taken : Consumes before rest (lines_text (step_lines turns))
 

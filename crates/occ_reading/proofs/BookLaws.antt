@@ -1,8 +1,7 @@
 -- Which line leads on from a place, and that no text of a book is malformed.
 use Rattle.std.proofs.Common.{◌≡◌, ℕ, zero, suc, ◌^◌, ◌-◌, ◌<◌, ◌≤◌, List, ◌∷◌, ◌++◌, Option, Some, None, lit<, refl, sym, ap, subst, ◌∙◌, arith, Bool, true, false, []}
-use Rattle.occ_reading.proofs.Common.{Asked, AskedOne, AskedSpan, Began, BeganFits, Book, BookFits, Frame, InRow, IsEnding, IsLine, IsToken-from_test, Key, LeadOn, Object, Path, Place, Section, Stopped, TablesSoFar, Version, along, audit_line, began_of_line, began_text, behind_began, behind_read, book_lines, book_text, books, check_tables, codes, entries_to_come, frame_of, grammar, in_row, is_token, line_of_words, lines_text, numbers_to_come, pairs_to_come, reads_to_come, rows_to_come, same_version, some_is, start, table_asked, two_tokens, version_text, writes_to_come}
+use Rattle.occ_reading.proofs.Common.{Asked, AskedOne, AskedSpan, Began, BeganFits, Book, BookFits, Frame, InRow, IsEnding, IsLine, IsToken-from_test, Key, LeadOn, Object, Path, Place, Section, Stopped, TablesSoFar, Version, along, audit_line, began_of_line, began_text, behind_began, behind_read, book_lines, book_text, books, check_tables, codes, entries_to_come, frame_of, grammar, in_row, is_token, line_of_words, lines_text, numbers_to_come, pairs_to_come, reads_to_come, rows_to_come, same_version, some_is, start, table_asked, two_tokens, writes_to_come}
 use Rattle.std.proofs.lemmas.Grind.{flat_map-append}
-use Rattle.occ_text.specs.declared.versions.Version.TheVariants as versions
 use Rattle.occ_reading.specs.Places as places
 use Rattle.occ_reading.specs.declared.number_lines.Began.TheVariants as begun
 use Rattle.occ_print.specs.declared.sections.Section.TheVariants as sections
@@ -10,6 +9,7 @@ use Rattle.occ_reading.proofs.NumberLines.{wide, head_field, mark_field, number_
 use Rattle.occ_reading.proofs.RowLines.{asked_reads, asked_is_line, pair_is_field, write_reads, write_is_line, at_is_field, entry_word_width}
 use Rattle.occ_text.proofs.LanguageLaws.{IsRight, by_reading, by_field, by_count, only_place, never_stops, stops_once}
 use Rattle.occ_text.proofs.TableLines.{further_right, no_tables_yet}
+use Rattle.occ_text.proofs.ScheduleLaws.{version_is_line}
 use Rattle.occ_reading.proofs.PartPlaces.{beginning_is_no_table}
 use Rattle.occ_reading.proofs.BookLeads.{book_leads, ending_leads}
 
@@ -76,11 +76,6 @@ sound_began frame (begun.Base head) h = sound_numbers sections.Base frame head.r
 
 small_sessions : (n : ℕ) → n ≤ 64 → n < 2 ^ 64
 small_sessions n le = omega arith
-
-version_is_line : (version : Version) → IsLine (version_text version)
-unfolding is_token
-version_is_line versions.One = line_of_words (codes "occ" ∷ codes "1" ∷ []) (two_tokens (IsToken-from_test (codes "occ") refl) (IsToken-from_test (codes "1") refl)) (omega arith)
-version_is_line versions.Two = line_of_words (codes "occ" ∷ codes "2" ∷ []) (two_tokens (IsToken-from_test (codes "occ") refl) (IsToken-from_test (codes "2") refl)) (omega arith)
 
 audit_is_line : (verdict : Bool) → IsLine (audit_line verdict)
 unfolding is_token

@@ -29,3 +29,4 @@ pub mod TextLines
 pub mod LanguageLaws
 pub mod TableLines
 pub mod TablesTaken
+pub mod ScheduleLaws

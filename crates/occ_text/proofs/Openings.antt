@@ -1,21 +1,26 @@
 -- The header of a schedule: where its lines lead, and the line at which it fails.
-use Rattle.std.proofs.Common.{◌≡◌, ℕ, ◌+◌, ◌<◌, List, [], ◌∷◌, ◌++◌, length, map, Option, None, Result, Ok, Err, refl, sym, ap, subst, arith}
+use Rattle.std.proofs.Common.{◌≡◌, ℕ, ◌+◌, ◌<◌, List, [], ◌∷◌, ◌++◌, length, map, Option, None, Result, Ok, Err, refl, sym, ap, subst, arith, append_assoc}
 use Rattle.std.specs.Prelude.{codes}
 use Rattle.std.specs.Result.{IsErrAnd}
 use Rattle.std.specs.Io.KnownBytes.{Consumes}
+use Rattle.std.specs.List.{All}
+use Rattle.std.proofs.lemmas.List.{append-nil}
+use Rattle.std.proofs.lemmas.List.Elements.{All-head, All-tail}
 use Rattle.occ_types.specs.Schema.{Table, Schema, check_tables}
 use Rattle.occ_text.specs.declared.headers.Limits.{Limits}
 use Rattle.occ_text.specs.declared.faults.LineFault.{LineFault}
 use Rattle.occ_text.specs.declared.faults.ReadFault.{ReadFault}
 use Rattle.occ_text.specs.declared.faults.ReadFault.TheVariants as faults
 use Rattle.occ_text.specs.Faults.{read_fault}
-use Rattle.occ_text.specs.Headers.{Header, HeaderFits, KindsFit, LimitsFit, header_text, limits_lines, table_text, version_text}
+use Rattle.occ_text.specs.Headers.{Header, HeaderFits, KindsFit, LimitsFit, header_text, limits_lines, limits_of, table_text, version_text}
 use Rattle.occ_text.specs.HeaderTaking.{TablesSoFar, BeginsLimits, LimitsTaken}
 use Rattle.occ_text.specs.Languages.{Leads, LeadsOn, LeadOn, Position, point, Took, FailsAt}
 use Rattle.occ_text.specs.Line.{NoneTaken, lines_text}
-use Rattle.occ_text.specs.ScheduleLines.{Place, Version, Sessions, Queue, Keep, Tables, Steps, MayEnd, IsOpening, OpeningTaken, schedules, steps_text, with_tables}
+use Rattle.occ_text.specs.ScheduleLines.{HasLine, ScheduleFits, schedule_lines, Place, Version, Sessions, Queue, Keep, Tables, Steps, MayEnd, IsOpening, OpeningTaken, schedules, steps_text, with_tables}
+use Rattle.occ_text.specs.Steps.{Step, step_text}
 use Rattle.occ_text.specs.TableTaking.{OneTable, Behind, TablesTold, TablesCut}
-use Rattle.occ_text.proofs.LinesTaken.{Path, stay, on, ◌and◌, spelled, fails_at, none_fails_at}
+use Rattle.occ_text.proofs.TableLines.{tables_lead, schema_so_far}
+use Rattle.occ_text.proofs.LinesTaken.{Path, stay, on, along, ◌and◌, spelled, fails_at, none_fails_at}
 use Rattle.occ_text.proofs.SchemaLines.{first_line, later_lines}
 use Rattle.occ_text.proofs.TablesTaken.{no_further, tables_fail_at, tables_end, tables_stop_at}
 use Rattle.occ_text.proofs.WholeHeader.{session_line, queue_line, begins_1, begins_2, begins_3, begins_4}
@@ -123,3 +128,24 @@ pub header_taken : (limits : Limits) (schema : Schema) (a b c : Option (List ℕ
     → Took schedules (Tables limits []) (Steps (with_tables limits schema) []) (point b mid) (point c last) (schema_lines schema) × SchemaFits limits schema
     → Took schedules Version (Steps (with_tables limits schema) []) (point a first) (point c last) (header_text (with_tables limits schema)) × HeaderFits (with_tables limits schema)
 header_taken limits schema a b c first mid last f t = (limits_took limits f and t.0, header_fits limits schema f.1 t.1)
+
+-- ---- the whole schedule
+
+-- lines of steps lead on behind others
+pub steps_lead : (header : Header) (before steps : List Step) → All (HasLine header.version) steps → Path schedules (Steps header before) (Steps header (before ++ steps)) (map step_text steps)
+steps_lead header before [] each = record { leads = ap (Steps header) (append-nil before) }
+steps_lead header before (step ∷ steps) each =
+    let more = steps_lead header (before ++ step ∷ []) steps (All-tail (HasLine header.version) step steps each) in
+    on {q = Steps header (before ++ step ∷ [])} (step, All-head (HasLine header.version) step steps each, refl, refl)
+    (subst (λ (all : List Step). Path schedules (Steps header (before ++ step ∷ [])) (Steps header all) (map step_text steps)) (append_assoc before (step ∷ []) steps) more)
+
+pub schedule_leads : (header : Header) (steps : List Step) → ScheduleFits header steps → LeadOn schedules Version (schedule_lines header steps) (Steps header steps)
+schedule_leads header steps fits =
+    let limits = limits_of header in
+    let path = along (along (limits_lead limits (record { sessions = fits.opening.sessions; queue = fits.opening.queue; keep = fits.opening.keep })) tables) (steps_lead header [] steps fits.each) in
+    path.leads
+  where
+    tables : Path schedules (Tables (limits_of header) []) (Steps header []) (schema_lines header.tables)
+    tables =
+        along (tables_lead {language = schedules} {version = header.version} (Tables (limits_of header)) (one_more (limits_of header)) [] header.tables (schema_so_far header.version header.tables fits.opening.tables fits.opening.kinds))
+        (on {q = Steps header []} (Behind tt, (fits.opening.tables, tt), refl, refl) stay)

@@ -1,5 +1,5 @@
 -- Where a schedule stands behind some of its lines, and which lines may come next there (our own choice; decided line by line, so that a schedule is malformed at the first line that can't stand).
-use Rattle.std.specs.Prelude.{ℕ, List, [], ◌∷◌, ◌++◌, Result, Ok, Err, codes}
+use Rattle.std.specs.Prelude.{◌≤◌, ℕ, List, [], ◌∷◌, ◌++◌, All, map, length, Result, Ok, Err, codes}
 use Rattle.occ_types.specs.Schema.{Table, Schema}
 use Rattle.occ_text.specs.declared.faults.ReadFault.{ReadFault}
 use Rattle.occ_text.specs.declared.headers.Limits.{Limits}
@@ -14,6 +14,20 @@ limits_with version sessions queue keep = record { version = version; sessions =
 
 abbrev pub with_tables : Limits → Schema → Header
 with_tables limits tables = record { version = limits.version; sessions = limits.sessions; queue = limits.queue; keep = limits.keep; tables = tables }
+
+-- a step that has a line: of at most 8,192 bytes
+pub record HasLine (version : versions.Version) (step : Step) : Type 0 where
+  pub fits : StepFits version step
+  pub short : length (step_text step) ≤ 8192
+
+-- what has such lines
+pub record ScheduleFits (header : Header) (steps : List Step) : Type 0 where
+  pub opening : HeaderFits header
+  pub each : All (HasLine header.version) steps
+
+-- the lines of a schedule
+abbrev pub schedule_lines : Header → List Step → List (List ℕ)
+schedule_lines header steps = header_text header ++ map step_text steps
 
 -- the line behind those of tables
 abbrev pub steps_text : Unit {0} → List ℕ
@@ -35,7 +49,7 @@ grammar (Sessions version) = counts_of (codes "sessions") 1 64 (Queue version)
 grammar (Queue version sessions) = counts_of (codes "queue") 1 1024 (Keep version sessions)
 grammar (Keep version sessions queue) = counts_of (codes "keep") 1 4096 (λ keep. Tables (limits_with version sessions queue keep) [])
 grammar (Tables limits tables) = further_lines limits.version steps_text (λ steps. Unit {0}) tables (Tables limits) (λ steps. Steps (with_tables limits tables) [])
-grammar (Steps header before) = lines_of step_text (StepFits header.version) (λ step. Steps header (before ++ step ∷ []))
+grammar (Steps header before) = lines_of step_text (HasLine header.version) (λ step. Steps header (before ++ step ∷ []))
 
 -- a text may end here
 abbrev pub MayEnd : Place → Type 0

@@ -6,6 +6,7 @@ pub mod faults;
 pub mod headers;
 pub mod input;
 mod kinds;
+pub mod laws;
 pub mod operation_reading;
 pub mod operations;
 pub mod output;
