@@ -59,18 +59,14 @@ def calls():
 
 def module(work):
     """The module of the crate with a call of each export, made in a copy of the crate's folder."""
-    top = f"{work}/top"
-    os.makedirs(f"{top}/crates")
-    for name in [*below("occ_c"), "occ_c"]:
-        for part in ("src", "specs", "proofs"):
-            if os.path.isdir(f"{TOP}/crates/{name}/{part}"):
-                shutil.copytree(f"{TOP}/crates/{name}/{part}", f"{top}/crates/{name}/{part}")
-    with open(f"{top}/crates/occ_c/src/lib.rt", "a") as file:
+    folder = f"{work}/occ_c"
+    for part in ("src", "specs", "proofs"):
+        shutil.copytree(f"{TOP}/crates/occ_c/{part}", f"{folder}/{part}")
+    with open(f"{folder}/src/lib.rt", "a") as file:
         file.write("\n#[cfg(test)]\nmod tests;\n")
-    with open(f"{top}/crates/occ_c/src/tests.rt", "w") as file:
+    with open(f"{folder}/src/tests.rt", "w") as file:
         file.write(TRIED.replace("CALLS", "".join(calls())))
-    build_unproved.TOP = top
-    return build_unproved.take_module("occ_c", True, work)
+    return build_unproved.take_module("occ_c", True, work, folder)
 
 
 def unproved_object(target):
