@@ -1,7 +1,11 @@
 """Builds the library for C, `libocc.a` and `libocc.so`: of the crate `occ_c`, proved or not, and of `c/occ.c`.
 
-Unproved it is made of the module that tries the crate's tests, as `build_unproved.py` has it: the exports get their names for C.
+Usage: python3 tools/build_c.py [--proved] [FOLDER]    FOLDER is c/out where none is named
+
+Unproved it is made of the module that tries the crate's tests, as `build_unproved.py` has it: the exports get their names for C. With
+--proved it is made of what `rt lib` proved and built in crates/occ_c.
 """
+import argparse
 import functools
 import os
 import re
@@ -128,8 +132,16 @@ def library(folder, proved=False, compiler="cc", flags=(), shared=True):
             subprocess.run([compiler, "-shared", "-o", f"{folder}/libocc.so", "-Wl,-soname,libocc.so", "-Wl,--gc-sections", whole, "-lpthread", *flags], check=True)
 
 
-if __name__ == "__main__":
+def main():
+    words = argparse.ArgumentParser(usage=__doc__)
+    words.add_argument("--proved", action="store_true")
+    words.add_argument("folder", nargs="?", default=f"{TOP}/c/out", metavar="FOLDER")
+    told = words.parse_args()
     try:
-        library(sys.argv[1] if len(sys.argv) > 1 else f"{TOP}/c/out", "--proved" in sys.argv)
-    except build_unproved.Unbuilt as fault:
-        sys.exit(str(fault))
+        library(told.folder, told.proved)
+    except build_unproved.Unbuilt as refused:
+        sys.exit(f"{refused}tools/build_c.py: no library was built")
+
+
+if __name__ == "__main__":
+    main()
