@@ -16,10 +16,11 @@ import tempfile
 
 sys.dont_write_bytecode = True
 import build_unproved
-from repository import TOP, below, checksum, kit, read, text_of, told_by_rt
+from repository import TOP, kit, read
 
 EXPORT = re.compile(r'@"occ_c::exports::(occ_rt_\w+)"')
 HALF = f"{TOP}/c"
+BINUTILS = ("ld", "objcopy", "ar")
 TRIED = """use crate::exports::*;
 use crate::handles::Handle;
 use crate::texts;
@@ -73,44 +74,47 @@ def module(work):
     return build_unproved.take_module("occ_c", True, work, folder)
 
 
-def unproved_object(target):
+def unproved_object(target, work):
     """Compiles the crate without a proof."""
-    with tempfile.TemporaryDirectory(prefix="occ-c-") as work:
-        clang = [f"{kit()}/toolchain/bin/clang", f"--sysroot={kit()}/toolchain", *build_unproved.CODE, "-fPIC", "-x", "ir"]
-        text = subprocess.Popen([*clang, "-S", "-emit-llvm", "-Xclang", "-disable-llvm-passes", module(work), "-o", "-"], stdout=subprocess.PIPE, text=True)
-        with open(f"{work}/renamed.ll", "w") as file:
-            for line in build_unproved.without_checks(text.stdout):
-                if EXPORT.search(line):
-                    line = EXPORT.sub(r"@\1", line)
-                    if line.startswith("define internal"):
-                        line = line.replace("define internal", "define", 1)
-                elif line.startswith("define") and "@main(" in line:
-                    line = line.replace("@main(", "@occ_rt_no_main(", 1)
-                file.write(line)
-        if text.wait():
-            raise build_unproved.Unbuilt("the module can't be read")
-        done = subprocess.run([*clang, "-c", "-O2", f"{work}/renamed.ll", "-o", target], stderr=subprocess.PIPE, text=True)
-        if done.returncode:
-            raise build_unproved.Unbuilt(done.stderr)
+    clang = [f"{kit()}/toolchain/bin/clang", f"--sysroot={kit()}/toolchain", *build_unproved.CODE, "-fPIC", "-x", "ir"]
+    text = subprocess.Popen([*clang, "-S", "-emit-llvm", "-Xclang", "-disable-llvm-passes", module(work), "-o", "-"], stdout=subprocess.PIPE, text=True)
+    with open(f"{work}/renamed.ll", "w") as file:
+        for line in build_unproved.without_checks(text.stdout):
+            if EXPORT.search(line):
+                line = EXPORT.sub(r"@\1", line)
+                if line.startswith("define internal"):
+                    line = line.replace("define internal", "define", 1)
+            elif line.startswith("define") and "@main(" in line:
+                line = line.replace("@main(", "@occ_rt_no_main(", 1)
+            file.write(line)
+    if text.wait():
+        raise build_unproved.Unbuilt("the module can't be read")
+    done = subprocess.run([*clang, "-c", "-O2", f"{work}/renamed.ll", "-o", target], stderr=subprocess.PIPE, text=True)
+    if done.returncode:
+        raise build_unproved.Unbuilt(done.stderr)
 
 
 @functools.lru_cache(None)
 def own_part(proved):
     """What the crate's own part of the library is, built where that isn't kept; once for all that a run of a tool builds."""
-    kept = f"{TOP}/crates/occ_c/out"
-    os.makedirs(f"{kept}/unproved-c", exist_ok=True)
     if proved:
-        own = f"{kept}/libocc_c.a"
+        own = f"{TOP}/crates/occ_c/out/libocc_c.a"
         if not os.path.exists(own):
             raise build_unproved.Unbuilt("crates/occ_c: `rt lib` has built no library yet\n")
         return own
-    key = checksum(told_by_rt("version"), *[text_of(it, "src") for it in [*below("occ_c"), "occ_c"]])
-    own = f"{kept}/unproved-c/occ_c-{key}.o"
-    if not os.path.exists(own):
-        print("building the library for C without a proof, which takes some minutes ..", file=sys.stderr, flush=True)
-        unproved_object(f"{own}.new")
-        os.rename(f"{own}.new", own)
+    folder = f"{TOP}/crates/occ_c/out/unproved-c"
+    own = f"{folder}/occ_c-{build_unproved.key_of('occ_c', __file__)}.o"
+    with build_unproved.alone(folder), tempfile.TemporaryDirectory(prefix="occ-c-") as work:
+        if not os.path.exists(own):
+            print("building the library for C without a proof, which takes some minutes ..", file=sys.stderr, flush=True)
+            unproved_object(f"{work}/occ_c.o", work)
+            build_unproved.keep(f"{work}/occ_c.o", own)
     return own
+
+
+def lacking():
+    """The first of the tools for object files that this machine lacks, if it does."""
+    return next((it for it in BINUTILS if not shutil.which(it)), None)
 
 
 def library(folder, proved=False, compiler="cc", flags=(), shared=True):
