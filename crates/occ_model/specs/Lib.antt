@@ -17,3 +17,4 @@ pub mod EndLaws
 pub mod RangeLaws
 pub mod PageLaws
 pub mod Examples
+pub mod PageExamples

@@ -1,6 +1,6 @@
 //! The laws of questions, answers and a transaction's own writes.
 
-ghost use Rattle.occ_model.specs.PageLaws.{FirstPages, LastPages};
+ghost use Rattle.occ_model.specs.PageLaws.{FirstPages, LastPages, FirstWalks, LastWalks, WalksEnd};
 ghost use Rattle.occ_model.specs.RangeLaws.{AsksOne, AsksRange, AnswersRange, MeetsReads, MeetsWrites, DistinctWrites, SetsOwn, SetsAll, OverlaysAnswer, UnaskedUnseen};
 
 /// A question for one key asks for that key of its table, and for nothing else.
@@ -54,12 +54,29 @@ pub fn unasked_writes_are_unseen()
     ensures { UnaskedUnseen }
 {}
 
-/// A first page of a range has the first rows of the range, and the rest of the range has the others.
+/// A first page of a range shows its first rows, asks for one row more, and tells nothing but what it is answered; its rest
+/// begins at the row that it doesn't show.
 pub fn a_first_page_has_the_first_rows()
     ensures { FirstPages }
 {}
 
-/// A last page of a range has the last rows of the range, and the rest of the range has the others.
+/// A last page of a range shows its last rows, asks for one row more, and tells nothing but what it is answered; its rest
+/// ends at the first row that it shows.
 pub fn a_last_page_has_the_last_rows()
     ensures { LastPages }
+{}
+
+/// First pages, each from where the one before left off, are the range, each row once; and so they are under own writes.
+pub fn first_pages_are_the_range()
+    ensures { FirstWalks }
+{}
+
+/// Last pages, each up to where the one behind it began, are the range, each row once; and so they are under own writes.
+pub fn last_pages_are_the_range()
+    ensures { LastWalks }
+{}
+
+/// Each walk by pages comes to its end, after at most one page more than the range has rows.
+pub fn walks_of_pages_end()
+    ensures { WalksEnd }
 {}
