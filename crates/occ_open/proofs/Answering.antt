@@ -71,6 +71,13 @@ answered old session number start question rows new (taken none does) =
       few = subst (λ a. answer_size a ≤ MAX_ANSWER_ROWS) same (few_rows old question f.0);
     }
 
+-- and it is what the table has
+pub table_answers : (old : World) (session number start : ℕ) (question : Question) (rows : List (Key × Row)) (new : World)
+    → Step old (Read session number start question) (Answered (Rows rows)) new → answer question old.table ≡ Rows rows
+table_answers old session number start question rows new (refused fault is reply same) = no_answer (Rows rows) fault reply
+table_answers old session number start question rows new (starved none takes reply same) = no_answer (Rows rows) faults.Memory reply
+table_answers old session number start question rows new (taken none does) = sym (same_rows (Rows rows) (answer question old.table) does.0)
+
 -- the rows that are shown have the own writes over them
 pub shown : (question : Question) → IsSpan question → (writes : List Write) (rows over : List (Key × Row)) → over ≡ rows_over question writes rows
     → Answered (Rows over) ≡ overlaid question writes (Answered (Rows rows))

@@ -1,5 +1,5 @@
 pub mod Answering
 pub mod Forgetting
 pub mod Moving
-pub mod PageScans
 pub mod Walking
+pub mod PageScans

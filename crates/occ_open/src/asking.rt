@@ -146,8 +146,8 @@ pub(crate) fn scan<A: Allocator + Copy, S: Readable<A>>(
     scan_asked(copy, store, session, &question)
 }
 
-// The question for a range, which has copies of its ends.
-fn span<A: Allocator>(
+/// The question for a range, which has copies of its ends.
+pub(crate) fn span<A: Allocator>(
     table: usize,
     lower: Option<&Key<A>>,
     upper: Option<&Key<A>>,
@@ -230,8 +230,8 @@ fn ask<A: Allocator + Copy, S: Readable<A>>(
     }
 }
 
-// The same, as copies that the caller alone owns.
-fn ask_apart<A: Allocator + Copy, S: Readable<A>>(
+/// The same, as copies that the caller alone owns.
+pub(crate) fn ask_apart<A: Allocator + Copy, S: Readable<A>>(
     copy: &PrivateCopy<A>,
     store: &mut S,
     session: usize,

@@ -7,13 +7,12 @@ ghost use Rattle.occ_types.specs.PlainData.{key_of, end_of};
 ghost use Rattle.occ_types.specs.Question.{Span};
 ghost use Rattle.occ_types.specs.declared.limits.TheConstants.{MAX_WRITES};
 ghost use Rattle.occ_open.specs.Kept.{IsShared, kept_of};
-ghost use Rattle.occ_model.specs.Paging.{first_page, last_page};
-ghost use Rattle.occ_open.specs.Pages.{paging, first_rest_of, last_rest_of, WantsPage};
+ghost use Rattle.occ_open.specs.Pages.{page_form, paging, Pages};
 ghost use Rattle.occ_open.specs.Replies.{reading, scanning, forgetting};
 ghost use Rattle.occ_open.specs.Transactions.{IsRefusedBy, begin_fault, begun, none_open, write_fault, written, WantsRoom, Gets, WantsOwn, Scans, WantsRange, Abandons, open_after, OrStarves};
 
 use crate::open_transactions::OpenTransaction;
-use crate::pages::Page;
+use crate::pages::{Page, PageEnd};
 use crate::readable::Readable;
 use occ_sets::{RangeRows, RequestWrites, Write};
 use occ_types::{Fault, Key, Object, Refused, Row, Schema};
@@ -223,51 +222,26 @@ impl<A: Allocator + Copy> KeptTransaction<A> {
         }
     }
 
-    /// The first rows of a range, and where the others begin, as `OpenTransaction::scan_first_in`. Refused as that.
-    pub fn scan_first_in<S: Readable<A>>(
+    /// A page of a range, as `OpenTransaction::page_in`. Refused as that.
+    pub fn page_in<S: Readable<A>>(
         &mut self,
         store: &mut S,
         session: usize,
+        end: PageEnd,
         table: usize,
         lower: Option<&Key<A>>,
         upper: Option<&Key<A>>,
         most: usize,
     ) -> Result<Page<A>, Fault>
         ensures current { self.new.current ≡ self.old.current }
-        ensures read { let rest = first_rest_of (S.world store.old) table (end_of (option_copied lower.entry)) (end_of (option_copied upper.entry)) most in
-            OrStarves (IsShared self.old ⊎ WantsPage (S.world store.old).settings.schema (first_page table (end_of (option_copied lower.entry)) (end_of (option_copied upper.entry)) rest) rest self.old.current) (S.world store.old) (paging result) (S.world store.new)
-            (Scans (S.world store.old) (S.reader store.old session) (first_page table (end_of (option_copied lower.entry)) (end_of (option_copied upper.entry)) rest) self.old.current (paging result) (S.world store.new)) }
-        ensures rest { IfOk result (λ page. end_of page.rest ≡ first_rest_of (S.world store.old) table (end_of (option_copied lower.entry)) (end_of (option_copied upper.entry)) most) }
+        ensures read { let form = page_form end table (end_of (option_copied lower.entry)) (end_of (option_copied upper.entry)) most in
+            OrStarves (IsShared self.old ⊎ WantsRange (S.world store.old).settings.schema form.range self.old.current) (S.world store.old) (paging result) (S.world store.new)
+            (Pages (S.world store.old) (S.reader store.old session) form self.old.current result (S.world store.new)) }
     {
         self.restore();
         match &self.content {
             Content::Open(transaction) => {
-                transaction.scan_first_in(store, session, table, lower, upper, most)
-            }
-            Content::Returned { .. } => Err(Fault::Memory),
-        }
-    }
-
-    /// The last rows of a range, and where the others end, as `OpenTransaction::scan_last_in`. Refused as that.
-    pub fn scan_last_in<S: Readable<A>>(
-        &mut self,
-        store: &mut S,
-        session: usize,
-        table: usize,
-        lower: Option<&Key<A>>,
-        upper: Option<&Key<A>>,
-        most: usize,
-    ) -> Result<Page<A>, Fault>
-        ensures current { self.new.current ≡ self.old.current }
-        ensures read { let rest = last_rest_of (S.world store.old) table (end_of (option_copied lower.entry)) (end_of (option_copied upper.entry)) most in
-            OrStarves (IsShared self.old ⊎ WantsPage (S.world store.old).settings.schema (last_page table (end_of (option_copied lower.entry)) (end_of (option_copied upper.entry)) rest) rest self.old.current) (S.world store.old) (paging result) (S.world store.new)
-            (Scans (S.world store.old) (S.reader store.old session) (last_page table (end_of (option_copied lower.entry)) (end_of (option_copied upper.entry)) rest) self.old.current (paging result) (S.world store.new)) }
-        ensures rest { IfOk result (λ page. end_of page.rest ≡ last_rest_of (S.world store.old) table (end_of (option_copied lower.entry)) (end_of (option_copied upper.entry)) most) }
-    {
-        self.restore();
-        match &self.content {
-            Content::Open(transaction) => {
-                transaction.scan_last_in(store, session, table, lower, upper, most)
+                transaction.page_in(store, session, end, table, lower, upper, most)
             }
             Content::Returned { .. } => Err(Fault::Memory),
         }

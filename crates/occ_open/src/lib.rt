@@ -12,5 +12,5 @@ mod writing;
 
 pub use kept_transactions::KeptTransaction;
 pub use open_transactions::OpenTransaction;
-pub use pages::Page;
+pub use pages::{Page, PageEnd, PagePlan};
 pub use readable::Readable;

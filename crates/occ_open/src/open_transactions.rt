@@ -10,14 +10,13 @@ ghost use Rattle.occ_sets.specs.Sets.{IsWriteSet};
 ghost use Rattle.occ_model.specs.State.{Found};
 ghost use Rattle.occ_model.specs.Event.{Read, Answered};
 ghost use Rattle.occ_model.specs.Step.{Step};
-ghost use Rattle.occ_model.specs.Paging as pages;
-ghost use Rattle.occ_open.specs.Pages.{paging, first_rest_of, last_rest_of, WantsPage};
+ghost use Rattle.occ_open.specs.Pages.{page_form, ScansPage, ScansPageBy};
 ghost use Rattle.occ_open.specs.Replies.{reading, scanning, forgetting};
 ghost use Rattle.occ_open.specs.Transactions.{IsRefusedBy, begin_fault, begun, none_open, check_written, write_fault, written, WantsRoom, Gets, GetsBy, WantsOwn, Scans, ScansBy, WantsRange, Abandons, AbandonsBy, open_after, OrStarves, OrStarvesBy};
 
 use crate::asking::{get, scan};
-use crate::pages::Page;
-use crate::paging::{first_page, last_page};
+use crate::pages::{Page, PageEnd};
+use crate::paging::page;
 use crate::readable::Readable;
 use crate::writing::write_copy;
 use occ_sets::{PrivateCopy, RangeRows, RequestWrites, Write};
@@ -220,56 +219,27 @@ impl<A: Allocator + Copy> OpenTransaction<A> {
         }
     }
 
-    /// The first rows of a range, at most `most` of them, or one where `most` is 0, and where the rows behind them begin. The store is
-    /// asked for the part of the range up to there, which it notes, so that a row that comes in behind it is no conflict. The own
-    /// writes of that part are laid over the rows, so that the page may show more rows than `most`, or fewer.
-    ///
-    /// Refused as `scan_in`, and with `Memory` where rows are left and there is none for the key at which they begin.
-    pub fn scan_first_in<S: Readable<A>>(
+    /// A page of a range: its first rows or its last ones, at most `most` of them, or one where `most` is 0, at most 1,023; and its rest.
+    /// The store is asked for one row more, which tells whether any are left, and notes all that it answers. The own writes on the page's
+    /// side of the rest are laid over the rows, so that the page may have more rows than `most`, or fewer. Refused as `scan_in`, but never
+    /// with `RangeTooLarge`.
+    pub fn page_in<S: Readable<A>>(
         &self,
         store: &mut S,
         session: usize,
+        end: PageEnd,
         table: usize,
         lower: Option<&Key<A>>,
         upper: Option<&Key<A>>,
         most: usize,
     ) -> Result<Page<A>, Fault>
-        ensures step { let rest = first_rest_of (S.world store.old) table (end_of (option_copied lower.entry)) (end_of (option_copied upper.entry)) most in
-            OrStarves (WantsPage (S.world store.old).settings.schema (pages.first_page table (end_of (option_copied lower.entry)) (end_of (option_copied upper.entry)) rest) rest self.now) (S.world store.old) (paging result) (S.world store.new)
-            (Scans (S.world store.old) (S.reader store.old session) (pages.first_page table (end_of (option_copied lower.entry)) (end_of (option_copied upper.entry)) rest) self.now (paging result) (S.world store.new)) }
-        ensures rest { IfOk result (λ page. end_of page.rest ≡ first_rest_of (S.world store.old) table (end_of (option_copied lower.entry)) (end_of (option_copied upper.entry)) most) }
-        ensures moves { let rest = first_rest_of (S.world store.old) table (end_of (option_copied lower.entry)) (end_of (option_copied upper.entry)) most in
-            OrStarvesBy (WantsPage (S.world store.old).settings.schema (pages.first_page table (end_of (option_copied lower.entry)) (end_of (option_copied upper.entry)) rest) rest self.now) (store.new ≡ store.old) (paging result)
-            (ScansBy (S.world store.old).settings.schema (store.new ≡ store.old) (λ event reply. S.moves store.old event reply store.new) (S.reader store.old session) (pages.first_page table (end_of (option_copied lower.entry)) (end_of (option_copied upper.entry)) rest) self.now (paging result)) }
+        ensures step { ScansPage (S.world store.old) (S.reader store.old session) (page_form end table (end_of (option_copied lower.entry)) (end_of (option_copied upper.entry)) most) self.now result (S.world store.new) }
+        ensures moves { let form = page_form end table (end_of (option_copied lower.entry)) (end_of (option_copied upper.entry)) most in
+            ScansPageBy (S.world store.old).settings.schema (store.new ≡ store.old) (λ event reply. S.moves store.old event reply store.new) (S.reader store.old session) form (form.asks (S.world store.old)) self.now result }
     {
         match &self.copy {
             None => Err(Fault::NoReadOpen),
-            Some(copy) => first_page(copy, store, session, table, lower, upper, most),
-        }
-    }
-
-    /// The last rows of a range, at most `most` of them, or one where `most` is 0, and where the rows before them end. The own writes of
-    /// that part are laid over the rows, as by `scan_first_in`. Refused as that.
-    pub fn scan_last_in<S: Readable<A>>(
-        &self,
-        store: &mut S,
-        session: usize,
-        table: usize,
-        lower: Option<&Key<A>>,
-        upper: Option<&Key<A>>,
-        most: usize,
-    ) -> Result<Page<A>, Fault>
-        ensures step { let rest = last_rest_of (S.world store.old) table (end_of (option_copied lower.entry)) (end_of (option_copied upper.entry)) most in
-            OrStarves (WantsPage (S.world store.old).settings.schema (pages.last_page table (end_of (option_copied lower.entry)) (end_of (option_copied upper.entry)) rest) rest self.now) (S.world store.old) (paging result) (S.world store.new)
-            (Scans (S.world store.old) (S.reader store.old session) (pages.last_page table (end_of (option_copied lower.entry)) (end_of (option_copied upper.entry)) rest) self.now (paging result) (S.world store.new)) }
-        ensures rest { IfOk result (λ page. end_of page.rest ≡ last_rest_of (S.world store.old) table (end_of (option_copied lower.entry)) (end_of (option_copied upper.entry)) most) }
-        ensures moves { let rest = last_rest_of (S.world store.old) table (end_of (option_copied lower.entry)) (end_of (option_copied upper.entry)) most in
-            OrStarvesBy (WantsPage (S.world store.old).settings.schema (pages.last_page table (end_of (option_copied lower.entry)) (end_of (option_copied upper.entry)) rest) rest self.now) (store.new ≡ store.old) (paging result)
-            (ScansBy (S.world store.old).settings.schema (store.new ≡ store.old) (λ event reply. S.moves store.old event reply store.new) (S.reader store.old session) (pages.last_page table (end_of (option_copied lower.entry)) (end_of (option_copied upper.entry)) rest) self.now (paging result)) }
-    {
-        match &self.copy {
-            None => Err(Fault::NoReadOpen),
-            Some(copy) => last_page(copy, store, session, table, lower, upper, most),
+            Some(copy) => page(copy, store, session, end, table, lower, upper, most),
         }
     }
 

@@ -1,62 +1,77 @@
 //! What an open transaction reads of a range in pages.
-ghost use Rattle.std.specs.Prelude.{◌≡◌, IfOk};
+ghost use Rattle.std.specs.Prelude.{◌≡◌};
 ghost use Rattle.std.specs.Option.{option_copied};
 ghost use Rattle.occ_types.specs.PlainData.{end_of};
-ghost use Rattle.occ_model.specs.Paging as pages;
-ghost use Rattle.occ_open.specs.Pages.{paging, first_rest_of, last_rest_of, CopyWantsPage};
-ghost use Rattle.occ_open.specs.Transactions.{CopyScans, CopyScansBy, OrStarves, OrStarvesBy};
+ghost use Rattle.occ_model.specs.Step.{Step};
+ghost use Rattle.occ_open.specs.Pages.{CopyPagesBy, IsPlanned, PlannedBy, page_form, paging};
+ghost use Rattle.occ_open.specs.Transactions.{CopyWantsRange, IsSpan, OrStarves, OrStarvesBy};
 
-use crate::asking::scan;
-use crate::pages::Page;
+use crate::asking::ask_apart;
+use crate::pages::{Page, PageEnd, PagePlan};
 use crate::readable::Readable;
 use occ_sets::PrivateCopy;
-use occ_types::{Fault, Key};
+use occ_types::{Fault, Key, Row};
 use std::alloc::Allocator;
 
-/// The first rows of a range that the store answers, with the own writes over them.
-pub(crate) fn first_page<A: Allocator + Copy, S: Readable<A>>(
+/// A page of a range: rows that the store answers, with the own writes over them. All memory that these need is taken before the store
+/// is asked.
+pub(crate) fn page<A: Allocator + Copy, S: Readable<A>>(
     copy: &PrivateCopy<A>,
     store: &mut S,
     session: usize,
+    end: PageEnd,
     table: usize,
     lower: Option<&Key<A>>,
     upper: Option<&Key<A>>,
     most: usize,
 ) -> Result<Page<A>, Fault>
-    ensures step { let rest = first_rest_of (S.world store.old) table (end_of (option_copied lower.entry)) (end_of (option_copied upper.entry)) most in
-        OrStarves (CopyWantsPage (S.world store.old).settings.schema (pages.first_page table (end_of (option_copied lower.entry)) (end_of (option_copied upper.entry)) rest) rest) (S.world store.old) (paging result) (S.world store.new)
-        (CopyScans (S.world store.old) (S.reader store.old session) (pages.first_page table (end_of (option_copied lower.entry)) (end_of (option_copied upper.entry)) rest) copy.now (paging result) (S.world store.new)) }
-    ensures rest { IfOk result (λ page. end_of page.rest ≡ first_rest_of (S.world store.old) table (end_of (option_copied lower.entry)) (end_of (option_copied upper.entry)) most) }
-    ensures moves { let rest = first_rest_of (S.world store.old) table (end_of (option_copied lower.entry)) (end_of (option_copied upper.entry)) most in
-        OrStarvesBy (CopyWantsPage (S.world store.old).settings.schema (pages.first_page table (end_of (option_copied lower.entry)) (end_of (option_copied upper.entry)) rest) rest) (store.new ≡ store.old) (paging result)
-        (CopyScansBy (S.world store.old).settings.schema (store.new ≡ store.old) (λ event reply. S.moves store.old event reply store.new) (S.reader store.old session) (pages.first_page table (end_of (option_copied lower.entry)) (end_of (option_copied upper.entry)) rest) copy.now (paging result)) }
+    ensures step { let form = page_form end table (end_of (option_copied lower.entry)) (end_of (option_copied upper.entry)) most in
+        OrStarves (CopyWantsRange (S.world store.old).settings.schema form.range) (S.world store.old) (paging result) (S.world store.new)
+        (CopyPagesBy (S.world store.old).settings.schema (S.world store.new ≡ S.world store.old) (λ event reply. Step (S.world store.old) event reply (S.world store.new)) (S.reader store.old session) form (form.asks (S.world store.old)) copy.now result) }
+    ensures moves { let form = page_form end table (end_of (option_copied lower.entry)) (end_of (option_copied upper.entry)) most in
+        OrStarvesBy (CopyWantsRange (S.world store.old).settings.schema form.range) (store.new ≡ store.old) (paging result)
+        (CopyPagesBy (S.world store.old).settings.schema (store.new ≡ store.old) (λ event reply. S.moves store.old event reply store.new) (S.reader store.old session) form (form.asks (S.world store.old)) copy.now result) }
 {
-    let rest = store.first_rest(table, lower, upper, most)?;
-    let upper = rest.as_ref().or(upper);
-    let rows = scan(copy, store, session, table, lower, upper)?;
-    Ok(Page { rows, rest })
+    store.schema().check_range(table, lower, upper)?;
+    let plan = store.plan(end, table, lower, upper, most)?;
+    let rows = rows_planned(copy, store, session, &plan);
+    plan.page(rows)
 }
 
-/// The last rows of a range that the store answers, with the own writes over them.
-pub(crate) fn last_page<A: Allocator + Copy, S: Readable<A>>(
+// The rows of the page that a plan makes.
+fn rows_planned<A: Allocator + Copy, S: Readable<A>>(
     copy: &PrivateCopy<A>,
     store: &mut S,
     session: usize,
-    table: usize,
-    lower: Option<&Key<A>>,
-    upper: Option<&Key<A>>,
-    most: usize,
-) -> Result<Page<A>, Fault>
-    ensures step { let rest = last_rest_of (S.world store.old) table (end_of (option_copied lower.entry)) (end_of (option_copied upper.entry)) most in
-        OrStarves (CopyWantsPage (S.world store.old).settings.schema (pages.last_page table (end_of (option_copied lower.entry)) (end_of (option_copied upper.entry)) rest) rest) (S.world store.old) (paging result) (S.world store.new)
-        (CopyScans (S.world store.old) (S.reader store.old session) (pages.last_page table (end_of (option_copied lower.entry)) (end_of (option_copied upper.entry)) rest) copy.now (paging result) (S.world store.new)) }
-    ensures rest { IfOk result (λ page. end_of page.rest ≡ last_rest_of (S.world store.old) table (end_of (option_copied lower.entry)) (end_of (option_copied upper.entry)) most) }
-    ensures moves { let rest = last_rest_of (S.world store.old) table (end_of (option_copied lower.entry)) (end_of (option_copied upper.entry)) most in
-        OrStarvesBy (CopyWantsPage (S.world store.old).settings.schema (pages.last_page table (end_of (option_copied lower.entry)) (end_of (option_copied upper.entry)) rest) rest) (store.new ≡ store.old) (paging result)
-        (CopyScansBy (S.world store.old).settings.schema (store.new ≡ store.old) (λ event reply. S.moves store.old event reply store.new) (S.reader store.old session) (pages.last_page table (end_of (option_copied lower.entry)) (end_of (option_copied upper.entry)) rest) copy.now (paging result)) }
+    plan: &PagePlan<A>,
+) -> Result<Vec<(Key<A>, Row<A>), A>, Fault>
+    requires asked { IsSpan plan.now.asked }
+    requires shown { IsSpan plan.now.shown }
+    requires planned { IsPlanned (S.world store.old) plan.now }
+    ensures step { PlannedBy (S.world store.old) (S.world store.new ≡ S.world store.old) (λ event reply. Step (S.world store.old) event reply (S.world store.new)) (S.reader store.old session) plan.now copy.now result }
+    ensures moves { PlannedBy (S.world store.old) (store.new ≡ store.old) (λ event reply. S.moves store.old event reply store.new) (S.reader store.old session) plan.now copy.now result }
 {
-    let rest = store.last_rest(table, lower, upper, most)?;
-    let lower = rest.as_ref().or(lower);
-    let rows = scan(copy, store, session, table, lower, upper)?;
-    Ok(Page { rows, rest })
+    if copy.meets(&plan.shown) {
+        return rows_over(copy, store, session, plan);
+    }
+    let rows = ask_apart(copy, store, session, &plan.asked)?;
+    Ok(plan.cut(rows))
+}
+
+// The same where something of what the page shows is written.
+fn rows_over<A: Allocator + Copy, S: Readable<A>>(
+    copy: &PrivateCopy<A>,
+    store: &mut S,
+    session: usize,
+    plan: &PagePlan<A>,
+) -> Result<Vec<(Key<A>, Row<A>), A>, Fault>
+    requires asked { IsSpan plan.now.asked }
+    requires shown { IsSpan plan.now.shown }
+    requires planned { IsPlanned (S.world store.old) plan.now }
+    ensures step { PlannedBy (S.world store.old) (S.world store.new ≡ S.world store.old) (λ event reply. Step (S.world store.old) event reply (S.world store.new)) (S.reader store.old session) plan.now copy.now result }
+    ensures moves { PlannedBy (S.world store.old) (store.new ≡ store.old) (λ event reply. S.moves store.old event reply store.new) (S.reader store.old session) plan.now copy.now result }
+{
+    let prepared = copy.prepare(&plan.shown)?;
+    let rows = ask_apart(copy, store, session, &plan.asked)?;
+    Ok(prepared.over_apart(plan.cut(rows)))
 }

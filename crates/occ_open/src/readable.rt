@@ -1,5 +1,5 @@
 //! What a transaction asks of a store in its read phase.
-ghost use Rattle.std.specs.Prelude.{◌≡◌, ℕ, IfOk, IfErr, IsSome};
+ghost use Rattle.std.specs.Prelude.{◌≡◌, ℕ, IfOk, IsOkUnless};
 ghost use Rattle.std.specs.Option.{option_copied};
 ghost use Rattle.occ_types.specs.PlainData.{key_of, end_of};
 ghost use Rattle.occ_types.specs.Question.{One, Span};
@@ -7,9 +7,10 @@ ghost use Rattle.occ_types.specs.declared.fault.Fault.TheVariants.{Memory};
 ghost use Rattle.occ_model.specs.World.{World};
 ghost use Rattle.occ_model.specs.Event.{Event, Reply, Read, Forget};
 ghost use Rattle.occ_model.specs.Step.{Step};
-ghost use Rattle.occ_open.specs.Pages.{first_rest_of, last_rest_of};
+ghost use Rattle.occ_open.specs.Pages.{IsPlan, page_form};
 ghost use Rattle.occ_open.specs.Replies.{reading, scanning, copying, forgetting};
 
+use crate::pages::{PageEnd, PagePlan};
 use occ_sets::RangeRows;
 use occ_types::{Fault, Key, Row, Schema};
 use std::alloc::Allocator;
@@ -68,29 +69,20 @@ pub trait Readable<A: Allocator> {
         ensures step { Step (world self.old) (Read (reader self.old session) number start (Span table (end_of (option_copied lower.entry)) (end_of (option_copied upper.entry)))) (copying result) (world self.new) }
         ensures moves { moves self.old (Read (reader self.old session) number start (Span table (end_of (option_copied lower.entry)) (end_of (option_copied upper.entry)))) (copying result) self.new };
 
-    /// Where the rows behind the first page of a range begin, of at most `most` rows, or one where `most` is 0; none where no row is
-    /// left, or the range doesn't fit the schema. It notes nothing. Refused with `Memory` where rows are left and there is none for the
-    /// key.
-    fn first_rest(
+    /// How the store means to answer a page of a range, of at most `most` rows, or one where `most` is 0. It notes nothing, and the plan
+    /// shows nothing. Where the range doesn't fit the schema, the plan is to ask for it, which is refused. Refused with `Memory` where
+    /// there is none for the keys at its ends.
+    fn plan(
         &self,
+        end: PageEnd,
         table: usize,
         lower: Option<&Key<A>>,
         upper: Option<&Key<A>>,
         most: usize,
-    ) -> Result<Option<Key<A>>, Fault>
-        ensures rest { IfOk result (λ rest. end_of rest ≡ first_rest_of (world self.now) table (end_of (option_copied lower.entry)) (end_of (option_copied upper.entry)) most) }
-        ensures memory { IfErr result (λ fault. (fault ≡ Memory) × IsSome (first_rest_of (world self.now) table (end_of (option_copied lower.entry)) (end_of (option_copied upper.entry)) most)) };
-
-    /// Where the rows before the last page of a range end. None and refused as `first_rest`.
-    fn last_rest(
-        &self,
-        table: usize,
-        lower: Option<&Key<A>>,
-        upper: Option<&Key<A>>,
-        most: usize,
-    ) -> Result<Option<Key<A>>, Fault>
-        ensures rest { IfOk result (λ rest. end_of rest ≡ last_rest_of (world self.now) table (end_of (option_copied lower.entry)) (end_of (option_copied upper.entry)) most) }
-        ensures memory { IfErr result (λ fault. (fault ≡ Memory) × IsSome (last_rest_of (world self.now) table (end_of (option_copied lower.entry)) (end_of (option_copied upper.entry)) most)) };
+    ) -> Result<PagePlan<A>, Fault>
+        ensures end { IfOk result (λ plan. plan.end ≡ end) }
+        ensures plan { IfOk result (λ plan. IsPlan (world self.now) (page_form end table (end_of (option_copied lower.entry)) (end_of (option_copied upper.entry)) most) plan) }
+        ensures memory { IsOkUnless result Memory };
 
     /// Forgets what a session has read under a number, and answers whether it has read anything. It takes no memory.
     fn forget(&mut self, session: usize, number: u64) -> Result<bool, Fault>

@@ -80,9 +80,27 @@ impl<'a, A: Allocator> Prepared<'a, A> {
         requires few { length rows.items ≤ limit.MAX_ANSWER_ROWS }
         ensures { result ≡ rows_over self.entry.question self.entry.writes (rows_of rows.items) }
     {
+        RangeRows::own(self.laid(rows))
+    }
+
+    /// The same, as rows that the caller alone owns.
+    pub fn over_apart(self, rows: Vec<(Key<A>, Row<A>), A>) -> Vec<(Key<A>, Row<A>), A>
+        requires answered { (state : State) × (answer self.question state ≡ Rows (rows_of rows.items)) }
+        requires few { length rows.items ≤ limit.MAX_ANSWER_ROWS }
+        ensures { rows_of result.items ≡ rows_over self.entry.question self.entry.writes (rows_of rows.items) }
+    {
+        Box::into_inner(self.laid(rows))
+    }
+
+    // The same, in the room that was taken for them.
+    fn laid(self, rows: Vec<(Key<A>, Row<A>), A>) -> Box<Vec<(Key<A>, Row<A>), A>, A>
+        requires answered { (state : State) × (answer self.question state ≡ Rows (rows_of rows.items)) }
+        requires few { length rows.items ≤ limit.MAX_ANSWER_ROWS }
+        ensures { rows_of result.value.items ≡ rows_over self.entry.question self.entry.writes (rows_of rows.items) }
+    {
         let Prepared { own, mut room, .. } = self;
         merge(own, &mut room, rows);
-        RangeRows::own(room)
+        room
     }
 }
 
