@@ -1,18 +1,21 @@
--- The rows of a range one after another, and the ends of its pages.
-use Rattle.std.proofs.Common.{◌≡◌, ◌<◌, ◌≤◌, ◌+◌, ◌-◌, ℕ, Bool, true, false, not, ◌&&◌, cond, nat_lt, nat_le, le-ltb, le-leb, leb-true, leb-false, if◌then◌else◌, List, [], ◌∷◌, map, length, length-append, drop, take, ◌++◌, append_assoc, zero, suc, Option, None, Some, is_le, is_gt, refl, sym, ap, ◌∙◌, arith}
+-- The rows of a range one after another, and where its pages are cut.
+use Rattle.std.proofs.Common.{◌≡◌, ◌≤◌, ◌+◌, ◌-◌, ℕ, Bool, true, false, not, ◌&&◌, cond, nat_lt, nat_le, le-ltb, List, [], ◌∷◌, map, length, length-append, drop, take, ◌++◌, append_assoc, zero, suc, Option, None, Some, is_le, is_gt, refl, sym, ap, ◌∙◌, arith}
 use Rattle.std.proofs.lemmas.List.{append-nil, drop_all, length-drop, length-take-le, take_all, drop-append-le, take-append-le, take-take}
-use Rattle.std.proofs.Math.Nat.{le-max_right}
+use Rattle.std.specs.Option.{option_or}
 use Rattle.std.specs.Cmp.{tied_itself}
-use Rattle.occ_types.specs.Key.{Key, key_cmp, key_cmp_total}
-use Rattle.occ_types.specs.Row.{Row}
-use Rattle.occ_types.specs.Key.{Num}
+use Rattle.occ_types.specs.After.{key_after}
+use Rattle.occ_types.specs.Key.{Key, Num, key_cmp, key_cmp_total}
 use Rattle.occ_types.specs.PlainData.{key_of}
+use Rattle.occ_types.specs.Row.{Row}
+use Rattle.occ_types.specs.Schema.{Table, check_key_in}
+use Rattle.occ_types.specs.declared.fault.Fault.{Fault}
 use Rattle.occ_types.specs.declared.keys.Key as code_key
 use Rattle.occ_sets.specs.PlainSets.{rows_of}
 use Rattle.occ_pages.specs.Entries as pages
 use Rattle.occ_book.specs.Content.{is_within, is_backward, seen}
-use Rattle.occ_book.specs.Table.{numbered, rows_in}
-use Rattle.occ_model.specs.Paging.{page_size, first_key, last_key}
+use Rattle.occ_book.specs.Table.{last_key, numbered, rows_in}
+use Rattle.occ_model.specs.Paging.{page_size, first_key, last_in, last_behind, end_behind, first_end, last_begin}
+use Rattle.occ_model.proofs.PageRows.{some_size}
 use Rattle.occ_book.proofs.TableEntries.{backward-key}
 use Rattle.occ_book.proofs.Common.{map-append}
 
@@ -111,58 +114,88 @@ first_taken zero (row ∷ rows) = refl
 first_taken (suc place) [] = refl
 first_taken (suc place) (row ∷ rows) = first_taken place rows
 
-pub size_some : (most : ℕ) → 0 < page_size most
-size_some most =
-    let one = le-max_right most 1 in
-    omega (arith, one)
+-- the last of the first rows
+last_taken : (place : ℕ) (rows : List (Key × Row)) → suc place ≤ length rows → last_key (take (suc place) rows) ≡ first_key (drop place rows)
+last_taken place rows within =
+    let long : length (take (suc place) rows) - 1 ≡ place = omega (arith, length-take-le (suc place) rows within) in
+    ap (λ n. first_key (drop n (take (suc place) rows))) long ∙ first_taken place rows
 
--- where a page begins, by what is left once its rows are taken from the end: but for its first one, and then without that
-module _ (all but_first others : List (Key × Row)) (size : ℕ) (some : 0 < size)
-    (first : but_first ≡ take (length all - (size - 1)) all) (before : others ≡ take (length but_first - 1) but_first) where
+-- the end of the range stands in for a next row that is missing
+end_or : (definition : Table) (key : Key) (next upper : Option Key) → end_behind definition key (option_or next upper) ≡ option_or (end_behind definition key next) upper
+end_or definition key next upper = by (check_key_in definition (key_after key))
+  where
+    by : (check : Option Fault) → elim check as (λ _. Option Key) [ None ↦ Some (key_after key) | Some fault ↦ option_or next upper ]
+        ≡ option_or (elim check as (λ _. Option Key) [ None ↦ Some (key_after key) | Some fault ↦ next ]) upper
+    by None = refl
+    by (Some fault) = refl
+
+-- where what a first page asks for ends, by the keys of the two rows behind the page
+pub ends-behind : (definition : Table) (upper : Option Key) (left : List (Key × Row)) (key : Key) → first_key left ≡ Some key
+    → option_or (end_behind definition key (first_key (drop 1 left))) upper ≡ first_end definition upper left
+ends-behind definition upper [] key e = cc
+ends-behind definition upper (row ∷ rows) key e =
+    let same : key ≡ row.0 = cc e in
+    ap (λ k. option_or (end_behind definition k (first_key rows)) upper) same ∙ sym (end_or definition row.0 (first_key rows) upper)
+
+-- a last page is cut so: its rest, and where what it asks for begins
+abbrev IsLastCut : ℕ → Option Key → List (Key × Row) → Option Key → Option Key → Type 0
+IsLastCut size lower all rest asked = (rest ≡ (last_in size all).1) × (option_or asked lower ≡ last_begin lower (length all - size) all)
+
+-- Where it is cut, by what is left once its rows are taken from the end: but for its first one, and then without that.
+module _ (most : ℕ) (lower : Option Key) (rows all but_first others : List (Key × Row)) (count : ℕ) (is : rows ≡ all) (size_is : count ≡ page_size most)
+    (skipped : but_first ≡ take (length rows - (count - 1)) rows) (before : others ≡ take (length but_first - 1) but_first) where
+  abbrev size : ℕ
+  size = page_size most
+
+  first : but_first ≡ take (length all - (size - 1)) all
+  first = skipped ∙ (λ i. take (length (is i) - (size_is i - 1)) (is i))
+
   long_first : length but_first ≡ length all - (size - 1)
   long_first =
       let within : length all - (size - 1) ≤ length all = omega arith in
       ap length first ∙ length-take-le (length all - (size - 1)) all within
 
-  long_others : length others ≡ length but_first - 1
+  -- what is left then stands before the page
+  others_are : others ≡ take (length all - size) all
+  others_are =
+      let some = some_size most in
+      let whole : size - 1 + 1 ≡ size = omega (arith, some) in
+      backed-more all but_first others (size - 1) first before ∙ ap (λ n. take (length all - n) all) whole
+
+  long_others : length others ≡ length all - size
   long_others =
-      let within : length but_first - 1 ≤ length but_first = omega arith in
-      ap length before ∙ length-take-le (length but_first - 1) but_first within
+      let within : length all - size ≤ length all = omega arith in
+      ap length others_are ∙ length-take-le (length all - size) all within
 
-  abbrev pub begin : Option Key
-  begin = if nat_le (length all) size then None else first_key (drop (length all - size) all)
+  -- where none stands there, it is the whole range
+  uncut : length all - size ≡ 0 → IsLastCut size lower all None None
+  uncut none = (sym (ap (λ n. (last_behind n all).1) none), sym (ap (λ n. last_begin lower n all) none))
 
-  few : length all ≤ size → begin ≡ None
-  few h = ap (λ b. if b then None else first_key (drop (length all - size) all)) (le-leb (length all) size h)
-
-  pub begins-nowhere : last_key but_first ≡ None → begin ≡ None
-  begins-nowhere none =
+  pub none-shown : last_key but_first ≡ None → IsLastCut size lower all None None
+  none-shown none =
+      let some = some_size most in
       let empty = no_last but_first none in
-      let short : length all ≤ size = omega (arith, empty, long_first, some) in
-      few short
+      uncut (omega (arith, empty, long_first, some))
 
-  pub begins-alone : last_key others ≡ None → begin ≡ None
-  begins-alone none =
+  pub none-before : last_key others ≡ None → IsLastCut size lower all None None
+  none-before none =
       let empty = no_last others none in
-      let short : length all ≤ size = omega (arith, empty, long_others, long_first, some) in
-      few short
+      uncut (omega (arith, empty, long_others))
 
-  pub begins-there : (key : Key) → last_key others ≡ Some key → begin ≡ last_key but_first
-  begins-there key is = by (nat_le (length all) size) refl
+  -- and else its own first row is its rest, and what it asks for begins with the row before
+  pub one-before : (key : Key) → last_key others ≡ Some key → IsLastCut size lower all (last_key but_first) (Some key)
+  one-before key there = by (length all - size) refl
     where
-      by : (b : Bool) → nat_le (length all) size ≡ b → begin ≡ last_key but_first
-      by true short =
-          let le : length all ≤ size = leb-true (length all) size short in
-          let none : length others ≡ 0 = omega (arith, long_others, long_first, le, some) in
-          cc (is, without_last others none)
-      by false longer =
-          let more : size < length all = leb-false (length all) size longer in
-          let place : length but_first - 1 ≡ length all - size = omega (arith, long_first, more, some) in
-          let count : length all - (size - 1) ≡ suc (length all - size) = omega (arith, more, some) in
-          ap (λ b. if b then None else first_key (drop (length all - size) all)) longer
-          ∙ sym (first_taken (length all - size) all)
-          ∙ (λ i. first_key (drop (sym place i) (take (sym count i) all)))
-          ∙ (λ i. first_key (drop (length but_first - 1) (sym first i)))
+      by : (place : ℕ) → length all - size ≡ place → IsLastCut size lower all (last_key but_first) (Some key)
+      by zero none = cc (there, without_last others (omega (arith, long_others, none)))
+      by (suc place) count =
+          let some = some_size most in
+          let within : suc place ≤ length all = omega (arith, count) in
+          let more : suc (suc place) ≤ length all = omega (arith, count, some) in
+          let left : length all - (size - 1) ≡ suc (suc place) = omega (arith, count, some) in (
+            ap last_key (first ∙ ap (λ n. take n all) left) ∙ last_taken (suc place) all more ∙ ap (λ n. (last_behind n all).1) (sym count),
+            sym there ∙ ap last_key (others_are ∙ ap (λ n. take n all) count) ∙ last_taken place all within ∙ ap (λ n. last_begin lower n all) (sym count),
+          )
 
 module _ {Z : Type 0} where
   -- the last row of a table is the last one under another key

@@ -1,5 +1,5 @@
 -- What clauses see of one table: its rows under their keys, the numbers first.
-use Rattle.std.specs.Prelude.{◌≡◌, ◌<◌, ◌≤◌, ℕ, Vec, length, cond, List, [], ◌∷◌, ◌++◌, map, Option, None, Some}
+use Rattle.std.specs.Prelude.{◌≡◌, ◌<◌, ◌≤◌, ◌-◌, ℕ, drop, Vec, length, cond, List, [], ◌∷◌, ◌++◌, map, Option, None, Some}
 use Rattle.std.specs.List.{filter}
 use Rattle.std.specs.Map.{lookup}
 use Rattle.occ_types.specs.Key.{Key, Num, Text as KeyText, Pair}
@@ -9,6 +9,7 @@ use Rattle.occ_types.specs.declared.keys.Key as code_key
 use Rattle.occ_types.specs.declared.keys.Key.TheVariants as keys
 use Rattle.occ_sets.specs.PlainSets.{rows_of}
 use Rattle.occ_pages.specs.Entries.{within}
+use Rattle.occ_model.specs.Paging.{first_key}
 use Rattle.occ_book.specs.Content.{is_within, seen}
 
 -- a row under a number
@@ -22,6 +23,10 @@ row_under rows key = lookup (key_same key) rows
 -- after a write: the row, or none, under the key, and under each other key what stood there
 abbrev pub IsWritten : List (Key × Row) → Key → Option Row → List (Key × Row) → Type 0
 IsWritten old key row new = (other : Key) → row_under new other ≡ cond (key_same other key) row (row_under old other)
+
+-- the last key
+abbrev pub last_key : List (Key × Row) → Option Key
+last_key rows = first_key (drop (length rows - 1) rows)
 
 -- the rows from a lower end on and below an upper one; either end may be missing
 abbrev pub rows_within : Option Key → Option Key → List (Key × Row) → List (Key × Row)

@@ -26,6 +26,7 @@ pub use lasts::{LastWrites, note_writes};
 pub use loading::Loading;
 pub use marks::Marks;
 pub use occ_sets::{LogRow, Standing};
+pub use paging::PageCut;
 pub use table::Table;
 pub use table_rows::TableRows;
 pub use tables::Tables;

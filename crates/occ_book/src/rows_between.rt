@@ -5,8 +5,8 @@ ghost use Rattle.occ_types.specs.Key as keys;
 ghost use Rattle.occ_types.specs.PlainData.{end_of};
 ghost use Rattle.occ_book.specs.Content.{entries_within, is_backward, is_within};
 ghost use Rattle.occ_book.specs.KeyRefs.{key_lent};
-ghost use Rattle.occ_model.specs.Paging.{first_key, first_two, last_key};
-ghost use Rattle.occ_book.specs.Table.{rows_in, number_ends, numbers_within};
+ghost use Rattle.occ_model.specs.Paging.{first_key};
+ghost use Rattle.occ_book.specs.Table.{last_key, rows_in, number_ends, numbers_within};
 
 use crate::key_refs::KeyRef;
 use crate::ranges::{is_backward, lower_bound, number_ends, upper_bound};
@@ -80,19 +80,6 @@ impl<'a, A: Allocator> RowsBetween<'a, A> {
                 return;
             };
         }
-    }
-
-    // Takes two rows, and answers their keys; none where there are fewer.
-    pub(crate) fn next_two(&mut self) -> Option<(KeyRef<'a, A>, KeyRef<'a, A>)>
-        ensures { option_map (λ keys. (key_lent keys.0, key_lent keys.1)) result ≡ first_two self.old }
-    {
-        let Some(key) = self.next_key() else {
-            return None;
-        };
-        let Some(next) = self.next_key() else {
-            return None;
-        };
-        Some((key, next))
     }
 }
 

@@ -22,4 +22,4 @@ pub mod OpenCases
 pub mod Resumptions
 pub mod Tallies
 pub mod Figures
-pub mod PageReads
+pub mod PagePlans

@@ -35,7 +35,6 @@ pub use checkpoint::MAX_PLACE;
 pub use core_state::Core;
 pub use counts::Counts;
 pub use driving::drive;
-pub use occ_open::Page;
 pub use outcomes::Outcome;
 pub use performed::{Performed, perform_all};
 pub use replies::Reply;

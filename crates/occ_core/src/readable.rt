@@ -2,7 +2,7 @@
 ghost use Rattle.std.specs.Prelude.{◌≡◌};
 
 use crate::core_state::Core;
-use occ_open::Readable;
+use occ_open::{PageEnd, PagePlan, Readable};
 use occ_sets::RangeRows;
 use occ_types::{Fault, Key, Row, Schema};
 use std::alloc::Allocator;
@@ -49,24 +49,15 @@ impl<A: Allocator + Copy> Readable<A> for Core<A> {
         self.scan_apart(session, number, start, table, lower, upper)
     }
 
-    fn first_rest(
+    fn plan(
         &self,
+        end: PageEnd,
         table: usize,
         lower: Option<&Key<A>>,
         upper: Option<&Key<A>>,
         most: usize,
-    ) -> Result<Option<Key<A>>, Fault> {
-        self.first_rest(table, lower, upper, most)
-    }
-
-    fn last_rest(
-        &self,
-        table: usize,
-        lower: Option<&Key<A>>,
-        upper: Option<&Key<A>>,
-        most: usize,
-    ) -> Result<Option<Key<A>>, Fault> {
-        self.last_rest(table, lower, upper, most)
+    ) -> Result<PagePlan<A>, Fault> {
+        self.plan_page(end, table, lower, upper, most)
     }
 
     fn forget(&mut self, session: usize, number: u64) -> Result<bool, Fault> {

@@ -1,5 +1,5 @@
 use Rattle.std.proofs.Common.{sym, ap, ◌∙◌}
-use Rattle.occ_model.specs.Paging.{last_key}
+use Rattle.occ_book.specs.Table.{last_key}
 use Rattle.occ_book.proofs.PageEnds.{other-taken}
 use Rattle.occ_book.proofs.rows_between.RowsBackward.next_key.Goals as goal
 
