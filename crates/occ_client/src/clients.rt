@@ -1,5 +1,5 @@
 //! A client of one session, for a store that has one owner.
-ghost use Rattle.std.specs.Prelude.{◌≡◌, ◌⊎◌, ◌+◌, None, Some, true, false, is_some, option_map, IfOk, IfErr, OnOk, OnErr, MatchOption, MatchResult};
+ghost use Rattle.std.specs.Prelude.{◌≡◌, ◌⊎◌, ◌+◌, None, Some, true, false, is_some, IfOk, IfErr, OnOk, OnErr, MatchOption};
 ghost use Rattle.std.specs.Option.{option_copied};
 ghost use Rattle.std.specs.Result.{result_err};
 ghost use Rattle.occ_types.specs.PlainData.{key_of, end_of};
@@ -13,15 +13,15 @@ ghost use Rattle.occ_sets.specs.Operations.{ops_of};
 ghost use Rattle.occ_model.specs.Step.{Step};
 ghost use Rattle.occ_client.specs.Clients.{begin_refusal, close_refusal, closing, ending, Commits, StaysOrStops, after_alone, after_end, count_end, fresh_client, spent};
 ghost use Rattle.occ_client.specs.Ends.{Ends, WritesOut};
-ghost use Rattle.occ_model.specs.Paging.{first_page, last_page};
-ghost use Rattle.occ_open.specs.Pages.{paging, first_rest_of, last_rest_of, WantsPage};
+ghost use Rattle.occ_open.specs.Pages.{Pages, page_form, paging};
+ghost use Rattle.occ_open.specs.declared.pages.PageEnd.TheVariants.{First, Last};
 ghost use Rattle.occ_open.specs.Replies.{reading, scanning, forgetting};
 ghost use Rattle.occ_open.specs.Transactions.{IsRefusedBy, Unless, begun, write_fault, written, WantsRoom, Gets, WantsOwn, Scans, WantsRange, Abandons, open_after, OrStarves};
 
 use crate::by_steps::write_out;
 use crate::ending::{End, Handed, close_session, end_request};
 use occ_core::{AutoCheckpoint, Core};
-use occ_open::{KeptTransaction, Page};
+use occ_open::{KeptTransaction, Page, PageEnd};
 use occ_sets::{Answer, Op, RangeRows, Write};
 use occ_types::{Fault, Key, Refused, Row, Schema};
 use std::alloc::Allocator;
@@ -253,10 +253,10 @@ impl<A: Allocator + Copy> Client<A> {
         self.kept.scan_in(store, self.session, table, lower, upper)
     }
 
-    /// The first rows of a range, at most `most` of them, or one where `most` is 0, and where the rows behind them begin, which is the
-    /// lower end of the next page. The store is asked for the part of the range up to there, which it notes, so that a row that comes
-    /// in behind the page is no conflict. The own writes of that part are laid over the rows, so that the page may show more rows than
-    /// `most`, or fewer. Refused as `scan`, and with `Memory` where rows are left and there is none for the key at which they begin.
+    /// The first rows of a range, at most `most` of them, or one where `most` is 0, at most 1,023. Where more are left, the page has a
+    /// rest, the key of the next row, which is the lower end of the next page. The store is asked for the range up to and with that row,
+    /// and notes all of it, so that a write that would make the page tell something else is a conflict. The own writes below the rest are
+    /// laid over the rows, so that the page may show more rows than `most`, or fewer. Refused as `scan`, but never with `RangeTooLarge`.
     pub fn scan_first(
         &mut self,
         store: &mut Core<A>,
@@ -266,17 +266,24 @@ impl<A: Allocator + Copy> Client<A> {
         most: usize,
     ) -> Result<Page<A>, Fault>
         ensures kept { self.new ≡ record self.old { returned = self.new.returned } }
-        ensures read { let rest = first_rest_of store.old.world table (end_of (option_copied lower.entry)) (end_of (option_copied upper.entry)) most in
-            OrStarves ((self.old.returned ≡ true) ⊎ WantsPage store.old.world.settings.schema (first_page table (end_of (option_copied lower.entry)) (end_of (option_copied upper.entry)) rest) rest self.old.current) store.old.world (paging result) store.new.world
-            (Scans store.old.world self.old.session (first_page table (end_of (option_copied lower.entry)) (end_of (option_copied upper.entry)) rest) self.old.current (paging result) store.new.world) }
-        ensures rest { IfOk result (λ page. end_of page.rest ≡ first_rest_of store.old.world table (end_of (option_copied lower.entry)) (end_of (option_copied upper.entry)) most) }
+        ensures read { let form = page_form First table (end_of (option_copied lower.entry)) (end_of (option_copied upper.entry)) most in
+            OrStarves ((self.old.returned ≡ true) ⊎ WantsRange store.old.world.settings.schema form.range self.old.current) store.old.world (paging result) store.new.world
+            (Pages store.old.world self.old.session form self.old.current result store.new.world) }
     {
-        self.kept
-            .scan_first_in(store, self.session, table, lower, upper, most)
+        self.kept.page_in(
+            store,
+            self.session,
+            PageEnd::First,
+            table,
+            lower,
+            upper,
+            most,
+        )
     }
 
-    /// The last rows of a range, at most `most` of them, or one where `most` is 0, and where the rows before them end, which is the upper
-    /// end of the page before. Noted, overlaid and refused as by `scan_first`.
+    /// The last rows of a range, counted, noted and refused as by `scan_first`. Where more are left, the rest is the key of the first row
+    /// that the page shows, which is the exclusive upper end of the page before. The store is asked for the range from the row before that
+    /// one on. The own writes from the rest on are laid over the rows.
     pub fn scan_last(
         &mut self,
         store: &mut Core<A>,
@@ -286,13 +293,19 @@ impl<A: Allocator + Copy> Client<A> {
         most: usize,
     ) -> Result<Page<A>, Fault>
         ensures kept { self.new ≡ record self.old { returned = self.new.returned } }
-        ensures read { let rest = last_rest_of store.old.world table (end_of (option_copied lower.entry)) (end_of (option_copied upper.entry)) most in
-            OrStarves ((self.old.returned ≡ true) ⊎ WantsPage store.old.world.settings.schema (last_page table (end_of (option_copied lower.entry)) (end_of (option_copied upper.entry)) rest) rest self.old.current) store.old.world (paging result) store.new.world
-            (Scans store.old.world self.old.session (last_page table (end_of (option_copied lower.entry)) (end_of (option_copied upper.entry)) rest) self.old.current (paging result) store.new.world) }
-        ensures rest { IfOk result (λ page. end_of page.rest ≡ last_rest_of store.old.world table (end_of (option_copied lower.entry)) (end_of (option_copied upper.entry)) most) }
+        ensures read { let form = page_form Last table (end_of (option_copied lower.entry)) (end_of (option_copied upper.entry)) most in
+            OrStarves ((self.old.returned ≡ true) ⊎ WantsRange store.old.world.settings.schema form.range self.old.current) store.old.world (paging result) store.new.world
+            (Pages store.old.world self.old.session form self.old.current result store.new.world) }
     {
-        self.kept
-            .scan_last_in(store, self.session, table, lower, upper, most)
+        self.kept.page_in(
+            store,
+            self.session,
+            PageEnd::Last,
+            table,
+            lower,
+            upper,
+            most,
+        )
     }
 
     /// The store forgets what the open transaction read, and none is open then. Its number is not spent: the next transaction takes it.

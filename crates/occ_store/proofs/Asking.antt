@@ -1,5 +1,5 @@
 -- What a question of a transaction comes to, whatever it asks: nothing moves, or an event does.
-use Rattle.std.proofs.Common.{◌≡◌, ℕ, Option, None, Some, inl, inr, MatchOption, Result, refl, sym, ap, subst, ◌∙◌}
+use Rattle.std.proofs.Common.{◌≡◌, ℕ, Option, None, Some, inl, inr, MatchOption, List, Result, Ok, Err, refl, sym, ap, subst, ◌∙◌}
 use Rattle.occ_types.specs.declared.fault.Fault.{Fault}
 use Rattle.occ_types.specs.Object.{Object}
 use Rattle.occ_types.specs.Question.{Question, One, Span}
@@ -7,16 +7,17 @@ use Rattle.occ_types.specs.Row.{Row}
 use Rattle.occ_types.specs.Schema.{Schema, check_key, check_question}
 use Rattle.occ_model.specs.State.{Found}
 use Rattle.occ_model.specs.Overlay.{own}
+use Rattle.occ_model.specs.Paging.{Told}
 use Rattle.occ_model.specs.Event.{Event, Reply, Read, Forget, Answered}
 use Rattle.occ_sets.specs.Sets.{Copied}
 use Rattle.occ_open.specs.Transactions.{UnlessBy, WithOpenBy, GetsBy, ScansBy, AbandonsBy, OrStarvesBy}
 use Rattle.occ_types.specs.Key.{Key}
-use Rattle.occ_open.specs.Pages.{paging, WantsPage}
+use Rattle.occ_open.specs.Pages.{PageForm, PageOf, ScansPageBy, paging, seen}
 use Rattle.occ_open.specs.declared.pages.Page as code_page
-use Rattle.occ_open.proofs.Moving.{starves_so, gets_so, scans_so, abandons_so}
+use Rattle.occ_open.proofs.Moving.{starves_so, gets_so, scans_so, pages_so, abandons_so}
 use Rattle.occ_history.specs.History.{FrontView}
 use Rattle.occ_store.specs.Locked.{Locked, world_of, visited, reader_of, ReadsSo, Tells}
-use Rattle.occ_model.specs.World.{World, Settings}
+use Rattle.occ_model.specs.World.{Settings}
 use Rattle.occ_model.specs.Step.{Run}
 use Rattle.occ_store.specs.Names.{Named, opened_as}
 use Rattle.occ_store.specs.Standing.{StandsIn, StandsInWhere}
@@ -51,6 +52,14 @@ module _ {Stays : Type 0} {Moves : Event → Reply → Type 0} (Comes : Type 0) 
   pub starves_to : (Wanting : Type 0) (reply : Reply) (Is : Type 0) → (Is → Comes) → OrStarvesBy Wanting Stays reply Is → Comes
   starves_to Wanting reply Is does (inl starves) = remains starves.2
   starves_to Wanting reply Is does (inr is) = does is
+
+  page_to : {Z : Type 0} (event : Event) (tells : List (Key × Row) → Told) (result : Result (code_page.Page Z) Fault) → PageOf (Moves event) tells result → Comes
+  page_to event tells (Ok page) read = goes event _ read.1
+  page_to event tells (Err fault) refused = goes event _ refused
+
+  pub pages_to : {Z : Type 0} (schema : Schema) (session : ℕ) (form : PageForm) (asked : Question) (current : Option Copied) (result : Result (code_page.Page Z) Fault) → ScansPageBy schema Stays Moves session form asked current result → Comes
+  pages_to schema session form asked current result = starves_to _ (paging result) _ (open_to current (paging result) _ (λ copy.
+      unless_to (check_question schema form.range) (paging result) _ (page_to (Read session copy.number copy.start asked) (seen form copy.writes) result)))
 
   pub asks_to : (schema : Schema) (transaction : TransactionView) (question : Question) (reply : Reply) → AsksOrStarvesBy schema Stays Moves transaction question reply → Comes
   asks_to schema transaction (One table key) reply = starves_to _ reply _ (gets_to schema transaction.session (table, key) transaction.draft reply)
@@ -101,17 +110,15 @@ module _ (before : TransactionView) (shared lent came back : Locked) (reply : Re
   abandoned_on asks = abandons_so visit_stays visit_reads before.session before.draft reply
       (subst (λ (n : ℕ). AbandonsBy (came ≡ lent) (λ event given. ReadsSo lent event given came) n before.draft reply) own_session asks)
 
-  -- the page of a range, with the question that its rest makes
-  pub paged_on : (rest : Option Key) (asks : Question) → OrStarvesBy (WantsPage (world_of lent).settings.schema asks rest before.draft) (came ≡ lent) reply
-      (ScansBy (world_of lent).settings.schema (came ≡ lent) (λ event given. ReadsSo lent event given came) (reader_of lent.visitor.party) asks before.draft reply)
-      → OrStarvesBy (WantsPage (world_of shared).settings.schema asks rest before.draft) (StaysOn before.front shared front back) reply
-      (ScansBy (world_of shared).settings.schema (StaysOn before.front shared front back) (ReadsOn before.front shared front back) before.session asks before.draft reply)
-  paged_on rest asks page = starves_so visit_stays (WantsPage (world_of shared).settings.schema asks rest before.draft) reply _ _
-      (scans_so visit_stays visit_reads (world_of shared).settings.schema before.session asks before.draft reply)
-      (subst (λ (l : Locked). OrStarvesBy (WantsPage (world_of l).settings.schema asks rest before.draft) (came ≡ lent) reply
-      (ScansBy (world_of l).settings.schema (came ≡ lent) (λ event given. ReadsSo lent event given came) before.session asks before.draft reply)) lends
-      (subst (λ (n : ℕ). OrStarvesBy (WantsPage (world_of lent).settings.schema asks rest before.draft) (came ≡ lent) reply
-      (ScansBy (world_of lent).settings.schema (came ≡ lent) (λ event given. ReadsSo lent event given came) n asks before.draft reply)) own_session page))
+  pub paged_on : {Z : Type 0} (form : PageForm) (result : Result (code_page.Page Z) Fault)
+      → ScansPageBy (world_of lent).settings.schema (came ≡ lent) (λ event given. ReadsSo lent event given came) (reader_of lent.visitor.party) form (form.asks (world_of lent)) before.draft result
+      → AsksPageOn before shared form result (record before { front = front }) back
+  paged_on form result page = (
+    refl,
+    pages_so visit_stays visit_reads (world_of shared).settings.schema before.session form (form.asks (world_of shared)) before.draft result
+        (subst (λ (l : Locked). ScansPageBy (world_of l).settings.schema (came ≡ lent) (λ event given. ReadsSo lent event given came) before.session form (form.asks (world_of l)) before.draft result) lends
+        (subst (λ (n : ℕ). ScansPageBy (world_of lent).settings.schema (came ≡ lent) (λ event given. ReadsSo lent event given came) n form (form.asks (world_of lent)) before.draft result) own_session page)),
+  )
 
 -- whose front it is stays
 pub asked_party : (before : TransactionView) (shared : Locked) (front : FrontView) (back : Locked) (question : Question) (reply : Reply)
@@ -132,34 +139,24 @@ pub abandoned_party : (before : TransactionView) (shared : Locked) (front : Fron
 abandoned_party before shared front back reply = abandons_to (front.party ≡ before.front.party) (λ (stays : StaysOn before.front shared front back). ap (λ (f : FrontView). f.party) stays.0)
     (λ event given (reads : ReadsOn before.front shared front back event given). tells_party before.front front shared back event given reads.1) before.session before.draft reply
 
-pub paged_party : (before : TransactionView) (shared : Locked) (front : FrontView) (back : Locked) (Wanting : Type 0) (schema : Schema) (question : Question) (reply : Reply)
-    → OrStarvesBy Wanting (StaysOn before.front shared front back) reply (ScansBy schema (StaysOn before.front shared front back) (ReadsOn before.front shared front back) before.session question before.draft reply)
-    → front.party ≡ before.front.party
-paged_party before shared front back Wanting schema question reply =
-    let stays : StaysOn before.front shared front back → front.party ≡ before.front.party = λ stays. ap (λ (f : FrontView). f.party) stays.0 in
-    let reads : (event : Event) (given : Reply) → ReadsOn before.front shared front back event given → front.party ≡ before.front.party =
-    λ event given reads. tells_party before.front front shared back event given reads.1 in
-    starves_to (front.party ≡ before.front.party) stays reads Wanting reply _ (scans_to (front.party ≡ before.front.party) stays reads schema before.session question before.draft reply)
+pub paged_party : {Z : Type 0} (before after : TransactionView) (shared back : Locked) (form : PageForm) (result : Result (code_page.Page Z) Fault) → AsksPageOn before shared form result after back → after.front.party ≡ before.front.party
+paged_party before after shared back form result asks = pages_to (after.front.party ≡ before.front.party) (λ (stays : StaysOn before.front shared after.front back). ap (λ (f : FrontView). f.party) stays.0)
+    (λ event given (reads : ReadsOn before.front shared after.front back event given). tells_party before.front after.front shared back event given reads.1) (world_of shared).settings.schema before.session form (form.asks (world_of shared)) before.draft result asks.1
 
 pub abandons_stand : (named : Named) (before : TransactionView) (front : FrontView) (shared back : Locked) (reply : Reply)
     → Run (opened_as named) shared.story.log (world_of shared) → AbandonsOn before shared reply front back → AbandonsIn named before reply front
 abandons_stand named before front shared back reply ran =
     abandons_so (λ (stays : StaysOn before.front shared front back). stays.0) (λ event given (reads : ReadsOn before.front shared front back event given). tells_stands named before.front front shared back event given ran reads.1) before.session before.draft reply
 
-module _ {Z : Type 0} where
-  pub pages_stand : (named : Named) (before after : TransactionView) (shared back : Locked) (question : Option Key → Question) (rest_of : World → Option Key) (result : Result (code_page.Page Z) Fault)
-      → Run (opened_as named) shared.story.log (world_of shared) → (world_of shared).settings ≡ named.settings → AsksPageOn before shared question rest_of result after back → AsksPage named before question rest_of result after
-  pages_stand named before after shared back question rest_of result ran settings asks =
-      let rest = rest_of (world_of shared) in (
-        asks.0,
-        (
-          rest,
-          subst (λ (s : Settings). OrStarvesBy (WantsPage s.schema (question rest) rest before.draft) (after.front ≡ before.front) (paging result)
-              (ScansBy s.schema (after.front ≡ before.front) (λ event given. StandsInWhere named (λ old. rest_of old ≡ rest) before.front event given after.front) before.session (question rest) before.draft (paging result)))
-              settings
-              (starves_so (λ (stays : StaysOn before.front shared after.front back). stays.0) (WantsPage (world_of shared).settings.schema (question rest) rest before.draft) (paging result) _ _
-              (scans_so (λ (stays : StaysOn before.front shared after.front back). stays.0) (λ event given (reads : ReadsOn before.front shared after.front back event given). tells_stands_where named before.front after.front shared back event given ran reads.1 (λ old. rest_of old ≡ rest) refl)
-              (world_of shared).settings.schema before.session (question rest) before.draft (paging result)) asks.1.0),
-          asks.1.1,
-        ),
-      )
+pub pages_stand : {Z : Type 0} (named : Named) (before after : TransactionView) (shared back : Locked) (form : PageForm) (result : Result (code_page.Page Z) Fault)
+    → Run (opened_as named) shared.story.log (world_of shared) → (world_of shared).settings ≡ named.settings → AsksPageOn before shared form result after back → AsksPage named before form result after
+pages_stand named before after shared back form result ran settings asks =
+    let asked = form.asks (world_of shared) in (
+      asks.0,
+      (
+        asked,
+        subst (λ (s : Settings). ScansPageBy s.schema (after.front ≡ before.front) (λ event given. StandsInWhere named (λ old. form.asks old ≡ asked) before.front event given after.front) before.session form asked before.draft result) settings
+            (pages_so (λ (stays : StaysOn before.front shared after.front back). stays.0) (λ event given (reads : ReadsOn before.front shared after.front back event given). tells_stands_where named before.front after.front shared back event given ran reads.1 (λ old. form.asks old ≡ asked) refl)
+            (world_of shared).settings.schema before.session form asked before.draft result asks.1),
+      ),
+    )

@@ -1,16 +1,12 @@
 -- What clauses see of the transaction that a body runs in, and what it is answered (our own choice).
-use Rattle.std.specs.Prelude.{◌≡◌, ◌⊎◌, ℕ, Option, IfOk, Result}
+use Rattle.std.specs.Prelude.{◌≡◌, ◌⊎◌, ℕ, Option, Result}
 use Rattle.occ_types.specs.declared.fault.Fault.{Fault}
-use Rattle.occ_types.specs.declared.fault.Fault.TheVariants.{Memory}
-use Rattle.occ_types.specs.Key.{Key}
-use Rattle.occ_types.specs.PlainData.{end_of}
 use Rattle.occ_types.specs.Question.{Question, One, Span}
 use Rattle.occ_types.specs.Schema.{Schema}
-use Rattle.occ_model.specs.Event.{Event, Reply, Refused}
-use Rattle.occ_model.specs.World.{World}
+use Rattle.occ_model.specs.Event.{Event, Reply}
 use Rattle.occ_sets.specs.Sets.{Copied}
 use Rattle.occ_open.specs.declared.pages.Page as code_page
-use Rattle.occ_open.specs.Pages.{paging, WantsPage}
+use Rattle.occ_open.specs.Pages.{PageForm, ScansPageBy}
 use Rattle.occ_open.specs.Transactions.{GetsBy, ScansBy, AbandonsBy, OrStarvesBy, WantsOwn, WantsRange}
 use Rattle.occ_history.specs.History.{Party, Session, Client, FrontView}
 use Rattle.occ_store.specs.Locked.{Locked, world_of, IsSameBeside, Tells}
@@ -73,21 +69,15 @@ AsksOrStarves named before question reply after = IsSeeing before after
     × AsksOrStarvesBy named.settings.schema (after.front ≡ before.front) (λ event given. StandsIn named before.front event given after.front) before question reply
 
 module _ {Z : Type 0} where
-  -- The page of a range, by the question that its rest makes of it, and where the rest begins. That is so in the world in which the question stands in the history.
-  abbrev pub AsksPage : Named → TransactionView → (Option Key → Question) → (World → Option Key) → Result (code_page.Page Z) Fault → TransactionView → Type 0
-  AsksPage named before question rest_of result after = IsSeeing before after × ((rest : Option Key)
-      × OrStarvesBy (WantsPage named.settings.schema (question rest) rest before.draft) (after.front ≡ before.front) (paging result)
-      (ScansBy named.settings.schema (after.front ≡ before.front) (λ event given. StandsInWhere named (λ old. rest_of old ≡ rest) before.front event given after.front)
-      before.session (question rest) before.draft (paging result))
-      × IfOk result (λ page. end_of page.rest ≡ rest))
+  -- A page on the locked state. Its question is asked in the world that the page is read in.
+  abbrev pub AsksPageOn : TransactionView → Locked → PageForm → Result (code_page.Page Z) Fault → TransactionView → Locked → Type 0
+  AsksPageOn before old form result after new = IsSeeing before after
+      × ScansPageBy (world_of old).settings.schema (StaysOn before.front old after.front new) (ReadsOn before.front old after.front new) before.session form (form.asks (world_of old)) before.draft result
 
-  -- the same on the locked state
-  abbrev pub AsksPageOn : TransactionView → Locked → (Option Key → Question) → (World → Option Key) → Result (code_page.Page Z) Fault → TransactionView → Locked → Type 0
-  AsksPageOn before old question rest_of result after new = IsSeeing before after × (let rest = rest_of (world_of old) in
-      OrStarvesBy (WantsPage (world_of old).settings.schema (question rest) rest before.draft) (StaysOn before.front old after.front new) (paging result)
-      (ScansBy (world_of old).settings.schema (StaysOn before.front old after.front new) (ReadsOn before.front old after.front new)
-      before.session (question rest) before.draft (paging result))
-      × IfOk result (λ page. end_of page.rest ≡ rest))
+  -- A page. Its question is asked in the very world in which it stands in the history.
+  abbrev pub AsksPage : Named → TransactionView → PageForm → Result (code_page.Page Z) Fault → TransactionView → Type 0
+  AsksPage named before form result after = IsSeeing before after × ((asked : Question)
+      × ScansPageBy named.settings.schema (after.front ≡ before.front) (λ event given. StandsInWhere named (λ old. form.asks old ≡ asked) before.front event given after.front) before.session form asked before.draft result)
 
 -- the state forgets what it read on the locked state, if it is open
 abbrev pub AbandonsOn : TransactionView → Locked → Reply → FrontView → Locked → Type 0

@@ -3,7 +3,7 @@ ghost use Rattle.std.specs.Prelude.{◌≡◌};
 
 use crate::names::Name;
 use crate::shared::Shared;
-use occ_open::Readable;
+use occ_open::{PageEnd, PagePlan, Readable};
 use occ_sets::RangeRows;
 use occ_types::{Fault, Key, Row, Schema};
 use std::alloc::Allocator;
@@ -56,24 +56,15 @@ impl<N: Name, A: Allocator + Copy> Readable<A> for Shared<N, A> {
         self.scan_apart(self.reading(), number, start, table, lower, upper)
     }
 
-    fn first_rest(
+    fn plan(
         &self,
+        end: PageEnd,
         table: usize,
         lower: Option<&Key<A>>,
         upper: Option<&Key<A>>,
         most: usize,
-    ) -> Result<Option<Key<A>>, Fault> {
-        self.core().first_rest(table, lower, upper, most)
-    }
-
-    fn last_rest(
-        &self,
-        table: usize,
-        lower: Option<&Key<A>>,
-        upper: Option<&Key<A>>,
-        most: usize,
-    ) -> Result<Option<Key<A>>, Fault> {
-        self.core().last_rest(table, lower, upper, most)
+    ) -> Result<PagePlan<A>, Fault> {
+        self.core().plan(end, table, lower, upper, most)
     }
 
     fn forget(&mut self, _session: usize, number: u64) -> Result<bool, Fault> {

@@ -3,8 +3,8 @@ ghost use Rattle.std.specs.Prelude.{◌≡◌, None, Some, IfErr, OnOk, OnErr, M
 ghost use Rattle.std.specs.Option.{option_copied};
 ghost use Rattle.occ_types.specs.PlainData.{key_of, end_of};
 ghost use Rattle.occ_types.specs.Question.{One, Span};
-ghost use Rattle.occ_model.specs.Paging.{first_page, last_page};
-ghost use Rattle.occ_open.specs.Pages.{first_rest_of, last_rest_of};
+ghost use Rattle.occ_open.specs.Pages.{page_form};
+ghost use Rattle.occ_open.specs.declared.pages.PageEnd.TheVariants.{First, Last};
 ghost use Rattle.occ_open.specs.Replies.{reading, scanning, forgetting};
 ghost use Rattle.occ_open.specs.Transactions.{IsRefusedBy, write_fault, written, WantsRoom, open_after};
 ghost use Rattle.occ_store.specs.Transactions.{AsksOn, AsksPageOn, AbandonsOn, AsksOrStarves, AsksPage, AbandonsIn};
@@ -14,7 +14,7 @@ use crate::names::Name;
 use crate::sessions::Session;
 use crate::shared::Shared;
 use crate::stores::Store;
-use occ_open::Page;
+use occ_open::{Page, PageEnd};
 use occ_sets::{RangeRows, Write};
 use occ_types::{Fault, Key, Refused, Row};
 use std::alloc::Allocator;
@@ -81,10 +81,11 @@ impl<N: Name, A: Allocator + Copy> Session<N, A> {
         self.transaction.scan_in(shared, table, lower, upper)
     }
 
-    /// The first rows of a range, at most `most` of them, or one where `most` is 0, and where the rows behind them begin, which is the
-    /// lower end of the next page. The state is asked for the part of the range up to there, which it notes, so that a row that comes
-    /// in behind the page is no conflict. The own writes of that part are laid over the rows, so that the page may show more rows than
-    /// `most`, or fewer. Refused as `scan_in`, and with `Memory` where rows are left and there is none for the key at which they begin.
+    /// The first rows of a range, at most `most` of them, or one where `most` is 0, at most 1,023. Where more are left, the page has a
+    /// rest, the key of the next row, which is the lower end of the next page. The state is asked for the range up to and with that row,
+    /// and notes all of it, so that a write that would make the page tell something else is a conflict. The own writes below the rest are
+    /// laid over the rows, so that the page may show more rows than `most`, or fewer. Refused as `scan_in`, but never with
+    /// `RangeTooLarge`.
     pub fn scan_first_in(
         &mut self,
         shared: &mut Shared<N, A>,
@@ -93,15 +94,16 @@ impl<N: Name, A: Allocator + Copy> Session<N, A> {
         upper: Option<&Key<A>>,
         most: usize,
     ) -> Result<Page<A>, Fault>
-        ensures asks { AsksPageOn (lent self.old) shared.old (first_page table (end_of (option_copied lower.entry)) (end_of (option_copied upper.entry))) (λ world. first_rest_of world table (end_of (option_copied lower.entry)) (end_of (option_copied upper.entry)) most) result (lent self.new) shared.new }
+        ensures asks { AsksPageOn (lent self.old) shared.old (page_form First table (end_of (option_copied lower.entry)) (end_of (option_copied upper.entry)) most) result (lent self.new) shared.new }
         ensures same { self.new ≡ record self.old { front = self.new.front } }
     {
         self.transaction
-            .scan_first_in(shared, table, lower, upper, most)
+            .page_in(shared, PageEnd::First, table, lower, upper, most)
     }
 
-    /// The last rows of a range, at most `most` of them, or one where `most` is 0, and where the rows before them end, which is the upper
-    /// end of the page before. Noted, overlaid and refused as by `scan_first_in`.
+    /// The last rows of a range, counted, noted and refused as by `scan_first_in`. Where more are left, the rest is the key of the first
+    /// row that the page shows, which is the exclusive upper end of the page before. The state is asked for the range from the row before
+    /// that one on. The own writes from the rest on are laid over the rows.
     pub fn scan_last_in(
         &mut self,
         shared: &mut Shared<N, A>,
@@ -110,11 +112,11 @@ impl<N: Name, A: Allocator + Copy> Session<N, A> {
         upper: Option<&Key<A>>,
         most: usize,
     ) -> Result<Page<A>, Fault>
-        ensures asks { AsksPageOn (lent self.old) shared.old (last_page table (end_of (option_copied lower.entry)) (end_of (option_copied upper.entry))) (λ world. last_rest_of world table (end_of (option_copied lower.entry)) (end_of (option_copied upper.entry)) most) result (lent self.new) shared.new }
+        ensures asks { AsksPageOn (lent self.old) shared.old (page_form Last table (end_of (option_copied lower.entry)) (end_of (option_copied upper.entry)) most) result (lent self.new) shared.new }
         ensures same { self.new ≡ record self.old { front = self.new.front } }
     {
         self.transaction
-            .scan_last_in(shared, table, lower, upper, most)
+            .page_in(shared, PageEnd::Last, table, lower, upper, most)
     }
 
     /// The state forgets what the open transaction read, and none is open then. Its number is not spent. It answers whether anything was
@@ -165,7 +167,7 @@ impl<N: Name, A: Allocator + Copy> Session<N, A> {
         upper: Option<&Key<A>>,
         most: usize,
     ) -> Result<Page<A>, Fault>
-        ensures asks { AsksPage N.named (lent self.old) (first_page table (end_of (option_copied lower.entry)) (end_of (option_copied upper.entry))) (λ world. first_rest_of world table (end_of (option_copied lower.entry)) (end_of (option_copied upper.entry)) most) result (lent self.new) }
+        ensures asks { AsksPage N.named (lent self.old) (page_form First table (end_of (option_copied lower.entry)) (end_of (option_copied upper.entry)) most) result (lent self.new) }
         ensures same { self.new ≡ record self.old { front = self.new.front } }
     {
         self.transaction
@@ -182,7 +184,7 @@ impl<N: Name, A: Allocator + Copy> Session<N, A> {
         upper: Option<&Key<A>>,
         most: usize,
     ) -> Result<Page<A>, Fault>
-        ensures asks { AsksPage N.named (lent self.old) (last_page table (end_of (option_copied lower.entry)) (end_of (option_copied upper.entry))) (λ world. last_rest_of world table (end_of (option_copied lower.entry)) (end_of (option_copied upper.entry)) most) result (lent self.new) }
+        ensures asks { AsksPage N.named (lent self.old) (page_form Last table (end_of (option_copied lower.entry)) (end_of (option_copied upper.entry)) most) result (lent self.new) }
         ensures same { self.new ≡ record self.old { front = self.new.front } }
     {
         self.transaction

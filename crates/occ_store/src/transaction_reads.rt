@@ -3,8 +3,8 @@ ghost use Rattle.std.specs.Prelude.{◌≡◌};
 ghost use Rattle.std.specs.Option.{option_copied};
 ghost use Rattle.occ_types.specs.PlainData.{key_of, end_of};
 ghost use Rattle.occ_types.specs.Question.{One, Span};
-ghost use Rattle.occ_model.specs.Paging.{first_page, last_page};
-ghost use Rattle.occ_open.specs.Pages.{first_rest_of, last_rest_of};
+ghost use Rattle.occ_open.specs.Pages.{page_form};
+ghost use Rattle.occ_open.specs.declared.pages.PageEnd.TheVariants.{First, Last};
 ghost use Rattle.occ_open.specs.Replies.{reading, scanning, forgetting};
 ghost use Rattle.occ_open.specs.Transactions.{open_after};
 ghost use Rattle.occ_model.specs.Event.{Forget, Checkpoint, Folded};
@@ -17,7 +17,7 @@ use crate::names::Name;
 use crate::shared::Shared;
 use crate::stores::Store;
 use crate::transactions::Transaction;
-use occ_open::Page;
+use occ_open::{Page, PageEnd};
 use occ_sets::RangeRows;
 use occ_types::{Fault, Key, Row};
 use std::alloc::Allocator;
@@ -58,40 +58,22 @@ impl<N: Name, A: Allocator + Copy> Transaction<N, A> {
         rows
     }
 
-    pub(crate) fn scan_first_in(
+    pub(crate) fn page_in(
         &mut self,
         shared: &mut Shared<N, A>,
+        end: PageEnd,
         table: usize,
         lower: Option<&Key<A>>,
         upper: Option<&Key<A>>,
         most: usize,
     ) -> Result<Page<A>, Fault>
-        ensures asks { AsksPageOn self.old shared.old (first_page table (end_of (option_copied lower.entry)) (end_of (option_copied upper.entry))) (λ world. first_rest_of world table (end_of (option_copied lower.entry)) (end_of (option_copied upper.entry)) most) result self.new shared.new }
+        ensures asks { AsksPageOn self.old shared.old (page_form end table (end_of (option_copied lower.entry)) (end_of (option_copied upper.entry)) most) result self.new shared.new }
         ensures own { self.new.front.party ≡ self.old.front.party }
     {
         let other = shared.visit(&mut self.front, self.session);
         let page = self
             .draft
-            .scan_first_in(shared, self.session, table, lower, upper, most);
-        shared.visit(&mut self.front, other);
-        page
-    }
-
-    pub(crate) fn scan_last_in(
-        &mut self,
-        shared: &mut Shared<N, A>,
-        table: usize,
-        lower: Option<&Key<A>>,
-        upper: Option<&Key<A>>,
-        most: usize,
-    ) -> Result<Page<A>, Fault>
-        ensures asks { AsksPageOn self.old shared.old (last_page table (end_of (option_copied lower.entry)) (end_of (option_copied upper.entry))) (λ world. last_rest_of world table (end_of (option_copied lower.entry)) (end_of (option_copied upper.entry)) most) result self.new shared.new }
-        ensures own { self.new.front.party ≡ self.old.front.party }
-    {
-        let other = shared.visit(&mut self.front, self.session);
-        let page = self
-            .draft
-            .scan_last_in(shared, self.session, table, lower, upper, most);
+            .page_in(shared, self.session, end, table, lower, upper, most);
         shared.visit(&mut self.front, other);
         page
     }
@@ -155,7 +137,7 @@ impl<N: Name, A: Allocator + Copy> Transaction<N, A> {
         self.scan_in(&mut shared, table, lower, upper)
     }
 
-    /// The first rows of a range, at most `most` of them, and where the rows behind them begin, as `Session::scan_first`.
+    /// A page of the first rows of a range, at most `most` of them, with its rest, as `Session::scan_first`.
     pub fn scan_first<R: Wait>(
         &mut self,
         rt: &R,
@@ -165,15 +147,13 @@ impl<N: Name, A: Allocator + Copy> Transaction<N, A> {
         upper: Option<&Key<A>>,
         most: usize,
     ) -> Result<Page<A>, Fault>
-        ensures asks { AsksPage N.named self.old (first_page table (end_of (option_copied lower.entry)) (end_of (option_copied upper.entry))) (λ world. first_rest_of world table (end_of (option_copied lower.entry)) (end_of (option_copied upper.entry)) most) result self.new }
+        ensures asks { AsksPage N.named self.old (page_form First table (end_of (option_copied lower.entry)) (end_of (option_copied upper.entry)) most) result self.new }
         ensures own { self.new.front.party ≡ self.old.front.party }
     {
-        let mut shared = store.lock(rt);
-        shared.law();
-        self.scan_first_in(&mut shared, table, lower, upper, most)
+        self.page(rt, store, PageEnd::First, table, lower, upper, most)
     }
 
-    /// The last rows of a range, at most `most` of them, and where the rows before them end, as `Session::scan_last`.
+    /// A page of the last rows of a range, at most `most` of them, with its rest, as `Session::scan_last`.
     pub fn scan_last<R: Wait>(
         &mut self,
         rt: &R,
@@ -183,12 +163,29 @@ impl<N: Name, A: Allocator + Copy> Transaction<N, A> {
         upper: Option<&Key<A>>,
         most: usize,
     ) -> Result<Page<A>, Fault>
-        ensures asks { AsksPage N.named self.old (last_page table (end_of (option_copied lower.entry)) (end_of (option_copied upper.entry))) (λ world. last_rest_of world table (end_of (option_copied lower.entry)) (end_of (option_copied upper.entry)) most) result self.new }
+        ensures asks { AsksPage N.named self.old (page_form Last table (end_of (option_copied lower.entry)) (end_of (option_copied upper.entry)) most) result self.new }
+        ensures own { self.new.front.party ≡ self.old.front.party }
+    {
+        self.page(rt, store, PageEnd::Last, table, lower, upper, most)
+    }
+
+    // As `page_in`, in a holding of the lock of its own.
+    fn page<R: Wait>(
+        &mut self,
+        rt: &R,
+        store: &Store<N, A>,
+        end: PageEnd,
+        table: usize,
+        lower: Option<&Key<A>>,
+        upper: Option<&Key<A>>,
+        most: usize,
+    ) -> Result<Page<A>, Fault>
+        ensures asks { AsksPage N.named self.old (page_form end table (end_of (option_copied lower.entry)) (end_of (option_copied upper.entry)) most) result self.new }
         ensures own { self.new.front.party ≡ self.old.front.party }
     {
         let mut shared = store.lock(rt);
         shared.law();
-        self.scan_last_in(&mut shared, table, lower, upper, most)
+        self.page_in(&mut shared, end, table, lower, upper, most)
     }
 
     /// The state forgets what it read, and none is open then.

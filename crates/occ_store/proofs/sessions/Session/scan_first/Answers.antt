@@ -1,9 +1,8 @@
 use Rattle.std.proofs.Common.{subst}
 use Rattle.std.specs.Option.{option_copied}
 use Rattle.occ_types.specs.PlainData.{end_of}
-use Rattle.occ_model.specs.Paging.{first_page}
-use Rattle.occ_model.specs.World.{World}
-use Rattle.occ_open.specs.Pages.{first_rest_of}
+use Rattle.occ_open.specs.Pages.{page_form}
+use Rattle.occ_open.specs.declared.pages.PageEnd.TheVariants.{First}
 use Rattle.occ_store.specs.Sessions.{SessionView}
 use Rattle.occ_store.specs.Transactions.{AsksPage}
 use Rattle.occ_store.specs.Tries.{lent}
@@ -16,5 +15,5 @@ invariant_of-self g c =
 
 pub returns-clause-asks : goal.returns-clause-asks
 returns-clause-asks g c =
-    subst (λ (v : SessionView). AsksPage g.N.Name.named (lent v) (first_page c.args.table (end_of (option_copied c.args.lower)) (end_of (option_copied c.args.upper))) (λ (w : World). first_rest_of w c.args.table (end_of (option_copied c.args.lower)) (end_of (option_copied c.args.upper)) c.args.most) c.scan_first.result c.scan_first.new.self)
+    subst (λ (v : SessionView). AsksPage g.N.Name.named (lent v) (page_form First c.args.table (end_of (option_copied c.args.lower)) (end_of (option_copied c.args.upper)) c.args.most) c.scan_first.result c.scan_first.new.self)
     c.self.view_is c.scan_first.ensures.asks
