@@ -26,6 +26,8 @@ mod refusing;
 #[cfg(test)]
 mod resuming;
 #[cfg(test)]
+mod serial_pages;
+#[cfg(test)]
 mod sets;
 #[cfg(test)]
 mod stores;
