@@ -100,6 +100,12 @@ pub(crate) fn reading_text(
     Ok(text?)
 }
 
+/// Whether a page tells of a row that it doesn't show.
+pub(crate) fn page_text(texts: Global, followed: bool) -> Result<String, Fault> {
+    let word = if followed { "others" } else { "no others" };
+    Ok(word_text(texts, word)?)
+}
+
 /// The account of a store that ended.
 pub(crate) fn account_text<A: Allocator + Copy>(
     texts: Global,

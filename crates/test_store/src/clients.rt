@@ -153,6 +153,21 @@ pub(crate) fn number<N: Name, A: Allocator + Copy, R: Wait>(
     Ok(row.as_ref().and_then(|row| row.int(0)))
 }
 
+/// Whether a page of one row, the last one or the first, tells the open transaction of another row.
+pub(crate) fn is_followed<N: Name, A: Allocator + Copy, R: Wait>(
+    rt: &R,
+    store: &Store<N, A>,
+    session: &mut Session<N, A>,
+    last: bool,
+) -> Result<bool, Fault> {
+    let page = if last {
+        session.scan_last(rt, store, 0, None, None, 1)?
+    } else {
+        session.scan_first(rt, store, 0, None, None, 1)?
+    };
+    Ok(page.rest.is_some())
+}
+
 /// The open transaction puts a number under a key.
 pub(crate) fn put<N: Name, A: Allocator + Copy>(
     session: &mut Session<N, A>,

@@ -298,6 +298,18 @@ impl<N: Name, A: Allocator + Copy> Desk<N, A> {
         hand_in(rt, session)
     }
 
+    /// The open transaction of a session deletes a key, and is handed in. Its number.
+    pub(crate) fn delete<R: Wait>(
+        &mut self,
+        rt: &R,
+        session: usize,
+        key: u64,
+    ) -> Result<u64, Fault> {
+        let session = self.session(session)?;
+        session.delete(0, Key::Num(key))?;
+        hand_in(rt, session)
+    }
+
     /// A session hands in one operation, which puts 7 under a key, to run alone. Its number.
     pub(crate) fn put_alone<R: Wait>(
         &mut self,

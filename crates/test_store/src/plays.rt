@@ -1,10 +1,10 @@
 //! Plays of a scenario on a store: each step is taken, and its answer compared to the one that is wanted.
 use crate::accounts::{end, end_short};
 use crate::answers::{
-    account_text, last_text, looked_text, number_text, or_fault, queued_text, reading_text,
-    row_text, served_text, word_text,
+    account_text, last_text, looked_text, number_text, or_fault, page_text, queued_text,
+    reading_text, row_text, served_text, word_text,
 };
-use crate::clients::{begin, checkpoint, number, poll};
+use crate::clients::{begin, checkpoint, is_followed, number, poll};
 use crate::desks::{Desk, lane_of};
 use crate::gates::{Looks, StopOnce, Together};
 use crate::loads::play_load;
@@ -107,6 +107,8 @@ fn take<N: Name + Send + Sync, A: Allocator + Copy + Send + Sync, R: Threads + W
         Step::Judged(session) => judged(desk, texts, session),
         Step::Poll(session) => last(desk, texts, session),
         Step::Read(session, key) => read(rt, desk, texts, session, key),
+        Step::Page(session, last) => page(rt, desk, texts, session, last),
+        Step::Delete(session, key) => queued_text(texts, desk.delete(rt, session, key)),
         Step::Fold => fold(rt, desk, texts),
         Step::Audit => right_text(texts, desk.is_right(rt)),
         Step::End => account_text(texts, end(rt, desk)),
@@ -243,6 +245,22 @@ fn read<N: Name, A: Allocator + Copy, R: Wait>(
         None => None,
     };
     reading_text(texts, number, begun)
+}
+
+// Begins a transaction, and reads a page of one row in it.
+fn page<N: Name, A: Allocator + Copy, R: Wait>(
+    rt: &R,
+    desk: &mut Desk<N, A>,
+    texts: Global,
+    session: usize,
+    last: bool,
+) -> Result<String, Fault> {
+    let _start = begin(desk.session(session)?)?;
+    let sessions = desk.sessions.as_mut_slice();
+    match sessions.get_mut(session.wrapping_sub(1)) {
+        Some(session) => page_text(texts, is_followed(rt, &desk.store, session, last)?),
+        None => Err(Fault::NoSession),
+    }
 }
 
 fn fold<N: Name, A: Allocator + Copy, R: Wait>(

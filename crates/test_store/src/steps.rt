@@ -34,6 +34,10 @@ pub(crate) enum Step {
     Poll(usize),
     /// It begins a transaction, and reads a key.
     Read(usize, u64),
+    /// It begins a transaction, and reads a page of one row: the last one, or the first.
+    Page(usize, bool),
+    /// Its open transaction deletes a key, and is handed in.
+    Delete(usize, u64),
     /// A checkpoint.
     Fold,
     /// Whether serial replay explains the book.
@@ -65,6 +69,9 @@ impl Step {
             "judged" => Some(Step::Judged(session)),
             "poll" => Some(Step::Poll(session)),
             "read" => Some(Step::Read(session, second)),
+            "first" => Some(Step::Page(session, false)),
+            "last" => Some(Step::Page(session, true)),
+            "delete" => Some(Step::Delete(session, second)),
             "fold" => Some(Step::Fold),
             "audit" => Some(Step::Audit),
             "end" => Some(Step::End),

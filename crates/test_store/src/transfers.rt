@@ -1,6 +1,7 @@
-//! Transfers by a worker: one that the balance doesn't cover, and others.
+//! Transfers by a worker: one that the balance doesn't cover, and others; and accounts that it closes, of which one has to stay.
 ghost use Rattle.std.specs.Prelude.{◌≡◌};
 
+use crate::clients::is_followed;
 use occ_store::{
     AlwaysGo, Body, Counts, Ended, Frame, Lane, Name, Session, Store, Transaction, Worker,
 };
@@ -22,6 +23,7 @@ const TO: u64 = 8;
 #[derive(Clone, Copy, Debug)]
 pub(crate) enum TransferError {
     InsufficientFunds,
+    LastAccount,
     Store(Fault),
 }
 
@@ -37,19 +39,19 @@ impl<T: Drop> From<Refused<T>> for TransferError {
     }
 }
 
-/// Another client pays an amount into the first account.
+/// Another client pays an amount into an account.
 fn pay<N: Name, A: Allocator + Copy, R: Wait>(
     rt: &R,
     store: &Store<N, A>,
     session: &mut Session<N, A>,
     lane: &mut Lane<N, A>,
-    amount: i64,
+    (account, amount): (u64, i64),
 ) -> Result<(), Fault> {
     session.begin()?;
-    let row = session.get(rt, store, ACCOUNTS, &Key::Num(FROM))?;
+    let row = session.get(rt, store, ACCOUNTS, &Key::Num(account))?;
     let balance = row.as_ref().and_then(|row| row.int(0)).unwrap_or(0);
     let paid = balance.saturating_add(amount);
-    session.put(ACCOUNTS, FROM.into(), paid.into())?;
+    session.put(ACCOUNTS, account.into(), paid.into())?;
     session.submit(rt)?;
     let _settled = lane.serve_one(rt, store, &AlwaysGo)?;
     Ok(())
@@ -98,15 +100,73 @@ impl<N: Name, A: Allocator + Copy, R: Wait> Body<N, A, R> for Transfer {
     }
 }
 
-/// What came of a transfer, and what the store has counted by then.
+/// Closes an account where a page of one row tells of another one, and answers how many rows the page shows. A lane is served between the
+/// two.
+#[derive(Drop)]
+struct Closing<'l, N: Name, A: Allocator + Copy> {
+    lane: &'l mut Lane<N, A>,
+    account: u64,
+    /// Whether it asks for the last page.
+    last: bool,
+}
+
+impl<N: Name, A: Allocator + Copy, R: Wait> Body<N, A, R> for Closing<'_, N, A> {
+    type Value = i64;
+
+    type Error = TransferError;
+
+    fn run(
+        &mut self,
+        rt: &R,
+        store: &Store<N, A>,
+        work: &mut Transaction<N, A>,
+    ) -> Result<i64, TransferError> {
+        let page = if self.last {
+            work.scan_last(rt, store, ACCOUNTS, None, None, 1)?
+        } else {
+            work.scan_first(rt, store, ACCOUNTS, None, None, 1)?
+        };
+        if page.rest.is_none() {
+            return Err(TransferError::LastAccount);
+        }
+        self.lane.serve_one(rt, store, &AlwaysGo)?;
+        work.delete(ACCOUNTS, self.account.into())?;
+        Ok(page.rows.len() as i64)
+    }
+}
+
+/// What came of a transaction, and what the store has counted by then.
 #[derive(Clone, Copy)]
 struct Told {
     ended: Result<Ended<i64>, TransferError>,
     counts: Counts,
 }
 
-/// Moves an amount, in at most three tries.
+/// Tries a transaction at most three times.
+fn tried<N: Name, A: Allocator + Copy, R: Wait, B: Body<N, A, R>>(
+    rt: &R,
+    store: &Store<N, A>,
+    worker: &mut Worker<N, A>,
+    body: &mut B,
+) -> Result<Ended<B::Value>, B::Error> {
+    worker.transact(rt, store, 3, body)
+}
+
+/// What came of one that ended so.
 fn told_of<N: Name, A: Allocator + Copy, R: Wait>(
+    rt: &R,
+    store: &Store<N, A>,
+    ended: Result<Ended<i64>, TransferError>,
+) -> Told {
+    let mut observer = store.observer(rt);
+    Told {
+        ended,
+        counts: store.counts(rt, &mut observer),
+    }
+}
+
+/// Moves an amount.
+fn transfer<N: Name, A: Allocator + Copy, R: Wait>(
     rt: &R,
     store: &Store<N, A>,
     worker: &mut Worker<N, A>,
@@ -117,24 +177,51 @@ fn told_of<N: Name, A: Allocator + Copy, R: Wait>(
         to: TO,
         amount,
     };
-    let ended = worker.transact(rt, store, 3, &mut body);
-    let mut observer = store.observer(rt);
-    Told {
-        ended,
-        counts: store.counts(rt, &mut observer),
-    }
+    let ended = tried(rt, store, worker, &mut body);
+    told_of(rt, store, ended)
 }
 
-/// Of 100 that were paid in, 130 are to be moved, then 30, and then nothing, which tells what is left.
+/// Closes the account that a page of one row shows, while another client closes the one of which it tells.
+fn close<N: Name, A: Allocator + Copy, R: Wait>(
+    rt: &R,
+    store: &Store<N, A>,
+    worker: &mut Worker<N, A>,
+    session: &mut Session<N, A>,
+    lane: &mut Lane<N, A>,
+    last: bool,
+) -> Result<Told, Fault> {
+    let (shown, told) = if last { (TO, FROM) } else { (FROM, TO) };
+    session.begin()?;
+    if is_followed(rt, store, session, last)? {
+        session.delete(ACCOUNTS, told.into())?;
+    }
+    session.submit(rt)?;
+    let mut body = Closing {
+        lane,
+        account: shown,
+        last,
+    };
+    let ended = tried(rt, store, worker, &mut body);
+    Ok(told_of(rt, store, ended))
+}
+
+/// Of 100 that were paid in, 130 are to be moved, then 30, and then nothing, which tells what is left. Then each of the two accounts is to be
+/// closed, while another client closes the other one.
 fn play<N: Name, A: Allocator + Copy, R: Wait>(
     rt: &R,
     store: &Store<N, A>,
     worker: &mut Worker<N, A>,
-) -> [Told; 3] {
-    let uncovered = told_of(rt, store, worker, 130);
-    let covered = told_of(rt, store, worker, 30);
-    let nothing = told_of(rt, store, worker, 0);
-    [uncovered, covered, nothing]
+    session: &mut Session<N, A>,
+    lane: &mut Lane<N, A>,
+) -> Result<[Told; 5], Fault> {
+    pay(rt, store, session, lane, (FROM, 100))?;
+    let uncovered = transfer(rt, store, worker, 130);
+    let covered = transfer(rt, store, worker, 30);
+    let nothing = transfer(rt, store, worker, 0);
+    let first = close(rt, store, worker, session, lane, false)?;
+    pay(rt, store, session, lane, (TO, 30))?;
+    let last = close(rt, store, worker, session, lane, true)?;
+    Ok([uncovered, covered, nothing, first, last])
 }
 
 /// The last session, and the last lane.
@@ -158,20 +245,19 @@ fn play_by<N: Name, A: Allocator + Copy, R: Wait>(
     mut workers: Vec<Worker<N, A>, A>,
     mut sessions: Vec<Session<N, A>, A>,
     mut lanes: Vec<Lane<N, A>, A>,
-) -> Result<[Told; 3], Fault> {
+) -> Result<[Told; 5], Fault> {
     let (mut session, mut lane) = last(&mut sessions, &mut lanes)?;
-    pay(rt, store, &mut session, &mut lane, 100)?;
     let Some(mut worker) = workers.pop() else {
         return Err(Fault::NoSession);
     };
-    Ok(play(rt, store, &mut worker))
+    play(rt, store, &mut worker, &mut session, &mut lane)
 }
 
 /// The same on the store of a frame.
 fn play_on<N: Name, A: Allocator + Copy, R: Wait>(
     rt: &R,
     frame: Frame<A>,
-) -> Result<[Told; 3], Fault>
+) -> Result<[Told; 5], Fault>
     requires { (frame.named ≡ N.named) × (frame.ledger ≡ N.name) × (frame.parts ≡ N.parts) }
 {
     let Ok((store, workers, sessions, lanes)) = Store::<N, A>::open(frame) else {
@@ -181,21 +267,21 @@ fn play_on<N: Name, A: Allocator + Copy, R: Wait>(
 }
 
 /// The same on a new store.
-fn named<R: Wait>(rt: &R, alloc: Global) -> Result<[Told; 3], Fault> {
+fn named<R: Wait>(rt: &R, alloc: Global) -> Result<[Told; 5], Fault> {
     let schema = Schema::of(alloc, &[("accounts", KeyKind::Num, &[Kind::Int])])?;
     play_on::<Brand, Global, R>(rt, Frame::new(alloc, schema, 2, 1, 4, 16)?)
 }
 
-/// Prints what came of the transfers.
+/// Prints what came of the worker's transactions.
 pub(crate) fn tell<R: Wait>(rt: &HostRuntime, threads: &R) -> io::Result<()> {
     match named(threads, rt.alloc()) {
-        Ok(transfers) => tell_each(rt, &transfers),
+        Ok(told) => tell_each(rt, &told),
         Err(fault) => println!(rt; "{fault}"),
     }
 }
 
-fn tell_each(rt: &HostRuntime, transfers: &[Told]) -> io::Result<()> {
-    for told in transfers {
+fn tell_each(rt: &HostRuntime, told: &[Told]) -> io::Result<()> {
+    for told in told {
         let Counts {
             committed,
             conflicts,

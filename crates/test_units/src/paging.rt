@@ -128,7 +128,7 @@ fn tables(alloc: Global) -> Result<Box<Core<Global>>, Fault> {
     Ok(Box::new(alloc, core)?)
 }
 
-fn desk(alloc: Global) -> Result<Box<Desk>, Fault> {
+fn open(alloc: Global) -> Result<Box<Desk>, Fault> {
     let desk = Desk {
         alloc,
         core: tables(alloc)?,
@@ -431,28 +431,28 @@ impl Desk {
 
 #[test]
 fn pages_show_all_rows(rt: HostRuntime) -> Result<(), Fail> {
-    let mut desk = desk(rt.alloc())?;
+    let mut desk = open(rt.alloc())?;
     assert!(rt; desk.all_walk()?);
     Ok(())
 }
 
 #[test]
 fn pages_show_as_many_rows_as_they_may(rt: HostRuntime) -> Result<(), Fail> {
-    let mut desk = desk(rt.alloc())?;
+    let mut desk = open(rt.alloc())?;
     assert!(rt; desk.all_show()?);
     Ok(())
 }
 
 #[test]
 fn a_row_behind_a_page_is_read_with_it(rt: HostRuntime) -> Result<(), Fail> {
-    let mut desk = desk(rt.alloc())?;
+    let mut desk = open(rt.alloc())?;
     assert!(rt; desk.all_conflict()?);
     Ok(())
 }
 
 #[test]
 fn one_of_two_doctors_stays(rt: HostRuntime) -> Result<(), Fail> {
-    let mut desk = desk(rt.alloc())?;
+    let mut desk = open(rt.alloc())?;
     assert!(rt; desk.both_leave(false)? == End::BackedUp(Cause::Conflict));
     assert!(rt; desk.both_leave(true)? == End::BackedUp(Cause::Conflict));
     Ok(())
