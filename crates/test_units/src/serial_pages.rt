@@ -128,16 +128,16 @@ impl Rows {
 
     // Whether these are the rows there.
     fn are(&self, (lower, upper): (usize, usize), rows: &[(usize, i64)]) -> bool {
-        let mut rows = rows.iter();
+        let mut place = 0usize;
         for key in lower..upper {
-            let Some(number) = self.at(key) else {
-                continue;
-            };
-            if rows.next() != Some(&(key, number)) {
-                return false;
+            if let Some(number) = self.at(key) {
+                if rows.get(place) != Some(&(key, number)) {
+                    return false;
+                }
+                place = place.saturating_add(1);
             }
         }
-        rows.next().is_none()
+        place == rows.len()
     }
 
     // The rest of a page.
