@@ -160,10 +160,11 @@ pub(crate) fn is_followed<N: Name, A: Allocator + Copy, R: Wait>(
     session: &mut Session<N, A>,
     last: bool,
 ) -> Result<bool, Fault> {
+    let end = None;
     let page = if last {
-        session.scan_last(rt, store, 0, None, None, 1)?
+        session.scan_last(rt, store, 0, end.as_ref(), end.as_ref(), 1)?
     } else {
-        session.scan_first(rt, store, 0, None, None, 1)?
+        session.scan_first(rt, store, 0, end.as_ref(), end.as_ref(), 1)?
     };
     Ok(page.rest.is_some())
 }

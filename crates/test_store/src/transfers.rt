@@ -121,10 +121,11 @@ impl<N: Name, A: Allocator + Copy, R: Wait> Body<N, A, R> for Closing<'_, N, A> 
         store: &Store<N, A>,
         work: &mut Transaction<N, A>,
     ) -> Result<i64, TransferError> {
+        let end = None;
         let page = if self.last {
-            work.scan_last(rt, store, ACCOUNTS, None, None, 1)?
+            work.scan_last(rt, store, ACCOUNTS, end.as_ref(), end.as_ref(), 1)?
         } else {
-            work.scan_first(rt, store, ACCOUNTS, None, None, 1)?
+            work.scan_first(rt, store, ACCOUNTS, end.as_ref(), end.as_ref(), 1)?
         };
         if page.rest.is_none() {
             return Err(TransferError::LastAccount);
@@ -166,7 +167,7 @@ fn told_of<N: Name, A: Allocator + Copy, R: Wait>(
 }
 
 /// Moves an amount.
-fn transfer<N: Name, A: Allocator + Copy, R: Wait>(
+fn move_amount<N: Name, A: Allocator + Copy, R: Wait>(
     rt: &R,
     store: &Store<N, A>,
     worker: &mut Worker<N, A>,
@@ -215,9 +216,9 @@ fn play<N: Name, A: Allocator + Copy, R: Wait>(
     lane: &mut Lane<N, A>,
 ) -> Result<[Told; 5], Fault> {
     pay(rt, store, session, lane, (FROM, 100))?;
-    let uncovered = transfer(rt, store, worker, 130);
-    let covered = transfer(rt, store, worker, 30);
-    let nothing = transfer(rt, store, worker, 0);
+    let uncovered = move_amount(rt, store, worker, 130);
+    let covered = move_amount(rt, store, worker, 30);
+    let nothing = move_amount(rt, store, worker, 0);
     let first = close(rt, store, worker, session, lane, false)?;
     pay(rt, store, session, lane, (TO, 30))?;
     let last = close(rt, store, worker, session, lane, true)?;
