@@ -4,6 +4,8 @@ import re
 import subprocess
 from typing import NamedTuple, Optional
 
+from repository import TOP
+
 LINE = re.compile(r"(\S.*): (passed|failed|left out)(?:, (.*))?")
 
 
@@ -24,9 +26,9 @@ def indented(text):
     return text.strip().replace("\n", "\n    ")
 
 
-def said_by(*words):
+def said_by(tool):
     """The parts of what a tool tries, as it says them."""
-    done = subprocess.run(words, stdout=subprocess.PIPE, stderr=subprocess.STDOUT, text=True)
+    done = subprocess.run([f"{TOP}/tools/{tool}"], stdout=subprocess.PIPE, stderr=subprocess.STDOUT, text=True)
     parts = []
     for line in done.stdout.splitlines():
         found = LINE.fullmatch(line)
@@ -36,5 +38,5 @@ def said_by(*words):
             parts[-1][2] = f"{parts[-1][2] or ''}\n{line[4:]}"
     told = [Part(name, said if kind == "failed" else None, said if kind == "left out" else None) for name, kind, said in parts]
     if done.returncode and not any(it.wrong for it in told):
-        told.append(Part(words[0], f"status {done.returncode}\n{done.stdout}"))
+        told.append(Part(tool, f"status {done.returncode}\n{done.stdout}"))
     return told
