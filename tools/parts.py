@@ -33,9 +33,9 @@ def said_by(tool):
     for line in done.stdout.splitlines():
         found = LINE.fullmatch(line)
         if found:
-            parts.append([*found.groups()])
+            parts.append([found[1], found[2], found[3] or found[2]])
         elif parts and line.startswith("    "):
-            parts[-1][2] = f"{parts[-1][2] or ''}\n{line[4:]}"
+            parts[-1][2] = f"{parts[-1][2]}\n{line[4:]}"
     told = [Part(name, said if kind == "failed" else None, said if kind == "left out" else None) for name, kind, said in parts]
     if done.returncode and not any(it.wrong for it in told):
         told.append(Part(tool, f"status {done.returncode}\n{done.stdout}"))
