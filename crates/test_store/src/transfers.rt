@@ -100,14 +100,31 @@ impl<N: Name, A: Allocator + Copy, R: Wait> Body<N, A, R> for Transfer {
     }
 }
 
-/// Closes an account where a page of one row tells of another one, and answers how many rows the page shows. A lane is served between the
-/// two.
+/// Whether a page of one row, the last one or the first, tells of no other account.
+fn is_last<N: Name, A: Allocator + Copy, R: Wait>(
+    rt: &R,
+    store: &Store<N, A>,
+    work: &mut Transaction<N, A>,
+    backward: bool,
+) -> Result<bool, Fault>
+    ensures own { work.new.front.party ≡ work.old.front.party }
+{
+    let end = None;
+    let page = if backward {
+        work.scan_last(rt, store, ACCOUNTS, end.as_ref(), end.as_ref(), 1)?
+    } else {
+        work.scan_first(rt, store, ACCOUNTS, end.as_ref(), end.as_ref(), 1)?
+    };
+    Ok(page.rest.is_none())
+}
+
+/// Closes an account that isn't the last one, and answers what is left in it. A lane is served before it does.
 #[derive(Drop)]
 struct Closing<'l, N: Name, A: Allocator + Copy> {
     lane: &'l mut Lane<N, A>,
     account: u64,
-    /// Whether it asks for the last page.
-    last: bool,
+    /// Whether it asks for the last page, and not for the first.
+    backward: bool,
 }
 
 impl<N: Name, A: Allocator + Copy, R: Wait> Body<N, A, R> for Closing<'_, N, A> {
@@ -121,18 +138,12 @@ impl<N: Name, A: Allocator + Copy, R: Wait> Body<N, A, R> for Closing<'_, N, A> 
         store: &Store<N, A>,
         work: &mut Transaction<N, A>,
     ) -> Result<i64, TransferError> {
-        let end = None;
-        let page = if self.last {
-            work.scan_last(rt, store, ACCOUNTS, end.as_ref(), end.as_ref(), 1)?
-        } else {
-            work.scan_first(rt, store, ACCOUNTS, end.as_ref(), end.as_ref(), 1)?
-        };
-        if page.rest.is_none() {
+        if is_last(rt, store, work, self.backward)? {
             return Err(TransferError::LastAccount);
         }
         self.lane.serve_one(rt, store, &AlwaysGo)?;
         work.delete(ACCOUNTS, self.account.into())?;
-        Ok(page.rows.len() as i64)
+        Ok(0)
     }
 }
 
@@ -189,18 +200,18 @@ fn close<N: Name, A: Allocator + Copy, R: Wait>(
     worker: &mut Worker<N, A>,
     session: &mut Session<N, A>,
     lane: &mut Lane<N, A>,
-    last: bool,
+    backward: bool,
 ) -> Result<Told, Fault> {
-    let (shown, told) = if last { (TO, FROM) } else { (FROM, TO) };
+    let (shown, told) = if backward { (TO, FROM) } else { (FROM, TO) };
     session.begin()?;
-    if is_followed(rt, store, session, last)? {
+    if is_followed(rt, store, session, backward)? {
         session.delete(ACCOUNTS, told.into())?;
     }
     session.submit(rt)?;
     let mut body = Closing {
         lane,
         account: shown,
-        last,
+        backward,
     };
     let ended = tried(rt, store, worker, &mut body);
     Ok(told_of(rt, store, ended))
