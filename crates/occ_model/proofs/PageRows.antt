@@ -1,5 +1,5 @@
 -- A page of a range shows its first rows or its last ones, leaves the others, and tells no more than its question is answered.
-use Rattle.std.proofs.Common.{◌≡◌, ◌⊎◌, ◌≤◌, ◌+◌, ◌-◌, max, ◌==◌, ◌^◌, ℕ, zero, suc, Bool, true, false, not, ◌&&◌, cond, nat_lt, if◌then◌else◌, List, [], ◌∷◌, ◌++◌, map, filter, length, take, drop, Option, None, Some, IfSome, Contains, slice_get, Ordering, Less, Equal, Greater, is_lt, is_le, nat_cmp, refl, sym, ap, subst, ◌∙◌, inl, inr, suc-le-suc, le_of_suc-le-suc, arith}
+use Rattle.std.proofs.Common.{◌≡◌, ◌⊎◌, ◌≤◌, ◌+◌, ◌-◌, max, ◌==◌, ◌^◌, ℕ, zero, suc, Bool, true, false, not, ◌&&◌, cond, nat_lt, if◌then◌else◌, List, [], ◌∷◌, ◌++◌, map, filter, length, take, drop, Option, None, Some, IfSome, Contains, slice_get, Ordering, Less, Equal, Greater, is_lt, is_le, nat_cmp, refl, sym, ap, subst, ◌∙◌, inl, inr, suc-le-suc, arith}
 use Rattle.std.proofs.Math.Seq.{take-append_seam, drop-append_seam, take-append-add, drop-append-add}
 use Rattle.std.proofs.Math.Nat.{min-le_left, le-min, le-max_right}
 use Rattle.std.proofs.lemmas.List.{length-append, length-drop, length-take-le, append-nil, append_assoc, take_all}
@@ -16,7 +16,7 @@ use Rattle.occ_types.specs.Key.{Key, Num, Text as KeyText, Pair, key_cmp, key_cm
 use Rattle.occ_types.specs.KeyPart as parts
 use Rattle.occ_types.specs.KeyPart.{KeyPart, part_cmp}
 use Rattle.occ_types.specs.Object.{Object, object_cmp, object_cmp-IsAntisymmetric}
-use Rattle.occ_types.specs.Question.{Question, One, Span, asks, is_from, is_below, InRange}
+use Rattle.occ_types.specs.Question.{Question, Span, asks, is_from, is_below, InRange}
 use Rattle.occ_types.specs.Row.{Row}
 use Rattle.occ_types.specs.Schema.{Table, Schema, fault_if, first_fault, check_question, check_range, check_end, is_empty_range, part_has_kind, key_has_kind, key_is_too_long, check_key_in}
 use Rattle.occ_types.specs.declared.fault.Fault.{Fault}
@@ -26,7 +26,7 @@ use Rattle.occ_types.specs.declared.kind.KeyKind.TheVariants as keys
 use Rattle.occ_types.specs.declared.kind.PartKind.{PartKind}
 use Rattle.occ_types.specs.declared.kind.PartKind.TheVariants as part_kinds
 use Rattle.occ_types.specs.declared.limits.TheConstants.{MAX_ANSWER_ROWS}
-use Rattle.occ_model.specs.State.{State, Found, Rows, answer, answer_size, apply}
+use Rattle.occ_model.specs.State.{State, Rows, answer, answer_size, apply}
 use Rattle.occ_model.specs.Overlay.{overlay}
 use Rattle.occ_model.specs.Content.{StateIs, QuestionFits, RowFits}
 use Rattle.occ_model.specs.Paging.{Told, page_size, rows_answered, rows_between, first_key, first_in, last_in, last_behind, end_behind, first_end, last_begin, first_question, last_question}
