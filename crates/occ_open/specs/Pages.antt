@@ -19,7 +19,7 @@ use Rattle.occ_open.specs.declared.pages.Page as code
 use Rattle.occ_open.specs.declared.pages.PageEnd.{PageEnd}
 use Rattle.occ_open.specs.declared.pages.PageEnd.TheVariants.{First, Last}
 use Rattle.occ_open.specs.Replies.{copying}
-use Rattle.occ_open.specs.Transactions.{CopyWantsRange, WantsRange, UnlessBy, WithOpenBy, OrStarvesBy}
+use Rattle.occ_open.specs.Transactions.{WantsRange, UnlessBy, WithOpenBy, OrStarvesBy}
 use Rattle.occ_sets.specs.PlainSets.{rows_of}
 use Rattle.occ_sets.specs.Sets.{Copied}
 
@@ -33,6 +33,7 @@ abbrev pub tells_of : PageEnd → ℕ → List (Key × Row) → Told
 tells_of First = first_in
 tells_of Last = last_in
 
+-- what a page asks for in a world
 abbrev pub asks_of : PageEnd → ℕ → Option Key → Option Key → ℕ → World → Question
 asks_of First table lower upper most world = first_question world.settings.schema world.table table lower upper most
 asks_of Last table lower upper most world = last_question world.settings.schema world.table table lower upper most
@@ -109,10 +110,28 @@ module _ {Z : Type 0} where
       (λ page. (rows : List (Key × Row)) × Replies (Answered (Rows rows)) × (told page ≡ tells rows))
       (λ fault. Replies (Refused fault))
 
-  -- a page as a transaction sees it, with its own writes, by what it means that the store stays, and that an event moves it, with this reply
+  -- A page as a transaction sees it, with its own writes, by what it means that the store stays, and that an event moves it, with this reply: of its copy, and where one has to be open.
   abbrev pub CopyPagesBy : Schema → (Stays : Type 0) → (Moves : Event → Reply → Type 0) → ℕ → PageForm → Question → Copied → Result (code.Page Z) Fault → Type 0
   CopyPagesBy schema Stays Moves session form asked copy result =
       UnlessBy (check_question schema form.range) Stays (paging result) (PageOf (Moves (Read session copy.number copy.start asked)) (seen form copy.writes) result)
+
+  abbrev pub PagesBy : Schema → (Stays : Type 0) → (Moves : Event → Reply → Type 0) → ℕ → PageForm → Question → Option Copied → Result (code.Page Z) Fault → Type 0
+  PagesBy schema Stays Moves session form asked current result =
+      WithOpenBy current Stays (paging result) (λ copy. CopyPagesBy schema Stays Moves session form asked copy result)
+
+  -- the same in the model, whose worlds move by its steps
+  abbrev pub Pages : World → ℕ → PageForm → Option Copied → Result (code.Page Z) Fault → World → Type 0
+  Pages old session form current result new =
+      PagesBy old.settings.schema (new ≡ old) (λ event reply. Step old event reply new) session form (form.asks old) current result
+
+  -- the page, or there is no memory for it
+  abbrev pub ScansPageBy : Schema → (Stays : Type 0) → (Moves : Event → Reply → Type 0) → ℕ → PageForm → Question → Option Copied → Result (code.Page Z) Fault → Type 0
+  ScansPageBy schema Stays Moves session form asked current result =
+      OrStarvesBy (WantsRange schema form.range current) Stays (paging result) (PagesBy schema Stays Moves session form asked current result)
+
+  abbrev pub ScansPage : World → ℕ → PageForm → Option Copied → Result (code.Page Z) Fault → World → Type 0
+  ScansPage old session form current result new =
+      ScansPageBy old.settings.schema (new ≡ old) (λ event reply. Step old event reply new) session form (form.asks old) current result
 
   -- the rows that a plan makes, of whichever range it is for
   abbrev pub PlannedBy : World → (Stays : Type 0) → (Moves : Event → Reply → Type 0) → ℕ → Plan → Copied → Result (Vec (code_key.Key Z × Row) Z) Fault → Type 0
@@ -121,20 +140,3 @@ module _ {Z : Type 0} where
       → OrStarvesBy (Fits world form) Stays (copying result) (MatchResult result
       (λ shown. (rows : List (Key × Row)) × Moves (Read session copy.number copy.start plan.asked) (Answered (Rows rows)) × ◌≡◌ {A = Told} (rows_of shown.items, plan.rest) (seen form copy.writes rows))
       (λ fault. Moves (Read session copy.number copy.start plan.asked) (Refused fault)))
-
-  abbrev pub PagesBy : Schema → (Stays : Type 0) → (Moves : Event → Reply → Type 0) → ℕ → PageForm → Question → Option Copied → Result (code.Page Z) Fault → Type 0
-  PagesBy schema Stays Moves session form asked current result =
-      WithOpenBy current Stays (paging result) (λ copy. CopyPagesBy schema Stays Moves session form asked copy result)
-
-  abbrev pub Pages : World → ℕ → PageForm → Option Copied → Result (code.Page Z) Fault → World → Type 0
-  Pages old session form current result new =
-      PagesBy old.settings.schema (new ≡ old) (λ event reply. Step old event reply new) session form (form.asks old) current result
-
-  -- or there is no memory for it
-  abbrev pub ScansPageBy : Schema → (Stays : Type 0) → (Moves : Event → Reply → Type 0) → ℕ → PageForm → Question → Option Copied → Result (code.Page Z) Fault → Type 0
-  ScansPageBy schema Stays Moves session form asked current result =
-      OrStarvesBy (WantsRange schema form.range current) Stays (paging result) (PagesBy schema Stays Moves session form asked current result)
-
-  abbrev pub ScansPage : World → ℕ → PageForm → Option Copied → Result (code.Page Z) Fault → World → Type 0
-  ScansPage old session form current result new =
-      ScansPageBy old.settings.schema (new ≡ old) (λ event reply. Step old event reply new) session form (form.asks old) current result
