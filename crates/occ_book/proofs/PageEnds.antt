@@ -142,13 +142,10 @@ abbrev IsLastCut : ℕ → Option Key → List (Key × Row) → Option Key → O
 IsLastCut size lower all rest asked = (rest ≡ (last_in size all).1) × (option_or asked lower ≡ last_begin lower (length all - size) all)
 
 -- Where it is cut, by what is left once its rows are taken from the end: but for its first one, and then without that.
-module _ (most : ℕ) (lower : Option Key) (rows all but_first others : List (Key × Row)) (count : ℕ) (is : rows ≡ all) (size_is : count ≡ page_size most)
-    (skipped : but_first ≡ take (length rows - (count - 1)) rows) (before : others ≡ take (length but_first - 1) but_first) where
+module _ (most : ℕ) (lower : Option Key) (all but_first others : List (Key × Row))
+    (first : but_first ≡ take (length all - (page_size most - 1)) all) (before : others ≡ take (length but_first - 1) but_first) where
   abbrev size : ℕ
   size = page_size most
-
-  first : but_first ≡ take (length all - (size - 1)) all
-  first = skipped ∙ (λ i. take (length (is i) - (size_is i - 1)) (is i))
 
   long_first : length but_first ≡ length all - (size - 1)
   long_first =

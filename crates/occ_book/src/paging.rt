@@ -1,5 +1,5 @@
 //! Where a page of a range is cut.
-ghost use Rattle.std.specs.Prelude.{◌≡◌, ◌-◌, drop, length, IfOk, IsOkUnless, None};
+ghost use Rattle.std.specs.Prelude.{◌≡◌, ◌-◌, drop, take, length, IfOk, IsOkUnless, None};
 ghost use Rattle.std.specs.Option.{option_copied, option_map, option_or};
 ghost use Rattle.occ_types.specs.declared.fault.Fault.TheVariants.{Memory};
 ghost use Rattle.occ_types.specs.PlainData.{key_of, end_of, table_of};
@@ -10,6 +10,7 @@ ghost use Rattle.occ_book.specs.KeyRefs.{key_lent};
 ghost use Rattle.occ_book.specs.Table.{rows_within};
 
 use crate::key_refs::KeyRef;
+use crate::rows_between::{RowsBackward, RowsBetween};
 use crate::table::Table;
 use crate::tables::Tables;
 use occ_types::limits::MAX_ANSWER_ROWS;
@@ -100,8 +101,7 @@ impl<A: Allocator + Clone> Table<A> {
         ensures asked { IfOk result (λ cut. option_or (end_of cut.asked) (end_of (option_copied upper.entry)) ≡ first_end (table_of definition.now) (end_of (option_copied upper.entry)) (drop (page_size most) (rows_within (end_of (option_copied lower.entry)) (end_of (option_copied upper.entry)) self.now))) }
         ensures memory { IsOkUnless result Memory }
     {
-        let mut rows = self.between(lower, upper);
-        rows.skip(page_size(most));
+        let mut rows = self.behind_page(lower, upper, most);
         let Some(rest) = rows.next_key() else {
             return Ok(PageCut::none());
         };
@@ -126,8 +126,7 @@ impl<A: Allocator> Table<A> {
         ensures asked { IfOk result (λ cut. option_or (end_of cut.asked) (end_of (option_copied lower.entry)) ≡ last_begin (end_of (option_copied lower.entry)) (length (rows_within (end_of (option_copied lower.entry)) (end_of (option_copied upper.entry)) self.now) - page_size most) (rows_within (end_of (option_copied lower.entry)) (end_of (option_copied upper.entry)) self.now)) }
         ensures memory { IsOkUnless result Memory }
     {
-        let mut rows = self.backward(lower, upper);
-        rows.skip(page_size(most) - 1);
+        let mut rows = self.up_to_page(lower, upper, most);
         let Some(rest) = rows.next_key() else {
             return Ok(PageCut::none());
         };
@@ -138,6 +137,35 @@ impl<A: Allocator> Table<A> {
             asked: Some(asked.to_key()?),
             rest: Some(rest.to_key()?),
         })
+    }
+
+    // The rows behind the first page of a range.
+    fn behind_page(
+        &self,
+        lower: Option<&Key<A>>,
+        upper: Option<&Key<A>>,
+        most: usize,
+    ) -> RowsBetween<'_, A>
+        ensures { result ≡ drop (page_size most) (rows_within (end_of (option_copied lower.entry)) (end_of (option_copied upper.entry)) self.now) }
+    {
+        let mut rows = self.between(lower, upper);
+        rows.skip(page_size(most));
+        rows
+    }
+
+    // The rows before the last page of a range, and its first one, from that one back.
+    fn up_to_page(
+        &self,
+        lower: Option<&Key<A>>,
+        upper: Option<&Key<A>>,
+        most: usize,
+    ) -> RowsBackward<'_, A>
+        ensures { let rows = rows_within (end_of (option_copied lower.entry)) (end_of (option_copied upper.entry)) self.now in
+            result ≡ take (length rows - (page_size most - 1)) rows }
+    {
+        let mut rows = self.backward(lower, upper);
+        rows.skip(page_size(most) - 1);
+        rows
     }
 }
 

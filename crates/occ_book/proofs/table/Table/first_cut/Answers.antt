@@ -1,4 +1,4 @@
-use Rattle.std.proofs.Common.{drop, Some, sym, ap, ◌∙◌, option_copied}
+use Rattle.std.proofs.Common.{Some, sym, ap, ◌∙◌, option_copied}
 use Rattle.std.specs.Option.{option_map, option_or}
 use Rattle.occ_types.specs.PlainData.{key_of, end_of, table_of}
 use Rattle.occ_model.specs.Paging.{first_key, end_behind, first_end}
@@ -10,9 +10,8 @@ pub returns-clause-asked : goal.returns-clause-asked
 returns-clause-asked g c =
     let upper = end_of (option_copied c.args.upper) in
     let definition = table_of c.args.definition.now in
-    let left = c.skip.ensures ∙ (λ i. drop (c.page_size.ensures i) (c.between-rows.ensures i)) in
     let rest = sym c.next_key.ensures.key ∙ ap (option_map key_lent) c.in-Some.is ∙ ap Some (sym c.in_ok-rest.ensures) in
     let next = c.next_key-2.ensures.key ∙ ap first_key c.next_key.ensures.rest in
     ap (λ end. option_or end upper) (c.in_ok-asked.ensures.end ∙ ap (end_behind definition (key_of c.in_ok-rest.rest)) next)
     ∙ ends-behind definition upper _ _ rest
-    ∙ ap (first_end definition upper) left
+    ∙ ap (first_end definition upper) c.behind_page-rows.ensures
