@@ -1,5 +1,6 @@
 //! Ranges in pages: what they show together, at the ends of what keys can be too, and which writes are conflicts.
-use occ_client::{Cause, Client, Core, End, Page};
+use crate::calls::{begin, commit, page, write};
+use occ_client::{Client, Core, Page};
 use occ_types::limits::MAX_ANSWER_ROWS;
 use occ_types::{Fault, Key, KeyKind, KeyPart, Kind, PartKind, Schema};
 use std::alloc::Global;
@@ -201,80 +202,42 @@ fn push_keys(keys: &mut Vec<Key<Global>>, page: &Page<Global>, last: bool) -> Re
     Ok(())
 }
 
-// Whether a page of a range of so many rows shows no more than these, and has a rest where there are others.
-fn is_cut(page: &Page<Global>, count: usize, most: usize) -> bool {
-    page.rows.len() == count.min(most) && page.rest.is_some() == (most < count)
-}
-
-/// The first page of a range, or its last one.
-pub(crate) fn page(
+// Begins a transaction, and reads a page of one row. Whether it tells of another one.
+fn is_followed(
     client: &mut Client<Global>,
     core: &mut Core<Global>,
     last: bool,
-    table: usize,
-    ends: (Option<&Key<Global>>, Option<&Key<Global>>),
-    most: usize,
-) -> Result<Page<Global>, Fault> {
-    let (lower, upper) = ends;
-    if last {
-        client.scan_last(core, table, lower, upper, most)
-    } else {
-        client.scan_first(core, table, lower, upper, most)
-    }
-}
-
-// Puts a row under a key, or deletes it.
-fn write(
-    client: &mut Client<Global>,
-    core: &Core<Global>,
-    table: usize,
-    key: Key<Global>,
-    puts: bool,
-) -> Result<(), Fault> {
-    if puts {
-        client.put(core, table, key, 1.into())?;
-    } else {
-        client.delete(core, table, key)?;
-    }
-    Ok(())
+) -> Result<bool, Fault> {
+    begin(client, core)?;
+    let page = page(client, core, last, 0, (None, None), 1)?;
+    Ok(page.rest.is_some())
 }
 
 impl Desk {
     // Leaves rows at the odd places of a table, and nowhere else.
     fn fill(&mut self, table: usize) -> Result<(), Fault> {
-        self.one.begin(&self.core)?;
+        begin(&mut self.one, &self.core)?;
         for place in 0..PLACES {
             let key = key_at(self.alloc, table, place)?;
-            write(&mut self.one, &self.core, table, key, place % 2 == 1)?;
+            let row = if place % 2 == 1 { Some(1) } else { None };
+            write(&mut self.one, &self.core, table, key, row)?;
         }
-        let _end = self.one.commit(&mut self.core)?;
+        let _committed = commit(&mut self.one, &mut self.core)?;
         Ok(())
     }
 
     // Puts rows under the numbers from one on and below another.
     fn put_numbers(&mut self, first: u64, behind: u64) -> Result<(), Fault> {
-        self.one.begin(&self.core)?;
+        begin(&mut self.one, &self.core)?;
         for number in first..behind {
             if number % 256 == 255 {
-                let _end = self.one.commit(&mut self.core)?;
-                self.one.begin(&self.core)?;
+                let _committed = commit(&mut self.one, &mut self.core)?;
+                begin(&mut self.one, &self.core)?;
             }
-            write(&mut self.one, &self.core, 0, Key::Num(number), true)?;
+            write(&mut self.one, &self.core, 0, Key::Num(number), Some(1))?;
         }
-        let _end = self.one.commit(&mut self.core)?;
+        let _committed = commit(&mut self.one, &mut self.core)?;
         Ok(())
-    }
-
-    // A page of a whole table.
-    fn page(&mut self, last: bool, table: usize, most: usize) -> Result<Page<Global>, Fault> {
-        page(
-            &mut self.one,
-            &mut self.core,
-            last,
-            table,
-            (None, None),
-            most,
-        )
     }
 
     // The keys of all rows of a table, page by page, from the first page on or from the last one back.
@@ -294,14 +257,31 @@ impl Desk {
         Err(Fault::SetFull)
     }
 
-    // Whether the pages of a table show just the rows under these keys, in both directions.
-    fn walks(&mut self, table: usize, most: usize, keys: &[Key<Global>]) -> Result<bool, Fault> {
-        self.one.begin(&self.core)?;
-        let ahead = self.walk(false, table, most)?;
-        let mut back = self.walk(true, table, most)?;
-        back.reverse();
-        let _known = self.one.abandon(&mut self.core)?;
-        Ok(ahead.as_slice() == keys && back.as_slice() == keys)
+    // Whether the pages of a table show just the rows under these keys, from its beginning on or from its end back.
+    fn walks(
+        &mut self,
+        last: bool,
+        table: usize,
+        most: usize,
+        keys: &[Key<Global>],
+    ) -> Result<bool, Fault> {
+        begin(&mut self.one, &self.core)?;
+        let mut shown = self.walk(last, table, most)?;
+        if last {
+            shown.reverse();
+        }
+        let _committed = commit(&mut self.one, &mut self.core)?;
+        Ok(shown.as_slice() == keys)
+    }
+
+    // The same in both directions.
+    fn walks_both(
+        &mut self,
+        table: usize,
+        most: usize,
+        keys: &[Key<Global>],
+    ) -> Result<bool, Fault> {
+        Ok(self.walks(false, table, most, keys)? && self.walks(true, table, most, keys)?)
     }
 
     // Whether each table shows its rows so, whatever number of rows a page is asked for.
@@ -310,7 +290,7 @@ impl Desk {
             self.fill(table)?;
             let keys = keys_of_rows(self.alloc, table)?;
             for most in MOSTS {
-                if !self.walks(table, *most, keys.as_slice())? {
+                if !self.walks_both(table, *most, keys.as_slice())? {
                     return Ok(false);
                 }
             }
@@ -318,49 +298,45 @@ impl Desk {
         Ok(true)
     }
 
-    // Whether the pages of a table of so many rows show as many as they may, and all pages together show each row.
-    fn shows(&mut self, count: u64) -> Result<bool, Fault> {
+    // How many rows a page of the numbers shows, and whether it has a rest.
+    fn shown(&mut self, last: bool, most: usize) -> Result<(usize, bool), Fault> {
+        begin(&mut self.one, &self.core)?;
+        let page = page(&mut self.one, &mut self.core, last, 0, (None, None), most)?;
+        let shown = (page.rows.len(), page.rest.is_some());
+        let _committed = commit(&mut self.one, &mut self.core)?;
+        Ok(shown)
+    }
+
+    // Whether the pages of so many numbers show as many as they may, and all pages together show each of them.
+    fn shows(&mut self, count: usize) -> Result<bool, Fault> {
         for most in MOSTS {
             let size = (*most).max(1).min(MAX_ANSWER_ROWS - 1);
-            self.one.begin(&self.core)?;
-            let first = self.page(false, 0, *most)?;
-            let last = self.page(true, 0, *most)?;
-            let _known = self.one.abandon(&mut self.core)?;
-            if !is_cut(&first, count as usize, size) || !is_cut(&last, count as usize, size) {
+            let due = (count.min(size), size < count);
+            if self.shown(false, *most)? != due || self.shown(true, *most)? != due {
                 return Ok(false);
             }
         }
-        let keys = numbers(self.alloc, count)?;
-        self.walks(0, usize::MAX, keys.as_slice())
+        let keys = numbers(self.alloc, count as u64)?;
+        self.walks_both(0, usize::MAX, keys.as_slice())
     }
 
-    // Whether tables of about as many rows as an answer may have do.
+    // Whether that is so where there are about as many as an answer may have.
     fn all_show(&mut self) -> Result<bool, Fault> {
         self.put_numbers(0, 1_022)?;
         for count in 1_023..1_026 {
             self.put_numbers(count - 1, count)?;
-            if !self.shows(count)? {
+            if !self.shows(count as usize)? {
                 return Ok(false);
             }
         }
         Ok(true)
     }
 
-    // Whether a transaction that has read a page is backed up where another writes at a place meanwhile. None where the rest of the page is
-    // another.
-    fn is_backed_up(
-        &mut self,
-        table: usize,
-        case: &Case,
-        place: usize,
-        puts: bool,
-    ) -> Result<Option<bool>, Fault> {
-        let (lower, upper) = (
-            end_at(self.alloc, table, case.lower)?,
-            end_at(self.alloc, table, case.upper)?,
-        );
+    // The page of a case. Whether its rest is at the place that is told.
+    fn has_rest(&mut self, table: usize, case: &Case) -> Result<bool, Fault> {
+        let lower = end_at(self.alloc, table, case.lower)?;
+        let upper = end_at(self.alloc, table, case.upper)?;
         let ends = (lower.as_ref(), upper.as_ref());
-        self.one.begin(&self.core)?;
         let page = page(
             &mut self.one,
             &mut self.core,
@@ -369,16 +345,27 @@ impl Desk {
             ends,
             case.most,
         )?;
-        self.other.begin(&self.core)?;
+        let rest = end_at(self.alloc, table, Some(case.rest))?;
+        Ok(page.rest == rest)
+    }
+
+    // Whether a transaction commits that reads the page of a case, where another writes at a place meanwhile. None where the page has another
+    // rest.
+    fn commits(
+        &mut self,
+        table: usize,
+        case: &Case,
+        place: usize,
+        row: Option<i64>,
+    ) -> Result<Option<bool>, Fault> {
+        begin(&mut self.one, &self.core)?;
+        let right = self.has_rest(table, case)?;
+        begin(&mut self.other, &self.core)?;
         let key = key_at(self.alloc, table, place)?;
-        write(&mut self.other, &self.core, table, key, puts)?;
-        let _end = self.other.commit(&mut self.core)?;
-        let end = self.one.commit(&mut self.core)?;
-        let rest = key_at(self.alloc, table, case.rest)?;
-        if page.rest != Some(rest) {
-            return Ok(None);
-        }
-        Ok(Some(matches!(end, End::BackedUp(_))))
+        write(&mut self.other, &self.core, table, key, row)?;
+        let _committed = commit(&mut self.other, &mut self.core)?;
+        let committed = commit(&mut self.one, &mut self.core)?;
+        Ok(if right { Some(committed) } else { None })
     }
 
     // Whether just the writes at the places that a page reads are conflicts.
@@ -386,9 +373,9 @@ impl Desk {
         let behind = case.behind.get(table).copied().unwrap_or(0);
         for place in 0..PLACES {
             let read = case.first <= place && place < behind;
-            for puts in [true, false] {
+            for row in [Some(1), None] {
                 self.fill(table)?;
-                if self.is_backed_up(table, case, place, puts)? != Some(read) {
+                if self.commits(table, case, place, row)? != Some(!read) {
                     return Ok(false);
                 }
             }
@@ -408,24 +395,19 @@ impl Desk {
         Ok(true)
     }
 
-    // Two doctors are on call, under the keys 1 and 2. Each sees by a page of one row that there is another one, and leaves. How the second one
-    // ends.
-    fn both_leave(&mut self, last: bool) -> Result<End, Fault> {
+    // Two doctors are on call, under the keys 1 and 2. Each sees by a page of one row that there is another one, and leaves. Whether the
+    // first one does, and the second one doesn't.
+    fn one_stays(&mut self, last: bool) -> Result<bool, Fault> {
         self.put_numbers(1, 3)?;
-        self.one.begin(&self.core)?;
-        self.other.begin(&self.core)?;
-        let page_of_one = self.page(last, 0, 1)?;
-        let page_of_other = page(&mut self.other, &mut self.core, last, 0, (None, None), 1)?;
+        let both = is_followed(&mut self.one, &mut self.core, last)?
+            && is_followed(&mut self.other, &mut self.core, last)?;
         // the first one who leaves is the one whom no page shows
         let (shown, told) = if last { (2, 1) } else { (1, 2) };
-        if page_of_other.rest.is_some() {
-            write(&mut self.other, &self.core, 0, Key::Num(told), false)?;
-        }
-        let _end = self.other.commit(&mut self.core)?;
-        if page_of_one.rest.is_some() {
-            write(&mut self.one, &self.core, 0, Key::Num(shown), false)?;
-        }
-        self.one.commit(&mut self.core)
+        write(&mut self.other, &self.core, 0, Key::Num(told), None)?;
+        let first = commit(&mut self.other, &mut self.core)?;
+        write(&mut self.one, &self.core, 0, Key::Num(shown), None)?;
+        let second = commit(&mut self.one, &mut self.core)?;
+        Ok(both && first && !second)
     }
 }
 
@@ -453,7 +435,7 @@ fn a_row_behind_a_page_is_read_with_it(rt: HostRuntime) -> Result<(), Fail> {
 #[test]
 fn one_of_two_doctors_stays(rt: HostRuntime) -> Result<(), Fail> {
     let mut desk = open(rt.alloc())?;
-    assert!(rt; desk.both_leave(false)? == End::BackedUp(Cause::Conflict));
-    assert!(rt; desk.both_leave(true)? == End::BackedUp(Cause::Conflict));
+    assert!(rt; desk.one_stays(false)?);
+    assert!(rt; desk.one_stays(true)?);
     Ok(())
 }

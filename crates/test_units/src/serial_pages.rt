@@ -1,8 +1,8 @@
 //! Random transactions that read in pages beside one another. There is an order of those that commit in which a plain list of rows
 //! answers each of their calls as the store did, one transaction after another.
-use crate::paging::page;
+use crate::calls::{begin, commit, page, write};
 use crate::stores::store_of;
-use occ_client::{Client, Core, End, Page};
+use occ_client::{Client, Core, Page};
 use occ_types::{Fault, Key};
 use std::alloc::Global;
 use std::test::Fail;
@@ -215,11 +215,10 @@ impl Party {
     ) -> Result<(), Fault> {
         self.left = self.left.saturating_sub(1);
         if !self.client.is_open() {
-            return self.client.begin(core);
+            return begin(&mut self.client, core);
         }
         if self.left == 0 {
-            let end = self.client.commit(core)?;
-            self.committed = matches!(end, End::Committed { .. });
+            self.committed = commit(&mut self.client, core)?;
             return Ok(());
         }
         let told = self.call(alloc, core, dice)?;
@@ -242,10 +241,7 @@ impl Party {
     }
 
     fn write(&mut self, core: &Core<Global>, key: usize, row: Option<i64>) -> Result<Told, Fault> {
-        match row {
-            Some(number) => self.client.put(core, 0, key_of(key), number.into())?,
-            None => self.client.delete(core, 0, key_of(key))?,
-        }
+        write(&mut self.client, core, 0, key_of(key), row)?;
         Ok(Told::Wrote(key, row))
     }
 
@@ -318,13 +314,13 @@ fn fill(
     core: &mut Core<Global>,
     dice: &mut Dice,
 ) -> Result<(), Fault> {
-    client.begin(core)?;
+    begin(client, core)?;
     for key in 0..KEYS {
         if dice.below(3) > 0 {
-            client.put(core, 0, key_of(key), dice.number().into())?;
+            write(client, core, 0, key_of(key), Some(dice.number()))?;
         }
     }
-    let _end = client.commit(core)?;
+    let _committed = commit(client, core)?;
     Ok(())
 }
 
