@@ -257,6 +257,9 @@ impl<A: Allocator + Copy> Client<A> {
     /// rest, the key of the next row, which is the lower end of the next page. The store is asked for the range up to and with that row,
     /// and notes all of it, so that a write that would make the page tell something else is a conflict. The own writes below the rest are
     /// laid over the rows, so that the page may show more rows than `most`, or fewer. Refused as `scan`, but never with `RangeTooLarge`.
+    ///
+    /// Behind a key that has no next one, as a text of 64 bytes or the greatest number, the store is asked up to the row after that, or else
+    /// up to the upper end.
     pub fn scan_first(
         &mut self,
         store: &mut Core<A>,

@@ -86,6 +86,9 @@ impl<N: Name, A: Allocator + Copy> Session<N, A> {
     /// and notes all of it, so that a write that would make the page tell something else is a conflict. The own writes below the rest are
     /// laid over the rows, so that the page may show more rows than `most`, or fewer. Refused as `scan_in`, but never with
     /// `RangeTooLarge`.
+    ///
+    /// Behind a key that has no next one, as a text of 64 bytes or the greatest number, the state is asked up to the row after that, or else
+    /// up to the upper end.
     pub fn scan_first_in(
         &mut self,
         shared: &mut Shared<N, A>,
