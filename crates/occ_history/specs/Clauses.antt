@@ -1,4 +1,4 @@
--- What clauses say of a call: that its answer stands in the history (our own choice). That each call takes effect at one moment between its begin and its end is linearizability (Herlihy and Wing).
+-- What clauses say of a call: that its answer stands in the history, behind all that its party has seen (our own choice). One history in which each party's calls stand in its own order is sequential consistency (Lamport); what a party has not seen may have ended before.
 use Rattle.std.specs.Prelude.{◌≡◌, List, [], ◌∷◌, ◌++◌}
 use mathlib.Core.List.{IsPrefix}
 use Rattle.occ_model.specs.World.{World}

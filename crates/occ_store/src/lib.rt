@@ -5,7 +5,10 @@
 //! `Lane` for what that submits. Each holding of the store's lock is one event, and between any two of them the log is in order, serial
 //! replay explains it, and the board shows each session's last transaction that is over.
 //!
-//! What a program names of the crates below is handed on here, so it lists this crate alone.
+//! Reads are of no snapshot: two reads of one transaction may tell of rows that never stood together. Then it is backed up, and its end says
+//! so. One that only reads is backed up as too old, too, where over `keep` others committed meanwhile.
+//!
+//! What calls name of the crates below is handed on here. For limits a program lists `occ_types` too, for a load of rows `occ_book`.
 #![tactic(auto)]
 
 mod accounts;
