@@ -117,15 +117,15 @@ class Paragraph(NamedTuple):
 
 
 def paragraphs_of(crate):
-    """The checksum of the code on which the edits of bodies/CRATE.edits were tried, and its paragraphs."""
-    tried_on, paragraphs = "", []
-    for part in re.split(r"\n{2,}", "\n".join(read_lines(f"{TOP}/bodies/{crate}.edits"))):
-        said = dict(re.findall(r"^(edit|refused|tried on): (.*)$", part, re.M))
-        text = re.sub(r"^(edit|refused|tried on): .*\n", "", part.rstrip("\n") + "\n", flags=re.M)
-        tried_on = said.get("tried on", tried_on)
-        if "edit" in said or not re.fullmatch(r"(#.*\n|\n)*", text):
-            paragraphs.append(Paragraph(said.get("edit", ""), text, said.get("refused", "")))
-    return tried_on, paragraphs
+    """The checksum of the code on which the edits of bodies/CRATE.edits were tried, and its paragraphs: one begins at each line `edit:`."""
+    parts = re.split(r"\n{2,}|\n(?=edit: )", "\n".join(read_lines(f"{TOP}/bodies/{crate}.edits")).strip("\n"))
+    tried_on = re.findall(r"^tried on: (.*)$", parts[0], re.M)
+    paragraphs = []
+    for part in parts[bool(tried_on):]:
+        said = dict(re.findall(r"^(edit|refused): (.*)$", part, re.M))
+        text = re.sub(r"^(edit|refused): .*\n", "", f"{part}\n", flags=re.M)
+        paragraphs.append(Paragraph(said.get("edit", ""), text, said.get("refused", "")))
+    return "".join(tried_on), [it for it in paragraphs if it.name or it.text.strip()]
 
 
 def edits_of(crate):
