@@ -3,8 +3,10 @@ import functools
 import glob
 import hashlib
 import os
+import re
 import subprocess
 import sys
+from typing import NamedTuple
 
 TOP = os.path.dirname(os.path.dirname(os.path.abspath(__file__)))
 
@@ -73,8 +75,8 @@ class Edit:
     """A wrong body. `changes` has the new line for each file of src and number of a line that it changes (the first is 0), `within` the
     functions that it names, and `fault` says what is wrong with the edit itself."""
 
-    def __init__(self, crate, path):
-        self.name, self.text = os.path.basename(path).removesuffix(".edit"), read(path)
+    def __init__(self, crate, name, text):
+        self.name, self.text = name, text
         self.within, self.changes, self.fault, self.sum = [], {}, None, checksum(self.text)
         texts, file, old = {}, None, None
         for line in self.text.split("\n"):
@@ -87,7 +89,9 @@ class Edit:
             elif word == "old":
                 old = rest
             elif word in ("new", "new:"):
-                self.replace(file, texts[file], old, rest)
+                self.replace(file, texts.get(file, []), old or "", rest)
+            elif line and not line.startswith("#"):
+                self.fault = self.fault or f"`{line}` is no line of an edit"
         if not self.changes and not self.fault:
             self.fault = "it changes nothing"
 
@@ -104,7 +108,33 @@ def read_lines(path):
     return read(path).split("\n") if os.path.exists(path) else []
 
 
+class Paragraph(NamedTuple):
+    """What bodies/CRATE.edits has of an edit: its name, its text, and what refused that. There is no text where the gate tries the edit."""
+
+    name: str
+    text: str
+    refused: str
+
+
+def paragraphs_of(crate):
+    """The checksum of the code on which the edits of bodies/CRATE.edits were tried, and its paragraphs: one begins at each line `edit:`."""
+    parts = re.split(r"\n{2,}|\n(?=edit: )", "\n".join(read_lines(f"{TOP}/bodies/{crate}.edits")).strip("\n"))
+    tried_on = re.findall(r"^tried on: (.*)$", parts[0], re.M)
+    paragraphs = []
+    for part in parts[bool(tried_on):]:
+        said = dict(re.findall(r"^(edit|refused): (.*)$", part, re.M))
+        text = re.sub(r"^(edit|refused): .*\n", "", f"{part}\n", flags=re.M)
+        paragraphs.append(Paragraph(said.get("edit", ""), text, said.get("refused", "")))
+    return "".join(tried_on), [it for it in paragraphs if it.name or it.text.strip()]
+
+
 def edits_of(crate):
-    """The edits of a crate: those beside it in bodies, and those that the gate tries."""
-    folders = (f"{TOP}/bodies/{crate}", f"{TOP}/crates/{crate}/must-fail")
-    return [Edit(crate, path) for folder in folders for path in sorted(glob.glob(f"{folder}/*.edit"))]
+    """The edits of a crate: those of its file in bodies, and those that the gate tries, which are files of their own."""
+    gate = {os.path.basename(path).removesuffix(".edit"): read(path) for path in sorted(glob.glob(f"{TOP}/crates/{crate}/must-fail/*.edit"))}
+    kept = [(it.name, it.text) for it in paragraphs_of(crate)[1] if it.text or it.name not in gate]
+    edits = [Edit(crate, name, text) for name, text in [*kept, *gate.items()]]
+    names = [edit.name for edit in edits]
+    for edit in edits:
+        if not edit.name or names.count(edit.name) > 1:
+            edit.fault = "it has no name" if not edit.name else "another edit has its name"
+    return edits

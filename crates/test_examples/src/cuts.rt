@@ -5,7 +5,11 @@ use std::alloc::{AllocError, Global};
 use std::{fs, io};
 
 /// Schedules that are cut, each in a file `NAME.occ` with its text in `NAME.out`.
-const CUT: [&str; 3] = ["entry-order", "refused-alone", "whole-tables"];
+const CUT: [&str; 3] = [
+    "examples/entry-order",
+    "schedules/refused-alone",
+    "examples/whole-tables",
+];
 
 /// Cuts each schedule behind each of its bytes, and prints how many of these replays ended as they have to: with a book that is judged
 /// right behind a line of steps, and else with the line that is torn and the answers to all whole ones before.

@@ -11,10 +11,10 @@ const HEADER: usize = 6;
 /// Prints how many replays over failing devices end as they have to, of schedules with their numbers of calls: one for each five bytes
 /// of the schedule and one for its end, one for each forty bytes of its text and one to flush them, and each third one of them again.
 pub(crate) fn tell_devices(rt: &HostRuntime) -> io::Result<()> {
-    tell_failing(rt, "first-commit", 38, 11)?;
-    tell_failing(rt, "entry-order", 58, 14)?;
-    tell_single_bytes(rt, "no-step")?;
-    tell_single_bytes(rt, "first-commit")?;
+    tell_failing(rt, "examples/first-commit", 38, 11)?;
+    tell_failing(rt, "examples/entry-order", 58, 14)?;
+    tell_single_bytes(rt, "schedules/no-step")?;
+    tell_single_bytes(rt, "examples/first-commit")?;
     tell_many_answers(rt)
 }
 
@@ -84,7 +84,7 @@ fn tell_single_bytes(rt: &HostRuntime, name: &str) -> io::Result<()> {
 /// Prints how many replays of four hundred answers end at the first failed write: each answer has 39 bytes, so the first 211 are sent
 /// together, and the reader is asked for no more.
 fn tell_many_answers(rt: &HostRuntime) -> io::Result<()> {
-    let mut schedule = fs::read_to_string(rt, "no-step.occ")?;
+    let mut schedule = fs::read_to_string(rt, "schedules/no-step.occ")?;
     for _ in 0..400 {
         schedule.push_str("show\n")?;
     }

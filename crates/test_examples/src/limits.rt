@@ -21,7 +21,7 @@ pub(crate) fn tell_limits(rt: &HostRuntime) -> io::Result<()> {
         "entered 4097\nbackup tooold\nocc 1\n",
     );
     println!(rt; "a window of 4096: overtaken {holds}, overtaken once more {above}")?;
-    let mut schedule = fs::read_to_string(rt, "no-step.occ")?;
+    let mut schedule = fs::read_to_string(rt, "schedules/no-step.occ")?;
     for _ in 0..70000 {
         schedule.push_str("show\n")?;
     }

@@ -34,109 +34,113 @@ use summaries::tell_run;
 
 /// The schedules, each in a file `NAME.occ` with its text in `NAME.out`.
 const EXAMPLES: &[&str] = &[
-    "abandoned-and-begun-anew",
-    "alone-reads-its-own-writes",
-    "alone-while-another-writes",
-    "blind-writes",
-    "closed-sessions",
-    "deletion-of-an-absent-key",
-    "entries-of-an-account",
-    "entry-between-two-writes",
-    "entry-order",
-    "first-commit",
-    "folded-twice",
-    "forged-and-refused",
-    "full-queue",
-    "full-read-set",
-    "full-write-set",
-    "judged-by-its-entry",
-    "keys-of-two-parts",
-    "long-range-alone",
-    "lost-update",
-    "malformed-key",
-    "no-step",
-    "opponent-backed-up-later",
-    "own-writes",
-    "phantom-at-a-lower-end",
-    "phantom-in-a-range",
-    "range-too-large",
-    "read-between-two-writes",
-    "reads-of-a-whole-table",
-    "refusals",
-    "refused-alone",
-    "refused-serial-ends",
-    "serial-ends",
-    "settled-rows-are-folded",
-    "text-keys",
-    "text-lengths",
-    "too-old",
-    "torn-line",
-    "upper-end-of-a-range",
-    "what-takes-no-memory",
-    "what-waits-to-run-alone",
-    "whole-tables",
-    "whole-transactions-at-once",
-    "write-phase-left-open",
+    "examples/abandoned-and-begun-anew",
+    "examples/alone-reads-its-own-writes",
+    "examples/alone-while-another-writes",
+    "examples/blind-writes",
+    "examples/closed-sessions",
+    "examples/deletion-of-an-absent-key",
+    "examples/entries-of-an-account",
+    "schedules/entry-between-two-writes",
+    "examples/entry-order",
+    "examples/first-commit",
+    "examples/folded-twice",
+    "schedules/forged-and-refused",
+    "examples/full-queue",
+    "schedules/full-read-set",
+    "schedules/full-write-set",
+    "examples/judged-by-its-entry",
+    "schedules/keys-of-two-parts",
+    "schedules/long-range-alone",
+    "examples/lost-update",
+    "malformed/malformed-key",
+    "schedules/no-step",
+    "schedules/opponent-backed-up-later",
+    "examples/own-writes",
+    "examples/phantom-at-a-lower-end",
+    "examples/phantom-in-a-range",
+    "schedules/range-too-large",
+    "examples/read-between-two-writes",
+    "schedules/reads-of-a-whole-table",
+    "examples/refusals",
+    "schedules/refused-alone",
+    "schedules/refused-serial-ends",
+    "examples/serial-ends",
+    "examples/settled-rows-are-folded",
+    "schedules/text-keys",
+    "schedules/text-lengths",
+    "examples/too-old",
+    "malformed/torn-line",
+    "examples/upper-end-of-a-range",
+    "schedules/what-takes-no-memory",
+    "schedules/what-waits-to-run-alone",
+    "examples/whole-tables",
+    "examples/whole-transactions-at-once",
+    "examples/write-phase-left-open",
 ];
 
 /// Further schedules of that kind, which are replayed with ample memory alone.
 const OTHERS: &[&str] = &[
-    "alone-sees-its-own-deletions",
-    "backed-up-row-is-folded",
-    "carriage-return",
-    "closed-session-is-over",
-    "forged-request-takes-the-reads",
-    "forged-requests",
-    "greatest-numbers",
-    "item-that-never-enters",
-    "items-enter-in-turn",
-    "kept-item-takes-no-room",
-    "line-of-8192-bytes",
-    "line-of-8193-bytes",
-    "malformed-operation-behind-256",
-    "nothing-is-open",
-    "operations-that-never-run",
-    "operations-up-to-256",
-    "queue-of-1024",
-    "range-of-1024-rows",
-    "refusals-of-abandon",
-    "refusals-of-close",
-    "refusals-of-ranges",
-    "serial-end-that-waits",
-    "session-gives-up-and-closes",
-    "sessions-up-to-64",
-    "submitted-before-the-mark",
-    "table-33",
-    "tables-up-to-32",
-    "version-two-with-nothing-new",
-    "well-formed-texts",
-    "writes-up-to-256",
+    "schedules/alone-sees-its-own-deletions",
+    "schedules/backed-up-row-is-folded",
+    "malformed/carriage-return",
+    "schedules/closed-session-is-over",
+    "schedules/forged-request-takes-the-reads",
+    "schedules/forged-requests",
+    "schedules/greatest-numbers",
+    "schedules/item-that-never-enters",
+    "examples/items-enter-in-turn",
+    "schedules/kept-item-takes-no-room",
+    "schedules/line-of-8192-bytes",
+    "malformed/line-of-8193-bytes",
+    "malformed/malformed-operation-behind-256",
+    "schedules/nothing-is-open",
+    "schedules/operations-that-never-run",
+    "schedules/operations-up-to-256",
+    "schedules/queue-of-1024",
+    "schedules/range-of-1024-rows",
+    "schedules/refusals-of-abandon",
+    "schedules/refusals-of-close",
+    "examples/refusals-of-ranges",
+    "schedules/serial-end-that-waits",
+    "schedules/session-gives-up-and-closes",
+    "schedules/sessions-up-to-64",
+    "schedules/submitted-before-the-mark",
+    "malformed/table-33",
+    "schedules/tables-up-to-32",
+    "schedules/version-two-with-nothing-new",
+    "schedules/well-formed-texts",
+    "schedules/writes-up-to-256",
 ];
 
 /// Lines that are malformed, in files `NAME.lines`, each tried behind the schedule `NAME.occ`, whose answers are in `NAME.out`.
 const MALFORMED: &[&str] = &[
-    "malformed-lines",
-    "malformed-lines-of-version-two",
-    "malformed-texts",
+    "malformed/malformed-lines",
+    "malformed/malformed-lines-of-version-two",
+    "malformed/malformed-texts",
 ];
 
 /// The books, each in a file `NAME.book`.
-const BOOKS: &[&str] = &["changed-base", "changed-book", "unchanged-book"];
+const BOOKS: &[&str] = &[
+    "books/changed-base",
+    "examples/changed-book",
+    "examples/unchanged-book",
+];
 
-/// Books, each in a file `NAME.book`, that are audited with each change of `NAME.changes`.
-const CHANGED_BOOKS: &[&str] = &[
-    "histories/answered-late",
-    "histories/answered-late-searched",
-    "histories/lost-append",
-    "histories/serializable",
-    "histories/stale-read",
-    "histories/stale-read-searched",
-    "histories/write-skew",
-    "keys-of-two-parts",
-    "last-place",
-    "lost-update-and-its-retry",
-    "one-row-folded",
-    "two-tables",
+/// Books, each in a file `NAME.book` of its folder, that are audited with each change of `changes/NAME.changes`.
+const CHANGED_BOOKS: &[(&str, &str)] = &[
+    ("examples/histories", "answered-late"),
+    ("examples/histories", "answered-late-searched"),
+    ("examples/histories", "lost-append"),
+    ("examples/histories", "serializable"),
+    ("examples/histories", "stale-read"),
+    ("examples/histories", "stale-read-searched"),
+    ("examples/histories", "write-skew"),
+    ("books", "keys-of-two-parts"),
+    ("books", "last-place"),
+    ("books", "lost-update-and-its-retry"),
+    ("books", "one-row-folded"),
+    ("examples", "two-tables"),
 ];
 
 fn main(rt: HostRuntime) -> ExitCode {
@@ -169,7 +173,7 @@ fn tell_examples(rt: &HostRuntime) -> io::Result<()> {
     for name in MALFORMED {
         tell_lines(rt, name)?;
     }
-    tell_changed_schedule(rt, "no-step-of-one-session")
+    tell_changed_schedule(rt, "malformed/no-step-of-one-session")
 }
 
 /// Prints a line for each book, and of how many books of the examples a store goes on.
@@ -177,8 +181,8 @@ fn tell_books(rt: &HostRuntime) -> io::Result<()> {
     for name in BOOKS {
         tell_book(rt, name)?;
     }
-    for name in CHANGED_BOOKS {
-        tell_changes(rt, name)?;
+    for (folder, name) in CHANGED_BOOKS {
+        tell_changes(rt, folder, name)?;
     }
     tell_wrong(rt, BOOKS)?;
     tell_bases(rt, EXAMPLES)?;
