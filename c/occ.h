@@ -1,7 +1,7 @@
 /* occ: a proved table store in memory, for C. docs/C.md has its use in short.
  *
- * A store is shared by all threads of a process. Each thread opens a worker of its own, and gives it to one call at a time. Every call
- * answers a code: 0 where it did what it is for. A refused call leaves everything as it was.
+ * A store is shared by all threads of a process. Each thread opens a worker of its own, and gives it to one call at a time: a second one
+ * meanwhile is refused. Every call answers a code: 0 where it did what it is for. A refused call leaves everything as it was.
  *
  * Keys and rows are bytes by the tables of the store. A number is its 8 bytes as in memory (a key's without a sign, a cell's with one), a
  * text is its length as such a number and then its bytes, which are UTF-8. A key is its one or two parts in order, and a row its cells. So a
@@ -45,7 +45,11 @@ enum {
     OCC_CLOSED = 105,    /* the store is closed */
     OCC_NULL = 106,      /* a pointer is null */
     OCC_NOT_UTF8 = 108,  /* a text is not UTF-8 */
-    OCC_NO_ANSWER = 109  /* there is no such answer */
+    OCC_NO_ANSWER = 109, /* there is no such answer */
+    OCC_WORKER_BUSY = 110, /* the worker is in another call or in a function of occ_transact, or another thread has its lease or is bound to it */
+    OCC_ENDED = 111,     /* the function of occ_transact ended its transaction itself */
+    OCC_LEASED = 112,    /* another worker of this thread has a lease, for which the call would wait for ever */
+    OCC_FREE = 200       /* from here on codes are free for functions of occ_transact */
 };
 
 /* Bytes that a key has at most, and a row: a room of so many is never too short. */
@@ -57,22 +61,30 @@ typedef struct occ_worker occ_worker;
 
 /* Opens a store as a text says: `occ 2`, `sessions N` (1 to 64: how many workers at a time), `queue 1`, `keep N` (1 to 4096: of how many
  * finished transactions the write sets are kept for testing), a line `table NAME KEYKIND KIND ..` for each table, and `steps`, each with a
- * line feed. Where the text is malformed, *line is the number of the line; line may be null. */
+ * line feed, and nothing behind. Where the text is malformed, *line is the number of the line; line may be null. */
 int occ_open(const char *text, size_t size, occ_store **store, uint64_t *line);
 
 /* The place of the table with this name, by which all other calls name it. */
 int occ_table(occ_store *store, const char *name, size_t *table);
 
-/* Closes the store, frees what it has, and sets *store to null. Workers may be closed before or after it. */
+/* Closes the store, frees what it has, and sets *store to null. Workers may be closed before or after it, and their calls answer OCC_CLOSED
+ * from then on. No other call may have this pointer to the store meanwhile. */
 int occ_close(occ_store **store);
 
 /* A worker with a session of its own; OCC_NO_SESSION where all sessions have one. */
 int occ_worker_open(occ_store *store, occ_worker **worker);
 
-/* Closes a worker, gives up what it has open, and sets *worker to null. Its session is free for another. */
+/* Closes a worker, gives up what it has open, and sets *worker to null. Its session is free for another. No call may have the worker from
+ * then on. */
 int occ_worker_close(occ_worker **worker);
 
-/* Begins a transaction. Its reads see what is committed, and its own writes over it. */
+/* Binds a worker to this thread: from then on calls of other threads answer OCC_WORKER_BUSY, but occ_worker_close doesn't. */
+int occ_worker_bind(occ_worker *worker);
+
+/* Begins a transaction. Its reads see what is committed, and its own writes over it. They are of no snapshot: each sees what is committed
+ * by then. So of two rows whose sum is always 100 it may read 50 and 100, where another transaction commits between the reads. Its end
+ * says OCC_CONFLICT then, and only its end does. So trust what was read once it committed. A transaction that only reads has to commit
+ * too, and is OCC_TOO_OLD where more than `keep` others committed since it began. */
 int occ_begin(occ_worker *worker);
 
 /* The row under a key, into a room of so many bytes, and its size. OCC_ROOM tells the size too; the read is noted then. */
@@ -96,27 +108,31 @@ int occ_commit(occ_worker *worker, uint64_t *number);
 /* Gives the transaction up. */
 int occ_abandon(occ_worker *worker);
 
-/* Keeps the store for the calls of this worker from now on, until it is released by the same thread: all other workers wait. Keep it
- * for a transaction or some, and never while you wait for something else. */
+/* Keeps the store for the calls of this worker from now on, until it is released by the same thread: all other workers wait, and those of
+ * this thread answer OCC_LEASED. Keep it for a transaction or some, and never while you wait for something else. */
 int occ_lease(occ_worker *worker);
 int occ_release(occ_worker *worker);
 
 /* Begins a transaction, lets body read and write, and commits it, all in a lease. Where it is backed up it begins anew, at most so many
- * times in all. A code other than 0 of body ends it: it is given up, and the code is answered. number may be null. */
+ * times in all. Any code other than 0 of body gives the transaction up, and is answered as it is. Those from OCC_FREE on are free for it.
+ * Where body commits or abandons the transaction itself, and answers 0, OCC_ENDED is answered, and one that it then began is given up.
+ * Body neither closes nor releases the worker, and returns: nothing is thrown out of it. number may be null. */
 typedef int occ_body(occ_worker *worker, void *context);
 int occ_transact(occ_worker *worker, size_t tries, occ_body *body, void *context, uint64_t *number);
 
-/* A transaction of operations in one step, which is never backed up. Each is added first; OCC_ADD adds a number of 8 bytes to a row of
- * one int; OCC_SCAN has two ends, and OCC_GET and OCC_DELETE no second. No transaction may be open. Where it is refused the list is
- * empty too. */
+/* A transaction of operations in one step, which is never backed up. Each is added first to a list; OCC_ADD adds a number of 8 bytes to a
+ * row of one int; OCC_SCAN has two ends, and OCC_GET and OCC_DELETE no second. A refused occ_add leaves those that were added before;
+ * occ_clear empties the list. occ_run empties it too, also where it is refused. No transaction may be open then. */
 enum { OCC_GET = 0, OCC_PUT = 1, OCC_DELETE = 2, OCC_ADD = 3, OCC_SCAN = 4 };
 int occ_add(occ_worker *worker, int kind, size_t table, const void *first, size_t first_size, const void *second, size_t second_size);
+int occ_clear(occ_worker *worker);
 int occ_run(occ_worker *worker, uint64_t *number, size_t *answers);
 
 /* An answer of the last run, in the order of its reads: the row as occ_get; or of a range *size is how many rows, which are fetched then. */
 int occ_answer(occ_worker *worker, size_t place, void *row, size_t room, size_t *size);
 
-/* Folds the log as far as it can be, and tells how many rows that were. The log has room for 1048576 rows: call it each 10,000 commits. */
+/* Folds the log as far as it can be, and tells how many rows that were. The log has room for 1048576 rows, one for each transaction that
+ * committed or was backed up: call it each 10,000 of these. */
 int occ_checkpoint(occ_worker *worker, size_t *folded);
 
 /* How many transactions committed, and how many rows stand in the log. */
@@ -149,6 +165,10 @@ static inline int occ_put_int(occ_worker *worker, size_t table, uint64_t key, in
 static inline int occ_delete_int(occ_worker *worker, size_t table, uint64_t key) {
     return occ_delete(worker, table, &key, sizeof key);
 }
+
+/* The first two as functions of the library, for languages that call it without this header. */
+int occ_call_get_int(occ_worker *worker, size_t table, uint64_t key, int64_t *cell);
+int occ_call_put_int(occ_worker *worker, size_t table, uint64_t key, int64_t cell);
 
 /* ---- texts: each helper writes at *at, moves it behind what it wrote, and answers OCC_ROOM where there is no room up to end */
 

@@ -19,6 +19,17 @@ static void is(int code, int wanted, const char *what) {
 static const char TABLES[] = "occ 2\nsessions 2\nqueue 1\nkeep 8\ntable ints num int\ntable texts text int text\ntable pairs num+text text\nsteps\n";
 static size_t ints, texts, pairs;
 
+/* What stands behind the line `steps` of a text is malformed, whatever it is. */
+static void behind(const char *rest, int number) {
+    char text[512];
+    occ_store *store = NULL;
+    uint64_t line = 0;
+    int size = snprintf(text, sizeof text, "%s%s", TABLES, rest);
+    IS(occ_open(text, (size_t)size, &store, &line), OCC_MALFORMED);
+    IS((int)line, number);
+    IS(store == NULL, 1);
+}
+
 static void opening(void) {
     occ_store *store = NULL;
     uint64_t line = 0;
@@ -27,6 +38,10 @@ static void opening(void) {
     IS(occ_open("occ 2\nsessions 65\n", 18, &store, &line), OCC_MALFORMED);
     IS((int)line, 2);
     IS(occ_open("", 0, &store, NULL), OCC_MALFORMED);
+    behind("\n", 9);
+    behind("begin 1\n", 9);
+    behind("begin 1", 9);
+    behind(TABLES, 9);
     IS(store == NULL, 1);
     IS(occ_table(NULL, "ints", &ints), OCC_NULL);
     IS(occ_close(NULL), OCC_NULL);
@@ -149,6 +164,112 @@ static void whole(occ_worker *w) {
     IS(occ_release(w), OCC_OK);
 }
 
+/* ---- functions of occ_transact that end it in their own ways, and how often they were called */
+
+static int calls;
+
+static int answers(occ_worker *w, void *context) {
+    calls++;
+    int code = occ_put_int(w, ints, 90, 1);
+    return code ? code : *(int *)context;
+}
+
+static int commits_itself(occ_worker *w, void *context) {
+    (void)context;
+    calls++;
+    return occ_commit(w, NULL);
+}
+
+static int abandons_itself(occ_worker *w, void *context) {
+    int code = occ_abandon(w);
+    return code ? code : *(int *)context;
+}
+
+static int begins_another(occ_worker *w, void *context) {
+    int code = occ_commit(w, NULL);
+    if (code == OCC_OK && (code = occ_begin(w)) == OCC_OK)
+        code = occ_put_int(w, ints, 90, 2);
+    return code ? code : *(int *)context;
+}
+
+static int keeps_its_worker(occ_worker *w, void *context) {
+    (void)context;
+    occ_worker *same = w;
+    IS(occ_worker_close(&same), OCC_WORKER_BUSY);
+    IS(occ_lease(w), OCC_OK);
+    IS(occ_release(w), OCC_WORKER_BUSY);
+    IS(occ_transact(w, 1, asks_for_seven, NULL, NULL), OCC_READ_OPEN);
+    return occ_put_int(w, ints, 7, 71);
+}
+
+/* No transaction is open, and none put a row under 90. */
+static void nothing_is_left(occ_worker *w) {
+    int64_t cell = 0;
+    IS(occ_abandon(w), OCC_NO_READ_OPEN);
+    IS(occ_begin(w), OCC_OK);
+    IS(occ_get_int(w, ints, 90, &cell), OCC_NO_ROW);
+    IS(occ_commit(w, NULL), OCC_OK);
+}
+
+static void functions(occ_worker *w) {
+    static const int codes[] = {OCC_CONFLICT, OCC_TOO_OLD, OCC_READ_OPEN, OCC_NO_READ_OPEN, OCC_MEMORY, OCC_ENDED, OCC_FREE, 1234, -1};
+    int zero = 0, free = OCC_FREE;
+    for (size_t i = 0; i < sizeof codes / sizeof *codes; i++) {
+        int code = codes[i];
+        calls = 0;
+        IS(occ_transact(w, 3, answers, &code, NULL), codes[i]);
+        IS(calls, 1);
+        nothing_is_left(w);
+    }
+    calls = 0;
+    IS(occ_transact(w, 3, commits_itself, NULL, NULL), OCC_ENDED);
+    IS(calls, 1);
+    nothing_is_left(w);
+    IS(occ_transact(w, 3, abandons_itself, &zero, NULL), OCC_ENDED);
+    IS(occ_transact(w, 3, abandons_itself, &free, NULL), OCC_FREE);
+    IS(occ_transact(w, 3, begins_another, &zero, NULL), OCC_ENDED);
+    nothing_is_left(w);
+    IS(occ_transact(w, 3, begins_another, &free, NULL), OCC_FREE);
+    nothing_is_left(w);
+    IS(occ_transact(w, 1, keeps_its_worker, NULL, NULL), OCC_OK);
+}
+
+/* A refused operation leaves those before it, and occ_clear takes them away. */
+static void operations(occ_worker *w) {
+    uint64_t key = 91;
+    int64_t cell = 111;
+    size_t answers = 9;
+    IS(occ_clear(NULL), OCC_NULL);
+    IS(occ_add(w, OCC_PUT, ints, &key, 8, &cell, 8), OCC_OK);
+    IS(occ_add(w, OCC_PUT, ints, &key, 7, &cell, 8), OCC_MALFORMED);
+    IS(occ_clear(w), OCC_OK);
+    IS(occ_clear(w), OCC_OK);
+    IS(occ_add(w, OCC_GET, ints, &key, 8, NULL, 0), OCC_OK);
+    IS(occ_add(w, OCC_PUT, ints, &key, 8, &cell, 7), OCC_MALFORMED);
+    IS(occ_run(w, NULL, &answers), OCC_OK);
+    IS((int)answers, 1);
+    IS(occ_answer(w, 0, &cell, 8, &answers), OCC_NO_ROW);
+}
+
+/* What a lease of another worker of the thread keeps waiting is refused, where it would wait for ever. */
+static void leases(occ_store *store, occ_worker *w, occ_worker *other) {
+    occ_store *same = store;
+    occ_worker *made = NULL;
+    IS(occ_lease(w), OCC_OK);
+    IS(occ_begin(other), OCC_LEASED);
+    IS(occ_lease(other), OCC_LEASED);
+    IS(occ_transact(other, 1, asks_for_seven, NULL, NULL), OCC_LEASED);
+    IS(occ_worker_close(&other), OCC_LEASED);
+    IS(other != NULL, 1);
+    IS(occ_table(store, "ints", &ints), OCC_LEASED);
+    IS(occ_worker_open(store, &made), OCC_LEASED);
+    IS(occ_close(&same), OCC_LEASED);
+    IS(same == store && made == NULL, 1);
+    IS(occ_release(w), OCC_OK);
+    IS(occ_begin(other), OCC_OK);
+    IS(occ_abandon(other), OCC_OK);
+}
+
 static void told(occ_worker *w) {
     char *book = NULL, *answer = NULL;
     size_t size = 0;
@@ -183,6 +304,9 @@ int main(void) {
     keys_and_rows(one);
     ranges(one);
     whole(one);
+    functions(one);
+    operations(one);
+    leases(store, one, two);
     told(one);
     IS(occ_begin(two), OCC_OK);
     IS(occ_worker_close(&two), OCC_OK);

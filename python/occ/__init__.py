@@ -5,9 +5,9 @@
     with store.begin() as tx:
         tx.accounts[7] = tx.accounts.get(7, 0) + 30
 
-A transaction reads what is committed and its own writes over it. It commits at the end of its block, and is given up at an exception. Where
-another transaction wrote what it read or writes, it is backed up and nothing of it is done: the block ends with `Conflict`. `transact`
-tries again by itself:
+A transaction reads what is committed by then and its own writes over it. It commits at the end of its block, and is given up at an exception,
+or where nobody has it any more. Where another transaction wrote what it read or writes, it is backed up and nothing of it is done: the block
+ends with `Conflict`, and only then is it known that what was read doesn't fit together. `transact` tries again by itself:
 
     def pay(tx):
         tx.accounts[7] -= 30
@@ -20,7 +20,7 @@ is that cell, and a row of several is a tuple of them.
 """
 from .errors import (
     Closed, Conflict, CounterExhausted, EmptyRange, Error, LogFull, Malformed, NoReadOpen, NoSession, NoTable, RangeTooLarge, ReadOpen, SetFull,
-    TooLong, TooOld, WrongColumns, WrongKind,
+    TooLong, TooOld, WrongColumns, WrongKind, WrongThread,
 )
 from .store import Operation, Store, Table, Transaction, audit, replay
 from .native import version
@@ -28,5 +28,6 @@ from .native import version
 __version__ = version()
 __all__ = [
     "Closed", "Conflict", "CounterExhausted", "EmptyRange", "Error", "LogFull", "Malformed", "NoReadOpen", "NoSession", "NoTable", "Operation",
-    "RangeTooLarge", "ReadOpen", "SetFull", "Store", "Table", "TooLong", "TooOld", "Transaction", "WrongColumns", "WrongKind", "audit", "replay",
+    "RangeTooLarge", "ReadOpen", "SetFull", "Store", "Table", "TooLong", "TooOld", "Transaction", "WrongColumns", "WrongKind", "WrongThread",
+    "audit", "replay",
 ]

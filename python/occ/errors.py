@@ -69,22 +69,36 @@ class TooOld(Error):
 
 
 class Malformed(Error, ValueError):
-    """A text is none of the grammar; `line` is the number of the first line that isn't."""
+    """A text is none of the grammar, where `line` is the number of the first line that isn't; or a store can't be opened with these tables and
+    numbers; or a string can't be written as UTF-8."""
 
 
 class Closed(Error):
     """The store is closed."""
 
 
+class WrongThread(Error, RuntimeError):
+    """A transaction is used in another thread than the one that began it."""
+
+
 KINDS = {
     1: NoTable, 2: WrongKind, 3: WrongColumns, 4: TooLong, 5: EmptyRange, 7: SetFull, 12: NoSession, 22: LogFull, 23: CounterExhausted,
-    24: RangeTooLarge, 27: ReadOpen, 28: NoReadOpen, 100: Conflict, 101: TooOld, 104: Malformed, 105: Closed, 106: Closed, 108: Malformed,
+    24: RangeTooLarge, 27: ReadOpen, 28: NoReadOpen, 100: Conflict, 101: TooOld, 104: Malformed, 105: Closed, 106: Closed, 108: Malformed, 110: WrongThread,
 }
-MEMORY = 8
+MEMORY, NO_READ_OPEN, MALFORMED, NULL, NOT_UTF8, WORKER_BUSY = 8, 28, 104, 106, 108, 110
+SENTENCES = {NULL: "the store is closed, or this thread has left it", WORKER_BUSY: "a transaction is used in another thread than the one that began it"}
 
 
 def refused(code: int, message: str, line: int = 0) -> Exception:
     """The exception for a code."""
     if code == MEMORY:
         return MemoryError(message)
-    return KINDS.get(code, Error)(message, code, line)
+    return KINDS.get(code, Error)(SENTENCES.get(code, message), code, line)
+
+
+def utf8(text: str) -> bytes:
+    """The bytes of a string; one with half a surrogate pair has none."""
+    try:
+        return text.encode()
+    except UnicodeEncodeError:
+        raise Malformed(f"{text!r} can't be written as UTF-8", NOT_UTF8) from None

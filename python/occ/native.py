@@ -8,9 +8,10 @@ import ctypes
 import os
 import sys
 from ctypes import byref, c_char_p, c_int, c_int64, c_size_t, c_uint64, c_void_p
+from threading import get_ident
 from typing import Optional
 
-from .errors import refused
+from .errors import NO_READ_OPEN, NULL, WORKER_BUSY, NoReadOpen, refused, utf8
 
 ROW_MAX = 2112
 NO_ROW = 102
@@ -24,11 +25,22 @@ def _found() -> str:
     return os.environ.get("OCC_LIBRARY") or (beside if os.path.exists(beside) else name)
 
 
-_lib = ctypes.CDLL(_found())
+def _loaded(path: str) -> ctypes.CDLL:
+    try:
+        return ctypes.CDLL(path)
+    except OSError as fault:
+        raise ImportError(f"there is no library {path} that can be loaded ({fault}): build libocc by tools/build_c.py, and name it by OCC_LIBRARY") from fault
+
+
+_path = _found()
+_lib = _loaded(_path)
 
 
 def _declared(name: str, *kinds: object, answers: object = c_int):
-    function = getattr(_lib, name)
+    try:
+        function = getattr(_lib, name)
+    except AttributeError:
+        raise ImportError(f"the library {_path} has no {name}: it is of another version than this package; OCC_LIBRARY names the right one") from None
     function.argtypes = list(kinds)
     function.restype = answers
     return function
@@ -40,15 +52,19 @@ _close = _declared("occ_close", _place)
 _table = _declared("occ_table", c_void_p, c_char_p, _sizes)
 _worker_open = _declared("occ_worker_open", c_void_p, _place)
 _worker_close = _declared("occ_worker_close", _place)
+_worker_bind = _declared("occ_worker_bind", c_void_p)
 _begin = _declared("occ_begin", c_void_p)
 _get = _declared("occ_get", c_void_p, c_size_t, c_void_p, c_size_t, c_void_p, c_size_t, _sizes)
 _put = _declared("occ_put", c_void_p, c_size_t, c_void_p, c_size_t, c_void_p, c_size_t)
+_get_int = _declared("occ_call_get_int", c_void_p, c_size_t, c_uint64, ctypes.POINTER(c_int64))
+_put_int = _declared("occ_call_put_int", c_void_p, c_size_t, c_uint64, c_int64)
 _delete = _declared("occ_delete", c_void_p, c_size_t, c_char_p, c_size_t)
 _scan = _declared("occ_scan", c_void_p, c_size_t, c_char_p, c_size_t, c_char_p, c_size_t, _sizes)
 _fetch = _declared("occ_fetch", c_void_p, c_void_p, c_size_t, _sizes, _sizes)
 _commit = _declared("occ_commit", c_void_p, _numbers)
 _abandon = _declared("occ_abandon", c_void_p)
 _add = _declared("occ_add", c_void_p, c_int, c_size_t, c_char_p, c_size_t, c_char_p, c_size_t)
+_clear = _declared("occ_clear", c_void_p)
 _run = _declared("occ_run", c_void_p, _numbers, _sizes)
 _answer = _declared("occ_answer", c_void_p, c_size_t, c_void_p, c_size_t, _sizes)
 _checkpoint = _declared("occ_checkpoint", c_void_p, _sizes)
@@ -72,8 +88,18 @@ def _check(code: int, line: int = 0) -> None:
         raise refused(code, _strerror(code).decode() + (f" (line {line})" if line else ""), line)
 
 
-def open_store(text: bytes) -> c_void_p:
-    store, line = c_void_p(), c_uint64()
+class Opened(c_void_p):
+    """A store, which is closed where nobody has it any more."""
+
+    def __del__(self) -> None:
+        try:
+            close_store(self)
+        except Exception:  # the interpreter may be at its end
+            pass
+
+
+def open_store(text: bytes) -> Opened:
+    store, line = Opened(), c_uint64()
     _check(_open(text, len(text), byref(store), byref(line)), line.value)
     return store
 
@@ -85,7 +111,7 @@ def close_store(store: c_void_p) -> None:
 
 def table(store: c_void_p, name: str) -> int:
     place = c_size_t()
-    _check(_table(store, name.encode(), byref(place)))
+    _check(_table(store, utf8(name), byref(place)))
     return place.value
 
 
@@ -109,21 +135,47 @@ def replay(text: bytes, quiet: bool) -> bytes:
 
 
 class Worker:
-    """A worker of a store, for one thread at a time."""
+    """A worker of a store, for the thread that opens it: the library refuses calls of others, before they touch what is shared here."""
 
     def __init__(self, store: c_void_p) -> None:
-        self._at = c_void_p()
-        _check(_worker_open(store, byref(self._at)))
+        self._held, self._store, self.lost = c_void_p(), store, False
+        self.at = self._held
+        self.thread: Optional[int] = get_ident()
+        self._check(_worker_open(store, byref(self._held)))
+        self._check(_worker_bind(self._held))
         self._room = ctypes.create_string_buffer(ROW_MAX)
         self._rows: Optional[ctypes.Array] = None
         self._size, self._number = c_size_t(), c_uint64()
         self._size_at, self._number_at = byref(self._size), byref(self._number)
-        self._key, self._cell = c_uint64(), c_int64()
-        self._key_at, self._cell_at = byref(self._key), byref(self._cell)
+        self.cell = c_int64()
+        self.cell_at = byref(self.cell)
+
+    def give_up_lost(self) -> bool:
+        """Gives up the open transaction, where another thread let go of it."""
+        lost, self.lost = self.lost, False
+        if lost:
+            self.abandon()
+        return lost
+
+    def is_here(self) -> bool:
+        """Whether this thread opened it."""
+        return get_ident() == self.thread
+
+    def disown(self) -> None:
+        """It is of no thread from now on, since its own has ended, whose number another may get."""
+        if self._held:
+            self.at, self.thread = c_void_p(), None
 
     def close(self) -> None:
-        if self._at:
-            _check(_worker_close(byref(self._at)))
+        if self._held:
+            self._check(_worker_close(byref(self._held)))
+
+    def failed(self, code: int) -> None:
+        raise refused(WORKER_BUSY if code == NULL and self.thread is None else code, _strerror(code).decode())
+
+    def _check(self, code: int) -> None:
+        if code:
+            self.failed(code)
 
     def __del__(self) -> None:
         try:
@@ -132,45 +184,29 @@ class Worker:
             pass
 
     def begin(self) -> None:
-        code = _begin(self._at)
+        code = _begin(self.at)
         if code:
-            _check(code)
+            self.failed(code)
 
     def get(self, table: int, key: bytes) -> Optional[bytes]:
-        code = _get(self._at, table, key, len(key), self._room, ROW_MAX, self._size_at)
+        code = _get(self.at, table, key, len(key), self._room, ROW_MAX, self._size_at)
         if code == NO_ROW:
             return None
         if code:
-            _check(code)
+            self.failed(code)
         return self._room.raw[:self._size.value] if self._size.value != 8 else self._room[:8]
 
     def put(self, table: int, key: bytes, row: bytes) -> None:
-        code = _put(self._at, table, key, len(key), row, len(row))
+        code = _put(self.at, table, key, len(key), row, len(row))
         if code:
-            _check(code)
-
-    def get_int(self, table: int, key: int) -> Optional[int]:
-        """The row of one int under a key of 64 bits."""
-        self._key.value = key
-        code = _get(self._at, table, self._key_at, 8, self._cell_at, 8, self._size_at)
-        if code == NO_ROW:
-            return None
-        if code:
-            _check(code)
-        return self._cell.value
-
-    def put_int(self, table: int, key: int, cell: int) -> None:
-        self._key.value, self._cell.value = key, cell
-        code = _put(self._at, table, self._key_at, 8, self._cell_at, 8)
-        if code:
-            _check(code)
+            self.failed(code)
 
     def delete(self, table: int, key: bytes) -> None:
-        _check(_delete(self._at, table, key, len(key)))
+        self._check(_delete(self.at, table, key, len(key)))
 
     def scan(self, table: int, lower: bytes, upper: bytes) -> bytes:
         """The rows of a range, each its key and then its row."""
-        _check(_scan(self._at, table, lower, len(lower), upper, len(upper), self._size_at))
+        self._check(_scan(self.at, table, lower, len(lower), upper, len(upper), self._size_at))
         return self._fetched(self._size.value)
 
     def _fetched(self, left: int) -> bytes:
@@ -178,47 +214,102 @@ class Worker:
             self._rows = ctypes.create_string_buffer(65536)
         parts, count = [], c_size_t()
         while left > 0:
-            _check(_fetch(self._at, self._rows, len(self._rows), self._size_at, byref(count)))
+            self._check(_fetch(self.at, self._rows, len(self._rows), self._size_at, byref(count)))
             parts.append(ctypes.string_at(self._rows, self._size.value))
             left -= count.value
         return b"".join(parts)
 
     def commit(self) -> int:
-        code = _commit(self._at, self._number_at)
+        code = _commit(self.at, self._number_at)
         if code:
-            _check(code)
+            self.failed(code)
         return self._number.value
 
     def abandon(self) -> None:
-        _check(_abandon(self._at))
+        self._check(_abandon(self.at))
 
     def add(self, kind: int, table: int, first: bytes, second: bytes) -> None:
-        _check(_add(self._at, kind, table, first, len(first), second, len(second)))
+        self._check(_add(self.at, kind, table, first, len(first), second, len(second)))
+
+    def clear(self) -> None:
+        """Empties the list of operations that were added."""
+        self._check(_clear(self.at))
 
     def run(self) -> tuple[int, int]:
         """The transaction number, and how many answers there are."""
-        _check(_run(self._at, self._number_at, self._size_at))
+        self._check(_run(self.at, self._number_at, self._size_at))
         return self._number.value, self._size.value
 
     def answer(self, place: int, ranged: bool) -> Optional[bytes]:
-        code = _answer(self._at, place, self._room, ROW_MAX, self._size_at)
+        code = _answer(self.at, place, self._room, ROW_MAX, self._size_at)
         if code == NO_ROW:
             return None
-        _check(code)
+        self._check(code)
         return self._fetched(self._size.value) if ranged else self._room.raw[:self._size.value]
 
     def checkpoint(self) -> int:
-        _check(_checkpoint(self._at, self._size_at))
+        self._check(_checkpoint(self.at, self._size_at))
         return self._size.value
 
     def count(self) -> tuple[int, int]:
-        _check(_count(self._at, self._number_at, self._size_at))
+        self._check(_count(self.at, self._number_at, self._size_at))
         return self._number.value, self._size.value
 
     def book(self) -> bytes:
         text = c_void_p()
-        _check(_book(self._at, byref(text), self._size_at))
+        self._check(_book(self.at, byref(text), self._size_at))
         return _taken(text, self._size)
+
+
+class Ended:
+    """Stands where a transaction that is over had its worker. Each call says so, and the library refuses its null pointer."""
+
+    at = to = cell_at = int = None
+
+    def failed(self, *given: object) -> object:
+        raise NoReadOpen("the transaction is over", NO_READ_OPEN)
+
+    get = put = delete = scan = commit = abandon = failed
+
+
+ENDED = Ended()
+
+
+class IntWays:
+    """The short ways of a table of numbers under numbers: each is one call of the library. What isn't such a number goes the long way, which
+    says so."""
+
+    __slots__ = ()
+
+    def get(self, key, default=None):
+        if type(key) is not int or key >> 64:
+            return super().get(key, default)
+        worker = self._tx._worker
+        code = _get_int(worker.at, self._place, key, worker.cell_at)
+        if code == 0:
+            return worker.cell.value
+        if code != NO_ROW:
+            worker.failed(code)
+        return default
+
+    def __getitem__(self, key):
+        if type(key) is not int or key >> 64:
+            return super().__getitem__(key)
+        worker = self._tx._worker
+        code = _get_int(worker.at, self._place, key, worker.cell_at)
+        if code == 0:
+            return worker.cell.value
+        if code != NO_ROW:
+            worker.failed(code)
+        raise KeyError(key)
+
+    def __setitem__(self, key, row):
+        if type(key) is not int or key >> 64 or type(row) is not int or not -1 << 63 <= row < 1 << 63:
+            return super().__setitem__(key, row)
+        worker = self._tx._worker
+        code = _put_int(worker.at, self._place, key, row)
+        if code:
+            worker.failed(code)
 
 
 try:
@@ -228,53 +319,80 @@ except ImportError:
 
 if _fast is not None:
     _slow = Worker
+    Ended.to = Ended.int = _ffi.NULL
 
     class Worker(_slow):  # type: ignore[no-redef]
         """The same with short ways by cffi, which take half the time."""
 
         def __init__(self, store: c_void_p) -> None:
             super().__init__(store)
-            self._to = _ffi.cast("occ_worker *", self._at.value)
-            self._int, self._sized, self._told = _ffi.new("int64_t *"), _ffi.new("size_t *"), _ffi.new("uint64_t *")
+            self.to = _ffi.cast("occ_worker *", self.at.value)
+            self.int, self._sized, self._told = _ffi.new("int64_t *"), _ffi.new("size_t *"), _ffi.new("uint64_t *")
             self._bytes = _ffi.new(f"char[{ROW_MAX}]")
+
+        def disown(self) -> None:
+            super().disown()
+            self.to = _ffi.NULL
 
         def close(self) -> None:
             super().close()
-            self._to = _ffi.NULL
+            self.to = _ffi.NULL
 
         def begin(self) -> None:
-            code = _fast.occ_begin(self._to)
+            code = _fast.occ_begin(self.to)
             if code:
-                _check(code)
+                self.failed(code)
 
         def commit(self) -> int:
-            code = _fast.occ_commit(self._to, self._told)
+            code = _fast.occ_commit(self.to, self._told)
             if code:
-                _check(code)
+                self.failed(code)
             return self._told[0]
 
-        def get_int(self, table: int, key: int) -> Optional[int]:
-            code = _fast.occ_get_int(self._to, table, key, self._int)
-            if code == NO_ROW:
-                return None
-            if code:
-                _check(code)
-            return self._int[0]
-
-        def put_int(self, table: int, key: int, cell: int) -> None:
-            code = _fast.occ_put_int(self._to, table, key, cell)
-            if code:
-                _check(code)
-
         def get(self, table: int, key: bytes) -> Optional[bytes]:
-            code = _fast.occ_get(self._to, table, key, len(key), self._bytes, ROW_MAX, self._sized)
+            code = _fast.occ_get(self.to, table, key, len(key), self._bytes, ROW_MAX, self._sized)
             if code == NO_ROW:
                 return None
             if code:
-                _check(code)
+                self.failed(code)
             return _ffi.buffer(self._bytes, self._sized[0])[:]
 
         def put(self, table: int, key: bytes, row: bytes) -> None:
-            code = _fast.occ_put(self._to, table, key, len(key), row, len(row))
+            code = _fast.occ_put(self.to, table, key, len(key), row, len(row))
             if code:
-                _check(code)
+                self.failed(code)
+
+    class IntWays:  # type: ignore[no-redef]
+        """The same by cffi."""
+
+        __slots__ = ()
+
+        def get(self, key, default=None):
+            if type(key) is not int or key >> 64:
+                return super().get(key, default)
+            worker = self._tx._worker
+            code = _fast.occ_get_int(worker.to, self._place, key, worker.int)
+            if code == 0:
+                return worker.int[0]
+            if code != NO_ROW:
+                worker.failed(code)
+            return default
+
+        def __getitem__(self, key):
+            if type(key) is not int or key >> 64:
+                return super().__getitem__(key)
+            worker = self._tx._worker
+            code = _fast.occ_get_int(worker.to, self._place, key, worker.int)
+            if code == 0:
+                return worker.int[0]
+            if code != NO_ROW:
+                worker.failed(code)
+            raise KeyError(key)
+
+        def __setitem__(self, key, row):
+            if type(key) is not int or key >> 64 or type(row) is not int or not -1 << 63 <= row < 1 << 63:
+                return super().__setitem__(key, row)
+            worker = self._tx._worker
+            code = _fast.occ_put_int(worker.to, self._place, key, row)
+            if code:
+                worker.failed(code)

@@ -4,7 +4,7 @@ from __future__ import annotations
 import struct
 from typing import Callable, Optional, Tuple, Union
 
-from .errors import WrongColumns, WrongKind
+from .errors import WrongColumns, WrongKind, utf8
 
 Part = Union[int, str]
 Key = Union[int, str, Tuple[Part, Part]]
@@ -26,7 +26,7 @@ def _number(value: object, packed: struct.Struct) -> bytes:
 def _text(value: object) -> bytes:
     if not isinstance(value, str):
         raise WrongKind(f"{value!r} is not a string", 2)
-    spelled = value.encode()
+    spelled = utf8(value)
     return _unsigned.pack(len(spelled)) + spelled
 
 
@@ -58,6 +58,8 @@ class Form:
 
     @staticmethod
     def _only_number(key: object) -> bytes:
+        if type(key) is bool:
+            return _number(key, _unsigned)
         try:
             return _unsigned.pack(key)
         except struct.error:
@@ -67,6 +69,8 @@ class Form:
     def _only_int(row: object) -> bytes:
         if type(row) is tuple and len(row) == 1:
             row = row[0]
+        if type(row) is bool:
+            return _number(row, _signed)
         try:
             return _signed.pack(row)
         except struct.error:

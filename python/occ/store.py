@@ -1,16 +1,19 @@
 """Stores, transactions and their tables."""
 from __future__ import annotations
 
+import itertools
 import threading
-import weakref
-from typing import Callable, Dict, Iterable, Iterator, List, NamedTuple, Optional, Sequence, Tuple, TypeVar, Union
+from typing import Callable, Dict, Iterable, Iterator, List, NamedTuple, Optional, Sequence, Tuple, Type, TypeVar, Union
 
 from . import native
-from .errors import Conflict, Error, NoTable, TooOld
+from .errors import Conflict, Error, NoTable, ReadOpen, TooOld, utf8
+from .headers import header
+from .native import ENDED, Ended
 from .spelling import Form, Key, Row
 
 Answer = TypeVar("Answer")
-CHECKPOINT_EACH = 10_000
+FOLD_EACH = 10_000
+GET, PUT, DELETE, ADD, SCAN = range(5)
 
 
 class Operation(NamedTuple):
@@ -23,37 +26,40 @@ class Operation(NamedTuple):
 
     @classmethod
     def get(cls, table: str, key: Key) -> "Operation":
-        return cls(0, table, key)
+        return cls(GET, table, key)
 
     @classmethod
     def put(cls, table: str, key: Key, row: Row) -> "Operation":
-        return cls(1, table, key, row)
+        return cls(PUT, table, key, row)
 
     @classmethod
     def delete(cls, table: str, key: Key) -> "Operation":
-        return cls(2, table, key)
+        return cls(DELETE, table, key)
 
     @classmethod
     def add(cls, table: str, key: Key, amount: int) -> "Operation":
         """Adds to a row of one number, where an absent one is 0."""
-        return cls(3, table, key, amount)
+        return cls(ADD, table, key, amount)
 
     @classmethod
     def scan(cls, table: str, lower: Optional[Key] = None, upper: Optional[Key] = None) -> "Operation":
-        return cls(4, table, lower, upper)
+        return cls(SCAN, table, lower, upper)
 
 
 class Table:
-    """A table within a transaction: a mapping of keys to rows, and of slices to lists of both, as in `tx.accounts[1:10]`."""
+    """A table within a transaction: a mapping of keys to rows, and of slices to lists of both, as in `tx.accounts[1:10]`. Each table of a
+    store has a kind of its own, which knows its place and its form."""
 
-    __slots__ = ("_worker", "_place", "_form")
+    __slots__ = ("_tx",)
+    _place: int
+    _form: Form
 
-    def __init__(self, worker: native.Worker, place: int, form: Form) -> None:
-        self._worker, self._place, self._form = worker, place, form
+    def __init__(self, tx: "Transaction") -> None:
+        self._tx = tx
 
     def get(self, key: Key, default: Optional[Row] = None) -> Optional[Row]:
         """The row under a key, or `default` where there is none."""
-        row = self._worker.get(self._place, self._form.key(key))
+        row = self._tx._worker.get(self._place, self._form.key(key))
         return default if row is None else self._form.read_row(row)[0]
 
     def __getitem__(self, key: Union[Key, slice]) -> Union[Row, List[Tuple[Key, Row]]]:
@@ -61,25 +67,25 @@ class Table:
             if key.step is not None:
                 raise ValueError("a range of keys has no step")
             return self.scan(key.start, key.stop)
-        row = self._worker.get(self._place, self._form.key(key))
+        row = self._tx._worker.get(self._place, self._form.key(key))
         if row is None:
             raise KeyError(key)
         return self._form.read_row(row)[0]
 
     def __setitem__(self, key: Key, row: Row) -> None:
-        self._worker.put(self._place, self._form.key(key), self._form.row(row))
+        self._tx._worker.put(self._place, self._form.key(key), self._form.row(row))
 
     def __delitem__(self, key: Key) -> None:
         """Deletes the row under a key; it is a write also where there is none."""
-        self._worker.delete(self._place, self._form.key(key))
+        self._tx._worker.delete(self._place, self._form.key(key))
 
     def __contains__(self, key: Key) -> bool:
-        return self._worker.get(self._place, self._form.key(key)) is not None
+        return self._tx._worker.get(self._place, self._form.key(key)) is not None
 
     def scan(self, lower: Optional[Key] = None, upper: Optional[Key] = None) -> List[Tuple[Key, Row]]:
         """The keys and rows from `lower` on and below `upper`, in the order of the keys, at most 1,024; without an end all keys on that
         side."""
-        return self._form.read_rows(self._worker.scan(self._place, self._form.end(lower), self._form.end(upper)))
+        return self._form.read_rows(self._tx._worker.scan(self._place, self._form.end(lower), self._form.end(upper)))
 
     def __iter__(self) -> Iterator[Key]:
         return iter([key for key, _ in self.scan()])
@@ -92,97 +98,123 @@ class Table:
         return len(self.scan())
 
 
-class IntTable(Table):
+class IntTable(native.IntWays, Table):
     """A table of numbers under numbers, with a short way for each."""
 
     __slots__ = ()
 
-    def get(self, key: Key, default: Optional[Row] = None) -> Optional[Row]:
-        if type(key) is int and 0 <= key < 1 << 64:
-            row = self._worker.get_int(self._place, key)
-            return default if row is None else row
-        return super().get(key, default)
 
-    def __getitem__(self, key: Union[Key, slice]) -> Union[Row, List[Tuple[Key, Row]]]:
-        if type(key) is int and 0 <= key < 1 << 64:
-            row = self._worker.get_int(self._place, key)
-            if row is None:
-                raise KeyError(key)
-            return row
-        return super().__getitem__(key)
+class Log:
+    """How many rows the log of a store got: one for each transaction that committed or was backed up. All threads count here, so it has only
+    what one step of the interpreter does whole."""
 
-    def __setitem__(self, key: Key, row: Row) -> None:
-        if type(key) is int and type(row) is int and 0 <= key < 1 << 64 and -1 << 63 <= row < 1 << 63:
-            self._worker.put_int(self._place, key, row)
-        else:
-            super().__setitem__(key, row)
+    def __init__(self) -> None:
+        self.rows = itertools.count(1)
+        self.each = self.due = FOLD_EACH
+
+    def grew(self, worker: native.Worker) -> None:
+        """It got a row."""
+        row = next(self.rows)
+        if row >= self.due:
+            self.fold(worker, row)
+
+    def fold(self, worker: native.Worker, row: int) -> None:
+        """Folds the log, at the row where that is due. What refuses it leaves the log as it was, for the next time."""
+        self.due = row + self.each
+        try:
+            worker.checkpoint()
+        except (Error, MemoryError):
+            pass
 
 
 class Seat:
-    """What a thread has of a store: a worker and its tables."""
+    """What a thread alone has of a store, so that its worker is of no thread where it ends; another may get its number then."""
 
-    def __init__(self, worker: native.Worker, forms: Dict[str, Tuple[int, Form]]) -> None:
+    __slots__ = ("worker",)
+
+    def __init__(self, worker: native.Worker) -> None:
         self.worker = worker
-        self.tables = {name: (IntTable if form.is_int else Table)(worker, place, form) for name, (place, form) in forms.items()}
-        self.since = 0
+
+    def __del__(self) -> None:
+        self.worker.disown()
 
 
 class Transaction:
     """An open transaction, whose tables are its attributes. `with store.begin() as tx:` commits it at the end of the block, and gives it up
-    at an exception; `number` is its number then."""
+    at an exception; `number` is its number then. It is for the thread that began it alone. Where nobody has it any more it is given up."""
 
-    __slots__ = ("_store", "_seat", "_over", "number")
+    __slots__ = ("_store", "_worker", "number")
+    _kinds: Dict[str, Type[Table]] = {}
 
-    def __init__(self, store: "Store", seat: Seat) -> None:
-        self._store, self._seat, self._over = store, seat, False
+    def __init__(self, store: "Store", worker: native.Worker) -> None:
+        self._store = store
+        self._worker: Union[native.Worker, Ended] = worker
         self.number: Optional[int] = None
 
     def __getattr__(self, name: str) -> Table:
-        try:
-            return self._seat.tables[name]
-        except KeyError:
-            raise AttributeError(f"there is no table {name!r}") from None
+        if name not in self._kinds:
+            raise AttributeError(f"there is no table {name!r}")
+        return self.table(name)
 
     def table(self, name: str) -> Table:
         """A table by its name, also where that is one of Python's words."""
         try:
-            return self._seat.tables[name]
+            return self._kinds[name](self)
         except KeyError:
             raise NoTable(f"there is no table {name!r}", 1) from None
 
     def commit(self) -> int:
         """Ends it, and answers its number. Raises `Conflict` or `TooOld` where it is backed up."""
-        seat = self._seat
+        worker, log = self._worker, self._store._log
         try:
-            self.number = seat.worker.commit()
+            self.number = worker.commit()
         except (Conflict, TooOld):
-            self._over = True
+            self._worker = ENDED
+            log.grew(worker)
             raise
-        self._over = True
-        seat.since += 1
-        if seat.since >= CHECKPOINT_EACH:
-            self._store._committed(seat)
+        self._worker = ENDED
+        row = next(log.rows)
+        if row >= log.due:
+            log.fold(worker, row)
         return self.number
 
     def abandon(self) -> None:
         """Gives it up."""
-        self._seat.worker.abandon()
-        self._over = True
+        self._worker.abandon()
+        self._worker = ENDED
+
+    def __del__(self) -> None:
+        if self._worker is not ENDED:
+            self._let_go()
+
+    def _let_go(self) -> None:
+        if not self._worker.is_here():
+            self._worker.lost = True
+            return
+        try:
+            self.abandon()
+        except Exception:  # the store may be closed, or the interpreter at its end
+            pass
 
     def __enter__(self) -> "Transaction":
         return self
 
     def __exit__(self, kind: object, value: object, trace: object) -> None:
-        if self._over:
+        if self._worker is ENDED:
             return
         if kind is None:
             try:
                 self.commit()
             finally:
-                if not self._over:
+                if self._worker is not ENDED:
                     self.abandon()
         else:
             self.abandon()
+
+
+def _kind(name: str, place: int, form: Form) -> Type[Table]:
+    """The kind of a table."""
+    return type(name, (IntTable if form.is_int else Table,), {"__slots__": (), "_place": place, "_form": form})
 
 
 class Store:
@@ -191,88 +223,107 @@ class Store:
     last `keep` transactions are kept for testing, 1 to 4,096. Each thread gets a worker by itself."""
 
     def __init__(self, tables: Dict[str, Sequence[str]], sessions: int = 64, keep: int = 1024) -> None:
-        lines = ["occ 2", f"sessions {sessions}", "queue 1", f"keep {keep}"]
-        lines += [f"table {name} {' '.join(kinds)}" for name, kinds in tables.items()] + ["steps", ""]
-        self._at = native.open_store("\n".join(lines).encode())
+        self._at = native.open_store(header(tables, sessions, keep))
         self._forms = {name: (native.table(self._at, name), Form(kinds[0], tuple(kinds[1:]))) for name, kinds in tables.items()}
+        kinds = {name: _kind(name, place, form) for name, (place, form) in self._forms.items()}
         # A kind of its own finds its tables as any attribute is found.
-        named = {name: property(lambda tx, name=name: tx._seat.tables[name]) for name in tables if not hasattr(Transaction, name)}
-        self._transaction = type("Transaction", (Transaction,), {"__slots__": (), **named})
-        self._seats = threading.local()
-        self._workers: "weakref.WeakSet[native.Worker]" = weakref.WeakSet()
+        named = {name: property(kind) for name, kind in kinds.items() if not hasattr(Transaction, name)}
+        self._transaction = type("Transaction", (Transaction,), {"__slots__": (), "_kinds": kinds, **named})
+        self._log, self._seats = Log(), threading.local()
+        self._door = threading.RLock()  # no worker is opened while the store is closed
 
-    def _seat(self) -> Seat:
+    def _worker(self) -> native.Worker:
+        """This thread's worker."""
         try:
-            return self._seats.seat
+            return self._seats.seat.worker
         except AttributeError:
-            seat = Seat(native.Worker(self._at), self._forms)
-            self._seats.seat = seat
-            self._workers.add(seat.worker)
-            return seat
-
-    @staticmethod
-    def _committed(seat: Seat) -> None:
-        """Folds the log where this thread committed often enough since it did."""
-        if seat.since >= CHECKPOINT_EACH:
-            seat.since = 0
-            seat.worker.checkpoint()
+            with self._door:
+                self._seats.seat = Seat(native.Worker(self._at))
+            return self._seats.seat.worker
 
     def begin(self) -> Transaction:
         """Begins a transaction of this thread; it has one at a time."""
         try:
-            seat = self._seats.seat
+            worker = self._seats.seat.worker
         except AttributeError:
-            seat = self._seat()
-        seat.worker.begin()
-        return self._transaction(self, seat)
+            worker = self._worker()
+        try:
+            worker.begin()
+        except ReadOpen:
+            if not worker.give_up_lost():
+                raise
+            worker.begin()
+        return self._transaction(self, worker)
 
     def transact(self, fn: Callable[[Transaction], Answer], tries: int = 100) -> Answer:
         """Calls `fn` with a transaction, commits it, and answers what `fn` answered. After a back-up it begins anew, at most `tries` times
-        in all; the last one's `Conflict` or `TooOld` is raised."""
+        in all; the last one's `Conflict` or `TooOld` is raised. Any exception of `fn` gives the transaction up, and is raised."""
         for left in range(tries - 1, -1, -1):
+            tx = self.begin()
             try:
-                with self.begin() as tx:
-                    answer = fn(tx)
+                answer = fn(tx)
+                if tx._worker is not ENDED:
+                    tx.commit()
                 return answer
             except (Conflict, TooOld):
-                if left <= 0:
+                # where this one is open, the exception is of another one, or of `fn` itself
+                if left <= 0 or tx._worker is not ENDED:
                     raise
+            finally:
+                if tx._worker is not ENDED:
+                    tx.abandon()
         raise ValueError("a transaction is tried once at least")
 
     def run(self, operations: Iterable[Operation]) -> List[object]:
         """Runs operations as one transaction, which is never backed up. Answers of each `get` its row or None, and of each `scan` its keys
         and rows."""
-        seat, asked = self._seat(), []
-        for operation in operations:
-            try:
-                place, form = self._forms[operation.table]
-            except KeyError:
-                raise NoTable(f"there is no table {operation.table!r}", 1) from None
-            second = {1: form.row, 3: form.row, 4: form.end}.get(operation.kind, lambda _: b"")(operation.second)
-            first = form.end(operation.first) if operation.kind == 4 else form.key(operation.first)
-            seat.worker.add(operation.kind, place, first, second)
-            if operation.kind in (0, 4):
-                asked.append((form, operation.kind == 4))
-        seat.worker.run()
-        seat.since += 1
-        self._committed(seat)
-        answers: List[object] = []
-        for place, (form, ranged) in enumerate(asked):
-            told = seat.worker.answer(place, ranged)
-            answers.append(form.read_rows(told or b"") if ranged else None if told is None else form.read_row(told)[0])
-        return answers
+        spelled = [self._spelled(operation) for operation in operations]
+        worker = self._worker()
+        worker.give_up_lost()
+        try:
+            for words, _ in spelled:
+                worker.add(*words)
+            worker.run()
+        except BaseException:
+            worker.clear()
+            raise
+        self._log.grew(worker)
+        asked = [(form, words[0] == SCAN) for words, form in spelled if words[0] in (GET, SCAN)]
+        return [self._answered(worker, place, form, ranged) for place, (form, ranged) in enumerate(asked)]
+
+    def _spelled(self, operation: Operation) -> Tuple[Tuple[int, int, bytes, bytes], Form]:
+        """What the library gets of an operation, and how its table is spelled."""
+        try:
+            place, form = self._forms[operation.table]
+        except KeyError:
+            raise NoTable(f"there is no table {operation.table!r}", 1) from None
+        first = form.end(operation.first) if operation.kind == SCAN else form.key(operation.first)
+        second = b""
+        if operation.kind in (PUT, ADD):
+            second = form.row(operation.second)
+        elif operation.kind == SCAN:
+            second = form.end(operation.second)
+        return (operation.kind, place, first, second), form
+
+    @staticmethod
+    def _answered(worker: native.Worker, place: int, form: Form, ranged: bool) -> object:
+        """An answer of the last run."""
+        told = worker.answer(place, ranged)
+        if ranged:
+            return form.read_rows(told or b"")
+        return None if told is None else form.read_row(told)[0]
 
     def checkpoint(self) -> int:
-        """Folds the log as far as it can be, and answers how many rows that were. Each thread does so by itself each 10,000 commits."""
-        return self._seat().worker.checkpoint()
+        """Folds the log as far as it can be, and answers how many rows that were. A store does so by itself each 10,000 rows."""
+        return self._worker().checkpoint()
 
     def commits(self) -> int:
         """How many transactions committed."""
-        return self._seat().worker.count()[0]
+        return self._worker().count()[0]
 
     def book(self) -> str:
         """The book: the log with all that was read and written, the tables and the counter, as a text that `audit` judges."""
-        return self._seat().worker.book().decode("ascii")
+        return self._worker().book().decode("ascii")
 
     def leave(self) -> None:
         """Closes this thread's worker, whose session is free for another thread then. A thread that ends does so by itself."""
@@ -281,10 +332,10 @@ class Store:
             seat.worker.close()
 
     def close(self) -> None:
-        """Closes the store and all its workers; no thread may use it meanwhile."""
-        native.close_store(self._at)
-        for worker in list(self._workers):
-            worker.close()
+        """Closes the store and this thread's worker. Calls of other threads say `Closed` from then on."""
+        with self._door:
+            native.close_store(self._at)
+        self.leave()
 
     def __enter__(self) -> "Store":
         return self
@@ -295,12 +346,12 @@ class Store:
 
 def audit(text: str) -> bool:
     """Whether a book holds: its log explains its tables. Raises `Malformed` for what is no book."""
-    return native.audit(text.encode())
+    return native.audit(utf8(text))
 
 
 def replay(text: str, quiet: bool = False) -> str:
     """What a schedule answers, as `occ replay` prints it."""
-    return native.replay(text.encode(), quiet).decode("ascii")
+    return native.replay(utf8(text), quiet).decode("ascii")
 
 
 __all__ = ["Operation", "Store", "Table", "Transaction", "audit", "replay", "Error"]

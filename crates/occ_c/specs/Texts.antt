@@ -1,17 +1,19 @@
 -- What is done with texts: headers, books, audits and replays (our own choice).
-use Rattle.std.specs.Prelude.{⊤, ◌≡◌, ◌⊎◌, ℕ, ℤ, pos, Bool, true, false, List, [], length, take, drop, Option, Some, Result, Ok, Err}
-use Rattle.std.specs.Io.KnownBytes.{Appends, Consumes}
+use Rattle.std.specs.Prelude.{⊤, ◌≡◌, ◌⊎◌, ◌+◌, ◌-◌, ◌^◌, ℕ, ℤ, pos, Bool, true, false, List, [], length, take, drop, Option, Some, IfSome, Result, Ok, Err}
+use Rattle.std.specs.Io.KnownBytes.{Appends, Consumes, IsAtEnd}
 use Rattle.occ_types.specs.Schema.{Schema}
 use Rattle.occ_types.specs.declared.fault.Fault.{Fault}
 use Rattle.occ_bytes.specs.Bytes.{put_at}
+use Rattle.occ_text.specs.declared.faults.LineFault.{LineFault}
 use Rattle.occ_text.specs.declared.faults.ReadFault.{ReadFault}
+use Rattle.occ_text.specs.declared.faults.ReadFault.TheVariants as faults
 use Rattle.occ_text.specs.declared.headers.Limits.{Limits}
 use Rattle.occ_text.specs.declared.trouble.Trouble.{Trouble}
 use Rattle.occ_text.specs.declared.trouble.Trouble.TheVariants.{Memory}
-use Rattle.occ_text.specs.Faults.{read_trouble}
+use Rattle.occ_text.specs.Faults.{read_fault, read_trouble}
 use Rattle.occ_text.specs.Headers.{Header, HeaderFits, header_text}
-use Rattle.occ_text.specs.Languages.{Position, start}
-use Rattle.occ_text.specs.Line.{lines_text}
+use Rattle.occ_text.specs.Languages.{Position, point, start}
+use Rattle.occ_text.specs.Line.{IsLine, lines_text}
 use Rattle.occ_text.specs.ScheduleLines.{HeaderTaken}
 use Rattle.occ_print.specs.Books.{header_of}
 use Rattle.occ_reading.specs.WholeBooks.{AuditGives}
@@ -33,16 +35,37 @@ pub record NoHeader (text : List ℕ) (trouble : Trouble) : Type 0 where
   pub told : trouble ≡ read_trouble fault
   pub taken : HeaderTaken {X = Header} (λ header. header) (Err fault) (start (Some text)) after
 
--- the text begins with a header, up to its line `steps`
-pub record BeginsSo (text : List ℕ) (limits : Limits) (schema : Schema) : Type 0 where
-  pub rest : Option (List ℕ)
+-- the text is the lines of a header, up to its line `steps`, and ends there
+pub record IsHeader (text : List ℕ) (limits : Limits) (schema : Schema) : Type 0 where
   pub fits : HeaderFits (header_of limits schema)
-  pub taken : Consumes (Some text) rest (lines_text (header_text (header_of limits schema)))
+  pub is : text ≡ lines_text (header_text (header_of limits schema))
 
--- the store is opened as the text of a header says; or memory is refused, or the text is none of a header
+-- why a text doesn't end at a position: something stands there, and its line is told; or the read failed amid it, or its line has no number
+abbrev pub NoEnd : ReadFault → Position → Type 0
+NoEnd (faults.Malformed number) here = IfSome here.left (λ bytes. bytes ≡ [] → ⊥) × (number ≡ here.number + 1)
+NoEnd faults.Read here = (part : List ℕ) × (after : Option (List ℕ)) × IsLine part × Consumes here.left after part
+NoEnd faults.TooManyLines here = here.number ≡ 2 ^ 64 - 1
+NoEnd faults.Memory here = ⊥
+
+-- whether a text ends at a position, by the outcome
+abbrev pub EndTaken : {X : Type 0} → Result X LineFault → Position → Type 0
+EndTaken (Ok x) here = IsAtEnd here.left
+EndTaken (Err fault) here = NoEnd (read_fault fault) here
+
+-- the text begins with a header, and doesn't end behind it
+pub record RunsOn (text : List ℕ) (trouble : Trouble) : Type 0 where
+  pub header : Header
+  pub fits : HeaderFits header
+  pub rest : Option (List ℕ)
+  pub taken : Consumes (Some text) rest (lines_text (header_text header))
+  pub fault : ReadFault
+  pub told : trouble ≡ read_trouble fault
+  pub unended : NoEnd fault (point rest (length (header_text header)))
+
+-- the store is opened as the text of a header says; or memory is refused, or the text is none of a header, or runs on behind it
 abbrev pub Opens : List ℕ → Result Desk Trouble → Type 0
-Opens text (Ok desk) = BeginsSo text desk.limits desk.store.schema × (desk.store ≡ record { schema = desk.store.schema; sessions = desk.limits.sessions; keep = desk.limits.keep }) × IsFresh desk
-Opens text (Err trouble) = (trouble ≡ Memory) ⊎ NoHeader text trouble
+Opens text (Ok desk) = IsHeader text desk.limits desk.store.schema × (desk.store ≡ record { schema = desk.store.schema; sessions = desk.limits.sessions; keep = desk.limits.keep }) × IsFresh desk
+Opens text (Err trouble) = (trouble ≡ Memory) ⊎ NoHeader text trouble ⊎ RunsOn text trouble
 
 -- the code, and the line where it is told in the place of what stood there
 abbrev pub opened_code : {X : Type 0} → ℕ → Result X Trouble → ℤ × ℕ

@@ -1,5 +1,5 @@
 //! What C calls. A handle is given to one call at a time.
-ghost use Rattle.std.specs.Prelude.{◌≡◌, ◌⊎◌, ◌<◌, pos, length, None, Some, Ok, IfOk, IfErr, IsOkUnless};
+ghost use Rattle.std.specs.Prelude.{◌≡◌, ◌⊎◌, ◌<◌, [], pos, length, None, Some, Ok, IfOk, IfErr, IsOkUnless};
 ghost use Rattle.occ_bytes.specs.Bytes.{put_at};
 ghost use Rattle.occ_types.specs.declared.fault.Fault.TheVariants.{Memory};
 ghost use Rattle.occ_sharing.specs.Sharing.{AbandonCame, BeginCame, CheckpointCame, CommitCame, CountsCame, JoinCame, LeaseCame, LeaveCame};
@@ -279,6 +279,26 @@ fn add_in(desk: Handle, given: (u32, usize, &[u8], &[u8])) -> (Handle, Result<()
     let mut desk = desk.into_box();
     let came = desk.add(kind, table, first, second);
     (Handle::of(desk), came)
+}
+
+/// Takes the operations away that are to run alone.
+#[unsafe(no_mangle)]
+pub extern "C" fn occ_rt_clear(desk: &mut Handle) -> i32
+    ensures told { result ≡ pos 0 }
+    ensures none { desk.new.desk.kept.operations.items ≡ [] }
+    ensures kept { desk.new.desk ≡ record desk.old.desk { kept = record desk.old.desk.kept { operations = desk.new.desk.kept.operations } } }
+{
+    replace_with(desk, (), clear_in);
+    OK
+}
+
+fn clear_in(desk: Handle, _given: ()) -> (Handle, ())
+    ensures none { result.0.desk.kept.operations.items ≡ [] }
+    ensures kept { result.0.desk ≡ record desk.desk { kept = record desk.desk.kept { operations = result.0.desk.kept.operations } } }
+{
+    let mut desk = desk.into_box();
+    desk.kept.operations = Vec::new(desk.alloc);
+    (Handle::of(desk), ())
 }
 
 /// The place of the table with a name.

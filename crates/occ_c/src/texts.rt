@@ -3,7 +3,8 @@ ghost use Rattle.std.specs.Prelude.{◌≡◌, ◌⊎◌, pos, Some, Ok, Err, If
 ghost use Rattle.occ_print.specs.Books.{book_of, book_text};
 ghost use Rattle.occ_text.specs.declared.faults.WriteFault.TheVariants.{Memory as MemoryFault};
 ghost use Rattle.occ_text.specs.declared.trouble.Trouble.TheVariants.{Memory};
-ghost use Rattle.occ_c.specs.Texts.{Audits, BeginsSo, Books, NoHeader, Opens, Replays};
+ghost use Rattle.occ_text.specs.Languages.{position_of};
+ghost use Rattle.occ_c.specs.Texts.{Audits, Books, EndTaken, IsHeader, NoHeader, Opens, RunsOn, Replays};
 
 use crate::codes::{OK, line_of, of_fault, of_missed, of_trouble};
 use crate::desks::Desk;
@@ -14,16 +15,17 @@ use occ_cli::replay_text;
 use occ_print::books::write_book;
 use occ_reading::audit_text;
 use occ_sharing::SharedStore;
-use occ_text::faults::WriteFault;
+use occ_text::faults::{LineFault, WriteFault};
 use occ_text::headers::{Header, Limits, read_header};
-use occ_text::input::Input;
+use occ_text::input::{Input, Next};
 use occ_text::output::Output;
 use occ_text::trouble::Trouble;
 use occ_text::versions::Version;
 use occ_types::{Fault, Schema};
 use std::alloc::Global;
+use std::io::Read;
 
-/// A store that is opened as a header says, and a desk of it.
+/// A store that is opened as a text says, which is a header and nothing behind it, and a desk of it.
 pub(crate) fn open(alloc: Global, header: &[u8]) -> Result<Box<Desk>, Trouble>
     ensures { MatchResult result (λ desk. Opens header.now (Ok desk.value)) (λ trouble. Opens header.now (Err trouble)) }
 {
@@ -37,15 +39,26 @@ pub(crate) fn open(alloc: Global, header: &[u8]) -> Result<Box<Desk>, Trouble>
     }
 }
 
-// The header that a text begins with.
+// The header that a text is, from its first line to its last.
 fn header_of(alloc: Global, text: &[u8]) -> Result<Header<Global>, Trouble>
-    ensures read { IfOk result (λ header. BeginsSo text.now header.limits header.schema) }
-    ensures unread { IfErr result (λ trouble. (trouble ≡ Memory) ⊎ NoHeader text.now trouble) }
+    ensures read { IfOk result (λ header. IsHeader text.now header.limits header.schema) }
+    ensures unread { IfErr result (λ trouble. (trouble ≡ Memory) ⊎ NoHeader text.now trouble ⊎ RunsOn text.now trouble) }
 {
     let mut reader = text;
     let mut input = Input::new(alloc)?;
     let header = read_header(alloc, &mut input, &mut reader)?;
+    take_end(&mut input, &mut reader)?;
     Ok(header)
+}
+
+// Takes the end of a text, which has to stand behind the lines that were taken.
+fn take_end<R: Read>(input: &mut Input<Global>, reader: &mut R) -> Result<(), LineFault>
+    ensures { EndTaken result (position_of input.old (R.remaining reader.old)) }
+{
+    match input.next_line(reader)? {
+        Next::End => Ok(()),
+        Next::Line => Err(LineFault::Malformed(input.number())),
+    }
 }
 
 impl Desk {
