@@ -34,20 +34,21 @@ pub(crate) fn tell_changed_schedule(rt: &HostRuntime, name: &str) -> io::Result<
 }
 
 /// Audits a book with each change of a file, and prints each whose audit ends otherwise, and how many there were.
-pub(crate) fn tell_changes(rt: &HostRuntime, folder: &str, name: &str) -> io::Result<()> {
-    let book = fs::read_to_string(rt, format!(in rt.alloc(); "{folder}/{name}.book")?.as_str())?;
+pub(crate) fn tell_changes(rt: &HostRuntime, name: &str) -> io::Result<()> {
+    let (_folder, file) = name.rsplit_once('/').unwrap_or(("", name));
+    let book = fs::read_to_string(rt, format!(in rt.alloc(); "{name}.book")?.as_str())?;
     let changes = fs::read_to_string(
         rt,
-        format!(in rt.alloc(); "changes/{name}.changes")?.as_str(),
+        format!(in rt.alloc(); "changes/{file}.changes")?.as_str(),
     )?;
     let mut tried = 0u64;
     for change in changes.lines() {
         if !audit_ends_as_wanted(rt.alloc(), book.as_str(), change)? {
-            println!(rt; "{folder}/{name}: another end: {change}")?;
+            println!(rt; "{name}: another end: {change}")?;
         }
         tried = tried.saturating_add(1);
     }
-    println!(rt; "{folder}/{name}: {tried} changes tried")
+    println!(rt; "{name}: {tried} changes tried")
 }
 
 /// Whether a line behind a schedule is malformed there, with nothing but these answers of the schedule before it.

@@ -1,6 +1,6 @@
-//! Replays of schedules that are cut behind any byte.
+//! Replays of schedules, and audits of books, that are cut behind any byte.
 
-use occ_cli::{Trouble, replay_text};
+use occ_cli::{Trouble, audit_text, replay_text};
 use std::alloc::{AllocError, Global};
 use std::{fs, io};
 
@@ -27,6 +27,27 @@ pub(crate) fn tell_cuts(rt: &HostRuntime) -> io::Result<()> {
         println!(rt; "{name}: {right} of {cuts} cuts end right")?;
     }
     Ok(())
+}
+
+/// Cuts a book behind each of its bytes, and prints how many of these audits found the line malformed that is torn or lacking.
+pub(crate) fn tell_cut_book(rt: &HostRuntime, name: &str) -> io::Result<()> {
+    let book = fs::read_to_string(rt, format!(in rt.alloc(); "{name}.book")?.as_str())?;
+    let (mut right, mut cuts) = (0u64, 0u64);
+    for len in 0..book.len() {
+        let front = book.get(..len).unwrap_or("");
+        right = right.saturating_add(u64::from(is_torn(rt.alloc(), front)));
+        cuts = cuts.saturating_add(1);
+    }
+    println!(rt; "{name}: {right} of {cuts} cuts of the book end right")
+}
+
+/// Whether the audit of the beginning of a book finds the line behind its whole ones malformed, and writes nothing.
+fn is_torn(alloc: Global, front: &str) -> bool {
+    let mut reader = front.as_bytes();
+    let mut written = Vec::new(alloc);
+    let ended = audit_text(alloc, &mut reader, &mut written);
+    let line = (lines_in(front) as u64).saturating_add(1);
+    ended == Err(Trouble::Malformed(line)) && written.is_empty()
 }
 
 /// Whether the replay of the beginning of a schedule ends as it has to, where the whole schedule writes this.

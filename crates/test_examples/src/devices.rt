@@ -1,6 +1,6 @@
-//! Replays over devices that move a few bytes a call, are interrupted at each third one, and fail at each in turn.
+//! Replays and audits over devices that move a few bytes a call, are interrupted at each third one, and fail at each in turn.
 
-use occ_cli::{Trouble, replay_text};
+use occ_cli::{Trouble, audit_text, replay_text, status_of};
 use std::alloc::{AllocError, Global};
 use std::{fs, io};
 use test_tools::Device;
@@ -15,7 +15,10 @@ pub(crate) fn tell_devices(rt: &HostRuntime) -> io::Result<()> {
     tell_failing(rt, "examples/entry-order", 58, 14)?;
     tell_single_bytes(rt, "schedules/no-step")?;
     tell_single_bytes(rt, "examples/first-commit")?;
-    tell_many_answers(rt)
+    tell_single_bytes(rt, "schedules/line-of-8192-bytes")?;
+    tell_many_answers(rt)?;
+    tell_audits(rt, "examples/two-tables", 13)?;
+    tell_troubles(rt)
 }
 
 /// Prints how many replays of a schedule end right whose device fails from a call on, where its text takes so many calls.
@@ -103,6 +106,75 @@ fn stops_reading(alloc: Global, schedule: &[u8], fails: usize) -> Result<bool, A
     let ended = replay_text(alloc, &mut reader, &mut writer, false);
     let is_sent = writer.bytes.len() == fails.saturating_mul(4000);
     Ok(ended == Err(Trouble::Write) && is_sent && steps_read(&reader) == 211)
+}
+
+/// Prints how many audits of a book end right whose device fails from a call on, where it takes so many calls to read it.
+fn tell_audits(rt: &HostRuntime, name: &str, reads: usize) -> io::Result<()> {
+    let book = fs::read(rt, format!(in rt.alloc(); "{name}.book")?.as_str())?;
+    let (mut readers, mut writers) = (0u64, 0u64);
+    for fails in 0usize..16 {
+        let is_right = audit_reads_right(rt.alloc(), book.as_slice(), fails, fails < reads)?;
+        readers = readers.saturating_add(u64::from(is_right));
+    }
+    for fails in 0usize..9 {
+        let is_right = audit_writes_right(rt.alloc(), book.as_slice(), fails);
+        writers = writers.saturating_add(u64::from(is_right));
+    }
+    println!(rt;
+        "{name}: {readers} of 16 failing readers and {writers} of 9 failing writers of an audit end right"
+    )
+}
+
+/// Whether an audit says nothing where its reader fails from this call on, and yes where that is no call of its own.
+fn audit_reads_right(
+    alloc: Global,
+    book: &[u8],
+    fails: usize,
+    is_cut: bool,
+) -> Result<bool, AllocError> {
+    let mut reader = Device::new(Vec::from_slice(alloc, book)?, 60, fails);
+    let mut written = Vec::new(alloc);
+    let ended = audit_text(alloc, &mut reader, &mut written);
+    if is_cut {
+        return Ok(ended == Err(Trouble::Read) && written.is_empty());
+    }
+    Ok(ended == Ok(true) && written.as_slice() == "audit yes\n".as_bytes())
+}
+
+/// Whether an audit writes what its writer takes before it fails from this call on, two bytes a call, and no more.
+fn audit_writes_right(alloc: Global, book: &[u8], fails: usize) -> bool {
+    let mut reader = book;
+    let mut writer = Device::new(Vec::new(alloc), 2, fails);
+    let ended = audit_text(alloc, &mut reader, &mut writer);
+    // five calls write, one flushes, and the third one and the sixth are interrupted
+    let wanted = if fails < 8 {
+        Err(Trouble::Write)
+    } else {
+        Ok(true)
+    };
+    // each third call is interrupted
+    let taken = fails.saturating_sub(fails / 3).saturating_mul(2);
+    let written = writer.bytes.as_slice();
+    ended == wanted
+        && "audit yes\n".as_bytes().starts_with(written)
+        && written.len() == taken.min(10)
+}
+
+/// Prints how an engine ends that can't read, can't write, has no memory or finds a line malformed, with its status.
+fn tell_troubles(rt: &HostRuntime) -> io::Result<()> {
+    for trouble in [
+        Trouble::Read,
+        Trouble::Write,
+        Trouble::Memory,
+        Trouble::Malformed(7),
+    ] {
+        println!(rt; "{trouble}: status {}", status_of(&Err(trouble)))?;
+    }
+    println!(rt;
+        "yes: status {}, no: status {}",
+        status_of(&Ok(true)),
+        status_of(&Ok(false))
+    )
 }
 
 /// How many of these bytes end a line.

@@ -28,7 +28,20 @@ pub(crate) fn tell_limits(rt: &HostRuntime) -> io::Result<()> {
     println!(rt;
         "70000 steps: audited {}",
         is_audited(alloc, schedule.as_str())
-    )
+    )?;
+    println!(rt; "a log of 1048576 rows: full {}", is_filled(alloc)?)
+}
+
+/// Whether a log takes so many rows and no more, and then a mark, which is none.
+fn is_filled(alloc: Global) -> Result<bool, AllocError> {
+    let mut text = String::new(alloc);
+    text.push_str("occ 1\nsessions 2\nqueue 4\nkeep 1\ntable t num int\nsteps\n")?;
+    for _ in 0..=1_048_576u64 {
+        text.push_str("alone 1 add:t:1:1\nenter 1\n")?;
+    }
+    text.push_str("close 2\nenter 2\n")?;
+    let wanted = "finished 1048576\nqueued 1048577\nrefused F22\nclosing 1\nclosed\nocc 1\n";
+    Ok(answers(alloc, text.as_str(), wanted))
 }
 
 /// A transaction of session 2 that reads a key, so many commits of session 1 that write another one, and the entry and decision of the first.

@@ -8,7 +8,9 @@ mod cuts;
 mod devices;
 mod handed_back;
 mod limits;
+mod page_maps;
 mod pictures;
+mod printed_again;
 mod refusals;
 mod refused;
 mod shells;
@@ -18,12 +20,14 @@ mod summaries;
 
 use altered::{tell_changed_schedule, tell_changes, tell_lines};
 use bases::{tell_bases, tell_wrong};
-use cuts::tell_cuts;
+use cuts::{tell_cut_book, tell_cuts};
 use devices::tell_devices;
 use handed_back::tell_handed_back;
 use limits::tell_limits;
 use occ_cli::{audit_text, replay_text, status_of};
+use page_maps::tell_page_maps;
 use pictures::tell_pictures;
+use printed_again::tell_printed_again;
 use refusals::tell_refusals;
 use shells::tell_shells;
 use slips::tell_explanations;
@@ -127,20 +131,21 @@ const BOOKS: &[&str] = &[
     "examples/unchanged-book",
 ];
 
-/// Books, each in a file `NAME.book` of its folder, that are audited with each change of `changes/NAME.changes`.
-const CHANGED_BOOKS: &[(&str, &str)] = &[
-    ("examples/histories", "answered-late"),
-    ("examples/histories", "answered-late-searched"),
-    ("examples/histories", "lost-append"),
-    ("examples/histories", "serializable"),
-    ("examples/histories", "stale-read"),
-    ("examples/histories", "stale-read-searched"),
-    ("examples/histories", "write-skew"),
-    ("books", "keys-of-two-parts"),
-    ("books", "last-place"),
-    ("books", "lost-update-and-its-retry"),
-    ("books", "one-row-folded"),
-    ("examples", "two-tables"),
+/// Books, each in a file `NAME.book`, that are audited with each change of a file of their name in `changes`.
+const CHANGED_BOOKS: &[&str] = &[
+    "examples/histories/answered-late",
+    "examples/histories/answered-late-searched",
+    "examples/histories/lost-append",
+    "examples/histories/serializable",
+    "examples/histories/stale-read",
+    "examples/histories/stale-read-searched",
+    "examples/histories/write-skew",
+    "books/keys-of-two-parts",
+    "books/last-place",
+    "books/lost-update-and-its-retry",
+    "books/many-reads-and-writes",
+    "books/one-row-folded",
+    "examples/two-tables",
 ];
 
 fn main(rt: HostRuntime) -> ExitCode {
@@ -159,7 +164,8 @@ fn tell_all(rt: &HostRuntime) -> io::Result<()> {
     tell_limits(rt)?;
     tell_words(rt)?;
     tell_refusals(rt, EXAMPLES, BOOKS)?;
-    tell_handed_back(rt)
+    tell_handed_back(rt)?;
+    tell_page_maps(rt)
 }
 
 /// Prints a line for each example, and for each file of malformed lines.
@@ -181,9 +187,12 @@ fn tell_books(rt: &HostRuntime) -> io::Result<()> {
     for name in BOOKS {
         tell_book(rt, name)?;
     }
-    for (folder, name) in CHANGED_BOOKS {
-        tell_changes(rt, folder, name)?;
+    for name in CHANGED_BOOKS {
+        tell_changes(rt, name)?;
     }
+    tell_cut_book(rt, "examples/two-tables")?;
+    tell_printed_again(rt, BOOKS, EXAMPLES)?;
+    tell_printed_again(rt, CHANGED_BOOKS, OTHERS)?;
     tell_wrong(rt, BOOKS)?;
     tell_bases(rt, EXAMPLES)?;
     tell_bases(rt, OTHERS)

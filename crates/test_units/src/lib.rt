@@ -1,37 +1,28 @@
-//! Each call of the libraries up to the client that may answer a want of memory, once with ample memory, since no clause says that it
-//! succeeds then; and what else no clause says: texts, how often a client tries, a full log, the counts of the allocator that refuses, and
-//! that random transactions with pages have a serial order. They are apart from what they test, since a crate with tests is proved twice.
+//! What no clause, no schedule and no other test says of the libraries up to the client: that random transactions with pages are answered
+//! and judged as a plain list of rows tells, and how many rows a page has at most; that rows come into a base and a store goes on from it
+//! where each request for memory is refused in turn; that a core is driven by steps; the counts of the allocator that refuses; and how
+//! faults are told. They are apart from what they test, since a crate with tests is proved twice.
 #![tactic(auto)]
 
 #[cfg(test)]
-mod bases;
-#[cfg(test)]
-mod book;
-#[cfg(test)]
 mod calls;
 #[cfg(test)]
-mod clients;
+mod dice;
 #[cfg(test)]
-mod cores;
+mod driving;
 #[cfg(test)]
-mod counts;
+mod going_on;
 #[cfg(test)]
-mod log;
+mod keys;
 #[cfg(test)]
-mod paging;
+mod pages;
 #[cfg(test)]
-mod queue;
+mod parties;
 #[cfg(test)]
-mod refused_resuming;
+mod places;
 #[cfg(test)]
 mod refusing;
 #[cfg(test)]
-mod resuming;
+mod sizes;
 #[cfg(test)]
-mod serial_pages;
-#[cfg(test)]
-mod sets;
-#[cfg(test)]
-mod stores;
-#[cfg(test)]
-mod types;
+mod words;

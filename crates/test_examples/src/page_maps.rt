@@ -1,29 +1,84 @@
-//! A map in pages and a tree that are to hold the same rows.
+//! Random calls on a map in pages and on the library's tree, side by side.
 
-use crate::dice::Dice;
 use occ_pages::PageMap;
 use std::alloc::{AllocError, Allocator};
 use std::collections::BTreeMap;
+use std::io;
+
+/// How many calls there are of each kind of keys.
+const STEPS: u64 = 100_000;
+
+/// Prints how many answers differ on mixed keys, and on keys that mostly come in order.
+pub(crate) fn tell_page_maps(rt: &HostRuntime) -> io::Result<()> {
+    let mixed = differ(rt.alloc(), 3_000, false)?;
+    let rising = differ(rt.alloc(), 100_000, true)?;
+    println!(rt;
+        "page maps: {mixed} of {STEPS} calls differ on mixed keys, {rising} on rising ones"
+    )
+}
+
+/// How many answers differ; in every second 5,000 calls rows are rather taken out than put.
+fn differ<A: Allocator + Copy>(alloc: A, keys: u64, rising: bool) -> Result<u64, AllocError> {
+    let mut dice = Dice { state: 1 };
+    let mut pair = Pair::new(alloc)?;
+    for step in 0..STEPS {
+        let key = if rising && dice.below(3) > 0 {
+            step
+        } else {
+            dice.below(keys)
+        };
+        let shrinks = (step / 5_000) % 2 == 1;
+        pair.call(&mut dice, key, step, shrinks, keys)?;
+    }
+    pair.compare_range(None, None);
+    Ok(pair.wrong)
+}
+
+/// Numbers that look like chance and are the same in each run.
+#[derive(Clone, Copy)]
+struct Dice {
+    state: u64,
+}
+
+impl Dice {
+    /// A number below this one; 0 where there is none.
+    fn below(&mut self, limit: u64) -> u64 {
+        // the factor and the summand of Knuth's MMIX
+        self.state = self
+            .state
+            .wrapping_mul(6_364_136_223_846_793_005)
+            .wrapping_add(1_442_695_040_888_963_407);
+        match limit {
+            0 => 0,
+            limit => (self.state >> 33) % limit,
+        }
+    }
+
+    /// An end of a range, which may be missing.
+    fn end(&mut self, keys: u64) -> Option<u64> {
+        match self.below(8) {
+            0 => None,
+            1 => Some(u64::MAX),
+            _ => Some(self.below(keys.saturating_add(10))),
+        }
+    }
+}
 
 /// Both maps, and how many answers differed.
 #[derive(Drop)]
-pub(crate) struct Pair<A: Allocator> {
+struct Pair<A: Allocator> {
     pages: PageMap<u64, A>,
     tree: BTreeMap<u64, u64, A>,
     wrong: u64,
 }
 
 impl<A: Allocator + Copy> Pair<A> {
-    pub(crate) fn new(alloc: A) -> Result<Pair<A>, AllocError> {
+    fn new(alloc: A) -> Result<Pair<A>, AllocError> {
         Ok(Pair {
             pages: PageMap::new(alloc)?,
             tree: BTreeMap::new(alloc),
             wrong: 0,
         })
-    }
-
-    pub(crate) fn wrong(&self) -> u64 {
-        self.wrong
     }
 
     fn note(&mut self, same: bool) {
@@ -33,7 +88,7 @@ impl<A: Allocator + Copy> Pair<A> {
     }
 
     /// One call on both.
-    pub(crate) fn call(
+    fn call(
         &mut self,
         dice: &mut Dice,
         key: u64,
@@ -42,7 +97,7 @@ impl<A: Allocator + Copy> Pair<A> {
         keys: u64,
     ) -> Result<(), AllocError> {
         match dice.below(4_000) {
-            0 => self.compare_range(end(dice, keys), end(dice, keys)),
+            0 => self.compare_range(dice.end(keys), dice.end(keys)),
             1..=1_599 if !shrinks => self.insert(key, row)?,
             1..=1_999 => self.remove(key),
             2_000..=2_399 => self.replace(key, row)?,
@@ -83,7 +138,7 @@ impl<A: Allocator + Copy> Pair<A> {
     }
 
     /// Compares the rows of a range, and how many they are.
-    pub(crate) fn compare_range(&mut self, lower: Option<u64>, upper: Option<u64>) {
+    fn compare_range(&mut self, lower: Option<u64>, upper: Option<u64>) {
         let mut count = 0usize;
         let mut same = true;
         let mut range = self.pages.range(lower, upper);
@@ -95,14 +150,5 @@ impl<A: Allocator + Copy> Pair<A> {
         }
         same = same && range.next().is_none() && count == self.pages.count(lower, upper);
         self.note(same);
-    }
-}
-
-// An end of a range, which may be missing.
-fn end(dice: &mut Dice, keys: u64) -> Option<u64> {
-    match dice.below(8) {
-        0 => None,
-        1 => Some(u64::MAX),
-        _ => Some(dice.below(keys.saturating_add(10))),
     }
 }
