@@ -12,8 +12,8 @@ ghost use Rattle.std.specs.Prelude.{◌≡◌};
 
 use occ_audit::audit_rows;
 use occ_store::{
-    Account, Base, Fault, Frame, KeyKind, Kind, Lane, Marks, Name, Schema, Session, Stoppable,
-    Store, Tables, Worker,
+    Account, Base, Book, Fault, Frame, KeyKind, Kind, Lane, Marks, Name, OpenCase, Schema, Session,
+    Stoppable, Store, Tables, Worker,
 };
 use occ_types::limits::{MAX_COUNTER, MAX_NUMBER};
 use parties::{CLIENTS, IN_EACH, IN_TILL, OTHERS, TILL, Tally, WORKERS, halves, served, work};
@@ -35,25 +35,33 @@ struct Outcome<A: Allocator + Copy> {
     account: Account<A>,
 }
 
-/// The outcome of a store that has ended.
-fn outcome_of<N: Name, A: Allocator + Copy, R: Wait>(
+/// What the till has in a book, and whether the audit explains it.
+fn judge<A: Allocator + Copy>(alloc: A, book: &Book<A, OpenCase<A>>) -> Result<(i64, bool), Fault> {
+    let till = book.table.row(ACCOUNTS, &TILL.into());
+    let left = till.and_then(|row| row.int(0)).unwrap_or(0);
+    Ok((left, audit_rows(alloc, &book.view())?))
+}
+
+/// The same of the book of a store.
+fn judge_book<N: Name, A: Allocator + Copy, R: Wait>(
     rt: &R,
     alloc: A,
     store: &Store<N, A>,
-    tally: Tally,
-    account: Account<A>,
-) -> Result<Outcome<A>, Fault> {
+) -> Result<(i64, bool), Fault> {
     let mut observer = store.observer(rt);
     let book = store.book(rt, &mut observer)?;
-    let till = book.table.row(ACCOUNTS, &TILL.into());
-    let left = till.and_then(|row| row.int(0)).unwrap_or(0);
-    let audited = audit_rows(alloc, &book.view())?;
-    Ok(Outcome {
-        tally,
-        left,
-        audited,
-        account,
-    })
+    judge(alloc, &book)
+}
+
+/// Ends all parties of a store. What became of what they handed in.
+fn end<N: Name, A: Allocator + Copy, R: Wait>(
+    rt: &R,
+    store: &Store<N, A>,
+    workers: Vec<Worker<N, A>, A>,
+    lanes: Vec<Lane<N, A>, A>,
+    clients: Vec<Session<N, A>, A>,
+) -> Result<Account<A>, Fault> {
+    Ok(store.end(rt, workers, lanes, clients)?)
 }
 
 /// What happens while a store is open: all parties do their work, and end.
@@ -70,11 +78,17 @@ fn play<
     lanes: Vec<Lane<N, A>, A>,
 ) -> Result<Outcome<A>, Fault> {
     let tally = Tally::new();
-    let mut groups = halves(alloc, lanes)?;
+    let mut groups = halves(lanes)?;
     work(rt, store, &mut workers, &mut clients, &mut groups, &tally);
-    let lanes = served(rt, alloc, store, groups)?;
-    let account = store.end(rt, workers, lanes, clients)?;
-    outcome_of(rt, alloc, store, tally, account)
+    let lanes = served(rt, store, groups)?;
+    let account = end(rt, store, workers, lanes, clients)?;
+    let (left, audited) = judge_book(rt, alloc, store)?;
+    Ok(Outcome {
+        tally,
+        left,
+        audited,
+        account,
+    })
 }
 
 /// The life of a store, from its frame to the base that it leaves.

@@ -1,8 +1,8 @@
 //! Who works on a store: workers, clients with sessions, and validators that end what the clients hand in. Each has a thread of its own.
 use crate::transfers::{ACCOUNTS, Transfer, TransferError};
 use occ_store::{
-    AlwaysGo, Awaited, Ended, Fault, Group, Key, Lane, Name, Pending, Served, Session, Stoppable,
-    Store, Worker,
+    AlwaysGo, Awaited, Ended, Fault, Group, Key, Lane, Name, Pending, Row, Served, Session,
+    Stoppable, Store, Worker,
 };
 use std::alloc::Allocator;
 use std::sync::Wait;
@@ -65,8 +65,23 @@ impl Tally {
     }
 }
 
-/// A worker pays 1 out of the till, again and again, until that is empty. It is stopped where the store has no numbers left: what was
-/// refused isn't paid, so the next store has it to do.
+/// A worker pays 1 out of the till into an account.
+fn pay_one<N: Name, A: Allocator + Copy, R: Wait>(
+    rt: &R,
+    store: &Store<N, A>,
+    worker: &mut Worker<N, A>,
+    account: u64,
+) -> Result<Ended<i64>, TransferError> {
+    let mut payment = Transfer {
+        from: TILL,
+        to: account,
+        amount: 1,
+    };
+    worker.transact(rt, store, TRIES, &mut payment)
+}
+
+/// A worker makes one payment after another until the till is empty. It is stopped where the store has no numbers left: what was refused
+/// isn't paid, so the next store has it to do.
 fn pay<N: Name, A: Allocator + Copy, R: Wait>(
     rt: &R,
     store: &Store<N, A>,
@@ -74,12 +89,7 @@ fn pay<N: Name, A: Allocator + Copy, R: Wait>(
     tally: &Tally,
 ) {
     for round in 0..=IN_TILL.unsigned_abs() {
-        let mut payment = Transfer {
-            from: TILL,
-            to: 1 + round % OTHERS,
-            amount: 1,
-        };
-        match worker.transact(rt, store, TRIES, &mut payment) {
+        match pay_one(rt, store, worker, 1 + round % OTHERS) {
             Ok(Ended::Committed { .. }) => {}
             Err(TransferError::Store(Fault::CounterExhausted | Fault::NumbersExhausted)) => {
                 tally.stopped.fetch_add(1, Ordering::SeqCst);
@@ -90,6 +100,21 @@ fn pay<N: Name, A: Allocator + Copy, R: Wait>(
     }
 }
 
+/// A client moves 1 from an account to another.
+fn move_one<N: Name, A: Allocator + Copy, R: Wait + Clock>(
+    rt: &R,
+    store: &Store<N, A>,
+    client: &mut Session<N, A>,
+    (from, to): (u64, u64),
+) -> Result<Awaited<i64>, TransferError> {
+    let mut transfer = Transfer {
+        from,
+        to,
+        amount: 1,
+    };
+    client.transact(rt, store, TRIES, PATIENCE, &mut transfer)
+}
+
 /// A client moves money between the other accounts, each time until it commits.
 fn transfer<N: Name, A: Allocator + Copy, R: Wait + Clock>(
     rt: &R,
@@ -97,14 +122,10 @@ fn transfer<N: Name, A: Allocator + Copy, R: Wait + Clock>(
     client: &mut Session<N, A>,
 ) {
     for round in 0..ROUNDS {
-        let mut transfer = Transfer {
-            from: 1 + round % 7,
-            to: 1 + round % OTHERS,
-            amount: 1,
-        };
-        let awaited = client.transact(rt, store, TRIES, PATIENCE, &mut transfer);
-        if !matches!(awaited, Ok(Awaited::Settled(Ended::Committed { .. }))) {
-            return;
+        let accounts = (1 + round % 7, 1 + round % OTHERS);
+        match move_one(rt, store, client, accounts) {
+            Ok(Awaited::Settled(Ended::Committed { .. })) => {}
+            _ => return,
         }
     }
 }
@@ -117,11 +138,16 @@ fn read_sum<N: Name, A: Allocator + Copy, R: Wait>(
 ) -> Result<i64, Fault> {
     let end = None;
     let rows = client.scan(rt, store, ACCOUNTS, end.as_ref(), end.as_ref())?;
+    Ok(sum_of(rows.as_slice()))
+}
+
+/// What the accounts of some rows have together.
+fn sum_of<A: Allocator + Copy>(rows: &[(Key<A>, Row<A>)]) -> i64 {
     let mut sum = 0i64;
-    for (_, row) in rows.as_slice() {
+    for (_, row) in rows {
         sum = sum.saturating_add(row.int(0).unwrap_or(0));
     }
-    Ok(sum)
+    sum
 }
 
 /// The sum of all accounts by a transaction, step by step, or none where it was backed up.
@@ -162,8 +188,8 @@ fn audit<N: Name, A: Allocator + Copy, R: Wait + Clock>(
     }
 }
 
-/// A client as long as it lives: the first two sum, and the others move money. The last one dies with half of a transfer open. Each other,
-/// whatever it met, gives up what is open and closes.
+/// A client as long as it lives: the first two sum, and the others move money. The last one dies. Each other, whatever it met, gives up what
+/// is open and closes.
 fn live<N: Name, A: Allocator + Copy, R: Wait + Clock>(
     rt: &R,
     store: &Store<N, A>,
@@ -175,10 +201,19 @@ fn live<N: Name, A: Allocator + Copy, R: Wait + Clock>(
     } else {
         transfer(rt, store, client);
     }
-    if client.session() < WORKERS + CLIENTS {
-        client.give_up(rt, store, PATIENCE)?;
-        return Ok(());
+    if client.session() == WORKERS + CLIENTS {
+        return die(rt, store, client);
     }
+    client.give_up(rt, store, PATIENCE)?;
+    Ok(())
+}
+
+/// A client dies with half of a transfer open.
+fn die<N: Name, A: Allocator + Copy, R: Wait>(
+    rt: &R,
+    store: &Store<N, A>,
+    client: &mut Session<N, A>,
+) -> Result<(), Fault> {
     client.begin()?;
     let _balance = client.get(rt, store, ACCOUNTS, &Key::Num(1))?;
     client.put(ACCOUNTS, 1u64.into(), 0i64.into())?;
@@ -226,33 +261,37 @@ pub(crate) fn work<
 
 /// Two groups of the lanes, one for each validator.
 pub(crate) fn halves<N: Name, A: Allocator + Copy>(
-    alloc: A,
     mut lanes: Vec<Lane<N, A>, A>,
-) -> Result<Vec<Group<N, A>, A>, Fault> {
+) -> Result<[Group<N, A>; 2], Fault> {
     let others = lanes.split_off(lanes.len() / 2)?;
-    let mut groups = Vec::new(alloc);
-    groups.push(Group::new(lanes))?;
-    groups.push(Group::new(others))?;
-    Ok(groups)
+    Ok([Group::new(lanes), Group::new(others)])
 }
 
 /// The lanes of stopped groups, each served until nothing waits in it.
 pub(crate) fn served<N: Name, A: Allocator + Copy, R: Wait>(
     rt: &R,
-    alloc: A,
     store: &Store<N, A>,
-    groups: Vec<Group<N, A>, A>,
+    groups: [Group<N, A>; 2],
 ) -> Result<Vec<Lane<N, A>, A>, Fault> {
-    let mut lanes = Vec::new(alloc);
-    for mut group in groups {
-        lanes.append(&mut group.lanes)?;
-    }
+    let [first, mut second] = groups;
+    let mut lanes = first.lanes;
+    lanes.append(&mut second.lanes)?;
     for lane in lanes.iter_mut() {
-        for _ in rt.forever() {
-            let Served::Settled(_) = lane.serve_one(rt, store, &AlwaysGo)? else {
-                break;
-            };
-        }
+        drain(rt, store, lane)?;
     }
     Ok(lanes)
+}
+
+/// Serves a lane until nothing waits in it.
+fn drain<N: Name, A: Allocator + Copy, R: Wait>(
+    rt: &R,
+    store: &Store<N, A>,
+    lane: &mut Lane<N, A>,
+) -> Result<(), Fault> {
+    for _ in rt.forever() {
+        let Served::Settled(_) = lane.serve_one(rt, store, &AlwaysGo)? else {
+            break;
+        };
+    }
+    Ok(())
 }
