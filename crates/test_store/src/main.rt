@@ -6,6 +6,7 @@
 mod accounts;
 mod answers;
 mod clients;
+mod deeds;
 mod desks;
 mod gates;
 mod loads;

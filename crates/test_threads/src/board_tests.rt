@@ -61,15 +61,18 @@ fn told(number: u64, status: Option<Verdict>, tn: u64) -> Last {
     Last { number, status, tn }
 }
 
+// Whether a seat sees a counter, and how the last transaction of its session ended.
+fn sees(seat: &mut Seat<Global>, start: u64, last: Last) -> bool {
+    seat.start() == start && seat.last() == last
+}
+
 // A commit and a back-up of one session, then a commit of another. Whether the first session's seat sees each.
 fn sees_each(publisher: &mut Publisher<Global>, seat: &mut Seat<Global>) -> bool {
     let (commit, conflict) = (Verdict::Commit, Verdict::BackUp(Cause::Conflict));
-    let nothing = seat.start() == 0 && seat.last() == told(0, None, 0);
-    let first = settle(publisher, 1, commit)
-        && seat.start() == 1
-        && seat.last() == told(1, Some(commit), 1);
+    let nothing = sees(seat, 0, told(0, None, 0));
+    let first = settle(publisher, 1, commit) && sees(seat, 1, told(1, Some(commit), 1));
     let both = settle(publisher, 1, conflict) && settle(publisher, 2, commit);
-    let second = seat.start() == 2 && seat.last() == told(2, Some(conflict), 1);
+    let second = sees(seat, 2, told(2, Some(conflict), 1));
     nothing && first && both && second
 }
 
@@ -102,11 +105,9 @@ fn go_on(publisher: &mut Publisher<Global>, session: usize, number: u64, counter
 fn sees_where_it_goes_on(publisher: &mut Publisher<Global>, seat: &mut Seat<Global>) -> bool {
     let commit = Verdict::Commit;
     let begun = go_on(publisher, 1, MAX_NUMBER - 1, MAX_COUNTER - 1)
-        && seat.start() == MAX_COUNTER - 1
-        && seat.last() == told(MAX_NUMBER - 1, None, 0);
-    let over = settle(publisher, 1, commit)
-        && seat.start() == MAX_COUNTER
-        && seat.last() == told(MAX_NUMBER, Some(commit), MAX_COUNTER);
+        && sees(seat, MAX_COUNTER - 1, told(MAX_NUMBER - 1, None, 0));
+    let last = told(MAX_NUMBER, Some(commit), MAX_COUNTER);
+    let over = settle(publisher, 1, commit) && sees(seat, MAX_COUNTER, last);
     begun && over && !settle(publisher, 2, commit)
 }
 

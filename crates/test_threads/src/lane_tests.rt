@@ -164,34 +164,63 @@ fn is_refused(
     }
 }
 
-// Whether a lane that begins two numbers before the last one carries a request and the mark, and nothing else.
-fn goes_on(rt: &impl Wait, alloc: Global) -> Result<bool, Fault> {
-    let (mut sender, mut receiver) = lane_behind(alloc, ROOM, MAX_NUMBER - 2)?;
-    let early = is_refused(rt, &mut sender, request(alloc, 1)?, Fault::OutOfTurn);
-    sender.submit(rt, request(alloc, MAX_NUMBER - 1)?)?;
-    let item = request(alloc, MAX_NUMBER)?;
-    let last = is_refused(rt, &mut sender, item, Fault::NumbersExhausted);
-    let mark = sender.close(rt)?;
-    let came = match receiver.take(rt) {
-        Some(item) => is_request(&item, MAX_NUMBER - 1),
+// Whether what comes next is the request with this number.
+fn comes(rt: &impl Wait, receiver: &mut Receiver<Global>, asked: u64) -> bool {
+    match receiver.take(rt) {
+        Some(item) => is_request(&item, asked),
         None => false,
-    };
-    let closed = match receiver.take(rt) {
+    }
+}
+
+// Whether what comes next is the mark with this number.
+fn comes_closed(rt: &impl Wait, receiver: &mut Receiver<Global>, mark: u64) -> bool {
+    match receiver.take(rt) {
         Some(item) => item.is_mark() && item.number() == mark,
         None => false,
-    };
+    }
+}
+
+// Whether a lane that begins two numbers before the last one carries a request and the mark, and nothing else.
+fn carries_two(
+    rt: &impl Wait,
+    alloc: Global,
+    sender: &mut Sender<Global>,
+    receiver: &mut Receiver<Global>,
+) -> Result<bool, Fault> {
+    let early = is_refused(rt, sender, request(alloc, 1)?, Fault::OutOfTurn);
+    sender.submit(rt, request(alloc, MAX_NUMBER - 1)?)?;
+    let item = request(alloc, MAX_NUMBER)?;
+    let last = is_refused(rt, sender, item, Fault::NumbersExhausted);
+    let mark = sender.close(rt)?;
+    let came = comes(rt, receiver, MAX_NUMBER - 1);
+    let closed = comes_closed(rt, receiver, mark);
     Ok(early && last && mark == MAX_NUMBER && came && closed && receiver.taken() == 2)
 }
 
-// Whether a lane behind the last number of all carries nothing, and none begins behind a number above it.
+fn goes_on(rt: &impl Wait, alloc: Global) -> Result<bool, Fault> {
+    let (mut sender, mut receiver) = lane_behind(alloc, ROOM, MAX_NUMBER - 2)?;
+    carries_two(rt, alloc, &mut sender, &mut receiver)
+}
+
+// Whether a lane behind the last number of all carries nothing.
+fn carries_nothing(
+    rt: &impl Wait,
+    alloc: Global,
+    sender: &mut Sender<Global>,
+    receiver: &mut Receiver<Global>,
+) -> Result<bool, Fault> {
+    let item = request(alloc, sender.next())?;
+    let refused = is_refused(rt, sender, item, Fault::NumbersExhausted);
+    let mark = sender.close(rt) == Err(Fault::NumbersExhausted);
+    Ok(refused && mark && !sender.is_closed() && receiver.take(rt).is_none())
+}
+
+// Whether that is so, and none begins behind a number above it.
 fn is_used_up(rt: &impl Wait, alloc: Global) -> Result<bool, Fault> {
     let (mut sender, mut receiver) = lane_behind(alloc, ROOM, MAX_NUMBER)?;
     let next = sender.next();
-    let item = request(alloc, next)?;
-    let refused = is_refused(rt, &mut sender, item, Fault::NumbersExhausted);
-    let mark = sender.close(rt) == Err(Fault::NumbersExhausted);
     let above = lane_behind(alloc, ROOM, next).err() == Some(Fault::NumbersExhausted);
-    Ok(refused && mark && above && !sender.is_closed() && receiver.take(rt).is_none())
+    Ok(above && carries_nothing(rt, alloc, &mut sender, &mut receiver)?)
 }
 
 #[test]

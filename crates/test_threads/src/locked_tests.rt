@@ -26,9 +26,15 @@ fn enters(rt: &impl Wait, core: &Mutex<Core<Global>>, session: usize, item: Item
     core.lock(rt).enter(session, item).is_ok()
 }
 
+fn is_decided(rt: &impl Wait, core: &Mutex<Core<Global>>, session: usize) -> bool {
+    core.lock(rt).decide(session).is_ok()
+}
+
+fn writes(rt: &impl Wait, core: &Mutex<Core<Global>>, session: usize) -> bool {
+    core.lock(rt).write_one(session).is_ok()
+}
+
 fn finishes(rt: &impl Wait, core: &Mutex<Core<Global>>, session: usize) -> bool {
-    let _verdict = core.lock(rt).decide(session);
-    let _written = core.lock(rt).write_one(session);
     core.lock(rt).finish(session).is_ok()
 }
 
@@ -41,7 +47,10 @@ fn commits(
     session: usize,
 ) -> Result<bool, Fault> {
     let item = request(alloc, session)?;
-    Ok(enters(rt, core, session, item) && finishes(rt, core, session))
+    let written = enters(rt, core, session, item)
+        && is_decided(rt, core, session)
+        && writes(rt, core, session);
+    Ok(written && finishes(rt, core, session))
 }
 
 // Two sessions, each in a thread of its own. Whether both finished.
