@@ -14,10 +14,10 @@ ghost use Rattle.occ_audit.specs.Findings.{IsFinding};
 ghost use Rattle.occ_audit.specs.Explaining.{IsBehind, IsTablesFinding};
 
 use crate::answers::copied;
+use crate::disorders::first_disorder;
 use crate::findings::{Finding, ObjectApart};
 use crate::first_difference::{Spot, first_difference, row_at};
 use crate::first_read::{Replayed, replay_rows};
-use crate::orders::first_disorder;
 use crate::replica::Replica;
 use crate::rests::{Rests, rests_of};
 use occ_book::{BookView, LogRow, Tables};

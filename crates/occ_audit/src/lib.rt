@@ -13,18 +13,18 @@
 
 mod answers;
 mod audits;
+mod disorders;
 mod explaining;
 mod findings;
 mod first_difference;
 mod first_read;
 mod lent_rows;
 mod order;
-mod orders;
 mod replica;
 mod rests;
 mod serial_replay;
 
 pub use audits::audit_rows;
+pub use disorders::first_disorder;
 pub use explaining::explain_book;
 pub use findings::{Disorder, Finding, ObjectApart, WrongRead};
-pub use orders::first_disorder;

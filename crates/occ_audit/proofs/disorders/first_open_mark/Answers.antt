@@ -1,6 +1,6 @@
 use Rattle.std.proofs.Common.{arith}
 use Rattle.occ_audit.proofs.Orders.{closed-none, closed-all}
-use Rattle.occ_audit.proofs.orders.first_open_mark.Goals as goal
+use Rattle.occ_audit.proofs.disorders.first_open_mark.Goals as goal
 
 pub loop-before-init : goal.loop-before-init
 loop-before-init g c =

@@ -1,5 +1,5 @@
 use Rattle.occ_audit.proofs.OrderedRows.{ordered-none, row-in, row-out, rows-all}
-use Rattle.occ_audit.proofs.orders.count_rows.Goals as goal
+use Rattle.occ_audit.proofs.disorders.count_rows.Goals as goal
 
 pub loop-index-init : goal.loop-index-init
 loop-index-init g c = ordered-none c.args.base.now.base c.new-last.result c.new-last.ensures.empty

@@ -2,7 +2,7 @@ use Rattle.std.proofs.Common.{subst}
 use Rattle.occ_audit.proofs.Common.{log_of}
 use Rattle.occ_audit.specs.Counting.{RowsGive}
 use Rattle.occ_audit.proofs.OrderedRows.{disorder-found, marks-found}
-use Rattle.occ_audit.proofs.orders.first_disorder.Goals as goal
+use Rattle.occ_audit.proofs.disorders.first_disorder.Goals as goal
 
 pub returns-in-To : goal.returns-in-To
 returns-in-To g c =

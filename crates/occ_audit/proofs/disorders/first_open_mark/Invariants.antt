@@ -1,5 +1,5 @@
 use Rattle.occ_audit.proofs.Orders.{AreClosedTo}
-use Rattle.occ_audit.proofs.orders.first_open_mark.Given as goal
+use Rattle.occ_audit.proofs.disorders.first_open_mark.Given as goal
 
 -- the marks of the sessions so far are due
 abbrev pub invariant-loop-before : goal.invariant-loop-before
