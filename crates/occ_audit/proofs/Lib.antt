@@ -8,3 +8,9 @@ pub mod Tables
 pub mod Overlaid
 pub mod Orders
 pub mod Unasked
+pub mod Differences
+pub mod Found
+pub mod OrderedRows
+pub mod Prefixes
+pub mod FoundInTurn
+pub mod WrongReads

@@ -2,3 +2,8 @@ pub mod LentRows
 pub mod Order
 pub mod Replica
 pub mod Rows
+pub mod Counting
+pub mod Differences
+pub mod Explaining
+pub mod Findings
+pub mod Replaying

@@ -7,7 +7,7 @@ use crate::phrases::{
 };
 use crate::sayings::{Saying, Subject};
 use occ_book::LogRow;
-use occ_findings::{Disorder, Finding, ObjectApart, WrongRead};
+use occ_audit::{Disorder, Finding, ObjectApart, WrongRead};
 use occ_reading::whole_books::PrintedBook;
 use occ_sets::{Answer, ObservationRef};
 use occ_types::{Key, Row, Schema};

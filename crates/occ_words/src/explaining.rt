@@ -7,7 +7,7 @@ use crate::notes::tell_notes;
 use crate::phrases::write_counted;
 use crate::schedule_steps::Steps;
 use crate::telling::Told;
-use occ_findings::{Finding, explain_book};
+use occ_audit::{Finding, explain_book};
 use occ_reading::whole_books::{PrintedBook, take_book};
 use occ_text::headers::read_header;
 use occ_text::input::{Input, Next};

@@ -1,6 +1,6 @@
 //! What is wrong with a schedule or a book, in words.
 //!
-//! Findings are data, and other libraries make them by contract (`occ_findings`). This one words them: a *saying* is one finding or one note as a sentence, with the numbers that it speaks of beside it, so that it can be printed as a line or as an object of JSON. Sentences are tested and not proved.
+//! Findings are data, and other libraries make them by contract (`occ_audit`). This one words them: a *saying* is one finding or one note as a sentence, with the numbers that it speaks of beside it, so that it can be printed as a line or as an object of JSON. Sentences are tested and not proved.
 //!
 //! It stands at the edge, beside the command line and the writer of JSON, which take the global allocator alone; so does it.
 #![tactic(auto)]

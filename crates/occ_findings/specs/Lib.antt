@@ -1,5 +1,0 @@
-pub mod Counting
-pub mod Differences
-pub mod Explaining
-pub mod Findings
-pub mod Replaying
