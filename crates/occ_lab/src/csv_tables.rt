@@ -185,12 +185,12 @@ fn table_of(alloc: Global, line: u64, record: &StringRecord) -> Result<TableDef<
     match table(alloc, Version::Two, text.as_bytes()) {
         Ok(table) => Ok(table),
         Err(Unread::Memory) => Err(NoTable::Memory),
-        Err(Unread::Malformed) => Err(NoTable::Line(line, no_head(alloc, record, &text)?)),
+        Err(Unread::Malformed) => Err(NoTable::Line(line, no_head(alloc, record, text.as_str())?)),
     }
 }
 
 // Why the first record names no table. `text` is its line in a header.
-fn no_head(alloc: Global, record: &StringRecord, text: &String) -> Result<String, AllocError> {
+fn no_head(alloc: Global, record: &StringRecord, text: &str) -> Result<String, AllocError> {
     let mut why = words(alloc, NAMES_TABLE)?;
     if has_semicolons(record) {
         why.push_str(COMMAS)?;

@@ -142,7 +142,7 @@ fn run_text<H: Threads + Wait + Clock + Sync>(
             wanted,
             &mut outputs,
         ),
-        Ok(Some(why)) => tell_clash(rt, &why),
+        Ok(Some(why)) => tell_clash(rt, why.as_str()),
         Err(error) => Err(error),
     };
     outputs.end(rt);
@@ -150,7 +150,7 @@ fn run_text<H: Threads + Wait + Clock + Sync>(
 }
 
 // Tells that a file would be written over another one, and answers the status.
-fn tell_clash(rt: &HostRuntime, why: &String) -> Result<u8> {
+fn tell_clash(rt: &HostRuntime, why: &str) -> Result<u8> {
     eprintln!(rt; "occ_lab: {why}")?;
     Ok(2)
 }
