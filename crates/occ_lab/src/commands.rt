@@ -100,15 +100,15 @@ fn shell<'a>(alloc: Global) -> Result<Command<'a>, AllocError> {
         )
 }
 
-/// `occ_lab run [--workers] [--json] [--from BOOK] [--book OUT] [--picture OUT] FILE`.
+/// `occ_lab run [--validators] [--json] [--from BOOK] [--book OUT] [--picture OUT] FILE`.
 fn run<'a>(alloc: Global) -> Result<Command<'a>, AllocError> {
     let run = Command::new(alloc, "run")
         .about("Runs a workload, and tells its time, commits, back-ups and memory")
         .after_help(STATUSES)
         .arg(flag(
             alloc,
-            "workers",
-            "Each session's thread serves itself, in place of validators",
+            "validators",
+            "Threads of their own serve the sessions, as many as the workload's line says",
         ))?
         .arg(flag(alloc, "json", "Writes one object of JSON"))?
         .arg(option(

@@ -4,6 +4,23 @@ use csv::StringRecord;
 use occ_types::{Cell, Fault, Key, KeyKind, KeyPart, Kind, PartKind, Row, TableDef};
 use occ_words::fault_words::advice;
 use std::alloc::{AllocError, AllocFailed, Global};
+use std::fmt::{self, Display, Formatter, Write};
+
+/// What is said where semicolons stand between fields.
+pub(crate) const COMMAS: &str = "; its fields have semicolons between them, and need commas";
+
+/// A field, as it is told.
+#[derive(Clone, Copy)]
+struct Shown<'f>(&'f str);
+
+impl Display for Shown<'_> {
+    fn fmt<W: Write>(&self, f: &mut Formatter<W>) -> fmt::Result {
+        if self.0.is_empty() {
+            return f.write_str("an empty field");
+        }
+        write!(f, "`{}`", self.0)
+    }
+}
 
 /// Why a record is no row of its table.
 #[derive(Drop)]
@@ -34,11 +51,7 @@ pub(crate) fn read_key(
 ) -> Result<Key<Global>, Unfit> {
     let wanted = parts_of(table.key).saturating_add(table.columns.len());
     if record.len() != wanted {
-        let found = record.len();
-        let why = format!(in alloc;
-            "it has {found} fields in place of {wanted}: those of the key, and one for each column"
-        )?;
-        return Err(Unfit::Words(why));
+        return Err(Unfit::Words(uneven(alloc, record, wanted)?));
     }
     let key = key_of(alloc, table.key, field(record, 0), field(record, 1))?;
     check(alloc, table.check_key(&key))?;
@@ -61,6 +74,23 @@ pub(crate) fn read_row(
     let row = Row::from_cells(cells)?;
     check(alloc, table.check_row(&row))?;
     Ok(row)
+}
+
+// What is wrong with a record that has another number of fields than is wanted.
+fn uneven(alloc: Global, record: &StringRecord, wanted: usize) -> Result<String, AllocError> {
+    let found = record.len();
+    let mut why = format!(in alloc;
+        "it has {found} fields in place of {wanted}: those of the key, and one for each column"
+    )?;
+    if has_semicolons(record) {
+        why.push_str(COMMAS)?;
+    }
+    Ok(why)
+}
+
+/// Whether the fields of a record have semicolons between them, as far as that can be seen.
+pub(crate) fn has_semicolons(record: &StringRecord) -> bool {
+    record.len() == 1 && field(record, 0).contains(';')
 }
 
 // How many fields a key has.
@@ -109,7 +139,8 @@ fn number_of(alloc: Global, field: &str) -> Result<u64, Unfit> {
         Ok(number) => Ok(number),
         Err(_) => {
             let why = format!(in alloc;
-                "`{field}` is no key, or no part of one: that is a whole number from 0 to 2^64 - 1"
+                "{} is no key, or no part of one: that is a whole number from 0 to 2^64 - 1",
+                Shown(field)
             )?;
             Err(Unfit::Words(why))
         }
@@ -121,7 +152,8 @@ fn int_of(alloc: Global, field: &str) -> Result<i64, Unfit> {
         Ok(number) => Ok(number),
         Err(_) => {
             let why = format!(in alloc;
-                "`{field}` is no cell of its column: that is a whole number from -2^63 to 2^63 - 1"
+                "{} is no cell of its column: that is a whole number from -2^63 to 2^63 - 1",
+                Shown(field)
             )?;
             Err(Unfit::Words(why))
         }

@@ -1,6 +1,6 @@
 //! A table of CSV: its first record names the table and its kinds, and each further one is a key and a row.
 
-use crate::csv_rows::{Unfit, read_key, read_row};
+use crate::csv_rows::{COMMAS, Unfit, has_semicolons, read_key, read_row};
 use csv::{Error, ErrorKind, Position, Reader, ReaderBuilder, StringRecord};
 use occ_book::{Base, Loading};
 use occ_text::headers::table;
@@ -17,6 +17,10 @@ const BYTE_ORDER_MARK: &[u8] = b"\xef\xbb\xbf";
 const HEAD: &str = "occ 2\nsessions 1\nqueue 1\nkeep 1\n";
 
 const TABLE_LINE: u64 = 5;
+
+/// What is wanted of a first record.
+const NAMES_TABLE: &str =
+    "the first record names a table and the kinds of its key and its cells, as accounts,num,int";
 
 /// A table of CSV.
 #[derive(Drop)]
@@ -181,16 +185,29 @@ fn table_of(alloc: Global, line: u64, record: &StringRecord) -> Result<TableDef<
     match table(alloc, Version::Two, text.as_bytes()) {
         Ok(table) => Ok(table),
         Err(Unread::Memory) => Err(NoTable::Memory),
-        Err(Unread::Malformed) => {
-            let header = format!(in alloc; "{HEAD}{text}\n")?;
-            let saying = say_malformed(alloc, header.as_bytes(), TABLE_LINE)?;
-            let sentence = saying.sentence.as_str();
-            let why = format!(in alloc;
-                "the first record names a table and the kinds of its key and its cells, as accounts,num,int: {sentence}"
-            )?;
-            Err(NoTable::Line(line, why))
+        Err(Unread::Malformed) => Err(NoTable::Line(line, no_head(alloc, record, text.as_str())?)),
+    }
+}
+
+// Why the first record names no table. `text` is its line in a header.
+fn no_head(alloc: Global, record: &StringRecord, text: &str) -> Result<String, AllocError> {
+    let mut why = words(alloc, NAMES_TABLE)?;
+    if has_semicolons(record) {
+        why.push_str(COMMAS)?;
+        return Ok(why);
+    }
+    for (place, field) in record.iter().enumerate() {
+        if field.is_empty() {
+            let number = place.saturating_add(1);
+            write!(why, "; its field {number} is empty")?;
+            return Ok(why);
         }
     }
+    let header = format!(in alloc; "{HEAD}{text}\n")?;
+    let saying = say_malformed(alloc, header.as_bytes(), TABLE_LINE)?;
+    why.push_str(": ")?;
+    why.push_str(saying.sentence.as_str())?;
+    Ok(why)
 }
 
 // The row of a record.

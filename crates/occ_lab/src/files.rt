@@ -3,7 +3,7 @@
 use anyhow::{Context, Result};
 use occ_text::trouble::Trouble;
 use occ_words::malformed_lines::say_malformed;
-use std::fs::{self, File};
+use std::fs;
 use std::io::{ErrorKind, Read, Write};
 
 /// Whether a path stands for standard input.
@@ -31,13 +31,15 @@ pub(crate) fn read_file(rt: &HostRuntime, path: &str) -> Result<Vec<u8>> {
     fs::read(rt, path).context(format_args!("{path}"))
 }
 
-/// Opens a file that is written, where one is named. Where it can't be opened, the error names it.
-pub(crate) fn open_output(rt: &HostRuntime, path: Option<&str>) -> Result<Option<File>> {
-    let Some(path) = path else {
-        return Ok(None);
-    };
-    let file = File::create(rt, path).context(format_args!("{path}"))?;
-    Ok(Some(file))
+/// Writes bytes to standard output, and answers the status.
+pub(crate) fn write_output(rt: &HostRuntime, bytes: &[u8]) -> Result<u8> {
+    match rt.stdout().write_all(bytes) {
+        Ok(()) => return Ok(0),
+        // nobody is there to be told where a pipe was closed
+        Err(error) if error.kind() == ErrorKind::BrokenPipe => {}
+        Err(error) => eprintln!(rt; "occ_lab: standard output: {error}")?,
+    }
+    Ok(1)
 }
 
 /// Tells what ended the work on a file before it was done, and answers the status. `text` is its text, whose malformed line is explained.

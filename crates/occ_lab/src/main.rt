@@ -2,8 +2,8 @@
 #![tactic(auto)]
 
 use anyhow::Result;
-use clap::ArgMatches;
 use clap::error::ErrorKind;
+use clap::{ArgMatches, Error};
 use std::process::ExitCode;
 use std::sync::Wait;
 use std::thread::Threads;
@@ -21,6 +21,7 @@ mod fronts;
 mod loading;
 mod loads;
 mod memory;
+mod outputs;
 mod picture;
 mod running;
 mod shell;
@@ -43,18 +44,25 @@ fn run<H: Threads + Wait + Clock + Sync>(rt: &HostRuntime, threads: &H) -> Resul
     let parsed = commands::program(rt.alloc())?.try_get_matches_from(words.as_slice());
     match parsed {
         Ok(matches) => serve(rt, threads, &matches),
-        Err(told) => {
-            let text = format!(in rt.alloc(); "{told}")?;
-            match told.kind() {
-                ErrorKind::DisplayHelp | ErrorKind::DisplayVersion => {
-                    print!(rt; "{text}")?;
-                    Ok(0)
-                }
-                _ => {
-                    eprint!(rt; "{text}")?;
-                    Ok(2)
-                }
-            }
+        Err(told) => tell_words(rt, &told),
+    }
+}
+
+/// Tells what the words of the command line ask for or lack, and answers the status.
+fn tell_words(rt: &HostRuntime, told: &Error) -> Result<u8> {
+    if told.kind() == ErrorKind::OutOfMemory {
+        eprintln!(rt; "occ_lab: no memory")?;
+        return Ok(1);
+    }
+    let text = format!(in rt.alloc(); "{told}")?;
+    match told.kind() {
+        ErrorKind::DisplayHelp | ErrorKind::DisplayVersion => {
+            print!(rt; "{text}")?;
+            Ok(0)
+        }
+        _ => {
+            eprint!(rt; "{text}")?;
+            Ok(2)
         }
     }
 }
@@ -86,7 +94,7 @@ fn serve<H: Threads + Wait + Clock + Sync>(
         return Ok(0);
     };
     let wanted = running::Wanted {
-        way: running::way_of(found.get_flag("workers")),
+        way: running::way_of(found.get_flag("validators")),
         json: found.get_flag("json"),
         from: found.get_str("from"),
         book: found.get_str("book"),

@@ -2,9 +2,10 @@
 
 use crate::agreement::disagreement;
 use crate::books::{NoStore, base_of, tell_no_store};
-use crate::files::{name_of, open_output, read_file, tell_trouble};
+use crate::files::{name_of, read_file, tell_trouble};
 use crate::loads::{take_load, tell_refused};
 use crate::memory::peak_memory;
+use crate::outputs::Outputs;
 use crate::picture::draw_book;
 use crate::watching::Watcher;
 use anyhow::{Context, Result};
@@ -18,8 +19,6 @@ use occ_types::Fault;
 use occ_words::run_summaries::{Summary, ends_of};
 use occ_words::telling::{Style, Told};
 use std::alloc::Global;
-use std::fs::File;
-use std::io::Write;
 use std::sync::Wait;
 use std::thread::Threads;
 use std::time::Clock;
@@ -39,13 +38,6 @@ pub(crate) struct Wanted<'w> {
     pub(crate) picture: Option<&'w str>,
 }
 
-/// Where what is wanted of a run is written. It is opened before the run, so that none is in vain.
-#[derive(Drop)]
-struct Outputs {
-    book: Option<File>,
-    picture: Option<File>,
-}
-
 /// What a workload asks for.
 #[derive(Clone, Copy, Debug)]
 struct Asked {
@@ -55,12 +47,12 @@ struct Asked {
     refused: u64,
 }
 
-/// Who serves the lanes of a run, by whether workers are wanted.
-pub(crate) fn way_of(workers: bool) -> Way {
-    if workers {
-        Way::Workers
-    } else {
+/// Who serves the lanes of a run, by whether validators are wanted.
+pub(crate) fn way_of(validators: bool) -> Way {
+    if validators {
         Way::Validators
+    } else {
+        Way::Workers
     }
 }
 
@@ -128,7 +120,7 @@ fn look_at(rt: &HostRuntime, path: &str, text: &[u8]) -> Result<Result<Asked, Tr
     }))
 }
 
-// Runs a workload that was looked at.
+// Runs a workload that was looked at, and takes away what it made for nothing.
 fn run_text<H: Threads + Wait + Clock + Sync>(
     rt: &HostRuntime,
     threads: &H,
@@ -138,30 +130,54 @@ fn run_text<H: Threads + Wait + Clock + Sync>(
     asked: Asked,
     wanted: &Wanted<'_>,
 ) -> Result<u8> {
-    let mut outputs = Outputs {
-        book: open_output(rt, wanted.book)?,
-        picture: open_output(rt, wanted.picture)?,
+    let mut outputs = Outputs::new();
+    let status = match outputs.open(rt, path, wanted) {
+        Ok(None) => run_opened(
+            rt,
+            threads,
+            path,
+            text,
+            resumed,
+            asked,
+            wanted,
+            &mut outputs,
+        ),
+        Ok(Some(why)) => tell_clash(rt, why.as_str()),
+        Err(error) => Err(error),
     };
+    outputs.end(rt);
+    status
+}
+
+// Tells that a file would be written over another one, and answers the status.
+fn tell_clash(rt: &HostRuntime, why: &str) -> Result<u8> {
+    eprintln!(rt; "occ_lab: {why}")?;
+    Ok(2)
+}
+
+// Runs a workload whose outputs are open.
+fn run_opened<H: Threads + Wait + Clock + Sync>(
+    rt: &HostRuntime,
+    threads: &H,
+    path: &str,
+    text: &[u8],
+    resumed: Option<Resumed>,
+    asked: Asked,
+    wanted: &Wanted<'_>,
+    outputs: &mut Outputs<'_>,
+) -> Result<u8> {
     let watcher = Watcher::new(rt);
     let mut book = Vec::new(rt.alloc());
+    let way = wanted.way;
     let ran = match resumed {
-        None => run_anew(threads, rt.alloc(), text, &mut book, wanted.way, &watcher),
-        Some(resumed) => run_on(
-            threads,
-            rt.alloc(),
-            resumed,
-            &mut book,
-            wanted.way,
-            &watcher,
-        ),
+        None => run_anew(threads, rt.alloc(), text, &mut book, way, &watcher),
+        Some(resumed) => run_on(threads, rt.alloc(), resumed, &mut book, way, &watcher),
     };
     watcher.end_line();
     match ran {
         Ok(Ran::Audit(holds)) => {
             let summary = summary_of(rt, &watcher, book.as_slice(), holds);
-            tell(rt, wanted.json, &summary)?;
-            write_outputs(rt, wanted, &mut outputs, book.as_slice())?;
-            tell_missing(rt, path, asked, &summary)
+            end_run(rt, path, asked, wanted, &summary, book.as_slice(), outputs)
         }
         Ok(Ran::GaveUp(sessions)) => {
             for session in &sessions {
@@ -172,6 +188,21 @@ fn run_text<H: Threads + Wait + Clock + Sync>(
         }
         Err(cause) => tell_not_run(rt, path, wanted.from, cause),
     }
+}
+
+// Writes the outputs of a run that came to its end, and tells what it came to.
+fn end_run(
+    rt: &HostRuntime,
+    path: &str,
+    asked: Asked,
+    wanted: &Wanted<'_>,
+    summary: &Summary,
+    book: &[u8],
+    outputs: &mut Outputs<'_>,
+) -> Result<u8> {
+    tell(rt, wanted.json, summary)?;
+    write_outputs(rt, wanted, outputs, book)?;
+    tell_missing(rt, path, asked, summary)
 }
 
 // Runs a workload in an empty store.
@@ -274,20 +305,18 @@ fn tell(rt: &HostRuntime, json: bool, summary: &Summary) -> Result<()> {
     Ok(())
 }
 
-// Writes the book of a run and its picture, where they are wanted.
+// Writes the book of a run and its picture, where they are wanted. The picture is drawn before either is written.
 fn write_outputs(
     rt: &HostRuntime,
     wanted: &Wanted<'_>,
-    outputs: &mut Outputs,
+    outputs: &mut Outputs<'_>,
     book: &[u8],
 ) -> Result<()> {
-    if let (Some(file), Some(path)) = (&mut outputs.book, wanted.book) {
-        file.write_all(book).context(format_args!("{path}"))?;
-    }
-    if let (Some(file), Some(path)) = (&mut outputs.picture, wanted.picture) {
-        draw_book(rt.alloc(), book, file).context(format_args!("{path}"))?;
-    }
-    Ok(())
+    let Some(path) = wanted.picture else {
+        return outputs.write(rt, book, None);
+    };
+    let picture = draw_book(rt.alloc(), book).context(format_args!("{path}"))?;
+    outputs.write(rt, book, Some(picture.as_slice()))
 }
 
 // Tells how many transactions were refused, where any was, and answers the status.

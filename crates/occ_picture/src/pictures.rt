@@ -1,6 +1,7 @@
 //! The picture of a book.
 
 use crate::cards::Cards;
+use crate::compact::Compact;
 use crate::headings::Heading;
 use crate::lanes::Lanes;
 use crate::large::Large;
@@ -8,11 +9,11 @@ use crate::rows::Drawn;
 use crate::scales::Scale;
 use crate::sheets::Sheet;
 use crate::times::Times;
+use crate::tracks::Tracks;
 use occ_book::BookView;
 use occ_text::faults::WriteFault;
-use occ_text::output::Output;
 use occ_types::Schema;
-use std::alloc::Allocator;
+use std::alloc::{AllocError, Allocator};
 use std::io::Write;
 
 /// How many rows a log has at most that is drawn large.
@@ -20,13 +21,24 @@ const MOST: usize = 40;
 
 /// Writes the picture of a book to a writer, and flushes it: an SVG, as the crate describes it. `schema` has the tables of the book; one that it lacks has no name in the picture.
 ///
-/// At `Write` the writer failed, and at `Memory` there was none; in both a beginning of the picture may have been written.
+/// At `Memory` there was none, and nothing is written: the whole picture is drawn first. At `Write` the writer failed, and may have a beginning of it.
 pub fn write_picture<W: Write, A: Allocator + Copy, O>(
     alloc: A,
     schema: &Schema<A>,
     book: &BookView<'_, A, O>,
     writer: &mut W,
 ) -> Result<(), WriteFault> {
+    let mut sheet = Sheet::new(alloc);
+    draw(alloc, schema, book, &mut sheet)?;
+    send(writer, sheet.text.as_bytes())
+}
+
+fn draw<A: Allocator + Copy, O>(
+    alloc: A,
+    schema: &Schema<A>,
+    book: &BookView<'_, A, O>,
+    sheet: &mut Sheet<A>,
+) -> Result<(), AllocError> {
     let drawn = Drawn {
         schema,
         log: book.log,
@@ -34,17 +46,17 @@ pub fn write_picture<W: Write, A: Allocator + Copy, O>(
         lanes: Lanes::new(alloc, book)?,
     };
     if book.log.len() <= MOST {
-        return write_large(alloc, book, &drawn, writer);
+        return draw_large(alloc, book, &drawn, sheet);
     }
-    write_drawn(alloc, book, &drawn, writer)
+    draw_compact(alloc, book, &drawn, sheet)
 }
 
-fn write_large<W: Write, A: Allocator + Copy, O>(
+fn draw_large<A: Allocator + Copy, O>(
     alloc: A,
     book: &BookView<'_, A, O>,
     drawn: &Drawn<'_, A, O>,
-    writer: &mut W,
-) -> Result<(), WriteFault> {
+    sheet: &mut Sheet<A>,
+) -> Result<(), AllocError> {
     let heading = Heading::new(alloc, book.base.place(), drawn)?;
     let cards = Cards::new(alloc, drawn)?;
     let scale = Scale::new(alloc, drawn, &cards, heading.columns())?;
@@ -53,46 +65,30 @@ fn write_large<W: Write, A: Allocator + Copy, O>(
         cards,
         scale,
     };
-    let mut output = Output::new(alloc);
-    let mut sheet = Sheet::new(alloc);
     sheet.draw_heading(book, &large, &heading)?;
     for (row, at) in book.log.iter().enumerate() {
         sheet.draw_large_row(alloc, &large, row, at)?;
-        send(&mut output, writer, &mut sheet.text)?;
     }
-    sheet.draw_legend(book, &large)?;
-    send(&mut output, writer, &mut sheet.text)?;
-    output.flush(writer)?;
-    Ok(())
+    sheet.draw_legend(book, &large)
 }
 
-fn write_drawn<W: Write, A: Allocator + Copy, O>(
+fn draw_compact<A: Allocator + Copy, O>(
     alloc: A,
     book: &BookView<'_, A, O>,
     drawn: &Drawn<'_, A, O>,
-    writer: &mut W,
-) -> Result<(), WriteFault> {
-    let mut output = Output::new(alloc);
-    let mut sheet = Sheet::new(alloc);
-    let end = drawn.times.end();
-    sheet.draw_frame(book, &drawn.lanes, end)?;
-    for (row, at) in book.log.iter().enumerate() {
-        sheet.draw_row(alloc, drawn, row, at)?;
-        send(&mut output, writer, &mut sheet.text)?;
-    }
-    sheet.draw_names(book.base.place(), &drawn.lanes, end)?;
-    send(&mut output, writer, &mut sheet.text)?;
-    output.flush(writer)?;
-    Ok(())
+    sheet: &mut Sheet<A>,
+) -> Result<(), AllocError> {
+    let compact = Compact::new(alloc, drawn)?;
+    let mut tracks = Tracks::new(alloc, drawn.lanes.sessions().len())?;
+    sheet.draw_frame(book, &compact)?;
+    sheet.draw_rows(&compact, &mut tracks)?;
+    sheet.say("</svg>\n")
 }
 
-// Sends a text on its way, and clears it.
-fn send<W: Write, A: Allocator>(
-    output: &mut Output<A>,
-    writer: &mut W,
-    text: &mut String<A>,
-) -> Result<(), WriteFault> {
-    output.push(writer, text.as_bytes())?;
-    text.clear();
+// Writes all of a text, and flushes it.
+fn send<W: Write>(writer: &mut W, text: &[u8]) -> Result<(), WriteFault> {
+    if writer.write_all(text).is_err() || writer.flush().is_err() {
+        return Err(WriteFault::Write);
+    }
     Ok(())
 }

@@ -1,9 +1,8 @@
-//! The rows of a picture: each with what it read and wrote, and the opponents that it met.
+//! What is told of the rows of a picture: of each what it read and wrote, and the opponents that it met.
 
 use crate::lanes::Lanes;
-use crate::meetings::{Meetings, meetings_of};
-use crate::places::{track, x_of, y_of};
-use crate::sheets::{Point, Sheet};
+use crate::meetings::Meetings;
+use crate::sheets::Sheet;
 use crate::times::Times;
 use occ_book::{LogRow, Standing};
 use occ_model::Cause;
@@ -14,10 +13,6 @@ use std::alloc::{AllocError, Allocator};
 
 /// How many reads, and how many writes, are told of a row.
 pub(crate) const TOLD: usize = 8;
-/// Where the places stand.
-const PLACES: u64 = 112;
-/// Where the counter stands.
-const COUNTERS: u64 = 126;
 
 /// What the rows of a picture are drawn from.
 #[derive(Drop)]
@@ -32,14 +27,6 @@ pub(crate) struct Drawn<'a, A: Allocator, O> {
     pub(crate) lanes: Lanes<A>,
 }
 
-impl<A: Allocator, O> Drawn<'_, A, O> {
-    // Where a row is at a column.
-    fn point(&self, at: &LogRow<A, O>, column: u64) -> Point {
-        let lane = self.lanes.lane(at.session);
-        (x_of(column), y_of(lane, track(at.number)))
-    }
-}
-
 /// The name of the symbol and of the class of a standing.
 pub(crate) fn name_of<O>(standing: &Standing<O>) -> &'static str {
     match standing {
@@ -51,31 +38,7 @@ pub(crate) fn name_of<O>(standing: &Standing<O>) -> &'static str {
     }
 }
 
-// Whether a number is told on the axis: of long ones not each.
-fn is_told(number: u64) -> bool {
-    match number {
-        0..=99 => true,
-        100..=9999 => number % 5 == 0,
-        _ => number % 20 == 0,
-    }
-}
-
 impl<A: Allocator + Copy> Sheet<A> {
-    /// Appends a row and what belongs to it.
-    pub(crate) fn draw_row<O>(
-        &mut self,
-        alloc: A,
-        drawn: &Drawn<'_, A, O>,
-        row: usize,
-        at: &LogRow<A, O>,
-    ) -> Result<(), AllocError> {
-        self.draw_axis(&drawn.times, row, at)?;
-        let meetings = meetings_of(alloc, drawn.log, row, at)?;
-        self.draw_meetings(drawn, row, at, &meetings)?;
-        self.tell_all(drawn, at, &meetings)?;
-        self.draw_phases(drawn, row, at)
-    }
-
     /// Appends the beginning of the group of a row, and its title.
     pub(crate) fn tell_all<O>(
         &mut self,
@@ -88,46 +51,6 @@ impl<A: Allocator + Copy> Sheet<A> {
         self.tell_reads(drawn.schema, &at.reads)?;
         self.tell_writes(drawn.schema, &at.writes)?;
         self.say("</title>\n")
-    }
-
-    // Appends the place over the entry, and the number over the finish.
-    fn draw_axis<O>(
-        &mut self,
-        times: &Times<A>,
-        row: usize,
-        at: &LogRow<A, O>,
-    ) -> Result<(), AllocError> {
-        let place = at.place as u64;
-        if is_told(place) {
-            self.draw_label("axis", place, (x_of(times.entry(row)), PLACES))?;
-        }
-        match at.standing {
-            Standing::Done(number) if is_told(number) => {
-                let x = x_of(times.end_of(row, &at.standing));
-                self.draw_label("axis", number, (x, COUNTERS))
-            }
-            _ => Ok(()),
-        }
-    }
-
-    // Appends a line from the entry of a row to each opponent that it met: to its end, or to where it was at that entry.
-    fn draw_meetings<O>(
-        &mut self,
-        drawn: &Drawn<'_, A, O>,
-        row: usize,
-        at: &LogRow<A, O>,
-        meetings: &Meetings<A>,
-    ) -> Result<(), AllocError> {
-        let class = meetings.class();
-        let entry = drawn.times.entry(row);
-        for place in &meetings.rows {
-            if let Some(other) = drawn.log.get(*place) {
-                let end = drawn.times.end_of(*place, &other.standing);
-                let to = drawn.point(other, end.min(entry));
-                self.draw_line(class, drawn.point(at, entry), to)?;
-            }
-        }
-        Ok(())
     }
 
     // Appends the beginning of the group of a row, and the first line of its title.
@@ -221,24 +144,5 @@ impl<A: Allocator + Copy> Sheet<A> {
     // Tells that there are more than are told.
     fn tell_more(&mut self, count: usize) -> Result<(), AllocError> {
         self.say(if count > TOLD { "\n..." } else { "" })
-    }
-
-    // Appends the phases of a row, its number and its symbol.
-    fn draw_phases<O>(
-        &mut self,
-        drawn: &Drawn<'_, A, O>,
-        row: usize,
-        at: &LogRow<A, O>,
-    ) -> Result<(), AllocError> {
-        let start = drawn.point(at, drawn.times.start(row, at.start));
-        let entry = drawn.point(at, drawn.times.entry(row));
-        let end = drawn.point(at, drawn.times.end_of(row, &at.standing));
-        self.draw_symbol("start", start)?;
-        self.draw_line("read", start, entry)?;
-        self.draw_line("end", entry, end)?;
-        self.draw_symbol(name_of(&at.standing), end)?;
-        let beside = (entry.0.saturating_sub(6), entry.1.saturating_sub(4));
-        self.draw_label("number", at.number, beside)?;
-        self.say("</g>\n")
     }
 }

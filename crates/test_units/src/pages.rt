@@ -132,7 +132,7 @@ impl Desk {
 }
 
 // The store of a seed, with its first rows.
-fn desk(alloc: Global, seed: u64) -> Result<Box<Desk>, Fault> {
+fn opened(alloc: Global, seed: u64) -> Result<Box<Desk>, Fault> {
     let table = (seed % 3) as usize;
     let desk = Desk {
         core: store(alloc, BESIDE + 1)?,
@@ -169,7 +169,7 @@ fn next(parties: &[Party], first: usize) -> usize {
 
 // The program of a seed.
 fn run(alloc: Global, seed: u64, sums: &mut Sums) -> Result<(), Fault> {
-    let mut desk = desk(alloc, seed)?;
+    let mut desk = opened(alloc, seed)?;
     let mut parties = parties(alloc)?;
     let right = desk.run(alloc, parties.as_mut_slice())?;
     sums.note(parties.as_slice(), right);

@@ -214,9 +214,9 @@ fn asked(desk: &mut Desk) -> Asked {
         1 | 2 => Part::First,
         _ => Part::Last,
     };
-    let lower = end(desk);
+    let lower = some_end(desk);
     let behind = lower.unwrap_or(0).saturating_add(1);
-    let upper = end(desk).map(|place| place.saturating_add(behind));
+    let upper = some_end(desk).map(|place| place.saturating_add(behind));
     Asked {
         part,
         lower,
@@ -230,7 +230,7 @@ fn asked(desk: &mut Desk) -> Asked {
 }
 
 // The place of an end, or none.
-fn end(desk: &mut Desk) -> Option<usize> {
+fn some_end(desk: &mut Desk) -> Option<usize> {
     if desk.dice.once_in(2) {
         return None;
     }
