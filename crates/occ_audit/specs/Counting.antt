@@ -9,8 +9,8 @@ use Rattle.occ_audit.specs.Order.{AreClosed, AreLast, last_of}
 use Rattle.occ_audit.specs.Findings.{AreOrdered, IsMisplaced, IsMisnumbered, IsTold}
 use Rattle.occ_audit.specs.declared.findings.Disorder.{Disorder}
 use Rattle.occ_audit.specs.declared.findings.Disorder.TheVariants as disorders
-use Rattle.occ_audit.specs.declared.orders.Counted as counted
-use Rattle.occ_audit.specs.declared.orders.Counted.TheVariants as counts
+use Rattle.occ_audit.specs.declared.disorders.Counted as counted
+use Rattle.occ_audit.specs.declared.disorders.Counted.TheVariants as counts
 
 -- what is out of order of a row with this index, place and number, behind a first place and the last number of its session
 abbrev pub RowGives : ℕ → ℕ → ℕ → ℕ → ℕ → Option Disorder → Type 0
