@@ -6,7 +6,7 @@ use crate::phrases::{push_all, shown};
 use crate::sayings::{Saying, Subject};
 use crate::slips::line_slip;
 use crate::wrong_tokens::write_field_cause;
-use crate::wrong_words::{write_due, write_word_cause};
+use crate::wrong_words::{write_count_left, write_due, write_word_cause};
 use occ_text::headers::Limits;
 use occ_text::separated_parts::Parts;
 use std::alloc::{AllocError, Global};
@@ -101,11 +101,12 @@ fn write_cause(
     let (due, line) = (walk.due(), place.line);
     let word = token_at(line, 0);
     if line.is_empty() && !place.fed {
-        return write_due(
+        write_due(
             &mut saying.sentence,
             &["the text ends here, before it is whole"],
             due,
-        );
+        )?;
+        return write_count_left(saying, walk);
     }
     if let Some(words) = line_slip(line, place.fed) {
         return saying.sentence.push_str(words);

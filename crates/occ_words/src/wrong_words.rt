@@ -28,12 +28,12 @@ pub(crate) fn write_word_cause(
         push_all(&mut saying.sentence, &["`", shown(word), "` "])?;
         return saying.sentence.push_str(words);
     }
-    if walk.comes_later(word) {
-        if let Some((left, count)) = walk.due_count() {
-            return write_count_missed(saying, due, left, count);
+    if !walk.comes_later(word) {
+        if let Some(count) = walk.count_of(word) {
+            return write_count_passed(saying, due, count);
         }
-    } else if let Some(count) = walk.count_of(word) {
-        return write_count_passed(saying, due, count);
+    } else if walk.due_count().is_some() {
+        return write_count_missed(saying, walk);
     }
     match missing(due, word) {
         Some(form) => write_missing(&mut saying.sentence, form, place.later),
@@ -90,21 +90,24 @@ pub(crate) fn word_of(operation: &[u8]) -> &[u8] {
     Parts::new(operation, b':').take_part().unwrap_or(b"")
 }
 
-// Appends that a line is missing of those that a count tells, or the count is too great by what is left of it.
-fn write_count_missed(
-    saying: &mut Saying,
-    due: Forms,
-    left: u64,
-    count: Count,
-) -> Result<(), AllocError> {
+// Appends that a line is missing of those that a count tells.
+fn write_count_missed(saying: &mut Saying, walk: &Walk) -> Result<(), AllocError> {
     saying
         .sentence
         .push_str("a line is missing before this one")?;
     let mut front = ": `";
-    for form in due {
+    for form in walk.due() {
         push_all(&mut saying.sentence, &[front, *form, "`"])?;
         front = " or `";
     }
+    write_count_left(saying, walk)
+}
+
+/// Appends that a count is too great by what is left of it, where a count tells what is due.
+pub(crate) fn write_count_left(saying: &mut Saying, walk: &Walk) -> Result<(), AllocError> {
+    let Some((left, count)) = walk.due_count() else {
+        return Ok(());
+    };
     saying.sentence.push_str("; or ")?;
     write_count(saying, count)?;
     write_counted(
