@@ -7,6 +7,7 @@
 
 mod book_findings;
 mod book_lines;
+mod book_writers;
 pub mod explaining;
 pub mod fault_words;
 mod line_forms;
@@ -26,3 +27,5 @@ mod slips;
 pub mod step_words;
 pub mod telling;
 mod token_readers;
+mod wrong_tokens;
+mod wrong_words;

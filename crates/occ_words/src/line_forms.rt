@@ -3,6 +3,7 @@
 ghost use Rattle.std.specs.Prelude.{map};
 ghost use Rattle.occ_words.specs.Forms.{EachSame, brought};
 
+use crate::line_walk::token_at;
 use occ_text::steps;
 use occ_text::tokens::is_word;
 
@@ -61,15 +62,60 @@ pub fn brought() -> &'static [(&'static str, usize, Forms)]
     BROUGHT
 }
 
-/// The words of all lines but the steps.
-pub const OTHERS: &[&str] = &[
+/// The word of a form.
+pub fn head(form: &str) -> &[u8] {
+    token_at(form.as_bytes(), 0)
+}
+
+/// The first of some forms that has this word, be its letters small or not.
+pub fn form_of(forms: Forms, word: &[u8]) -> Option<&'static str> {
+    for form in forms {
+        if head(*form).eq_ignore_ascii_case(word) {
+            return Some(*form);
+        }
+    }
+    None
+}
+
+/// The words of all lines of schedules and books but the steps.
+pub const OTHERS: Forms = &[
     "occ", "sessions", "queue", "keep", "table", "steps", "base", "last", "from", "log", "row",
     "one", "span", "pair", "del", "marks", "mark", "state", "at", "counter", "audit",
 ];
 
-/// The words of the lines of a book that others before them count, and of those behind such lines.
-pub const COUNTED: &[&str] = &[
-    "last", "from", "log", "row", "pair", "marks", "mark", "state", "at", "counter",
+/// The words of the lines that workloads alone have.
+pub const OF_WORKLOADS: Forms = &["validators", "retries", "txn"];
+
+/// The words of the lines of a header whose order is fixed.
+pub const IN_ORDER: Forms = &["sessions", "queue", "keep", "validators", "retries"];
+
+/// What a count in a book counts: the word of such a line, and what it is in words.
+pub const COUNTED: &[(&str, &str)] = &[
+    ("last", "last numbers"),
+    ("from", "rows of the base"),
+    ("row", "rows"),
+    ("one", "reads"),
+    ("put", "writes"),
+    ("pair", "rows of the range"),
+    ("mark", "marks"),
+    ("at", "rows of the state"),
+];
+
+/// What other stores have words for: the word, and that of a step or an operation here.
+pub const MEANINGS: &[(&str, &str)] = &[
+    ("insert", "put"),
+    ("set", "put"),
+    ("update", "put"),
+    ("upsert", "put"),
+    ("read", "get"),
+    ("select", "get"),
+    ("del", "delete"),
+    ("remove", "delete"),
+    ("inc", "add"),
+    ("rollback", "abandon"),
+    ("abort", "abandon"),
+    ("commit", "submit"),
+    ("start", "begin"),
 ];
 
 /// What is wrong with a line of a word whose tokens each are what they have to be.
@@ -87,14 +133,8 @@ pub const UNFIT: &[(&str, &str)] = &[
         "the number of a transaction is at most 4,294,967,295",
     ),
     ("base", "the place of a base is at least 1"),
-    (
-        "last",
-        "the session is none of the header, or the sessions don't rise",
-    ),
-    (
-        "mark",
-        "the session is none of the header, or the sessions don't rise",
-    ),
+    ("last", "the sessions don't rise"),
+    ("mark", "the sessions don't rise"),
     (
         "from",
         "the table, key or row doesn't fit the header, or the lines don't rise by table and then key",
@@ -105,7 +145,7 @@ pub const UNFIT: &[(&str, &str)] = &[
     ),
     (
         "row",
-        "the session is none of the header, or writing or done stands without its number, or more writes are done than the row has",
+        "writing or done stands without its number, or more writes are done than the row has",
     ),
     ("one", "the table, key or row doesn't fit the header"),
     (
@@ -127,7 +167,7 @@ pub const UNFIT: &[(&str, &str)] = &[
     ("steps", "no table stands before it"),
     (
         "txn",
-        "the session is none of the header, or it has over 256 operations, or all transactions with all their tries come to over 1,048,576 rows",
+        "it has over 256 operations, or all transactions with all their tries come to over 1,048,576 rows",
     ),
     (
         "load",

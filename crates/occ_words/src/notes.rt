@@ -2,28 +2,25 @@
 
 use crate::book_findings::tell_row;
 use crate::book_lines::Lines;
+use crate::book_writers::{BookRow, Writers};
 use crate::phrases::{write_counted, write_transaction};
 use crate::sayings::{Saying, Subject};
 use crate::telling::Told;
-use occ_book::{LogRow, Standing};
+use occ_book::Standing;
 use occ_model::Cause;
 use occ_reading::whole_books::PrintedBook;
-use occ_sets::{meets_reads, meets_writes};
 use occ_text::trouble::Trouble;
 use std::alloc::{AllocError, Global};
 use std::collections::BTreeMap;
 use std::io::Write;
 
-/// A row of a book.
-type BookRow = LogRow<Global, ()>;
-
-/// What is kept of the rows that were looked at, by their indices.
+/// What is kept of the rows that were looked at.
 #[derive(Drop)]
-struct Seen {
-    /// The finished ones by their transaction numbers.
+struct Seen<'l> {
+    /// The indices of the finished ones by their transaction numbers.
     numbers: BTreeMap<u64, usize>,
-    /// The committed ones that may be opponents of what follows.
-    recent: Vec<usize>,
+    /// All by what they write.
+    writers: Writers<'l>,
 }
 
 /// Tells the notes on a book, row by row in the order of the log, where the text is that of the book.
@@ -37,11 +34,12 @@ pub fn tell_notes<W: Write>(
     let mut lines = Lines::new(text);
     let mut seen = Seen {
         numbers: BTreeMap::new(alloc),
-        recent: Vec::new(alloc),
+        writers: Writers::before(alloc, printed.book.log.as_slice())?,
     };
     for (index, row) in printed.book.log.iter().enumerate() {
         let line = lines.next_row();
         tell_row_notes(alloc, printed, &mut seen, index, row, line, told)?;
+        seen.writers.take(index, row)?;
         told.send(writer)?;
     }
     tell_low(alloc, printed, told)?;
@@ -52,7 +50,7 @@ pub fn tell_notes<W: Write>(
 fn tell_row_notes(
     alloc: Global,
     printed: &PrintedBook<Global>,
-    seen: &mut Seen,
+    seen: &mut Seen<'_>,
     index: usize,
     row: &BookRow,
     line: u64,
@@ -64,7 +62,7 @@ fn tell_row_notes(
         strange_counter(log, index, row),
         strange_end(printed.book.tnc, row),
         strange_window(keep, row),
-        strange_back_up(printed, index, row),
+        strange_back_up(printed, &seen.writers, row),
     ] {
         if let Some(words) = words {
             tell_strange(alloc, line, row, words, None, told)?;
@@ -80,7 +78,7 @@ fn tell_row_notes(
             told,
         )?;
     }
-    if let Some(other) = seen.opponent_met(log, keep, index, row)? {
+    if let Some(other) = seen.opponent_met(log, keep, row) {
         tell_strange(
             alloc,
             line,
@@ -196,37 +194,21 @@ fn strange_window(keep: u64, row: &BookRow) -> Option<&'static str> {
 // What is strange about a conflict: that no row before may have been an opponent and was met. What was folded may have been one.
 fn strange_back_up(
     printed: &PrintedBook<Global>,
-    index: usize,
+    writers: &Writers<'_>,
     row: &BookRow,
 ) -> Option<&'static str> {
     let is_conflict = matches!(row.standing, Standing::Back(Cause::Conflict));
-    if !is_conflict || printed.book.base.place() > 0 {
+    if !is_conflict || printed.book.base.place() > 0 || writers.met_by(row, row.start).is_any() {
         return None;
     }
-    for other in printed.book.log.iter().take(index).rev() {
-        if meets_as_opponent(other, row) {
-            return None;
-        }
-    }
     Some("the row is backed up for a conflict, and met no row before it")
-}
-
-// Whether a row met one that entered before it, if that was active or finished in between. A row that is not committed may have been active.
-fn meets_as_opponent(other: &BookRow, row: &BookRow) -> bool {
-    let was_active = match other.standing {
-        Standing::Done(number) if number <= row.start => return false,
-        Standing::Done(number) => number > row.finish,
-        _ => true,
-    };
-    meets_reads(&other.writes, &row.reads)
-        || (was_active && meets_writes(&other.writes, &row.writes))
 }
 
 fn is_committed(row: &BookRow) -> bool {
     matches!(row.standing, Standing::Writing(_) | Standing::Done(_))
 }
 
-impl Seen {
+impl Seen<'_> {
     // The row before that finished under the same transaction number.
     fn same_number<'l>(
         &mut self,
@@ -243,42 +225,17 @@ impl Seen {
         }
     }
 
-    // The latest committed row before that was an opponent of a committed one and that it met.
+    // The latest committed row before that was an opponent of a committed one, in the window, and that it met.
     fn opponent_met<'l>(
-        &mut self,
+        &self,
         log: &'l [BookRow],
         keep: u64,
-        index: usize,
         row: &BookRow,
-    ) -> Result<Option<&'l BookRow>, AllocError> {
+    ) -> Option<&'l BookRow> {
         if !is_committed(row) {
-            return Ok(None);
+            return None;
         }
         let low = row.finish.saturating_sub(keep);
-        self.recent
-            .retain(|other| may_be_opponent(log, *other, low));
-        let met = latest_met(log, self.recent.as_slice(), row);
-        self.recent.push(index)?;
-        Ok(met)
+        log.get(self.writers.met_by(row, row.start.max(low)).committed?)
     }
-}
-
-// Whether the row at an index may be an opponent of one that enters while this is the lower end of the window.
-fn may_be_opponent(log: &[BookRow], index: usize, low: u64) -> bool {
-    match log.get(index) {
-        Some(row) => !matches!(row.standing, Standing::Done(number) if number <= low),
-        None => false,
-    }
-}
-
-// The last of the rows at some indices that a row met as an opponent.
-fn latest_met<'l>(log: &'l [BookRow], indices: &[usize], row: &BookRow) -> Option<&'l BookRow> {
-    for index in indices.iter().rev() {
-        if let Some(other) = log.get(*index) {
-            if meets_as_opponent(other, row) {
-                return Some(other);
-            }
-        }
-    }
-    None
 }

@@ -1,9 +1,9 @@
 //! A schedule that is replayed step by step: what a step is answered, and what there is to be said of that.
 
 use crate::line_walk::token_at;
-use crate::meetings::{Meeting, StoreRow, meeting_of_last};
+use crate::meetings::{Meeting, latest_of, meeting_of_last};
 use crate::sayings::Saying;
-use crate::step_words::{say_backed_up, say_refused};
+use crate::step_words::{say_backed_up, say_no_session, say_refused};
 use occ_book::Base;
 use occ_case::{Cause, Verdict};
 use occ_cli::answers::{Answer, write_answer};
@@ -30,6 +30,8 @@ pub struct Steps {
     pub backed_up: u64,
     /// What the last row of each session met as it entered, by session from 0 on.
     met: Vec<Option<Meeting>>,
+    /// The places of the rows that finished, by their transaction numbers from 1 on.
+    finished: Vec<usize>,
 }
 
 impl Steps {
@@ -62,6 +64,7 @@ impl Steps {
             refused: 0,
             backed_up: 0,
             met: Vec::new(alloc),
+            finished: Vec::new(alloc),
         })
     }
 
@@ -90,7 +93,20 @@ impl Steps {
         text: &mut String,
     ) -> Result<Option<Saying>, AllocError> {
         let answer = self.replay.answer(step)?;
+        self.keep_finish(session_of(line))?;
         self.say(alloc, number, line, &answer, text)
+    }
+
+    // Keeps the place of the row that the step of a session just finished, where it did.
+    fn keep_finish(&mut self, session: usize) -> Result<(), AllocError> {
+        let core = self.replay.core();
+        if core.tnc() <= self.finished.len() as u64 {
+            return Ok(());
+        }
+        if let Some(row) = latest_of(core, session) {
+            self.finished.push(row.place)?;
+        }
+        Ok(())
     }
 
     // Appends an answer to a text, and tells what there is to be said of it.
@@ -125,7 +141,12 @@ impl Steps {
         fault: Fault,
     ) -> Result<Option<Saying>, AllocError> {
         self.refused = self.refused.saturating_add(1);
-        Ok(Some(say_refused(alloc, number, line, session_of(line), fault)?))
+        let session = session_of(line);
+        if fault == Fault::NoSession {
+            let sessions = self.limits.sessions;
+            return Ok(Some(say_no_session(alloc, number, line, session, sessions)?));
+        }
+        Ok(Some(say_refused(alloc, number, line, session, fault)?))
     }
 
     // What there is to be said of what the store replied to a session.
@@ -154,7 +175,7 @@ impl Steps {
 
     // Keeps what the last row met, which is of this session and has just entered.
     fn keep_meeting(&mut self, session: usize) -> Result<(), AllocError> {
-        let met = meeting_of_last(self.replay.core())?;
+        let met = meeting_of_last(self.replay.core(), self.finished.as_slice())?;
         for _ in self.met.len()..session.saturating_add(1) {
             self.met.push(None)?;
         }
@@ -178,7 +199,7 @@ impl Steps {
             Some(met) => met.as_ref(),
             None => None,
         };
-        match latest(core.log(), session) {
+        match latest_of(core, session) {
             Some(row) => Ok(Some(say_backed_up(alloc, core.schema(), number, row, cause, met)?)),
             None => Ok(None),
         }
@@ -188,14 +209,4 @@ impl Steps {
 // The session that a step names, or 0 where it names none.
 fn session_of(line: &[u8]) -> usize {
     number(token_at(line, 1), 255).unwrap_or(0) as usize
-}
-
-// The latest row of a session.
-fn latest(log: &[StoreRow], session: usize) -> Option<&StoreRow> {
-    for row in log.iter().rev() {
-        if row.session == session {
-            return Some(row);
-        }
-    }
-    None
 }

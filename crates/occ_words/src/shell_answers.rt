@@ -99,7 +99,7 @@ fn answer_step(
             Ok(())
         }
         Err(ReadFault::Malformed(_)) => {
-            let saying = say_malformed_step(alloc, steps.limits.version, number, line)?;
+            let saying = say_malformed_step(alloc, steps.limits, number, line)?;
             Ok(tell_malformed(text, &saying)?)
         }
         Err(fault) => Err(Trouble::from(fault)),

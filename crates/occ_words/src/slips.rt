@@ -1,5 +1,6 @@
 //! The usual slips of a line or a token, each told by what is wrong and what to do.
 
+use crate::line_forms::Field;
 use occ_text::input::MAX_LINE;
 use occ_text::versions::Version;
 
@@ -63,8 +64,8 @@ fn has_two_spaces(line: &[u8]) -> bool {
     false
 }
 
-/// The first usual slip of a token that isn't what it has to be in a text of this version.
-pub fn token_slip(version: Version, token: &[u8]) -> Option<&'static str> {
+/// The first usual slip of a token that isn't what a field has to be in a text of this version.
+pub fn token_slip(version: Version, field: Field, token: &[u8]) -> Option<&'static str> {
     let first = token.first().copied().unwrap_or(b' ');
     let last = token.last().copied().unwrap_or(b' ');
     let is_text = first == b'\'';
@@ -79,7 +80,7 @@ pub fn token_slip(version: Version, token: &[u8]) -> Option<&'static str> {
             "one comma stands between two cells, and nothing behind the last one",
         ),
         (
-            first == b'-' || first == b'+',
+            first == b'+' || (first == b'-' && !has_cells(field)),
             "a decimal has no sign; only a cell may begin with -",
         ),
         (
@@ -95,8 +96,55 @@ pub fn token_slip(version: Version, token: &[u8]) -> Option<&'static str> {
             "keys of two parts and * are of version 2, which a text names by occ 2 in its first line",
         ),
         (
-            token.iter().any(|byte| byte.is_ascii_uppercase()),
+            has_bare_text(field, token),
+            "a text has ' before it, as 'bob",
+        ),
+        (is_past_limit(field, token), limit_words(field)),
+        (
+            !has_texts(field) && token.iter().any(|byte| byte.is_ascii_uppercase()),
             "names and words are of the letters a to z alone",
         ),
     ])
+}
+
+fn has_cells(field: Field) -> bool {
+    matches!(field, Field::Row | Field::Found)
+}
+
+fn has_texts(field: Field) -> bool {
+    has_cells(field) || matches!(field, Field::Key | Field::End)
+}
+
+// Whether a cell or a part of a key begins with a letter.
+fn has_bare_text(field: Field, token: &[u8]) -> bool {
+    let mut before = b',';
+    for byte in token {
+        if (before == b',' || before == b'+') && byte.is_ascii_alphabetic() {
+            return has_texts(field);
+        }
+        before = *byte;
+    }
+    false
+}
+
+// Whether a token is a whole number, as the only cell of a row may be, and so out of the limits of a field that takes one.
+fn is_past_limit(field: Field, token: &[u8]) -> bool {
+    let digits = match token {
+        [b'-', digits @ ..] if has_cells(field) => digits,
+        _ => token,
+    };
+    let is_whole = !digits.is_empty() && digits.iter().all(|byte| byte.is_ascii_digit());
+    is_whole && (has_texts(field) || matches!(field, Field::Whole(_, _)))
+}
+
+// What the limits of a field are, where its own words don't tell.
+fn limit_words(field: Field) -> &'static str {
+    match field {
+        Field::Key | Field::End => "a number in a key is at most 18446744073709551615, or 2^64 - 1",
+        Field::Row | Field::Found => {
+            "a whole number in a cell is from -9223372036854775808 to 9223372036854775807, or -2^63 to 2^63 - 1"
+        }
+        Field::Whole(0, u64::MAX) => "a number is at most 18446744073709551615, or 2^64 - 1",
+        _ => "it is out of these limits",
+    }
 }

@@ -20,9 +20,29 @@ pub fn say_refused(
 ) -> Result<Saying, AllocError> {
     let mut saying = Saying::new(alloc, Subject::Refused, Some(line));
     write_refusal(&mut saying, step, session, fault)?;
+    saying.sentence.push_str(advice(fault))?;
     Ok(saying)
 }
 
+/// The refusal of a step in words, as `say_refused` has it, where the header has so many sessions and the step names another one.
+pub fn say_no_session(
+    alloc: Global,
+    line: u64,
+    step: &[u8],
+    session: usize,
+    sessions: usize,
+) -> Result<Saying, AllocError> {
+    let mut saying = Saying::new(alloc, Subject::Refused, Some(line));
+    write_refusal(&mut saying, step, session, Fault::NoSession)?;
+    write_counted(
+        &mut saying.sentence,
+        "name a session of the header, 1 to ",
+        sessions as u64,
+    )?;
+    Ok(saying)
+}
+
+// Appends what is refused, and for which fault.
 fn write_refusal(
     saying: &mut Saying,
     step: &[u8],
@@ -35,7 +55,7 @@ fn write_refusal(
     saying.tell("fault", fault as u64 + 1)?;
     push_all(&mut saying.sentence, &["`", shown(step), "` is refused, "])?;
     write!(&mut saying.sentence, "{fault}")?;
-    push_all(&mut saying.sentence, &["; ", advice(fault)])
+    saying.sentence.push_str("; ")
 }
 
 /// A back-up in words: its cause, and where it is a conflict the opponent and the object on which they met.
