@@ -1,12 +1,15 @@
 //! The loads by one owner, on a core or on a bare map.
-use crate::loads::{Dice, Load, TABLE, amount, base, number_in, schema};
+use crate::loads::{Dice, Load, TABLE, amount, number_in, schema};
 use occ_case::Verdict;
 use occ_core::{Core, Outcome, SingleWrite};
 use occ_queue::Item;
 use occ_sets::{Op, PrivateCopy};
-use occ_types::{Fault, Key};
+use occ_types::{Fault, Key, Row};
 use std::alloc::{AllocError, Allocator, Global};
 use std::collections::{BTreeMap, VecDeque};
+
+/// How many rows a transaction writes at most.
+const PUTS: u64 = 256;
 
 /// How a transaction of a core ends: step by step, in one step, or also in one, as operations that run alone.
 #[derive(Clone, Copy)]
@@ -35,13 +38,18 @@ pub(crate) struct Owner<A: Allocator> {
 }
 
 impl<A: Allocator + Copy> Owner<A> {
-    /// A core with the rows of a load.
+    /// A core with the rows of a load, put by a session behind those of the load, and folded away.
     pub(crate) fn open(alloc: A, load: Load) -> Result<Owner<A>, Fault> {
-        let (schema, base) = (schema(alloc)?, base(alloc, load.rows, load.together)?);
-        let core = Core::resume(alloc, schema, load.together, 8, base, 0)?;
+        let filling = load.together.saturating_add(1);
+        let mut core = Box::new(alloc, Core::open(alloc, schema(alloc)?, filling, 8)?)?;
+        for part in 0..load.rows.div_ceil(PUTS) {
+            let puts = puts(alloc, part.saturating_mul(PUTS), load.rows)?;
+            let _done = core.run_alone(filling, part.saturating_add(1), puts)?;
+        }
+        let _folded = core.checkpoint()?;
         Ok(Owner {
             alloc,
-            core: Box::new(alloc, core)?,
+            core,
             load,
             dice: Dice::of(0),
             copies: VecDeque::new(alloc),
@@ -61,7 +69,6 @@ impl<A: Allocator + Copy> Owner<A> {
         Ok(committed)
     }
 
-    // One transaction of each session, as operations.
     fn round_alone(&mut self, number: u64) -> Result<u64, Fault> {
         for session in 1..=self.load.together {
             let operations = self.operations()?;
@@ -152,8 +159,7 @@ impl<A: Allocator + Copy> Owner<A> {
             let _number = self.core.back_up(session)?;
             return Ok(false);
         }
-        // it has at most so many single writes
-        for _ in 0..256 {
+        for _ in 0..PUTS {
             if let SingleWrite::NoMore = self.core.write_one(session)? {
                 break;
             }
@@ -161,6 +167,16 @@ impl<A: Allocator + Copy> Owner<A> {
         let _number = self.core.finish(session)?;
         Ok(true)
     }
+}
+
+// Puts of rows of 0 from one key on, as many as a transaction has.
+fn puts<A: Allocator + Copy>(alloc: A, first: u64, rows: u64) -> Result<Vec<Op<A>, A>, Fault> {
+    let (table, mut puts) = (TABLE, Vec::new(alloc));
+    for key in first..rows.min(first.saturating_add(PUTS)) {
+        let (key, row) = (Key::Num(key), Row::from(0i64));
+        puts.push(Op::Put { table, key, row })?;
+    }
+    Ok(puts)
 }
 
 /// Does the reads and writes of so many transactions on a bare map. The sum of what was read, so that the reads are done.

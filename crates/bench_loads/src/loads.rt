@@ -79,8 +79,8 @@ impl Load {
 
     /// What so many transactions put into all rows together.
     pub(crate) fn put(&self, transactions: u64) -> i64 {
-        let each = if self.writes % 2 == 0 { 0 } else { amount(0) };
-        each.wrapping_mul(i64::try_from(transactions).unwrap_or(i64::MAX))
+        let all = i64::try_from(transactions).unwrap_or(i64::MAX);
+        if self.writes % 2 == 0 { 0 } else { -all }
     }
 }
 

@@ -23,7 +23,7 @@ use tasks::{Task, end_told};
 use test_tools::{Plan, Refusing};
 
 const USAGE: &str = "bench_loads [LOAD WAY (ROUNDS | THREADS END) | bank END]";
-/// The way of a short load, where nothing else is said.
+/// The way of most short loads.
 const USUAL: &str = "worker-leased-folded";
 /// How many rounds of a load are done where memory is counted, and how many rows a table has at most then, or in a short load.
 const COUNTED: u64 = 1_000;
@@ -152,6 +152,5 @@ fn tell_cost(rt: &HostRuntime, load: Load, way: &str, ending: Ending) -> Result<
     let bytes = lent.bytes_out().saturating_sub(bytes);
     let (name, of) = (load.name, COUNTED.saturating_mul(load.together as u64));
     print!(rt; "{name} by {way}: {committed} of {of} commit, ")?;
-    println!(rt; "{requests} requests, {bytes} bytes stay")?;
-    Ok(())
+    Ok(println!(rt; "{requests} requests, {bytes} bytes stay")?)
 }

@@ -12,9 +12,9 @@ use occ_store::{
 use occ_types::{Fault, Key};
 use std::alloc::{Allocator, Global};
 use std::marker::Brand;
+use std::sync::Wait;
 use std::sync::atomic::AtomicU64;
 use std::sync::atomic::Ordering::SeqCst;
-use std::sync::{Wait, Wait};
 use std::thread::{self, Threads};
 use std::time::{Clock, Instant};
 
@@ -35,7 +35,6 @@ impl<H: Threads + Wait + Clock + Sync> Host for H {}
 pub(crate) struct Outcome {
     pub(crate) committed: u64,
     pub(crate) backed_up: u64,
-    /// How many clients died.
     pub(crate) died: u64,
     /// How many rows the session entered that entered the fewest, and how many microseconds the threads took.
     pub(crate) least: u64,
@@ -43,7 +42,6 @@ pub(crate) struct Outcome {
     pub(crate) right: bool,
 }
 
-/// Who has a thread.
 #[derive(Drop)]
 enum Party<N: Name, A: Allocator + Copy> {
     Worker(Worker<N, A>),
@@ -101,9 +99,9 @@ struct Site<'a, N: Name, A: Allocator + Copy, H> {
     numbers: AtomicU64,
     /// How many made a wrong sum, or met a fault.
     wrong: AtomicU64,
-    /// How many clients died, and how many workers and clients are over.
+    /// How many clients died, and how many workers and clients are left.
     died: AtomicU64,
-    over: AtomicU64,
+    left: AtomicU64,
 }
 
 impl<N: Name + Stoppable, A: Allocator + Copy, H: Host> Site<'_, N, A, H> {
@@ -209,8 +207,7 @@ impl<N: Name + Stoppable, A: Allocator + Copy, H: Host> Site<'_, N, A, H> {
                 }
             }
         }
-        let before = self.over.fetch_add(1, SeqCst);
-        if before.saturating_add(1) == self.task.sessions() as u64 {
+        if self.left.fetch_sub(1, SeqCst) == 1 {
             self.store.stop();
         }
     }
@@ -247,12 +244,12 @@ impl<N: Name + Stoppable, A: Allocator + Copy, H: Host> Site<'_, N, A, H> {
         unreachable!()
     }
 
-    /// Whether nothing went wrong, and what was told is what came of it: each commit but those of the dead, under numbers of their own, and no
-    /// read phase but theirs is left. Workers alone make all that is to be made, and their checkpoints keep the log short.
+    /// Whether nothing went wrong, each commit but those of the dead was told, under its own number, and no read phase but theirs is left; and
+    /// by workers alone, whether all was made, and their checkpoints kept the log short.
     fn is_told(&self, counts: &Counts) -> bool {
         let (by_workers, count) = (self.task.clients == 0, self.task.count);
-        let each = self.task.folded_each.unwrap_or(u64::MAX);
-        let most = each.saturating_mul(self.task.workers as u64);
+        let (each, workers) = (self.task.folded_each, self.task.workers as u64);
+        let most = each.unwrap_or(u64::MAX).saturating_mul(workers);
         let (done, died) = (counts.committed, self.died.load(SeqCst));
         let told = self.told.load(SeqCst);
         self.wrong.load(SeqCst) == 0
@@ -329,7 +326,7 @@ fn on_store<N: Name + Stoppable + Send + Sync, A: Allocator + Copy + Send + Sync
         numbers: AtomicU64::new(0),
         wrong: AtomicU64::new(0),
         died: AtomicU64::new(0),
-        over: AtomicU64::new(0),
+        left: AtomicU64::new(task.workers.saturating_add(task.clients) as u64),
     };
     let micros = play_all(&site, &mut parties);
     site.close(alloc, parties, micros)
@@ -337,7 +334,7 @@ fn on_store<N: Name + Stoppable + Send + Sync, A: Allocator + Copy + Send + Sync
 
 /// Does a task on a new store.
 pub(crate) fn done<H: Host>(rt: &H, alloc: Global, task: Task) -> Result<Outcome, Fault> {
-    let sessions = task.sessions();
+    let sessions = task.workers.saturating_add(task.clients);
     let (schema, base) = (schema(alloc)?, base(alloc, task.load.rows, sessions)?);
     let frame = Frame::resume(alloc, schema, sessions, task.workers, 4, KEPT, base, 0)?;
     on_store::<Brand, Global, H>(rt, alloc, frame, task)

@@ -55,11 +55,6 @@ impl Task {
             seed: round.wrapping_mul(64),
         }
     }
-
-    /// How many workers and clients there are.
-    pub(crate) fn sessions(&self) -> usize {
-        self.workers.saturating_add(self.clients)
-    }
 }
 
 /// How many there are to be, and in how many seconds at most, as a word tells: `20000`, or `60s`.
