@@ -85,7 +85,10 @@ static void all_at_once(void *(*what)(void *)) {
 /* ---- a worker that waits in one call, and is asked for another */
 
 static void *waits(void *worker) {
-    IS(occ_begin(worker), OCC_OK);
+    int code;
+    while ((code = occ_begin(worker)) == OCC_WORKER_BUSY)
+        sched_yield();
+    IS(code, OCC_OK);
     return NULL;
 }
 
