@@ -1,156 +1,222 @@
-//! Loads of like transactions: by one owner on a core or on a bare map, and by threads on a store.
+//! Loads of like transactions: by threads on a store or on an ordered map under one lock, and by one owner on a core or on a bare map.
 //!
-//! - `bench_loads LOAD WAY ROUNDS`: rounds of a load of `loads.rt` by one owner, and how many transactions committed. The way is `steps`,
-//!   `serial` (ended in one event), `alone` (as operations that run alone) or `bare`.
-//! - `bench_loads LOAD WAY THREADS END`: a load by so many workers, until so many transactions or seconds; the ways are in `tasks.rt`.
-//! - `bench_loads bank END`: workers and clients move money, in so many rounds, as `5`, each on a new store, or for so many seconds, as `60s`.
-//! - `bench_loads`: some rounds of the bank; of each load by one owner, how many requests for memory its transactions make, and how many bytes
-//!   of them stay; and short loads by threads. Whether all is right.
+//! `bench_loads LOAD WAY THREADS END` does a load by so many threads and prints what came of it. The load is `accounts`, which is a
+//! transfer over 1,000 rows, or one of `loads.rt`. The way is `steps`, `serial`, `alone` (by a session and its lane: in single events,
+//! ended in one event, as operations that run alone), `worker` or `map`. Behind it may stand `-leased` (16 transactions in one lease, or
+//! in one holding of the map's lock; with `-leased-64` so many) and then `-folded` (a checkpoint every 10,000 transactions of all; with
+//! `-folded-500` every so many; each worker makes its part of them by `checkpoint_each`). The end is a number of transactions, or of
+//! seconds, as `60s`.
+//!
+//! `bench_loads LOAD WAY ROUNDS` does so many rounds by one owner and prints how many transactions committed. The load is one of `loads.rt`,
+//! and the way `steps`, `serial`, `client`, `alone`, `folded` (as `serial`, with a log that is folded every 10,000 rounds) or `bare`.
+//!
+//! `bench_loads bank END` opens the bank of `bank.rt` for so many rounds, or for so many seconds, and prints what came of it.
+//!
+//! With no words it opens the bank for a few rounds; prints how many requests for memory the transactions of each load make by one owner, in
+//! each way, and how many bytes of them stay; and does a short load of each by threads, and prints whether all is right.
 #![tactic(auto)]
 
+mod bank;
+mod bare;
+mod budgets;
+mod by_clients;
+mod by_lanes;
+mod by_lock;
 mod by_owner;
+mod by_stores;
+mod calls;
+mod closing;
+mod costs;
+mod crews;
+mod dice;
+mod folds;
+mod hands;
 mod loads;
-mod sites;
+mod outcomes;
+mod rows;
 mod tasks;
+mod turns;
 
-use anyhow::{Context, Result};
-use by_owner::{ENDINGS, Ending, Owner, on_bare_map};
-use loads::{ACCOUNTS, LOADS, Load, Told};
-use sites::Host;
+use budgets::Until;
+use loads::Load;
+use occ_types::Fault;
+use outcomes::{Done, Told};
+use std::alloc::Global;
+use std::io;
 use std::process::ExitCode;
-use std::time::Instant;
-use tasks::{Task, end_told};
-use test_tools::{Plan, Refusing};
+use std::rt::Runtime;
+use std::sync::Wait;
+use std::thread::Threads;
+use std::time::Clock;
+use tasks::{Asked, By, Named, Task, Way};
 
-const USAGE: &str = "bench_loads [LOAD WAY (ROUNDS | THREADS END) | bank END]";
-/// The way of most short loads.
-const USUAL: &str = "worker-leased-folded";
-/// How many rounds of a load are done where memory is counted, and how many rows a table has at most then, or in a short load.
-const COUNTED: u64 = 1_000;
-
-const MOST_ROWS: u64 = 10_000;
+/// How many rounds of a bank are made where nothing is asked for.
+const BANKS: u64 = 5;
 
 fn main(rt: HostRuntime) -> ExitCode {
-    match run(&rt, &rt) {
+    match words(&rt) {
+        Ok(words) => ended(run(&rt, rt.alloc(), words.as_slice())),
+        Err(_) => ExitCode::FAILURE,
+    }
+}
+
+fn ended(done: io::Result<bool>) -> ExitCode {
+    match done {
         Ok(true) => ExitCode::SUCCESS,
-        Ok(false) => ExitCode::FAILURE,
-        Err(error) => {
-            let _written = eprintln!(rt; "{error:#}");
-            ExitCode::FAILURE
+        Ok(false) | Err(_) => ExitCode::FAILURE,
+    }
+}
+
+/// The words that it was called with.
+fn words(rt: &HostRuntime) -> io::Result<Vec<String>> {
+    let words = std::env::args(rt)?.collect(rt.alloc())?;
+    Ok(words)
+}
+
+/// What the words ask for; false where they ask for nothing, or what came of it is wrong.
+fn run<R: Runtime + Threads + Wait + Sync>(
+    rt: &R,
+    alloc: Global,
+    words: &[String],
+) -> io::Result<bool> {
+    match Asked::of(words) {
+        Some(Asked::All) => check_all(rt, alloc),
+        Some(Asked::Load(task)) => tell(rt, alloc, task, true),
+        Some(Asked::Rounds(rounds)) => costs::tell_rounds(rt, alloc, rounds),
+        Some(Asked::Bank(until)) => tell_bank(rt, alloc, until, true),
+        None => {
+            eprintln!(rt; "bench_loads [LOAD WAY (THREADS END | ROUNDS) | bank END]")?;
+            Ok(false)
         }
     }
 }
 
-/// Does what the words of the call ask for. The second handle is the same, for what starts threads and waits. Whether all is right.
-fn run<H: Host>(rt: &HostRuntime, host: &H) -> Result<bool> {
-    let words: Vec<String> = std::env::args(rt)?.collect(rt.alloc())?;
-    match words.as_slice() {
-        [_] => check_all(rt, host),
-        [_, word, end] if word.as_str() == "bank" => {
-            tell_bank(rt, host, end_told(end).context(USAGE)?, true)
-        }
-        [_, load, way, rounds] => {
-            let load = Load::named(load).context(USAGE)?;
-            tell_rounds(rt, load, way, rounds.parse::<u64>()?)
-        }
-        [_, load, way, threads, end] => {
-            let load = Load::named(load).context(USAGE)?;
-            let task = Task::told(load, way, threads, end).context(USAGE)?;
-            tell(rt, host, way, task, true)
-        }
-        _ => None.context(USAGE),
+/// Does a task.
+fn done<R: Threads + Wait + Clock + Sync>(
+    rt: &R,
+    alloc: Global,
+    task: Task,
+) -> Result<Told, Fault> {
+    match task.way.by {
+        By::Map => by_lock::run(rt, alloc, task),
+        _ => by_stores::open(rt, alloc, task),
     }
 }
 
-/// Does rounds of a load on a core or on a bare map, and prints what they answer.
-fn tell_rounds(rt: &HostRuntime, load: Load, way: &str, rounds: u64) -> Result<bool> {
-    if way == "bare" {
-        let sum = on_bare_map(rt.alloc(), load, rounds)?;
-        println!(rt; "{sum}")?;
-        return Ok(true);
+/// Does a task, and prints what came of it; where it is measured, what each run has of its own too. Whether it is right.
+fn tell<R: Runtime + Threads + Wait + Sync>(
+    rt: &R,
+    alloc: Global,
+    task: Task,
+    measured: bool,
+) -> io::Result<bool> {
+    match done(rt, alloc, task) {
+        Ok(told) => {
+            tell_name(rt, task)?;
+            if measured {
+                tell_measured(rt, told)?;
+            }
+            tell_right(rt, told.is_right(task.until))
+        }
+        Err(fault) => tell_fault(rt, fault),
     }
-    let ending = ENDINGS.iter().find(|it| it.0 == way).context(USAGE)?;
-    let committed = Owner::open(rt.alloc(), load)?.play(ending.1, rounds)?;
-    println!(rt; "{committed}")?;
+}
+
+fn tell_name<R: Runtime>(rt: &R, task: Task) -> io::Result<()> {
+    let (load, by, threads) = (task.load.name, task.way.by.name(), task.threads);
+    let leased = if task.way.leased { "-leased" } else { "" };
+    print!(rt; "{load} by {by}{leased}")?;
+    if task.way.is_unusual() {
+        print!(rt; "-{}", task.way.at_a_time)?;
+    }
+    let folded = if task.way.folded.is_some() {
+        "-folded"
+    } else {
+        ""
+    };
+    print!(rt; "{folded}, {threads} threads: ")
+}
+
+fn tell_measured<R: Runtime>(rt: &R, told: Told) -> io::Result<()> {
+    let Done {
+        committed,
+        backed_up,
+        ..
+    } = told.all;
+    print!(rt; "{committed} committed, {backed_up} backed up, ")?;
+    let (micros, least) = (told.micros, told.least.min(committed));
+    print!(rt; "{micros} us, at least {least} by a thread, ")
+}
+
+fn tell_right<R: Runtime>(rt: &R, right: bool) -> io::Result<bool> {
+    if right {
+        println!(rt; "as it must be")?;
+    } else {
+        println!(rt; "and something is wrong")?;
+    }
+    Ok(right)
+}
+
+fn tell_fault<R: Runtime>(rt: &R, fault: Fault) -> io::Result<bool> {
+    eprintln!(rt; "{fault}")?;
+    Ok(false)
+}
+
+/// Opens a bank, and prints what came of it; where it is measured, the figures too. Whether it is right.
+fn tell_bank<R: Runtime + Threads + Wait + Sync>(
+    rt: &R,
+    alloc: Global,
+    until: Until,
+    measured: bool,
+) -> io::Result<bool> {
+    match bank::rounds(rt, alloc, until) {
+        Ok(told) => {
+            print!(rt; "bank: ")?;
+            if measured {
+                print!(rt; "{} rounds, {} committed, ", told.rounds, told.committed)?;
+                print!(rt;
+                    "{} backed up, {} clients died, ",
+                    told.backed_up, told.died
+                )?;
+            }
+            tell_right(rt, told.right)
+        }
+        Err(fault) => tell_fault(rt, fault),
+    }
+}
+
+/// A few rounds of a bank, what each load costs one owner, and the short loads by threads. Whether all is right.
+fn check_all<R: Runtime + Threads + Wait + Sync>(rt: &R, alloc: Global) -> io::Result<bool> {
+    Ok(
+        tell_bank(rt, alloc, Until::Count(BANKS), false)?
+            && costs::tell_all(rt, alloc)?
+            && check_loads(rt, alloc)?,
+    )
+}
+
+/// A short load by each way, and one of each load. Whether all are right.
+fn check_loads<R: Runtime + Threads + Wait + Sync>(rt: &R, alloc: Global) -> io::Result<bool> {
+    for by in By::ALL {
+        if !check_by(rt, alloc, by)? {
+            return Ok(false);
+        }
+    }
+    for load in Load::ALL {
+        let way = Way::usual(By::Worker, true, true);
+        if !tell(rt, alloc, Task::short(Named::of(load), way), false)? {
+            return Ok(false);
+        }
+    }
     Ok(true)
 }
 
-/// Does a load by threads, and prints what came of it; in full with its figures. Whether it is right.
-fn tell<H: Host>(rt: &HostRuntime, host: &H, way: &str, task: Task, full: bool) -> Result<bool> {
-    let came = sites::done(host, rt.alloc(), task)?;
-    print!(rt; "{} by {way}, {} threads: ", task.load.name, task.workers)?;
-    if full {
-        let (committed, backed_up) = (came.committed, came.backed_up);
-        print!(rt; "{committed} committed, {backed_up} backed up, ")?;
-        print!(rt; "{} us, at least {} by a thread, ", came.micros, came.least)?;
-    }
-    tell_right(rt, came.right)
-}
-
-/// Does rounds of the bank until the end, while they are right, and prints what came of them; in full with their figures.
-fn tell_bank<H: Host>(rt: &HostRuntime, host: &H, end: (u64, u64), full: bool) -> Result<bool> {
-    let ((most, seconds), begun) = (end, Instant::now(rt)?);
-    let (mut rounds, mut right) = (0u64, true);
-    let (mut committed, mut backed_up, mut died) = (0u64, 0u64, 0u64);
-    for round in 0..most {
-        if !right || begun.elapsed(rt)?.as_secs() >= seconds {
-            break;
-        }
-        let came = sites::done(host, rt.alloc(), Task::bank(round))?;
-        committed = committed.saturating_add(came.committed);
-        backed_up = backed_up.saturating_add(came.backed_up);
-        died = died.saturating_add(came.died);
-        (rounds, right) = (round.saturating_add(1), came.right);
-    }
-    print!(rt; "bank: ")?;
-    if full {
-        print!(rt; "{rounds} rounds, {committed} committed, ")?;
-        print!(rt; "{backed_up} backed up, {died} clients died, ")?;
-    }
-    tell_right(rt, right)
-}
-
-fn tell_right(rt: &HostRuntime, right: bool) -> Result<bool> {
-    let told = match right {
-        true => "as it must be",
-        false => "and something is wrong",
-    };
-    println!(rt; "{told}")?;
-    Ok(right)
-}
-
-/// Some rounds of the bank, what each load costs one owner, and short loads by threads. Whether all is right.
-fn check_all<H: Host>(rt: &HostRuntime, host: &H) -> Result<bool> {
-    let mut right = tell_bank(rt, host, (5, u64::MAX), false)?;
-    for told in LOADS {
-        for (way, ending) in ENDINGS {
-            tell_cost(rt, Load::of(told, MOST_ROWS), way, *ending)?;
+/// A short load by this, with each choice of leases and checkpoints. Whether all are right.
+fn check_by<R: Runtime + Threads + Wait + Sync>(rt: &R, alloc: Global, by: By) -> io::Result<bool> {
+    for (leased, folded) in Way::CHOICES {
+        let way = Way::usual(by, leased, folded);
+        if way.is_possible() && !tell(rt, alloc, Task::short(Named::accounts(), way), false)? {
+            return Ok(false);
         }
     }
-    for way in ["worker", "worker-leased", "worker-folded", USUAL].as_slice() {
-        right = tell_short(rt, host, ACCOUNTS, way)? && right;
-    }
-    for told in LOADS {
-        right = tell_short(rt, host, told, USUAL)? && right;
-    }
-    Ok(right)
-}
-
-/// Does a short load by four threads, and prints whether it is right.
-fn tell_short<H: Host>(rt: &HostRuntime, host: &H, told: &Told, way: &str) -> Result<bool> {
-    let task = Task::told(Load::of(told, MOST_ROWS), way, "4", "12000").context(USAGE)?;
-    tell(rt, host, way, task, false)
-}
-
-/// Prints how many transactions of a load commit by one owner, how many requests for memory they make, and how many bytes of them stay.
-fn tell_cost(rt: &HostRuntime, load: Load, way: &str, ending: Ending) -> Result<()> {
-    let lent = Refusing::new(rt.alloc(), Plan::Nothing);
-    let mut owner = Owner::open(&lent, load)?;
-    let (requests, bytes) = (lent.requests(), lent.bytes_out());
-    let committed = owner.play(ending, COUNTED)?;
-    let requests = lent.requests().saturating_sub(requests);
-    let bytes = lent.bytes_out().saturating_sub(bytes);
-    let (name, of) = (load.name, COUNTED.saturating_mul(load.together as u64));
-    print!(rt; "{name} by {way}: {committed} of {of} commit, ")?;
-    Ok(println!(rt; "{requests} requests, {bytes} bytes stay")?)
+    Ok(true)
 }

@@ -10,9 +10,6 @@ use std::alloc::Global;
 
 type Ops = Vec<Op<Global>, Global>;
 
-// The transaction number of what ran alone, and its answers.
-type Ran = (u64, Vec<Answer<Global>, Global>);
-
 // What some operations do: the rows then, and what was asked on the way.
 #[derive(Drop)]
 struct Due {
@@ -28,22 +25,14 @@ pub(crate) fn run_alone(life: &mut Life, one: &mut Session) -> Result<bool, Faul
     };
     let operations = some_operations(life, &mut due)?;
     let busy = life.plain.is_busy();
-    let (tn, answers) = match ran(life, one, operations) {
+    let (tn, answers) = match life.core.run_alone(one.id, one.next(), operations) {
         Ok(ran) => ran,
-        Err(fault) => return Ok(busy && fault == Fault::StoreBusy),
+        Err(refused) => return Ok(busy && refused.fault == Fault::StoreBusy),
     };
     let answered = are_due(life.alloc, &due.work.asked, &answers)?;
     one.work = due.work;
     one.work.asked.clear();
     Ok(committed(life, one, tn)? && answered && !busy)
-}
-
-// What comes of operations that a session runs alone.
-fn ran(life: &mut Life, one: &Session, operations: Ops) -> Result<Ran, Fault> {
-    match life.core.run_alone(one.id, one.next(), operations) {
-        Ok(ran) => Ok(ran),
-        Err(refused) => Err(refused.fault),
-    }
 }
 
 // Up to five operations, and what they do.

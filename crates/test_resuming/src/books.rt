@@ -1,11 +1,11 @@
 //! Random books, each of which is gone on from twice.
-use crate::cuts::{into_base, left, loaded, resumed};
+use crate::cuts::{left, loaded, resumed};
 use crate::dice::Dice;
 use crate::lives::{Life, Phase, Session};
 use crate::past::Stands;
 use crate::turns::turn;
 use occ_core::Core;
-use occ_types::Fault;
+use occ_types::{Fault, Refused};
 use std::alloc::Global;
 
 /// More turns than a session needs to end what it has under way.
@@ -53,24 +53,13 @@ fn live(alloc: Global, seed: u64, sums: &mut Sums) -> Result<(), Fault> {
 // A store that goes on from what a random schedule made of this one.
 fn go_on(mut book: Book, sums: &mut Sums) -> Result<Book, Fault> {
     play(&mut book)?;
-    let mut book = if book.life.plain.is_busy() {
-        refused_while_busy(book, sums)?
-    } else {
-        book
-    };
-    let whole = ended(&mut book, sums)?;
-    resumed(left(book, whole)?)
-}
-
-// Sees that all is right still, ends what is under way, or not, and adds what came of all. Whether nothing is under way.
-fn ended(book: &mut Book, sums: &mut Sums) -> Result<bool, Fault> {
-    due(book.life.is_right()?)?;
+    let mut book = refused_while_busy(book, sums)?;
     let whole = book.life.dice.below(3) > 0;
     if whole {
-        settle(book)?;
+        settle(&mut book)?;
     }
-    add(book, sums);
-    Ok(whole)
+    add(&book, sums);
+    resumed(left(book, whole)?)
 }
 
 // Some turns, and whether all is right then.
@@ -111,6 +100,9 @@ fn checkpoint(book: &mut Book) -> bool {
 
 // A store that has a transaction active is no base, and comes back as it was.
 fn refused_while_busy(book: Book, sums: &mut Sums) -> Result<Book, Fault> {
+    if !book.life.plain.is_busy() {
+        return Ok(book);
+    }
     sums.busy = sums.busy.saturating_add(1);
     let Book { life, sessions } = book;
     let Life {
@@ -119,19 +111,25 @@ fn refused_while_busy(book: Book, sums: &mut Sums) -> Result<Book, Fault> {
         plain,
         dice,
     } = life;
-    let core = handed_back(alloc, core)?;
+    let core = Box::new(alloc, handed_back(core)?)?;
     let life = Life {
         alloc,
         core,
         plain,
         dice,
     };
+    due(life.is_right()?)?;
     Ok(Book { life, sessions })
 }
 
-fn handed_back(alloc: Global, core: Box<Core<Global>>) -> Result<Box<Core<Global>>, Fault> {
-    match into_base(core) {
-        Err(refused) if refused.fault == Fault::StoreBusy => Ok(Box::new(alloc, refused.value)?),
+fn handed_back(core: Box<Core<Global>>) -> Result<Core<Global>, Fault> {
+    match Box::into_inner(core).into_base() {
+        Err(
+            Refused {
+                value,
+                fault: Fault::StoreBusy,
+            },
+        ) => Ok(value),
         _ => Err(Fault::QueueFull),
     }
 }

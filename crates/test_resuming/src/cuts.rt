@@ -59,65 +59,38 @@ fn listed(alloc: Global, rows: &Rows) -> Result<Vec<(Object<Global>, Row<Global>
 
 /// What a store leaves: the base of all that it did, where nothing is under way, or the base that was folded until now.
 pub(crate) fn left(book: Book, whole: bool) -> Result<Cut, Fault> {
-    let count = if whole {
-        book.life.plain.past.len()
-    } else {
-        book.life.plain.folded
-    };
-    let (rows, numbers) = rows_and_numbers(&book, count)?;
+    let Book { life, sessions } = book;
     let Life {
         alloc,
         core,
         plain,
         dice,
-    } = book.life;
+    } = life;
+    let count = if whole {
+        plain.past.len()
+    } else {
+        plain.folded
+    };
+    let Some(rows) = replayed(&plain.past, count, &plain.first) else {
+        return Err(Fault::QueueFull);
+    };
+    let base = base_of(core, whole)?;
     Ok(Cut {
         alloc,
         dice,
-        base: base_of(alloc, core, whole)?,
+        base: Box::new(alloc, base)?,
         rows,
-        numbers,
+        numbers: numbers_of(alloc, &sessions, &plain, count)?,
         place: plain.place.saturating_add(count),
         counter: plain.counter,
     })
 }
 
-// The rows and the last numbers that a store leaves once so many transactions are folded.
-fn rows_and_numbers(book: &Book, count: usize) -> Result<(Rows, Vec<u64>), Fault> {
-    let Life { alloc, plain, .. } = &book.life;
-    let Some(rows) = replayed(&plain.past, count, &plain.first) else {
-        return Err(Fault::QueueFull);
-    };
-    Ok((rows, numbers_of(*alloc, &book.sessions, plain, count)?))
-}
-
-fn base_of(
-    alloc: Global,
-    core: Box<Core<Global>>,
-    whole: bool,
-) -> Result<Box<Base<Global>>, Fault> {
-    let base = if whole {
-        whole_base(core)?
-    } else {
-        folded_base(&core)?
-    };
-    Ok(Box::new(alloc, base)?)
-}
-
-fn whole_base(core: Box<Core<Global>>) -> Result<Base<Global>, Fault> {
-    match into_base(core) {
-        Ok(base) => Ok(base),
-        Err(refused) => Err(refused.fault),
+fn base_of(core: Box<Core<Global>>, whole: bool) -> Result<Base<Global>, Fault> {
+    if whole {
+        return Ok(Box::into_inner(core).into_base()?);
     }
-}
-
-fn folded_base(core: &Core<Global>) -> Result<Base<Global>, Fault> {
     Ok(core.base().clone()?)
-}
-
-/// The base that a core leaves. It is refused, and the core comes back, while a transaction is active.
-pub(crate) fn into_base(core: Box<Core<Global>>) -> Result<Base<Global>, Refused<Core<Global>>> {
-    Box::into_inner(core).into_base()
 }
 
 // The last number of each session once so many transactions are folded; 0 where it has none.
@@ -139,77 +112,34 @@ pub(crate) fn resumed(cut: Cut) -> Result<Book, Fault> {
     let Cut {
         alloc,
         mut dice,
-        base,
+        mut base,
         rows,
         mut numbers,
         place,
         mut counter,
     } = cut;
-    let base = varied(alloc, &mut dice, base, &mut numbers, &mut counter)?;
-    check_base(alloc, &base, &rows, &numbers, place)?;
-    let (count, keep) = (numbers.len().saturating_add(dice.below(3)), dice.below(5));
-    let sessions = begun(alloc, &numbers, count)?;
-    let core = go_on(alloc, base, (count, keep, counter))?;
-    let plain = Plain::new(alloc, rows, (place, counter, keep));
-    let life = Life {
-        alloc,
-        core,
-        plain,
-        dice,
-    };
-    check_life(&life)?;
-    Ok(Book { life, sessions })
-}
-
-// The same base, or in a third of all cases with no numbers, and behind the counter 0. In a third it was refused before, and came back.
-fn varied(
-    alloc: Global,
-    dice: &mut Dice,
-    base: Box<Base<Global>>,
-    numbers: &mut [u64],
-    counter: &mut u64,
-) -> Result<Box<Base<Global>>, Fault> {
-    let mut base = Box::into_inner(base);
     if dice.below(3) == 0 {
-        numbers.fill(0);
-        *counter = 0;
-        base = base.renumbered();
+        base = renumbered(alloc, base, numbers.as_mut_slice())?;
+        counter = 0;
     }
     if dice.below(3) == 0 {
         base = handed_back(alloc, base)?;
     }
-    Ok(Box::new(alloc, base)?)
-}
-
-// A base is refused where it has more sessions, and comes back.
-fn handed_back(alloc: Global, base: Base<Global>) -> Result<Base<Global>, Fault> {
-    let fewer = base.numbers().sessions().saturating_sub(1);
-    match Core::resume(alloc, schema(alloc)?, fewer, 1, base, 0) {
-        Err(
-            Refused {
-                value: (_schema, base),
-                fault: Fault::NoSession,
-            },
-        ) => Ok(base),
-        _ => Err(Fault::QueueFull),
-    }
-}
-
-// Nothing where a base has these rows and numbers, and its next row this place.
-fn check_base(
-    alloc: Global,
-    base: &Base<Global>,
-    rows: &Rows,
-    numbers: &[u64],
-    place: usize,
-) -> Result<(), Fault> {
-    due(base.place() == place && has_numbers(base, numbers))?;
-    due(rows.are_based(alloc, base)?)
-}
-
-// Nothing where a core that begins is what it is to be, and has no marks.
-fn check_life(life: &Life) -> Result<(), Fault> {
-    due(life.is_right()? && life.core.marks().is_empty())
+    due(base.place() == place && has_numbers(&base, &numbers))?;
+    due(has_rows(alloc, &base, &rows)?)?;
+    let sessions = numbers.len().saturating_add(dice.below(3));
+    let keep = dice.below(5);
+    let life = Life {
+        alloc,
+        core: go_on(alloc, base, (sessions, keep, counter))?,
+        plain: Plain::new(alloc, rows, (place, counter, keep)),
+        dice,
+    };
+    due(life.is_right()? && life.core.marks().is_empty())?;
+    Ok(Book {
+        life,
+        sessions: begun(alloc, &numbers, sessions)?,
+    })
 }
 
 fn go_on(
@@ -222,6 +152,32 @@ fn go_on(
     Ok(Box::new(alloc, core)?)
 }
 
+fn renumbered(
+    alloc: Global,
+    base: Box<Base<Global>>,
+    numbers: &mut [u64],
+) -> Result<Box<Base<Global>>, Fault> {
+    for number in numbers {
+        *number = 0;
+    }
+    let base = Box::into_inner(base).renumbered();
+    Ok(Box::new(alloc, base)?)
+}
+
+// A base is refused where it has more sessions, and comes back.
+fn handed_back(alloc: Global, base: Box<Base<Global>>) -> Result<Box<Base<Global>>, Fault> {
+    let fewer = base.numbers().sessions().saturating_sub(1);
+    match Core::resume(alloc, schema(alloc)?, fewer, 1, Box::into_inner(base), 0) {
+        Err(
+            Refused {
+                value: (_schema, base),
+                fault: Fault::NoSession,
+            },
+        ) => Ok(Box::new(alloc, base)?),
+        _ => Err(Fault::QueueFull),
+    }
+}
+
 // Whether these are the last numbers of a base, with 0 for a session that has none.
 fn has_numbers(base: &Base<Global>, numbers: &[u64]) -> bool {
     for at in 0..numbers.len() {
@@ -231,6 +187,11 @@ fn has_numbers(base: &Base<Global>, numbers: &[u64]) -> bool {
         }
     }
     base.numbers().sessions() == numbers.len()
+}
+
+fn has_rows(alloc: Global, base: &Base<Global>, rows: &Rows) -> Result<bool, Fault> {
+    let tables = Box::new(alloc, base.state()?)?;
+    rows.are_in(alloc, &tables)
 }
 
 // So many sessions, each of which had this last number, if any.

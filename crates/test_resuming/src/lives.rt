@@ -172,16 +172,12 @@ pub(crate) struct Life {
 impl Life {
     /// Whether the core shows what it is to be, and its audit is yes.
     pub(crate) fn is_right(&self) -> Result<bool, Fault> {
-        let stand = self.plain.rows.are_in(self.alloc, self.core.table())?;
-        Ok(self.is_counted() && stand && audit_rows(self.alloc, &self.core.view())?)
-    }
-
-    // Whether the core has the counter, the window and as many transactions as it is to have.
-    fn is_counted(&self) -> bool {
         let (core, plain) = (&self.core, &self.plain);
         let counted = core.tnc() == plain.counter && core.low() == plain.low();
         let rows = core.log().len().saturating_add(plain.folded);
-        counted && rows == plain.past.len()
+        let right = counted && rows == plain.past.len();
+        let stand = plain.rows.are_in(self.alloc, core.table())?;
+        Ok(right && stand && audit_rows(self.alloc, &core.view())?)
     }
 
     /// Whether serial replay leaves the rows that stand in the tables, and those of the folded transactions in the base.
@@ -191,7 +187,7 @@ impl Life {
         let Some(folded) = replayed(&plain.past, plain.folded, &plain.first) else {
             return Ok(false);
         };
-        let based = folded.are_based(self.alloc, self.core.base())?;
-        Ok(all == Some(plain.rows) && based)
+        let base = Box::new(self.alloc, self.core.base().state()?)?;
+        Ok(all == Some(plain.rows) && folded.are_in(self.alloc, &base)?)
     }
 }

@@ -1,6 +1,6 @@
 //! The rows of a book as a plain list, which the test itself keeps.
 use crate::objects::{KEYS, PLACES, key_of, table_of};
-use occ_book::{Base, Tables};
+use occ_book::Tables;
 use occ_types::{Fault, Key, Row};
 use std::alloc::Global;
 
@@ -52,12 +52,6 @@ impl Rows {
             count = count.saturating_add(usize::from(row.is_some()));
         }
         Ok(tables.len() == count)
-    }
-
-    /// Whether these are the rows of a base.
-    pub(crate) fn are_based(&self, alloc: Global, base: &Base<Global>) -> Result<bool, Fault> {
-        let tables = Box::new(alloc, base.state()?)?;
-        self.are_in(alloc, &tables)
     }
 
     /// Whether these are the rows of some places, one after another.

@@ -7,8 +7,8 @@ use crate::rows::{ends, is_row};
 use occ_case::Verdict;
 use occ_core::{Outcome, SingleWrite};
 use occ_queue::Item;
-use occ_sets::{RangeRows, RequestWrites, WriteSet};
-use occ_types::{Fault, Key, Row};
+use occ_sets::{RequestWrites, WriteSet};
+use occ_types::{Fault, Row};
 use std::alloc::Global;
 
 /// The next turn of a session. Whether what came was due.
@@ -54,12 +54,7 @@ fn begin(life: &mut Life, one: &mut Session) -> bool {
 fn close(life: &mut Life, one: &mut Session) -> Result<bool, Fault> {
     let mark = Item::Close { number: one.next() };
     one.phase = Phase::Closed;
-    Ok(matches!(hand_in(life, one.id, mark), Some(Outcome::MarkedClosed)))
-}
-
-// What comes of an item that enters, or nothing where it is refused.
-fn hand_in(life: &mut Life, id: usize, item: Item<Global>) -> Option<Outcome<Global>> {
-    life.core.enter(id, item).ok()
+    Ok(matches!(life.core.enter(one.id, mark), Ok(Outcome::MarkedClosed)))
 }
 
 // Some places of one table.
@@ -85,42 +80,29 @@ fn ask(life: &Life, one: &mut Session, places: (usize, usize)) -> Result<(), Fau
 fn read(life: &mut Life, one: &mut Session) -> Result<bool, Fault> {
     let place = some_place(life);
     let key = key_of(life.alloc, place)?;
-    let found = read_row(life, one, place, &key)?;
+    let (number, start) = (one.next(), one.work.start);
+    let found = life
+        .core
+        .read(one.id, number, start, table_of(place), &key)?;
     ask(life, one, (place, place.saturating_add(1)))?;
     Ok(is_row(found.as_ref(), life.plain.rows.at(place)))
-}
-
-// The row of a place, as the open transaction reads it.
-fn read_row(
-    life: &mut Life,
-    one: &Session,
-    place: usize,
-    key: &Key<Global>,
-) -> Result<Option<Row<Global>>, Fault> {
-    let (number, start) = (one.next(), one.work.start);
-    life.core.read(one.id, number, start, table_of(place), key)
 }
 
 fn scan(life: &mut Life, one: &mut Session) -> Result<bool, Fault> {
     let places = some_places(life);
     let (lower, upper) = ends(life.alloc, places)?;
-    let found = scanned(life, one, places.0, lower.as_ref(), upper.as_ref())?;
+    let (number, start) = (one.next(), one.work.start);
+    let found = life.core.scan(
+        one.id,
+        number,
+        start,
+        table_of(places.0),
+        lower.as_ref(),
+        upper.as_ref(),
+    )?;
     ask(life, one, places)?;
     let rows = life.plain.rows;
     rows.are_answered(life.alloc, places, found.as_slice())
-}
-
-// The rows between two ends, as the open transaction reads them, in the table of a place.
-fn scanned(
-    life: &mut Life,
-    one: &Session,
-    place: usize,
-    lower: Option<&Key<Global>>,
-    upper: Option<&Key<Global>>,
-) -> Result<RangeRows<Global>, Fault> {
-    let (number, start) = (one.next(), one.work.start);
-    life.core
-        .scan(one.id, number, start, table_of(place), lower, upper)
 }
 
 // A row or its deletion goes into the private copy.
@@ -168,7 +150,7 @@ fn set(
 
 fn enter(life: &mut Life, one: &mut Session) -> Result<bool, Fault> {
     let item = request(life.alloc, one)?;
-    let Some(Outcome::Entered { place }) = hand_in(life, one.id, item) else {
+    let Ok(Outcome::Entered { place }) = life.core.enter(one.id, item) else {
         return Ok(false);
     };
     let commits = life.plain.commits(&one.work);
@@ -181,22 +163,14 @@ fn serial_end(life: &mut Life, one: &mut Session) -> Result<bool, Fault> {
     let item = request(life.alloc, one)?;
     let commits = life.plain.commits(&one.work);
     let busy = life.plain.is_busy();
-    match end_serially(life, one.id, item) {
+    match life.core.serial_end(one.id, item) {
         Ok(Outcome::Committed { tn }) => Ok(committed(life, one, tn)? && commits && !busy),
         Ok(Outcome::BackedUp(_)) => {
             life.plain.note(life.alloc, one, Stands::Back)?;
             Ok(!commits && !busy)
         }
         Ok(_) => Ok(false),
-        Err(fault) => Ok(busy && fault == Fault::StoreBusy),
-    }
-}
-
-// What comes of an item that enters and ends in one step.
-fn end_serially(life: &mut Life, id: usize, item: Item<Global>) -> Result<Outcome<Global>, Fault> {
-    match life.core.serial_end(id, item) {
-        Ok(outcome) => Ok(outcome),
-        Err(refused) => Err(refused.fault),
+        Err(refused) => Ok(busy && refused.fault == Fault::StoreBusy),
     }
 }
 

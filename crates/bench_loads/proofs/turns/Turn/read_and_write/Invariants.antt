@@ -1,5 +1,5 @@
 use Rattle.std.proofs.Common.{◌≡◌}
-use Rattle.bench_loads.proofs.loads.WorkBody.run.Given as goal
+use Rattle.bench_loads.proofs.turns.Turn.read_and_write.Given as goal
 
 -- the transaction stays its session's
 abbrev pub invariant-loop-place : goal.invariant-loop-place
