@@ -6,8 +6,8 @@ use crate::phrases::{
     write_object, write_transaction,
 };
 use crate::sayings::{Saying, Subject};
-use occ_book::LogRow;
 use occ_audit::{Disorder, Finding, ObjectApart, WrongRead};
+use occ_book::LogRow;
 use occ_reading::whole_books::PrintedBook;
 use occ_sets::{Answer, ObservationRef};
 use occ_types::{Key, Row, Schema};

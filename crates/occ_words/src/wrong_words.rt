@@ -187,14 +187,9 @@ fn write_other_word(
     };
     push_all(
         line,
-        &[
-            "`",
-            shown(word),
-            "` is no word of a line here; likely `",
-            form,
-            "`",
-        ],
+        &["`", shown(word), "` is no word of a line here; likely `"],
     )?;
+    push_all(line, &[form, "`"])?;
     if word.eq_ignore_ascii_case(b"commit") {
         line.push_str(
             ", and behind it `enter S`, `decide S`, `write S` and `finish S`, or `serial S` in place of these",
