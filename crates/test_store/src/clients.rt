@@ -1,7 +1,7 @@
 //! Clients that do what a seed says.
 use crate::desks::seven;
 use occ_model::Verdict;
-use occ_store::{Counts, Gate, Lane, Name, Op, Served, Session, Store};
+use occ_store::{Name, Op, Session, Store};
 use occ_types::{Cell, Fault, Key, Row};
 use std::alloc::Allocator;
 use std::sync::Wait;
@@ -128,7 +128,8 @@ fn ask<N: Name, A: Allocator + Copy, R: Wait>(
     }
     let found = number(rt, store, session, key)?;
     if kind <= 5 {
-        return delete(session, key);
+        session.delete(0, Key::Num(key))?;
+        return Ok(());
     }
     put(session, key, found.unwrap_or(0).saturating_add(1))
 }
@@ -175,15 +176,6 @@ pub(crate) fn put<N: Name, A: Allocator + Copy>(
     number: i64,
 ) -> Result<(), Fault> {
     session.put(0, Key::Num(key), Row::from_cell(Cell::Int(number)))?;
-    Ok(())
-}
-
-/// The open transaction deletes a key.
-pub(crate) fn delete<N: Name, A: Allocator + Copy>(
-    session: &mut Session<N, A>,
-    key: u64,
-) -> Result<(), Fault> {
-    session.delete(0, Key::Num(key))?;
     Ok(())
 }
 
@@ -236,22 +228,6 @@ pub(crate) fn close_once<N: Name, A: Allocator + Copy, R: Wait>(
     session: &mut Session<N, A>,
 ) -> Result<u64, Fault> {
     session.close(rt)
-}
-
-/// Serves a lane once.
-pub(crate) fn serve<N: Name, A: Allocator + Copy, R: Wait, G: Gate>(
-    rt: &R,
-    store: &Store<N, A>,
-    lane: &mut Lane<N, A>,
-    gate: &G,
-) -> Result<Served, Fault> {
-    lane.serve_one(rt, store, gate)
-}
-
-/// What the store has counted.
-pub(crate) fn counts<N: Name, A: Allocator + Copy, R: Wait>(rt: &R, store: &Store<N, A>) -> Counts {
-    let mut observer = store.observer(rt);
-    store.counts(rt, &mut observer)
 }
 
 /// A checkpoint. How many rows it folds.

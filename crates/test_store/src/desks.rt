@@ -1,12 +1,11 @@
 //! A store with its sessions and lanes, on which scenarios and loads are played.
 ghost use Rattle.std.specs.Prelude.{◌≡◌};
 
-use crate::clients::{begin, close_once, delete, hand_in, hand_in_alone, put, serve};
+use crate::clients::{begin, close_once, hand_in, hand_in_alone, put};
 use crate::plays::{Scene, play};
 use occ_audit::audit_rows;
 use occ_store::{
-    AlwaysGo, Base, Frame, Gate, Group, Lane, Marks, Name, Op, Opened, Served, Session, Store,
-    Tables,
+    AlwaysGo, Base, Frame, Gate, Group, Lane, Marks, Name, Op, Served, Session, Store, Tables,
 };
 use occ_types::{Cell, Fault, Key, KeyKind, Kind, Refused, Row, Schema};
 use std::alloc::Allocator;
@@ -34,6 +33,9 @@ pub(crate) struct Settings {
     /// Whether its opening finds no memory at one of its requests, and is tried again.
     pub(crate) starved: bool,
 }
+
+/// A store with its sessions and lanes.
+type Opened<N, A> = (Store<N, A>, Vec<Session<N, A>, A>, Vec<Lane<N, A>, A>);
 
 /// A store with all that was opened with it.
 #[derive(Drop)]
@@ -83,27 +85,19 @@ fn empty<A: Allocator + Copy>(
     schema: Schema<A>,
     settings: Settings,
 ) -> Result<Frame<A>, Fault> {
-    match begin_empty(alloc, schema, settings) {
-        Ok(frame) => Ok(frame),
-        Err(refused) => match begin_empty(alloc, refused.value, settings) {
-            Ok(frame) => Ok(frame),
-            Err(refused) => Err(refused.fault),
-        },
-    }
-}
-
-fn begin_empty<A: Allocator + Copy>(
-    alloc: A,
-    schema: Schema<A>,
-    settings: Settings,
-) -> Result<Frame<A>, Refused<Schema<A>>> {
     let Settings {
         sessions,
         capacity,
         keep,
         ..
     } = settings;
-    Frame::new(alloc, schema, sessions, 0, capacity, keep)
+    match Frame::new(alloc, schema, sessions, 0, capacity, keep) {
+        Ok(frame) => Ok(frame),
+        Err(refused) => {
+            let frame = Frame::new(alloc, refused.value, sessions, 0, capacity, keep)?;
+            Ok(frame)
+        }
+    }
 }
 
 // The frame of a store that goes on. Where it finds no memory it is made of the schema and the base that came back.
@@ -180,7 +174,7 @@ fn played_on<
     requires named { frame.named ≡ N.named }
     requires ledger { (frame.ledger ≡ N.name) × (frame.parts ≡ N.parts) }
 {
-    let Ok((store, _workers, sessions, lanes)) = opened::<N, A>(frame) else {
+    let Ok((store, sessions, lanes)) = opened::<N, A>(frame) else {
         return Err(Fault::Memory);
     };
     let mut desk = Desk {
@@ -192,13 +186,13 @@ fn played_on<
     deal_and_play(rt, &mut desk, lanes, groups, scene)
 }
 
-/// The store of a frame, with what was opened with it. Where it finds no memory it is opened of the frame that came back.
-pub(crate) fn opened<N: Name, A: Allocator + Copy>(frame: Frame<A>) -> Result<Opened<N, A>, Fault>
+// The store of a frame. Where it finds no memory it is opened of the frame that came back.
+fn opened<N: Name, A: Allocator + Copy>(frame: Frame<A>) -> Result<Opened<N, A>, Fault>
     requires named { frame.named ≡ N.named }
     requires ledger { (frame.ledger ≡ N.name) × (frame.parts ≡ N.parts) }
 {
     match Store::<N, A>::open(frame) {
-        Ok(opened) => Ok(opened),
+        Ok((store, _workers, sessions, lanes)) => Ok((store, sessions, lanes)),
         Err(refused) => opened_again::<N, A>(refused.value),
     }
 }
@@ -209,7 +203,7 @@ fn opened_again<N: Name, A: Allocator + Copy>(frame: Frame<A>) -> Result<Opened<
     requires ledger { (frame.ledger ≡ N.name) × (frame.parts ≡ N.parts) }
 {
     match Store::<N, A>::open(frame) {
-        Ok(opened) => Ok(opened),
+        Ok((store, _workers, sessions, lanes)) => Ok((store, sessions, lanes)),
         Err(refused) => Err(refused.fault),
     }
 }
@@ -312,7 +306,7 @@ impl<N: Name, A: Allocator + Copy> Desk<N, A> {
         key: u64,
     ) -> Result<u64, Fault> {
         let session = self.session(session)?;
-        delete(session, key)?;
+        session.delete(0, Key::Num(key))?;
         hand_in(rt, session)
     }
 
@@ -344,8 +338,7 @@ impl<N: Name, A: Allocator + Copy> Desk<N, A> {
         session: usize,
         gate: &G,
     ) -> Result<Served, Fault> {
-        let lane = lane_of(&mut self.groups, session)?;
-        serve(rt, &self.store, lane, gate)
+        lane_of(&mut self.groups, session)?.serve_one(rt, &self.store, gate)
     }
 
     /// The lane of a session goes on with what it has left.

@@ -6,7 +6,6 @@
 mod accounts;
 mod answers;
 mod clients;
-mod deeds;
 mod desks;
 mod gates;
 mod loads;

@@ -1,11 +1,9 @@
 //! Clients that wait with patience: beside a validator in a thread, and where nobody serves their lane for a while.
 ghost use Rattle.std.specs.Prelude.{◌≡◌};
 
-use crate::clients::{begin, counts, hand_in, number, serve};
-use crate::deeds::{Deed, DeedError, FROM};
-use crate::desks::opened;
-use occ_store::{AlwaysGo, Awaited, Frame, Group, Lane, Name, Session, Store};
-use occ_types::{Fault, KeyKind, Kind, Schema};
+use crate::transfers::TransferError;
+use occ_store::{AlwaysGo, Awaited, Body, Frame, Group, Lane, Name, Session, Store, Transaction};
+use occ_types::{Fault, Key, KeyKind, Kind, Schema};
 use std::alloc::{Allocator, Global};
 use std::io;
 use std::marker::Brand;
@@ -14,28 +12,38 @@ use std::sync::atomic::{AtomicU64, Ordering};
 use std::thread::{self, Threads};
 use std::time::Clock;
 
+/// The key of the account.
+const ACCOUNT: u64 = 7;
+
 /// How often a client waits beside a validator.
 const PATIENCE: u64 = 1_000_000;
 
-/// Pays an amount in, tried and waited for so often.
-fn tried<N: Name, A: Allocator + Copy, R: Wait + Clock>(
-    rt: &R,
-    store: &Store<N, A>,
-    session: &mut Session<N, A>,
+/// Pays an amount in, and answers what the account has then.
+#[derive(Clone, Copy)]
+struct Payment {
     amount: i64,
-    (tries, patience): (usize, u64),
-) -> Result<Awaited<i64>, DeedError> {
-    session.transact(rt, store, tries, patience, &mut Deed::Payment(amount))
 }
 
-/// A session gives up what is open, and closes. The number of its mark.
-fn give_up<N: Name, A: Allocator + Copy, R: Wait + Clock>(
-    rt: &R,
-    store: &Store<N, A>,
-    session: &mut Session<N, A>,
-    patience: u64,
-) -> Result<u64, Fault> {
-    session.give_up(rt, store, patience)
+impl<N: Name, A: Allocator + Copy, R: Wait> Body<N, A, R> for Payment {
+    type Value = i64;
+
+    type Error = TransferError;
+
+    fn run(
+        &mut self,
+        rt: &R,
+        store: &Store<N, A>,
+        work: &mut Transaction<N, A>,
+    ) -> Result<i64, TransferError> {
+        let row = work.get(rt, store, 0, &Key::Num(ACCOUNT))?;
+        let balance = row.as_ref().and_then(|row| row.int(0)).unwrap_or(0);
+        let paid = balance.saturating_add(self.amount);
+        work.put(0, ACCOUNT.into(), paid.into())?;
+        if paid < 0 {
+            return Err(TransferError::InsufficientFunds);
+        }
+        Ok(paid)
+    }
 }
 
 /// A client that pays in 1 fifty times, counts what committed, and gives up at last, whatever it met.
@@ -46,14 +54,15 @@ fn pay<N: Name, A: Allocator + Copy, R: Wait + Clock>(
     committed: &AtomicU64,
 ) {
     for _ in 0..50 {
-        match tried(rt, store, session, 1, (1_000, PATIENCE)) {
+        let mut body = Payment { amount: 1 };
+        match session.transact(rt, store, 1_000, PATIENCE, &mut body) {
             Ok(Awaited::Settled(ended)) if ended.tn().is_some() => {
                 committed.fetch_add(1, Ordering::SeqCst);
             }
             _ => break,
         }
     }
-    let _mark = give_up(rt, store, session, PATIENCE);
+    let _mark = session.give_up(rt, store, PATIENCE);
 }
 
 /// Clients in threads beside a validator in another. How many payments committed.
@@ -76,7 +85,7 @@ fn pay_beside<
 /// What came of the turns of a client whose lane is served now and then.
 #[derive(Clone, Copy)]
 struct Turns {
-    waits: [Result<Awaited<i64>, DeedError>; 5],
+    waits: [Result<Awaited<i64>, TransferError>; 5],
     marks: [Result<u64, Fault>; 3],
     reading: [usize; 2],
 }
@@ -85,8 +94,8 @@ struct Turns {
 fn wait_again<N: Name, A: Allocator + Copy, R: Wait + Clock>(
     rt: &R,
     session: &mut Session<N, A>,
-    waited: Result<Awaited<i64>, DeedError>,
-) -> Result<Awaited<i64>, DeedError> {
+    waited: Result<Awaited<i64>, TransferError>,
+) -> Result<Awaited<i64>, TransferError> {
     match waited {
         Ok(Awaited::Pending(pending)) => Ok(session.wait(rt, pending, 3)),
         other => other,
@@ -100,22 +109,23 @@ fn play_late<N: Name, A: Allocator + Copy, R: Wait + Clock>(
     session: &mut Session<N, A>,
     lane: &mut Lane<N, A>,
 ) -> Result<Turns, Fault> {
-    let pending = tried(rt, store, session, 0, (3, 3));
-    let full = tried(rt, store, session, 0, (3, 3));
+    let pending = session.transact(rt, store, 3, 3, &mut Payment { amount: 0 });
+    let full = session.transact(rt, store, 3, 3, &mut Payment { amount: 0 });
     let again = wait_again(rt, session, pending);
-    serve(rt, store, lane, &AlwaysGo)?;
+    lane.serve_one(rt, store, &AlwaysGo)?;
     let served = wait_again(rt, session, again);
-    let uncovered = tried(rt, store, session, -1_000, (3, 3));
-    begin(session)?;
-    hand_in(rt, session)?;
-    begin(session)?;
-    let _balance = number(rt, store, session, FROM)?;
-    let reading = counts(rt, store).reading;
-    let refused = give_up(rt, store, session, 3);
-    let left = counts(rt, store).reading;
-    serve(rt, store, lane, &AlwaysGo)?;
-    let closed = give_up(rt, store, session, 3);
-    let closed_again = give_up(rt, store, session, 3);
+    let uncovered = session.transact(rt, store, 3, 3, &mut Payment { amount: -1_000 });
+    session.begin()?;
+    session.submit(rt)?;
+    session.begin()?;
+    let _row = session.get(rt, store, 0, &Key::Num(ACCOUNT))?;
+    let mut observer = store.observer(rt);
+    let reading = store.counts(rt, &mut observer).reading;
+    let refused = session.give_up(rt, store, 3);
+    let left = store.counts(rt, &mut observer).reading;
+    lane.serve_one(rt, store, &AlwaysGo)?;
+    let closed = session.give_up(rt, store, 3);
+    let closed_again = session.give_up(rt, store, 3);
     Ok(Turns {
         waits: [pending, full, again, served, uncovered],
         marks: [refused, closed, closed_again],
@@ -138,15 +148,15 @@ fn play_by<
 >(
     rt: &R,
     store: &Store<N, A>,
-    sessions: &mut [Session<N, A>],
+    mut sessions: Vec<Session<N, A>, A>,
     mut lanes: Vec<Lane<N, A>, A>,
 ) -> Result<Told, Fault> {
-    let (Some((session, others)), Some(mut lane)) = (sessions.split_last_mut(), lanes.pop()) else {
+    let (Some(mut session), Some(mut lane)) = (sessions.pop(), lanes.pop()) else {
         return Err(Fault::NoSession);
     };
     let mut group = Group::new(lanes);
-    let committed = pay_beside(rt, store, others, &mut group);
-    let turns = play_late(rt, store, session, &mut lane)?;
+    let committed = pay_beside(rt, store, sessions.as_mut_slice(), &mut group);
+    let turns = play_late(rt, store, &mut session, &mut lane)?;
     Ok(Told { committed, turns })
 }
 
@@ -158,10 +168,10 @@ fn play_on<
 >(rt: &R, frame: Frame<A>) -> Result<Told, Fault>
     requires { (frame.named ≡ N.named) × (frame.ledger ≡ N.name) × (frame.parts ≡ N.parts) }
 {
-    let Ok((store, _workers, mut sessions, lanes)) = opened::<N, A>(frame) else {
+    let Ok((store, _workers, sessions, lanes)) = Store::<N, A>::open(frame) else {
         return Err(Fault::Memory);
     };
-    play_by(rt, &store, &mut sessions, lanes)
+    play_by(rt, &store, sessions, lanes)
 }
 
 /// The same on a new store, whose queues hold one item.

@@ -4,7 +4,7 @@ use crate::answers::{
     account_text, last_text, looked_text, number_text, or_fault, page_text, queued_text,
     reading_text, row_text, served_text, word_text,
 };
-use crate::clients::{begin, checkpoint, is_followed, number, poll, serve};
+use crate::clients::{begin, checkpoint, is_followed, number, poll};
 use crate::desks::{Desk, lane_of};
 use crate::gates::{Looks, StopOnce, Together};
 use crate::loads::play_load;
@@ -146,7 +146,7 @@ fn serve_looking<N: Name, A: Allocator + Copy, R: Wait>(
     lane: &mut Lane<N, A>,
 ) -> (Result<Served, Fault>, u64) {
     let gate = Looks::at(rt, store);
-    let came = serve(rt, store, lane, &gate);
+    let came = lane.serve_one(rt, store, &gate);
     (came, gate.passed())
 }
 

@@ -1,15 +1,43 @@
 //! Transfers by a worker: one that the balance doesn't cover, and others; and accounts that it closes, of which one has to stay.
 ghost use Rattle.std.specs.Prelude.{◌≡◌};
 
-use crate::clients::{begin, counts, delete, hand_in, is_followed, number, put, serve};
-use crate::deeds::{Closing, Deed, DeedError, FROM, TO};
-use crate::desks::opened;
-use occ_store::{AlwaysGo, Counts, Ended, Frame, Lane, Name, Session, Store, Worker};
-use occ_types::{Fault, KeyKind, Kind, Schema};
+use crate::clients::is_followed;
+use occ_store::{
+    AlwaysGo, Body, Counts, Ended, Frame, Lane, Name, Session, Store, Transaction, Worker,
+};
+use occ_types::{Fault, Key, KeyKind, Kind, Refused, Schema};
 use std::alloc::{Allocator, Global};
 use std::io;
 use std::marker::Brand;
 use std::sync::Wait;
+
+/// The table of the accounts.
+const ACCOUNTS: usize = 0;
+
+/// The accounts between which money is moved.
+const FROM: u64 = 7;
+
+const TO: u64 = 8;
+
+/// Why nothing is moved.
+#[derive(Clone, Copy, Debug)]
+pub(crate) enum TransferError {
+    InsufficientFunds,
+    LastAccount,
+    Store(Fault),
+}
+
+impl From<Fault> for TransferError {
+    fn from(fault: Fault) -> TransferError {
+        TransferError::Store(fault)
+    }
+}
+
+impl<T: Drop> From<Refused<T>> for TransferError {
+    fn from(refused: Refused<T>) -> TransferError {
+        TransferError::Store(refused.fault)
+    }
+}
 
 /// Another client pays an amount into an account.
 fn pay<N: Name, A: Allocator + Copy, R: Wait>(
@@ -19,40 +47,133 @@ fn pay<N: Name, A: Allocator + Copy, R: Wait>(
     lane: &mut Lane<N, A>,
     (account, amount): (u64, i64),
 ) -> Result<(), Fault> {
-    begin(session)?;
-    let balance = number(rt, store, session, account)?.unwrap_or(0);
-    put(session, account, balance.saturating_add(amount))?;
-    hand_in(rt, session)?;
-    let _settled = serve(rt, store, lane, &AlwaysGo)?;
+    session.begin()?;
+    let row = session.get(rt, store, ACCOUNTS, &Key::Num(account))?;
+    let balance = row.as_ref().and_then(|row| row.int(0)).unwrap_or(0);
+    let paid = balance.saturating_add(amount);
+    session.put(ACCOUNTS, account.into(), paid.into())?;
+    session.submit(rt)?;
+    let _settled = lane.serve_one(rt, store, &AlwaysGo)?;
     Ok(())
+}
+
+/// What an account has.
+fn balance<N: Name, A: Allocator + Copy, R: Wait>(
+    rt: &R,
+    store: &Store<N, A>,
+    work: &mut Transaction<N, A>,
+    account: u64,
+) -> Result<i64, Fault>
+    ensures own { work.new.front.party ≡ work.old.front.party }
+{
+    let row = work.get(rt, store, ACCOUNTS, &Key::Num(account))?;
+    Ok(row.as_ref().and_then(|row| row.int(0)).unwrap_or(0))
+}
+
+/// Moves an amount from one account to another, and answers what is left in the first.
+#[derive(Clone, Copy)]
+struct Transfer {
+    from: u64,
+    to: u64,
+    amount: i64,
+}
+
+impl<N: Name, A: Allocator + Copy, R: Wait> Body<N, A, R> for Transfer {
+    type Value = i64;
+
+    type Error = TransferError;
+
+    fn run(
+        &mut self,
+        rt: &R,
+        store: &Store<N, A>,
+        work: &mut Transaction<N, A>,
+    ) -> Result<i64, TransferError> {
+        let left = balance(rt, store, work, self.from)?.saturating_sub(self.amount);
+        if left < 0 {
+            return Err(TransferError::InsufficientFunds);
+        }
+        work.put(ACCOUNTS, self.from.into(), left.into())?;
+        let paid = balance(rt, store, work, self.to)?.saturating_add(self.amount);
+        work.put(ACCOUNTS, self.to.into(), paid.into())?;
+        Ok(left)
+    }
+}
+
+/// Whether a page of one row, the last one or the first, tells of no other account.
+fn is_last<N: Name, A: Allocator + Copy, R: Wait>(
+    rt: &R,
+    store: &Store<N, A>,
+    work: &mut Transaction<N, A>,
+    backward: bool,
+) -> Result<bool, Fault>
+    ensures own { work.new.front.party ≡ work.old.front.party }
+{
+    let end = None;
+    let page = if backward {
+        work.scan_last(rt, store, ACCOUNTS, end.as_ref(), end.as_ref(), 1)?
+    } else {
+        work.scan_first(rt, store, ACCOUNTS, end.as_ref(), end.as_ref(), 1)?
+    };
+    Ok(page.rest.is_none())
+}
+
+/// Closes an account that isn't the last one, and answers what is left in it. A lane is served before it does.
+#[derive(Drop)]
+struct Closing<'l, N: Name, A: Allocator + Copy> {
+    lane: &'l mut Lane<N, A>,
+    account: u64,
+    /// Whether it asks for the last page, and not for the first.
+    backward: bool,
+}
+
+impl<N: Name, A: Allocator + Copy, R: Wait> Body<N, A, R> for Closing<'_, N, A> {
+    type Value = i64;
+
+    type Error = TransferError;
+
+    fn run(
+        &mut self,
+        rt: &R,
+        store: &Store<N, A>,
+        work: &mut Transaction<N, A>,
+    ) -> Result<i64, TransferError> {
+        if is_last(rt, store, work, self.backward)? {
+            return Err(TransferError::LastAccount);
+        }
+        self.lane.serve_one(rt, store, &AlwaysGo)?;
+        work.delete(ACCOUNTS, self.account.into())?;
+        Ok(0)
+    }
 }
 
 /// What came of a transaction, and what the store has counted by then.
 #[derive(Clone, Copy)]
 struct Told {
-    ended: Result<Ended<i64>, DeedError>,
+    ended: Result<Ended<i64>, TransferError>,
     counts: Counts,
 }
 
 /// Tries a transaction at most three times.
-fn tried<N: Name, A: Allocator + Copy, R: Wait>(
+fn tried<N: Name, A: Allocator + Copy, R: Wait, B: Body<N, A, R>>(
     rt: &R,
     store: &Store<N, A>,
     worker: &mut Worker<N, A>,
-    deed: &mut Deed<'_, N, A>,
-) -> Result<Ended<i64>, DeedError> {
-    worker.transact(rt, store, 3, deed)
+    body: &mut B,
+) -> Result<Ended<B::Value>, B::Error> {
+    worker.transact(rt, store, 3, body)
 }
 
 /// What came of one that ended so.
 fn told_of<N: Name, A: Allocator + Copy, R: Wait>(
     rt: &R,
     store: &Store<N, A>,
-    ended: Result<Ended<i64>, DeedError>,
+    ended: Result<Ended<i64>, TransferError>,
 ) -> Told {
+    let mut observer = store.observer(rt);
     Told {
         ended,
-        counts: counts(rt, store),
+        counts: store.counts(rt, &mut observer),
     }
 }
 
@@ -63,7 +184,12 @@ fn move_amount<N: Name, A: Allocator + Copy, R: Wait>(
     worker: &mut Worker<N, A>,
     amount: i64,
 ) -> Told {
-    let ended = tried(rt, store, worker, &mut Deed::Transfer(amount));
+    let mut body = Transfer {
+        from: FROM,
+        to: TO,
+        amount,
+    };
+    let ended = tried(rt, store, worker, &mut body);
     told_of(rt, store, ended)
 }
 
@@ -77,17 +203,17 @@ fn close<N: Name, A: Allocator + Copy, R: Wait>(
     backward: bool,
 ) -> Result<Told, Fault> {
     let (shown, told) = if backward { (TO, FROM) } else { (FROM, TO) };
-    begin(session)?;
+    session.begin()?;
     if is_followed(rt, store, session, backward)? {
-        delete(session, told)?;
+        session.delete(ACCOUNTS, told.into())?;
     }
-    hand_in(rt, session)?;
-    let mut deed = Deed::Closing(Closing {
+    session.submit(rt)?;
+    let mut body = Closing {
         lane,
         account: shown,
         backward,
-    });
-    let ended = tried(rt, store, worker, &mut deed);
+    };
+    let ended = tried(rt, store, worker, &mut body);
     Ok(told_of(rt, store, ended))
 }
 
@@ -110,24 +236,33 @@ fn play<N: Name, A: Allocator + Copy, R: Wait>(
     Ok([uncovered, covered, nothing, first, last])
 }
 
-/// The same by the only worker of a store, its only other session and the lane of that.
+/// The last session, and the last lane.
+fn last<N: Name, A: Allocator + Copy>(
+    sessions: &mut Vec<Session<N, A>, A>,
+    lanes: &mut Vec<Lane<N, A>, A>,
+) -> Result<(Session<N, A>, Lane<N, A>), Fault> {
+    let Some(session) = sessions.pop() else {
+        return Err(Fault::NoSession);
+    };
+    let Some(lane) = lanes.pop() else {
+        return Err(Fault::NoSession);
+    };
+    Ok((session, lane))
+}
+
+/// The same by two sessions of a store, of which the first is a worker's.
 fn play_by<N: Name, A: Allocator + Copy, R: Wait>(
     rt: &R,
     store: &Store<N, A>,
-    workers: &mut [Worker<N, A>],
-    sessions: &mut [Session<N, A>],
-    lanes: &mut [Lane<N, A>],
+    mut workers: Vec<Worker<N, A>, A>,
+    mut sessions: Vec<Session<N, A>, A>,
+    mut lanes: Vec<Lane<N, A>, A>,
 ) -> Result<[Told; 5], Fault> {
-    let [worker] = workers else {
+    let (mut session, mut lane) = last(&mut sessions, &mut lanes)?;
+    let Some(mut worker) = workers.pop() else {
         return Err(Fault::NoSession);
     };
-    let [session] = sessions else {
-        return Err(Fault::NoSession);
-    };
-    let [lane] = lanes else {
-        return Err(Fault::NoSession);
-    };
-    play(rt, store, worker, session, lane)
+    play(rt, store, &mut worker, &mut session, &mut lane)
 }
 
 /// The same on the store of a frame.
@@ -137,10 +272,10 @@ fn play_on<N: Name, A: Allocator + Copy, R: Wait>(
 ) -> Result<[Told; 5], Fault>
     requires { (frame.named ≡ N.named) × (frame.ledger ≡ N.name) × (frame.parts ≡ N.parts) }
 {
-    let Ok((store, mut workers, mut sessions, mut lanes)) = opened::<N, A>(frame) else {
+    let Ok((store, workers, sessions, lanes)) = Store::<N, A>::open(frame) else {
         return Err(Fault::Memory);
     };
-    play_by(rt, &store, &mut workers, &mut sessions, &mut lanes)
+    play_by(rt, &store, workers, sessions, lanes)
 }
 
 /// The same on a new store.
