@@ -1,4 +1,4 @@
-use Rattle.demo_threads.proofs.go_on.Given as goal
+use Rattle.demo_workers.proofs.go_on.Given as goal
 
 -- the name that the store of the frame has
 abbrev pub ghosts-live-N-Ledger : goal.ghosts-live-N-Ledger
