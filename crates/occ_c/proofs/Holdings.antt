@@ -168,7 +168,7 @@ torn_stands (Some bytes) none = λ ended.
 
 no_end_at : (fault : LineFault) (a b : Option (List ℕ)) (old new : Source) → LineGives (Err fault) a b old new → NoEnd (read_fault fault) (point a old.number)
 no_end_at (line_faults.Malformed number) a b old new t = (torn_stands a t.0, t.1)
-no_end_at line_faults.Read a b old new t = (t.0, (b, (t.1, t.2)))
+no_end_at line_faults.Read a b old new t = (t.0, b, t.1, t.2)
 no_end_at line_faults.TooManyLines a b old new t = t.1
 
 -- no line was taken at the end of a text, by the exit of a `?`
